@@ -1,0 +1,27 @@
+//! The types that every layer of the receiver speaks of, and (in `specs/`) the definitions that
+//! every contract cites: how a frame is read, which frames pass, what becomes of each, and what a
+//! lawful history of a link is.
+//!
+//! Nothing here waits, prints or looks at a clock. Times are microseconds, lengths are octets.
+#![tactic(auto)]
+
+mod event;
+mod fault;
+mod name;
+mod octets;
+mod place;
+mod port;
+mod settings;
+mod verdict;
+
+pub use event::{Event, Message};
+pub use fault::{FilterCause, FrameFault, PacketFault, UdpFault};
+pub use name::PortName;
+pub use octets::Octets;
+pub use place::{LinkNo, Net, PortNo};
+pub use port::{PortKind, PortSettings};
+pub use settings::LinkSettings;
+pub use verdict::{Decision, Verdict};
+
+/// Want of memory: a growth was refused.
+pub type Memory = std::alloc::AllocError;

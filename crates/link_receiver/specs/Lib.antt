@@ -1,0 +1,4 @@
+pub mod Carried
+pub mod Kept
+pub mod Link
+pub mod Register

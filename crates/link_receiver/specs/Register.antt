@@ -1,0 +1,20 @@
+-- What a port's register shows.
+use Rattle.std.specs.Prelude.{◌≡◌, ℕ, ◌+◌, ◌-◌, List, [], length, slice_get, Option, None, Some}
+use Rattle.std.specs.Option.{option_map}
+use Rattle.es_base.specs.declared.event.Message.{Message}
+use Rattle.link_receiver.specs.declared.register.Register.{Register}
+
+-- the newest message and its number
+abbrev pub newest_in : Option Register → Option (ℕ × Message)
+newest_in None = None
+newest_in (Some register) = option_map (λ message. (register.published, message)) register.newest
+
+-- the register with one message more
+abbrev pub after_publishing : Register → Message → Register
+after_publishing register message = record { published = register.published + 1; newest = Some message }
+
+-- what the register shows is what came out at the port
+abbrev pub Shows : Option Register → List Message → Type 0
+Shows None messages = messages ≡ []
+Shows (Some register) messages =
+    (register.published ≡ length messages) × (register.newest ≡ slice_get messages (length messages - 1))

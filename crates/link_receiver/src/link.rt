@@ -1,0 +1,237 @@
+//! One link's state.
+ghost use Rattle.std.specs.Prelude.{◌≡◌, ◌≤◌, ◌<◌, ◌^◌, [], IfOk, OnOk, OnErr, length, Ok, true, vec_len, vec_capacity};
+ghost use Rattle.std.specs.Option.{option_map};
+ghost use Rattle.frame_reader.specs.Gives.{Gives};
+ghost use Rattle.es_base.specs.Number.{may_follow};
+ghost use Rattle.es_base.specs.History.{IsRun, latest_number, outcome, deliveries, decision_of, verdict_of, newest_of, sampled, BringsNothing};
+ghost use Rattle.es_base.specs.declared.verdict.Decision.TheVariants.{Final};
+ghost use Rattle.link_receiver.specs.Carried.{carried_parts};
+ghost use Rattle.link_receiver.specs.Link.{origin_of, past_of, arrived, event_of, with_event};
+
+use crate::carried::{Carried, carried_in, datagram_in};
+use crate::register::{MOST_SAMPLES, Register, empty_registers, publish};
+use crate::sequence::Sequence;
+use es_base::{Decision, Event, LinkSettings, Memory, Message, Net, Octets, PortNo, Verdict};
+use frame_reader::Frame;
+use std::alloc::{AllocError, Global};
+use std::marker::Model;
+
+/// The most events of a history: 2^61 (own).
+const MOST_EVENTS: usize = 1 << 61;
+
+/// The state of one link: its settings and its history. What it keeps beside them, one sequence
+/// number and the newest message of each sampling port, follows from these two.
+#[derive(Drop)]
+pub struct LinkState {
+    settings: LinkSettings,
+    history: Vec<Event>,
+    sequence: Sequence,
+    registers: Vec<Register>,
+}
+
+impl Model for LinkState {
+    ghost use Rattle.link_receiver.specs.Link.{Link};
+
+    ghost Value = { Link };
+
+    ghost use Rattle.link_receiver.specs.Kept.{IsKept};
+
+    ghost view = { λ s. record { settings = s.settings; history = s.history.items } };
+
+    ghost invariant = { λ s. IsKept s.settings s.history.items s.sequence.last s.registers.items };
+}
+
+impl LinkState {
+    /// The state of a link with these settings and no history.
+    pub fn new(alloc: Global, settings: &LinkSettings) -> Result<LinkState, Memory>
+        ensures { IfOk result (λ state. state ≡ record { settings = settings.now; history = [] }) }
+    {
+        Ok(LinkState {
+            settings: settings.copy(alloc)?,
+            history: Vec::new(alloc),
+            sequence: Sequence::opening(),
+            registers: empty_registers(alloc, settings.ports().len())?,
+        })
+    }
+
+    /// The link's events in the order in which their frames came.
+    pub fn history(&self) -> &[Event]
+        ensures events { result.now ≡ self.now.history }
+        ensures run { IsRun (origin_of self.now) (past_of self.now) }
+        ensures few { length self.now.history ≤ 2 ^ 61 }
+    {
+        self.history.as_slice()
+    }
+
+    /// How many messages came to a sampling port, and the newest of them. None where none came, and
+    /// where the port isn't sampling.
+    pub fn newest(&self, port: PortNo) -> Option<(u64, &Message)>
+        ensures { option_map (λ newest. (newest.0, newest.1.now)) result ≡ newest_of (deliveries (origin_of self.now) (past_of self.now) port) }
+    {
+        match self.registers.get(port.0 as usize) {
+            Some(register) => register.newest(),
+            None => None,
+        }
+    }
+
+    /// What would become of a frame that came now, at `now` microseconds. Nothing changes.
+    pub fn decide(&self, net: Net, now: u64, frame: &Frame<'_>) -> Decision
+        ensures { result ≡ decision_of (origin_of self.now) (past_of self.now) (arrived net now frame.now.whole.now) }
+    {
+        match self.outcome(net, now, frame) {
+            Err(verdict) => Decision::Final(verdict),
+            Ok(carried) => Decision::Final(sampled(carried.port, self.published(carried.port))),
+        }
+    }
+
+    /// Takes a frame that came at `now` microseconds: the history gains one event, and the frame's
+    /// verdict is answered. On want of memory nothing has changed.
+    pub fn take(
+        &mut self,
+        alloc: Global,
+        net: Net,
+        now: u64,
+        frame: &Frame<'_>,
+    ) -> Result<Verdict, Memory>
+        requires network { net ≡ Net.A }
+        requires link { frame.now.vl ≡ self.old.settings.vl }
+        ensures event { IfOk result (λ verdict. self.new ≡ with_event self.old (arrived net now frame.now.whole.now) verdict) }
+        ensures verdict { IfOk result (λ verdict. verdict ≡ verdict_of (origin_of self.old) (past_of self.old) (arrived net now frame.now.whole.now) true) }
+        ensures err { OnErr result (self.new ≡ self.old) }
+    {
+        match self.outcome(net, now, frame) {
+            Err(verdict) => self.append(alloc, net, now, frame, verdict),
+            Ok(carried) => self.deliver(alloc, net, now, frame, carried),
+        }
+    }
+
+    /// What the frame brings to which port, or the verdict of a frame that brings nothing to one.
+    #[tactic(auto, unfolding(es_base::specs::History::outcome_if))]
+    fn outcome<'a>(&self, net: Net, now: u64, frame: &Frame<'a>) -> Result<Carried<'a>, Verdict>
+        ensures value { Gives carried_parts result (outcome (origin_of self.now) (past_of self.now) (arrived net now frame.now.whole.now)) }
+        ensures port { IfOk result (λ carried. carried.port.0 < length self.now.settings.ports) }
+    {
+        if !self.passes(net, frame.number) {
+            return Err(Verdict::OutOfSequence);
+        }
+        match datagram_in(frame) {
+            Ok(packet) => carried_in(&self.settings, &packet),
+            Err(verdict) => Err(verdict),
+        }
+    }
+
+    fn passes(&self, net: Net, number: u8) -> bool
+        ensures { result ≡ may_follow (latest_number (origin_of self.now) (past_of self.now) net) number }
+    {
+        match net {
+            Net::A => self.sequence.check(number),
+            Net::B => true,
+        }
+    }
+
+    /// How many messages came to a port.
+    fn published(&self, port: PortNo) -> u64
+        requires { port.0 < length self.now.settings.ports }
+        ensures { result ≡ length (deliveries (origin_of self.now) (past_of self.now) port) }
+    {
+        self.registers[port.0 as usize].published
+    }
+
+    /// Appends the event of a frame that changes nothing at a port.
+    fn append(
+        &mut self,
+        alloc: Global,
+        net: Net,
+        now: u64,
+        frame: &Frame<'_>,
+        verdict: Verdict,
+    ) -> Result<Verdict, Memory>
+        requires network { net ≡ Net.A }
+        requires decision { decision_of (origin_of self.old) (past_of self.old) (arrived net now frame.now.whole.now) ≡ Final verdict }
+        requires nothing { BringsNothing (origin_of self.old) (past_of self.old) (arrived net now frame.now.whole.now) }
+        ensures event { OnOk result (self.new ≡ with_event self.old (arrived net now frame.now.whole.now) verdict) }
+        ensures verdict { IfOk result (λ answer. answer ≡ verdict) }
+        ensures err { OnErr result (self.new ≡ self.old) }
+    {
+        let event = event_of(alloc, net, now, frame, verdict)?;
+        reserve_event(&mut self.history)?;
+        self.sequence.note(frame.number);
+        self.history.push_reserved(event);
+        Ok(verdict)
+    }
+
+    /// Appends the event of a frame that brings a message to a sampling port.
+    fn deliver(
+        &mut self,
+        alloc: Global,
+        net: Net,
+        now: u64,
+        frame: &Frame<'_>,
+        carried: Carried<'_>,
+    ) -> Result<Verdict, Memory>
+        requires network { net ≡ Net.A }
+        requires port { carried.port.0 < length self.old.settings.ports }
+        requires brings { outcome (origin_of self.old) (past_of self.old) (arrived net now frame.now.whole.now) ≡ Ok (carried_parts carried) }
+        ensures event { IfOk result (λ verdict. self.new ≡ with_event self.old (arrived net now frame.now.whole.now) verdict) }
+        ensures verdict { IfOk result (λ verdict. verdict ≡ verdict_of (origin_of self.old) (past_of self.old) (arrived net now frame.now.whole.now) true) }
+        ensures err { OnErr result (self.new ≡ self.old) }
+    {
+        let published = self.published(carried.port);
+        let verdict = sampled(carried.port, published);
+        if published >= MOST_SAMPLES {
+            return self.append(alloc, net, now, frame, verdict);
+        }
+        let message = Message {
+            time: now,
+            octets: Octets::copy_of(alloc, carried.payload)?,
+        };
+        let event = event_of(alloc, net, now, frame, verdict)?;
+        reserve_event(&mut self.history)?;
+        self.sequence.note(frame.number);
+        publish(&mut self.registers, carried.port, message);
+        self.history.push_reserved(event);
+        Ok(verdict)
+    }
+}
+
+/// The verdict of a message that comes to a sampling port after so many others.
+fn sampled(port: PortNo, published: u64) -> Verdict
+    ensures { result ≡ sampled port published }
+{
+    if published < MOST_SAMPLES {
+        Verdict::Sampled(port, published + 1)
+    } else {
+        Verdict::Exhausted(port)
+    }
+}
+
+/// The event of a frame, with a copy of its octets.
+fn event_of(
+    alloc: Global,
+    net: Net,
+    now: u64,
+    frame: &Frame<'_>,
+    verdict: Verdict,
+) -> Result<Event, Memory>
+    ensures { IfOk result (λ event. event ≡ event_of (arrived net now frame.now.whole.now) verdict) }
+{
+    Ok(Event {
+        net,
+        time: now,
+        frame: Octets::copy_of(alloc, frame.whole)?,
+        room: true,
+        verdict,
+    })
+}
+
+/// Makes room for one event more.
+fn reserve_event(history: &mut Vec<Event>) -> Result<(), Memory>
+    ensures items { history.new.items ≡ history.old.items }
+    ensures few { OnOk result (length history.old.items < 2 ^ 61) }
+    ensures room { OnOk result (vec_len history.new < vec_capacity history.new) }
+{
+    if history.len() >= MOST_EVENTS {
+        return Err(AllocError);
+    }
+    history.reserve(1)
+}

@@ -1,0 +1,106 @@
+//! A whole run: from the bytes of a trace to the bytes of the output.
+ghost use Rattle.std.specs.Prelude.{◌≡◌, ◌<◌, ◌^◌, [], IfOk, false, length};
+ghost use Rattle.trace_player.specs.Output.{config};
+ghost use Rattle.trace_player.specs.Play.{IsRead, ReadsWhole, WritesWhole, Played};
+
+use crate::run::output_of;
+use crate::trace::{TraceError, read_trace};
+use crate::{PlayFault, Sink, Source, TimedFrame};
+use es_base::{LinkSettings, Memory, Net};
+use std::alloc::Global;
+
+/// How many bytes are asked of a source at once.
+const PIECE: usize = 65_536;
+
+/// Plays a trace of network A: reads it whole, checks it, gives its frames to the link one after
+/// another, and writes what each came to. `constant` is the network's constant field.
+///
+/// The text is made first and written last: after every fault but Write the sink wasn't touched.
+pub fn play<A: Source, W: Sink>(
+    alloc: Global,
+    constant: [u8; 4],
+    settings: &LinkSettings,
+    a: &mut A,
+    out: &mut W,
+) -> Result<(), PlayFault>
+    requires source { A.has_failed a.old ≡ false }
+    requires sink { W.has_failed out.old ≡ false }
+    ensures { Played (config constant settings.now) (A.remaining a.old) (A.has_failed a.new) W.contents W.has_failed out.old out.new result }
+{
+    let frames = trace_from(alloc, Net::A, a)?;
+    let text = output_of(alloc, constant, settings, Net::A, &frames)?;
+    write_whole(out, text.as_bytes())
+}
+
+/// The frames of a trace that is read whole.
+fn trace_from<S: Source>(
+    alloc: Global,
+    net: Net,
+    source: &mut S,
+) -> Result<Vec<TimedFrame>, PlayFault>
+    requires { S.has_failed source.old ≡ false }
+    ensures { IsRead net (λ frames. frames.items) (S.remaining source.old) (S.has_failed source.new) result }
+{
+    let text = read_whole(alloc, net, source)?;
+    match read_trace(alloc, &text) {
+        Ok(frames) => Ok(frames),
+        Err(TraceError::Line { line, cause }) => Err(PlayFault::Trace { net, line, cause }),
+        Err(TraceError::Memory) => Err(PlayFault::Memory),
+    }
+}
+
+/// All the bytes of a source.
+fn read_whole<S: Source>(alloc: Global, net: Net, source: &mut S) -> Result<Vec<u8>, PlayFault>
+    requires { S.has_failed source.old ≡ false }
+    ensures whole { ReadsWhole net (λ text. text.items) (S.remaining source.old) (S.has_failed source.new) result }
+    ensures small { IfOk result (λ text. length text.items < 2 ^ 63) }
+{
+    let mut text = Vec::new(alloc);
+    let mut piece = piece_of(alloc, PIECE)?;
+    read_onto(net, source, &mut piece, &mut text)?;
+    Ok(text)
+}
+
+fn piece_of(alloc: Global, size: usize) -> Result<Vec<u8>, Memory>
+    requires { 0 < size }
+    ensures { IfOk result (λ piece. 0 < length piece.items) }
+{
+    vec![in alloc; 0u8; size]
+}
+
+/// Reads to the end, piece by piece.
+fn read_onto<S: Source>(
+    net: Net,
+    source: &mut S,
+    piece: &mut [u8],
+    text: &mut Vec<u8>,
+) -> Result<(), PlayFault>
+    requires room { 0 < length piece.old }
+    requires fresh { text.old.items ≡ [] }
+    requires clear { S.has_failed source.old ≡ false }
+    ensures { ReadsWhole net (λ _. text.new.items) (S.remaining source.old) (S.has_failed source.new) result }
+{
+    'pieces: loop {
+        match source.read(piece) {
+            Ok(0) => return Ok(()),
+            Ok(count) => text.extend_from_slice(&piece[..count])?,
+            Err(_) => return Err(PlayFault::Read { net }),
+        }
+    }
+}
+
+/// Writes all the bytes.
+fn write_whole<W: Sink>(out: &mut W, bytes: &[u8]) -> Result<(), PlayFault>
+    requires { W.has_failed out.old ≡ false }
+    ensures { WritesWhole bytes.now (W.contents out.old) (W.contents out.new) (W.has_failed out.new) result }
+{
+    let mut written = 0;
+    'pieces: while written < bytes.len() {
+        match out.write(&bytes[written..]) {
+            Ok(0) => return Err(PlayFault::Write),
+            Ok(count) => written += count,
+            Err(_) => return Err(PlayFault::Write),
+        }
+    }
+    Ok(())
+}

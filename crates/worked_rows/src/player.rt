@@ -1,0 +1,285 @@
+//! Rows through the player: from the bytes of a trace to the bytes of the output.
+use crate::devices::{Breaking, Filling};
+use crate::frames::{ETHERNET, IP, PAYLOAD, UDP, frame_of, smallest};
+use es_base::{LinkSettings, Memory, Net};
+use std::alloc::Global;
+use std::test::Fail;
+use trace_player::{
+    DEFAULT_CONSTANT, Device, PlayFault, RunFault, TraceCause, built_in, play, status_of,
+};
+
+/// What the player answers, and what it wrote.
+fn played(
+    alloc: Global,
+    settings: &LinkSettings,
+    trace: &[u8],
+) -> (Result<(), PlayFault>, Vec<u8>) {
+    let mut a = Device::new(trace);
+    let mut out = Device::new(Vec::new(alloc));
+    let answer = play(alloc, DEFAULT_CONSTANT, settings, &mut a, &mut out);
+    (answer, out.inner)
+}
+
+/// A line of a trace.
+fn line_of(alloc: Global, time: u64, frame: &[u8]) -> Result<String, Memory> {
+    let digits = hex::encode(alloc, frame)?;
+    format!(in alloc; "{time} {digits}\n")
+}
+
+#[test]
+fn frames_are_told_line_by_line(rt: HostRuntime) -> Result<(), Fail> {
+    let alloc = rt.alloc();
+    let settings = built_in(alloc)?;
+    let fives = vec![in alloc; 0x5a; 1472]?;
+    let longer = hex::encode(alloc, fives.as_slice())?;
+    let longest = hex::encode(alloc, &fives[..1471])?;
+    let (longer, longest) = (longer.as_str(), longest.as_str());
+    let ip = "450005db000100000111c81e0a010101e0e00011";
+    let udp = "1389138805c70000";
+    let shorter = "0102030405060708090a0b0c0d0e0f10";
+    let not_ip = "0300000000110200000001200806";
+    let foreign = "0300000100110200000001200800";
+    let both = "0300000100110200000001200806";
+    let link_18 = "0300000000120200000001200800";
+    let link_273 = "0300000001110200000001200800";
+    let rows: [(&str, &str, &str, &str, &str); 9] = [
+        (ETHERNET, IP, UDP, shorter, "filtered too-short"),
+        (ETHERNET, ip, udp, longer, "filtered too-long"),
+        (not_ip, IP, UDP, PAYLOAD, "filtered not-ip"),
+        (foreign, IP, UDP, PAYLOAD, "filtered foreign-constant"),
+        (link_18, IP, UDP, PAYLOAD, "filtered unknown-link"),
+        (link_273, IP, UDP, PAYLOAD, "filtered unknown-link"),
+        (both, IP, UDP, PAYLOAD, "filtered not-ip"),
+        (ETHERNET, ip, udp, longest, "vl 17 0 sampled pos 1"),
+        (ETHERNET, IP, UDP, PAYLOAD, "vl 17 1 sampled pos 2"),
+    ];
+    let mut trace = String::new(alloc);
+    let mut output = String::new(alloc);
+    for (ethernet, ip, udp, payload, told) in rows {
+        let frame = frame_of(alloc, &[ethernet, ip, udp, payload], 0)?;
+        trace.push_str(line_of(alloc, 1000, &frame)?.as_str())?;
+        output.push_str(format!(in alloc; "1000 A {told}\n")?.as_str())?;
+    }
+    let (answer, written) = played(alloc, &settings, trace.as_bytes());
+    assert_eq!(rt; answer, Ok(()));
+    assert!(rt; written.as_slice() == output.as_bytes());
+    Ok(())
+}
+
+#[test]
+fn every_verdict_of_one_network_has_its_words(rt: HostRuntime) -> Result<(), Fail> {
+    let alloc = rt.alloc();
+    let settings = built_in(alloc)?;
+    let rows: [(&str, &str, u8, &str); 10] = [
+        (IP, UDP, 5, "sampled pos 1"),
+        (IP, UDP, 9, "out-of-sequence"),
+        (
+            "5500002d000100000111cdcc0a010101e0e00011",
+            UDP,
+            10,
+            "bad-header version",
+        ),
+        (
+            "4600002d000100000111cdcc0a010101e0e00011",
+            UDP,
+            11,
+            "bad-header header-length",
+        ),
+        (
+            "45000013000100000111cdcc0a010101e0e00011",
+            UDP,
+            12,
+            "bad-header total-length",
+        ),
+        (
+            "4500002d000100000111cdcd0a010101e0e00011",
+            UDP,
+            13,
+            "bad-header checksum",
+        ),
+        (
+            "4500002d000100000106cdd70a010101e0e00011",
+            UDP,
+            14,
+            "bad-header protocol",
+        ),
+        (
+            "45000024000220000111add40a010101e0e00011",
+            UDP,
+            15,
+            "bad-fragment",
+        ),
+        (IP, "1389138800070000", 16, "bad-udp"),
+        (IP, "1389138900190000", 17, "no-port"),
+    ];
+    let mut trace = String::new(alloc);
+    let mut output = String::new(alloc);
+    for (place, (ip, udp, number, told)) in rows.iter().enumerate() {
+        let frame = frame_of(alloc, &[ETHERNET, ip, udp, PAYLOAD], *number)?;
+        trace.push_str(line_of(alloc, 7, &frame)?.as_str())?;
+        output.push_str(format!(in alloc; "7 A vl 17 {place} {told}\n")?.as_str())?;
+    }
+    let (answer, written) = played(alloc, &settings, trace.as_bytes());
+    assert_eq!(rt; answer, Ok(()));
+    assert!(rt; written.as_slice() == output.as_bytes());
+    Ok(())
+}
+
+#[test]
+fn skipped_lines_tell_nothing(rt: HostRuntime) -> Result<(), Fail> {
+    let alloc = rt.alloc();
+    let settings = built_in(alloc)?;
+    let rows: [(&str, &str); 6] = [
+        ("", ""),
+        ("\n", ""),
+        ("# a comment\n\n#another", ""),
+        // The last line needs no end, and digits may be of either case.
+        ("1000 0aF0", "1000 A filtered too-short\n"),
+        (
+            "18446744073709551615 00\n",
+            "18446744073709551615 A filtered too-short\n",
+        ),
+        (
+            "0 00\n#\n\n0 00\n",
+            "0 A filtered too-short\n0 A filtered too-short\n",
+        ),
+    ];
+    for (trace, output) in rows {
+        let (answer, written) = played(alloc, &settings, trace.as_bytes());
+        assert_eq!(rt; answer, Ok(()), "{trace}");
+        assert!(rt; written.as_slice() == output.as_bytes(), "{trace}");
+    }
+    Ok(())
+}
+
+#[test]
+fn a_refused_trace_writes_nothing(rt: HostRuntime) -> Result<(), Fail> {
+    let alloc = rt.alloc();
+    let settings = built_in(alloc)?;
+    let rows: [(&str, u64, TraceCause); 14] = [
+        ("1000 00\n999 00", 2, TraceCause::Falls),
+        ("1000 0", 1, TraceCause::Hex),
+        ("1000", 1, TraceCause::Space),
+        ("01 00", 1, TraceCause::Space),
+        ("00 00", 1, TraceCause::Space),
+        ("18446744073709551616 00", 1, TraceCause::Time),
+        ("x 00", 1, TraceCause::Time),
+        ("+1 00", 1, TraceCause::Time),
+        (" 1 00", 1, TraceCause::Time),
+        ("1000 0g", 1, TraceCause::Hex),
+        ("1000  00", 1, TraceCause::Hex),
+        ("1000 00\r\n", 1, TraceCause::Hex),
+        // Skipped lines count, and don't change the time.
+        ("5 00\n# 9\n\n4 00\n", 4, TraceCause::Falls),
+        ("# 9\n1000 00\n\nx\n999 00", 4, TraceCause::Time),
+    ];
+    for (trace, line, cause) in rows {
+        let (answer, written) = played(alloc, &settings, trace.as_bytes());
+        assert_eq!(rt;
+            answer,
+            Err(PlayFault::Trace {
+                net: Net::A,
+                line,
+                cause
+            }),
+            "{trace}"
+        );
+        assert!(rt; written.is_empty(), "{trace}");
+    }
+    Ok(())
+}
+
+#[test]
+fn long_lines_are_refused(rt: HostRuntime) -> Result<(), Fail> {
+    let alloc = rt.alloc();
+    let settings = built_in(alloc)?;
+    let mut comment = vec![in alloc; b'#'; 8192]?;
+    let (answer, written) = played(alloc, &settings, &comment);
+    assert_eq!(rt; answer, Ok(()));
+    assert!(rt; written.is_empty());
+    comment.push(b'#')?;
+    let (answer, written) = played(alloc, &settings, &comment);
+    let cause = TraceCause::LongLine;
+    assert_eq!(rt;
+        answer,
+        Err(PlayFault::Trace {
+            net: Net::A,
+            line: 1,
+            cause
+        })
+    );
+    assert!(rt; written.is_empty());
+    Ok(())
+}
+
+#[test]
+fn a_source_that_fails_is_told(rt: HostRuntime) -> Result<(), Fail> {
+    let alloc = rt.alloc();
+    let settings = built_in(alloc)?;
+    // The read fails before the fault of the text is looked for.
+    let mut a = Breaking {
+        text: b"1000 0",
+        failed: false,
+    };
+    let mut out = Device::new(Vec::new(alloc));
+    let answer = play(alloc, DEFAULT_CONSTANT, &settings, &mut a, &mut out);
+    assert_eq!(rt; answer, Err(PlayFault::Read { net: Net::A }));
+    assert!(rt; a.failed);
+    assert!(rt; out.inner.is_empty());
+    Ok(())
+}
+
+#[test]
+fn a_sink_that_takes_nothing_more_is_told(rt: HostRuntime) -> Result<(), Fail> {
+    let alloc = rt.alloc();
+    let settings = built_in(alloc)?;
+    let text: &[u8] = b"5 00";
+    let output: &[u8] = b"5 A filtered too-short\n";
+    for room in 0..23 {
+        let mut a = Device::new(text);
+        let mut out = Filling {
+            room,
+            written: Vec::new(alloc),
+            failed: false,
+        };
+        let answer = play(alloc, DEFAULT_CONSTANT, &settings, &mut a, &mut out);
+        assert_eq!(rt; answer, Err(PlayFault::Write));
+        assert!(rt; out.failed);
+        assert!(rt; out.written.as_slice() == &output[..room]);
+    }
+    let mut a = Device::new(text);
+    let mut out = Filling {
+        room: 23,
+        written: Vec::new(alloc),
+        failed: false,
+    };
+    let answer = play(alloc, DEFAULT_CONSTANT, &settings, &mut a, &mut out);
+    assert_eq!(rt; answer, Ok(()));
+    assert!(rt; out.written.as_slice() == output);
+    Ok(())
+}
+
+#[test]
+fn faults_have_their_words_and_statuses(rt: HostRuntime) -> Result<(), Fail> {
+    let trace = |cause| PlayFault::Trace {
+        net: Net::A,
+        line: 2,
+        cause,
+    };
+    let rows: [(PlayFault, &str, u8); 8] = [
+        (trace(TraceCause::LongLine), "trace A line 2: long line", 1),
+        (trace(TraceCause::Time), "trace A line 2: time", 1),
+        (trace(TraceCause::Space), "trace A line 2: space", 1),
+        (trace(TraceCause::Hex), "trace A line 2: hex", 1),
+        (trace(TraceCause::Falls), "trace A line 2: time falls", 1),
+        (PlayFault::Read { net: Net::A }, "trace A not read", 3),
+        (PlayFault::Write, "output not written", 3),
+        (PlayFault::Memory, "out of memory", 4),
+    ];
+    for (fault, words, status) in rows {
+        let fault = RunFault::from(fault);
+        assert!(rt; fault.to_string(rt.alloc())?.as_str() == words);
+        assert_eq!(rt; status_of(&fault), status);
+    }
+    Ok(())
+}
