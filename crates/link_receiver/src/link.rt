@@ -153,9 +153,10 @@ impl LinkState {
         ensures verdict { IfOk result (λ answer. answer ≡ verdict) }
         ensures err { OnErr result (self.new ≡ self.old) }
     {
+        let number = frame.number;
         let event = event_of(alloc, net, now, frame, verdict)?;
         reserve_event(&mut self.history)?;
-        self.sequence.note(frame.number);
+        self.sequence.note(number);
         self.history.push_reserved(event);
         Ok(verdict)
     }
@@ -209,15 +210,15 @@ fn sampled(port: PortNo, published: u64) -> Verdict
 fn event_of(
     alloc: Global,
     net: Net,
-    now: u64,
+    time: u64,
     frame: &Frame<'_>,
     verdict: Verdict,
 ) -> Result<Event, Memory>
-    ensures { IfOk result (λ event. event ≡ event_of (arrived net now frame.now.whole.now) verdict) }
+    ensures { IfOk result (λ event. event ≡ event_of (arrived net time frame.now.whole.now) verdict) }
 {
     Ok(Event {
         net,
-        time: now,
+        time,
         frame: Octets::copy_of(alloc, frame.whole)?,
         room: true,
         verdict,

@@ -1,7 +1,7 @@
 pub mod BuiltIn
-pub mod Device
 pub mod Fault
 pub mod Output
 pub mod Play
+pub mod Sink
 pub mod Text
 pub mod Trace

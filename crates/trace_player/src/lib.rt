@@ -5,13 +5,18 @@
 mod configuration;
 mod device;
 mod fault;
+pub mod laws;
 mod player;
 mod run;
+mod sink;
+mod source;
 mod text;
 mod trace;
 
 pub use configuration::{DEFAULT_CONSTANT, built_in};
-pub use device::{Device, Failed, Sink, Source};
+pub use device::{Device, Failed};
 pub use fault::{PlayFault, RunFault, status_of};
 pub use player::play;
+pub use sink::Sink;
+pub use source::Source;
 pub use trace::{TimedFrame, TraceCause};

@@ -49,8 +49,8 @@ fn play_frame(
     let time = timed.time;
     match frame_for(constant, settings, timed.frame.as_slice()) {
         Err(cause) => {
-            let line = FilteredLine { time, net, cause };
-            writeln!(text, "{line}")
+            let filtered = FilteredLine { time, net, cause };
+            writeln!(text, "{filtered}")
         }
         Ok(frame) => {
             let place = state.history().len();

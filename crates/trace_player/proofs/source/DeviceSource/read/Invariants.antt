@@ -1,6 +1,6 @@
 use Rattle.std.proofs.Common.{◌≡◌}
 use Rattle.std.specs.Io.KnownBytes.{Keeps}
-use Rattle.trace_player.proofs.device.DeviceSource.read.Given as goal
+use Rattle.trace_player.proofs.source.DeviceSource.read.Given as goal
 
 -- interrupted reads changed nothing
 abbrev pub invariant-loop : goal.invariant-loop
