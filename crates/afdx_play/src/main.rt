@@ -6,6 +6,9 @@ use std::io::{Stdin, Stdout};
 use std::process::ExitCode;
 use trace_player::{DEFAULT_CONSTANT, Device, PlayFault, RunFault, built_in, play, status_of};
 
+/// The trace of network B.
+const EMPTY: &[u8] = &[];
+
 fn main(rt: HostRuntime) -> ExitCode {
     match run(rt.alloc(), rt.stdin(), rt.stdout()) {
         Ok(()) => ExitCode::SUCCESS,
@@ -19,7 +22,8 @@ fn main(rt: HostRuntime) -> ExitCode {
 fn run(alloc: Global, input: Stdin, output: Stdout) -> Result<(), RunFault> {
     let settings = built_in(alloc).map_err(PlayFault::from)?;
     let mut a = Device::new(input);
+    let mut b = Device::new(EMPTY);
     let mut out = Device::new(output);
-    play(alloc, DEFAULT_CONSTANT, &settings, &mut a, &mut out)?;
+    play(alloc, DEFAULT_CONSTANT, &settings, &mut a, &mut b, &mut out)?;
     Ok(())
 }

@@ -2,7 +2,7 @@
 --
 -- A past is a list of events, the latest first. Every definition looks back through the whole past,
 -- and none reads a stored verdict.
-use Rattle.std.specs.Prelude.{◌≡◌, ℕ, ◌+◌, ◌-◌, ◌^◌, ◌==◌, Bool, true, false, not, ◌&&◌, List, [], ◌∷◌, ◌++◌, length, slice_get, nat_lt, Option, None, Some, Result, Ok, Err, if◌then◌else◌}
+use Rattle.std.specs.Prelude.{◌≡◌, ℕ, ◌+◌, ◌-◌, ◌^◌, ◌==◌, Bool, true, false, not, ◌&&◌, ◌||◌, List, [], ◌∷◌, ◌++◌, length, slice_get, nat_lt, Option, None, Some, Result, Ok, Err, if◌then◌else◌}
 use Rattle.std.specs.Option.{option_map}
 use Rattle.es_base.specs.declared.place.Net.{Net}
 use Rattle.es_base.specs.declared.place.Net.TheVariants as nets
@@ -15,7 +15,8 @@ use Rattle.es_base.specs.declared.verdict.Decision.{Decision}
 use Rattle.es_base.specs.declared.verdict.Decision.TheVariants.{Final}
 use Rattle.es_base.specs.declared.event.Event.{Event}
 use Rattle.es_base.specs.declared.event.Message.{Message}
-use Rattle.es_base.specs.Number.{may_follow}
+use Rattle.es_base.specs.Number.{latest, may_follow}
+use Rattle.es_base.specs.Forwarding.{Forwarded, is_first_copy}
 use Rattle.es_base.specs.Reading.{PacketParts, number_of, inner_of, packet_of, udp_of}
 use Rattle.es_base.specs.Port.{Port, port_for}
 use Rattle.es_base.specs.Settings.{Settings}
@@ -42,13 +43,27 @@ is_same_net nets.A nets.B = false
 is_same_net nets.B nets.A = false
 is_same_net nets.B nets.B = true
 
--- the number of the latest frame on a network, whether or not that frame passed
-abbrev pub latest_number : Origin → List Event → Net → Option ℕ
-latest_number o [] net = None
-latest_number o (e ∷ past) net = if is_same_net e.net net then Some (number_of e.frame) else latest_number o past net
+-- the numbers of the frames on a network, the latest first, whether or not they passed
+abbrev pub numbers_on : Origin → List Event → Net → List ℕ
+numbers_on o [] net = []
+numbers_on o (e ∷ past) net = if is_same_net e.net net then number_of e.frame ∷ numbers_on o past net else numbers_on o past net
 
 abbrev pub passes : Origin → List Event → Arrival → Bool
-passes o past a = may_follow (latest_number o past a.net) (number_of a.frame)
+passes o past a = may_follow (latest (numbers_on o past a.net)) (number_of a.frame)
+
+-- ---- redundancy management (ARINC 664 Part 7, redundancy management; order and table own)
+
+-- whether a frame of this number that passed at this time is forwarded, after these were
+abbrev pub is_forwarded : Settings → List Forwarded → ℕ → ℕ → Bool
+is_forwarded settings earlier number now = not settings.redundancy || is_first_copy settings.skew_max earlier number now
+
+-- the frames that were forwarded, the latest first
+abbrev pub forwarded : Origin → List Event → List Forwarded
+forwarded o [] = []
+forwarded o (e ∷ past) =
+    if passes o past (arrival_of e) && is_forwarded o.settings (forwarded o past) (number_of e.frame) e.time
+    then record { number = number_of e.frame; time = e.time } ∷ forwarded o past
+    else forwarded o past
 
 -- ---- how far a frame comes
 
@@ -96,15 +111,17 @@ carried_in ports packet = do
   datagram ← judged (λ fault. verdicts.BadUdp) (udp_of packet.octets)
   at_place ports (port_for ports packet.destination datagram.destination_port) datagram.payload
 
-unfoldable pub outcome_if : Bool → List Port → List ℕ → Result Carried Verdict
-outcome_if false ports frame = Err verdicts.OutOfSequence
-outcome_if true ports frame = do
+unfoldable pub outcome_if : Bool → Bool → List Port → List ℕ → Result Carried Verdict
+outcome_if false first ports frame = Err verdicts.OutOfSequence
+outcome_if true false ports frame = Err verdicts.Redundant
+outcome_if true true ports frame = do
   packet ← datagram_in frame
   carried_in ports packet
 
 -- what a frame brings to which port, or the verdict of a frame that brings nothing to a port
 abbrev pub outcome : Origin → List Event → Arrival → Result Carried Verdict
-outcome o past a = outcome_if (passes o past a) o.settings.ports a.frame
+outcome o past a =
+    outcome_if (passes o past a) (is_forwarded o.settings (forwarded o past) (number_of a.frame) a.time) o.settings.ports a.frame
 
 -- ---- what comes out at the ports
 

@@ -1,3 +1,4 @@
+pub mod Forwarding
 pub mod History
 pub mod Name
 pub mod Number

@@ -1,4 +1,5 @@
 pub mod Carried
+pub mod Checks
 pub mod Kept
 pub mod Link
 pub mod Register

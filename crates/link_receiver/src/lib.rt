@@ -1,11 +1,12 @@
-//! The receiver of one virtual link: integrity checking, IPv4, UDP and the link's ports. It keeps
-//! the link's history, every verdict of which is what the rules say of the events before it.
+//! The receiver of one virtual link: integrity checking, redundancy management, IPv4,
+//! UDP and the link's ports. It keeps the link's history, every verdict of which is what the rules say of
+//! the events before it.
 #![tactic(auto)]
 
 mod carried;
+mod checks;
 mod link;
 mod register;
-mod sequence;
 
 pub use es_base::{Decision, Event, LinkSettings, Memory, Message, Net, PortNo, Verdict};
 pub use link::LinkState;

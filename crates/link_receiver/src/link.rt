@@ -1,16 +1,16 @@
 //! One link's state.
-ghost use Rattle.std.specs.Prelude.{◌≡◌, ◌≤◌, ◌<◌, ◌^◌, [], IfOk, OnOk, OnErr, length, Ok, true, vec_len, vec_capacity};
+ghost use Rattle.std.specs.Prelude.{◌≡◌, ◌≤◌, ◌<◌, ◌^◌, ◌&&◌, [], IfOk, OnOk, OnErr, length, Ok, true, vec_len, vec_capacity};
 ghost use Rattle.std.specs.Option.{option_map};
 ghost use Rattle.frame_reader.specs.Gives.{Gives};
-ghost use Rattle.es_base.specs.Number.{may_follow};
-ghost use Rattle.es_base.specs.History.{IsRun, latest_number, outcome, deliveries, decision_of, verdict_of, newest_of, sampled, BringsNothing};
+ghost use Rattle.es_base.specs.Number.{latest, may_follow};
+ghost use Rattle.es_base.specs.History.{IsRun, numbers_on, is_forwarded, forwarded, outcome, deliveries, decision_of, verdict_of, newest_of, sampled, BringsNothing};
 ghost use Rattle.es_base.specs.declared.verdict.Decision.TheVariants.{Final};
 ghost use Rattle.link_receiver.specs.Carried.{carried_parts};
 ghost use Rattle.link_receiver.specs.Link.{origin_of, past_of, arrived, event_of, with_event};
 
 use crate::carried::{Carried, carried_in, datagram_in};
+use crate::checks::Checks;
 use crate::register::{MOST_SAMPLES, Register, empty_registers, publish};
-use crate::sequence::Sequence;
 use es_base::{Decision, Event, LinkSettings, Memory, Message, Net, Octets, PortNo, Verdict};
 use frame_reader::Frame;
 use std::alloc::{AllocError, Global};
@@ -19,13 +19,13 @@ use std::marker::Model;
 /// The most events of a history: 2^61 (own).
 const MOST_EVENTS: usize = 1 << 61;
 
-/// The state of one link: its settings and its history. What it keeps beside them, one sequence
-/// number and the newest message of each sampling port, follows from these two.
+/// The state of one link: its settings and its history. What it keeps beside them, a number a
+/// network, the latest forwarded, and the newest message of each sampling port, follows from these two.
 #[derive(Drop)]
 pub struct LinkState {
     settings: LinkSettings,
     history: Vec<Event>,
-    sequence: Sequence,
+    checks: Checks,
     registers: Vec<Register>,
 }
 
@@ -38,7 +38,7 @@ impl Model for LinkState {
 
     ghost view = { λ s. record { settings = s.settings; history = s.history.items } };
 
-    ghost invariant = { λ s. IsKept s.settings s.history.items s.sequence.last s.registers.items };
+    ghost invariant = { λ s. IsKept s.settings s.history.items s.checks s.registers.items };
 }
 
 impl LinkState {
@@ -49,7 +49,7 @@ impl LinkState {
         Ok(LinkState {
             settings: settings.copy(alloc)?,
             history: Vec::new(alloc),
-            sequence: Sequence::opening(),
+            checks: Checks::opening(settings.skew_max()),
             registers: empty_registers(alloc, settings.ports().len())?,
         })
     }
@@ -93,8 +93,7 @@ impl LinkState {
         now: u64,
         frame: &Frame<'_>,
     ) -> Result<Verdict, Memory>
-        requires network { net ≡ Net.A }
-        requires link { frame.now.vl ≡ self.old.settings.vl }
+        requires { frame.now.vl ≡ self.old.settings.vl }
         ensures event { IfOk result (λ verdict. self.new ≡ with_event self.old (arrived net now frame.now.whole.now) verdict) }
         ensures verdict { IfOk result (λ verdict. verdict ≡ verdict_of (origin_of self.old) (past_of self.old) (arrived net now frame.now.whole.now) true) }
         ensures err { OnErr result (self.new ≡ self.old) }
@@ -114,19 +113,36 @@ impl LinkState {
         if !self.passes(net, frame.number) {
             return Err(Verdict::OutOfSequence);
         }
+        if !self.forwards(now, frame.number) {
+            return Err(Verdict::Redundant);
+        }
         match datagram_in(frame) {
             Ok(packet) => carried_in(&self.settings, &packet),
             Err(verdict) => Err(verdict),
         }
     }
 
+    /// Whether a frame passes integrity checking.
     fn passes(&self, net: Net, number: u8) -> bool
-        ensures { result ≡ may_follow (latest_number (origin_of self.now) (past_of self.now) net) number }
+        ensures { result ≡ may_follow (latest (numbers_on (origin_of self.now) (past_of self.now) net)) number }
     {
-        match net {
-            Net::A => self.sequence.check(number),
-            Net::B => true,
-        }
+        self.checks.passes(net, number)
+    }
+
+    /// Whether a frame that passes is forwarded.
+    fn forwards(&self, now: u64, number: u8) -> bool
+        ensures { result ≡ is_forwarded self.now.settings (forwarded (origin_of self.now) (past_of self.now)) number now }
+    {
+        self.checks
+            .forwards(self.settings.redundancy(), number, now)
+    }
+
+    /// Whether a frame passes and is forwarded.
+    fn is_first(&self, net: Net, now: u64, number: u8) -> bool
+        ensures { result ≡ (may_follow (latest (numbers_on (origin_of self.now) (past_of self.now) net)) number
+            && is_forwarded self.now.settings (forwarded (origin_of self.now) (past_of self.now)) number now) }
+    {
+        self.passes(net, number) && self.forwards(now, number)
     }
 
     /// How many messages came to a port.
@@ -146,7 +162,6 @@ impl LinkState {
         frame: &Frame<'_>,
         verdict: Verdict,
     ) -> Result<Verdict, Memory>
-        requires network { net ≡ Net.A }
         requires decision { decision_of (origin_of self.old) (past_of self.old) (arrived net now frame.now.whole.now) ≡ Final verdict }
         requires nothing { BringsNothing (origin_of self.old) (past_of self.old) (arrived net now frame.now.whole.now) }
         ensures event { OnOk result (self.new ≡ with_event self.old (arrived net now frame.now.whole.now) verdict) }
@@ -154,9 +169,10 @@ impl LinkState {
         ensures err { OnErr result (self.new ≡ self.old) }
     {
         let number = frame.number;
+        let first = self.is_first(net, now, number);
         let event = event_of(alloc, net, now, frame, verdict)?;
         reserve_event(&mut self.history)?;
-        self.sequence.note(number);
+        self.checks.note(net, number, now, first);
         self.history.push_reserved(event);
         Ok(verdict)
     }
@@ -170,7 +186,6 @@ impl LinkState {
         frame: &Frame<'_>,
         carried: Carried<'_>,
     ) -> Result<Verdict, Memory>
-        requires network { net ≡ Net.A }
         requires port { carried.port.0 < length self.old.settings.ports }
         requires brings { outcome (origin_of self.old) (past_of self.old) (arrived net now frame.now.whole.now) ≡ Ok (carried_parts carried) }
         ensures event { IfOk result (λ verdict. self.new ≡ with_event self.old (arrived net now frame.now.whole.now) verdict) }
@@ -188,7 +203,7 @@ impl LinkState {
         };
         let event = event_of(alloc, net, now, frame, verdict)?;
         reserve_event(&mut self.history)?;
-        self.sequence.note(frame.number);
+        self.checks.note(net, frame.number, now, true);
         publish(&mut self.registers, carried.port, message);
         self.history.push_reserved(event);
         Ok(verdict)

@@ -1,8 +1,7 @@
--- What the player writes for a trace: the one-thread run of its frames, in words.
---
--- Frames that came in are listed the latest first, as a link's past is.
-use Rattle.std.specs.Prelude.{ℕ, ◌==◌, true, List, [], ◌∷◌, ◌++◌, length, map, reverse, Result, Ok, Err, if◌then◌else◌}
+-- What the player writes for two traces: the one-thread run of their frames, in words.
+use Rattle.std.specs.Prelude.{ℕ, ◌==◌, true, List, [], ◌∷◌, ◌++◌, length, map, nat_lt, Result, Ok, Err, if◌then◌else◌}
 use Rattle.es_base.specs.declared.place.Net.{Net}
+use Rattle.es_base.specs.declared.place.Net.TheVariants as nets
 use Rattle.es_base.specs.declared.fault.FrameFault.{FrameFault}
 use Rattle.es_base.specs.declared.fault.FilterCause.{FilterCause}
 use Rattle.es_base.specs.declared.fault.FilterCause.TheVariants.{UnknownLink}
@@ -46,10 +45,10 @@ with_frame c a past (Err cause) = past
 abbrev pub past_with : Config → List Event → Arrival → List Event
 past_with c past a = with_frame c a past (received c a.frame)
 
--- the link's past after these frames
-abbrev pub past_after : Config → List Arrival → List Event
-past_after c [] = []
-past_after c (a ∷ earlier) = past_with c (past_after c earlier) a
+-- the link's past after these frames, in the order in which they came
+abbrev pub past_after : Config → List Event → List Arrival → List Event
+past_after c past [] = past
+past_after c past (a ∷ later) = past_after c (past_with c past a) later
 
 -- ---- the text
 
@@ -62,15 +61,30 @@ line_if c a past (Err cause) = filtered_text a.time a.net cause
 abbrev pub line_of : Config → List Event → Arrival → List ℕ
 line_of c past a = line_if c a past (received c a.frame) ++ 10 ∷ []
 
--- the lines of these frames
-abbrev pub lines_of : Config → List Arrival → List ℕ
-lines_of c [] = []
-lines_of c (a ∷ earlier) = lines_of c earlier ++ line_of c (past_after c earlier) a
+-- the lines of these frames, in the order in which they came
+abbrev pub lines_of : Config → List Event → List Arrival → List ℕ
+lines_of c past [] = []
+lines_of c past (a ∷ later) = line_of c past a ++ lines_of c (past_with c past a) later
+
+-- ---- two traces
 
 -- a frame of one network's trace
 abbrev pub arrival : Net → TimedFrame → Arrival
 arrival net timed = record { net = net; time = timed.time; frame = timed.frame }
 
--- what is written for a trace
-abbrev pub output_of : Config → Net → List TimedFrame → List ℕ
-output_of c net trace = lines_of c (reverse (map (arrival net) trace))
+-- a frame of A among those of B: behind those that came before it
+abbrev pub among : Arrival → (List Arrival → List Arrival) → List Arrival → List Arrival
+among a later [] = a ∷ later []
+among a later (b ∷ bs) = if nat_lt b.time a.time then b ∷ among a later bs else a ∷ later (b ∷ bs)
+
+-- the frames of both by their times; on equal times those of A come first
+abbrev pub merge : List Arrival → List Arrival → List Arrival
+merge [] bs = bs
+merge (a ∷ later) bs = among a (merge later) bs
+
+abbrev pub merged : List TimedFrame → List TimedFrame → List Arrival
+merged a b = merge (map (arrival nets.A) a) (map (arrival nets.B) b)
+
+-- what is written for two traces
+abbrev pub output_of : Config → List TimedFrame → List TimedFrame → List ℕ
+output_of c a b = lines_of c [] (merged a b)

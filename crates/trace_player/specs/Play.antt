@@ -4,6 +4,7 @@ use Rattle.std.specs.Io.KnownBytes.{Appends}
 use Rattle.es_base.specs.declared.place.Net.{Net}
 use Rattle.es_base.specs.declared.place.Net.TheVariants as nets
 use Rattle.trace_player.specs.declared.trace.TimedFrame.{TimedFrame}
+use Rattle.trace_player.specs.declared.trace.TraceCause.{TraceCause}
 use Rattle.trace_player.specs.declared.fault.PlayFault.{PlayFault}
 use Rattle.trace_player.specs.declared.fault.PlayFault.TheVariants.{Trace, Read, Write, Memory}
 use Rattle.trace_player.specs.Trace.{trace_of}
@@ -43,18 +44,38 @@ WritesWhole bytes old new failed (Err Memory) = ⊥
 
 -- ---- a run
 
--- the text was read whole, it is a trace, and what is written is its output
-abbrev pub PlaysTrace : Config → Option (List ℕ) → (List ℕ → Type 0) → Type 0
-PlaysTrace c given Writes =
-    (text : List ℕ) × IsWhole given text × ((frames : List TimedFrame) × (trace_of text ≡ Ok frames) × Writes (output_of c nets.A frames))
+-- what a source had, where that is known, and whether a read of it failed
+pub record Given : Type 0 where
+  pub given : Option (List ℕ)
+  pub failed : Bool
 
--- What a run over one trace, of network A, did: `given` is what its source had, `failed` whether a
--- read failed; `contents` and `has_failed` tell of the sink, from `old` to `new`.
-abbrev pub Played : {S X : Type 0} → Config → Option (List ℕ) → Bool → (S → Option (List ℕ)) → (S → Bool) → S → S → Result X PlayFault → Type 0
-Played c given failed contents has_failed old new (Ok x) = PlaysTrace c given (λ text. Appends (contents old) (contents new) text)
-Played c given failed contents has_failed old new (Err (Trace net line cause)) =
-    (net ≡ nets.A) × ((text : List ℕ) × IsWhole given text × (trace_of text ≡ Err (line, cause))) × (new ≡ old)
-Played c given failed contents has_failed old new (Err (Read net)) = (net ≡ nets.A) × (failed ≡ true) × (new ≡ old)
-Played c given failed contents has_failed old new (Err Write) =
-    (has_failed new ≡ true) × PlaysTrace c given (λ text. (count : ℕ) × Appends (contents old) (contents new) (take count text))
-Played c given failed contents has_failed old new (Err Memory) = new ≡ old
+-- the text was read whole, and says these frames
+abbrev pub SaysFrames : Given → List TimedFrame → Type 0
+SaysFrames source frames = (text : List ℕ) × IsWhole source.given text × (trace_of text ≡ Ok frames)
+
+-- the text was read whole, and has this first fault
+abbrev pub SaysFault : Given → ℕ → TraceCause → Type 0
+SaysFault source line cause = (text : List ℕ) × IsWhole source.given text × (trace_of text ≡ Err (line, cause))
+
+-- trace B is looked at where trace A says frames
+abbrev pub FirstFault : Given → Given → Net → ℕ → TraceCause → Type 0
+FirstFault a b nets.A line cause = SaysFault a line cause
+FirstFault a b nets.B line cause = ((frames : List TimedFrame) × SaysFrames a frames) × SaysFault b line cause
+
+abbrev pub FirstFailed : Given → Given → Net → Type 0
+FirstFailed a b nets.A = a.failed ≡ true
+FirstFailed a b nets.B = ((frames : List TimedFrame) × SaysFrames a frames) × (b.failed ≡ true)
+
+-- both texts were read whole, both are traces, and this is done with their output
+abbrev pub PlaysTraces : Config → Given → Given → (List ℕ → Type 0) → Type 0
+PlaysTraces c a b Writes =
+    (frames_a : List TimedFrame) × ((frames_b : List TimedFrame) × SaysFrames a frames_a × SaysFrames b frames_b × Writes (output_of c frames_a frames_b))
+
+-- What a run over two traces did; `contents` and `has_failed` tell of the sink, from `old` to `new`.
+abbrev pub Played : {S X : Type 0} → Config → Given → Given → (S → Option (List ℕ)) → (S → Bool) → S → S → Result X PlayFault → Type 0
+Played c a b contents has_failed old new (Ok x) = PlaysTraces c a b (λ text. Appends (contents old) (contents new) text)
+Played c a b contents has_failed old new (Err (Trace net line cause)) = FirstFault a b net line cause × (new ≡ old)
+Played c a b contents has_failed old new (Err (Read net)) = FirstFailed a b net × (new ≡ old)
+Played c a b contents has_failed old new (Err Write) =
+    (has_failed new ≡ true) × PlaysTraces c a b (λ text. (count : ℕ) × Appends (contents old) (contents new) (take count text))
+Played c a b contents has_failed old new (Err Memory) = new ≡ old

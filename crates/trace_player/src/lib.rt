@@ -1,11 +1,12 @@
-//! The player: it reads a hex trace, runs its frames through the receiver of their link, and writes
-//! what each frame came to.
+//! The player: it reads the hex traces of both networks, runs their frames through the receiver of
+//! their link, and writes what each frame came to.
 #![tactic(auto)]
 
 mod configuration;
 mod device;
 mod fault;
 pub mod laws;
+mod merge;
 mod player;
 mod run;
 mod sink;

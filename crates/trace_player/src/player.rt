@@ -12,23 +12,30 @@ use std::alloc::Global;
 /// How many bytes are asked of a source at once.
 const PIECE: usize = 65_536;
 
-/// Plays a trace of network A: reads it whole, checks it, gives its frames to the link one after
-/// another, and writes what each came to. `constant` is the network's constant field.
+/// Plays the traces of both networks: reads trace A whole and checks it, then trace B; gives their
+/// frames to the link one after another, by their times and those of A first; and writes what each
+/// came to. `constant` is the networks' constant field.
 ///
 /// The text is made first and written last: after every fault but Write the sink wasn't touched.
-pub fn play<A: Source, W: Sink>(
+pub fn play<A: Source, B: Source, W: Sink>(
     alloc: Global,
     constant: [u8; 4],
     settings: &LinkSettings,
     a: &mut A,
+    b: &mut B,
     out: &mut W,
 ) -> Result<(), PlayFault>
-    requires source { A.has_failed a.old ≡ false }
+    requires source_a { A.has_failed a.old ≡ false }
+    requires source_b { B.has_failed b.old ≡ false }
     requires sink { W.has_failed out.old ≡ false }
-    ensures { Played (config constant settings.now) (A.remaining a.old) (A.has_failed a.new) W.contents W.has_failed out.old out.new result }
+    ensures { Played (config constant settings.now)
+        (record { given = A.remaining a.old; failed = A.has_failed a.new })
+        (record { given = B.remaining b.old; failed = B.has_failed b.new })
+        W.contents W.has_failed out.old out.new result }
 {
-    let frames = trace_from(alloc, Net::A, a)?;
-    let text = output_of(alloc, constant, settings, Net::A, &frames)?;
+    let frames_a = trace_from(alloc, Net::A, a)?;
+    let frames_b = trace_from(alloc, Net::B, b)?;
+    let text = output_of(alloc, constant, settings, &frames_a, &frames_b)?;
     write_whole(out, text.as_bytes())
 }
 

@@ -1,30 +1,31 @@
-//! A trace's frames through the receiver, and the text of what they came to.
+//! The frames of two traces through the receiver, and the text of what they came to.
 ghost use Rattle.std.specs.Prelude.{◌≡◌, ◌++◌, OnOk, IfOk, string_bytes};
 ghost use Rattle.frame_reader.specs.Gives.{Gives};
 ghost use Rattle.link_receiver.specs.Link.{past_of};
 ghost use Rattle.trace_player.specs.Output.{config, received, past_with, line_of, arrival, output_of};
 
 use crate::TimedFrame;
+use crate::merge::Merge;
 use crate::text::{EventLine, FilteredLine, VerdictText};
 use es_base::{FilterCause, LinkSettings, Memory, Net};
 use frame_reader::{Frame, read_frame};
 use link_receiver::LinkState;
 use std::alloc::Global;
 
-/// The text of what the frames of a trace came to.
+/// The text of what the frames of two traces came to.
 pub(crate) fn output_of(
     alloc: Global,
     constant: [u8; 4],
     settings: &LinkSettings,
-    net: Net,
-    frames: &[TimedFrame],
+    a: &[TimedFrame],
+    b: &[TimedFrame],
 ) -> Result<String, Memory>
-    requires { net ≡ Net.A }
-    ensures { IfOk result (λ text. string_bytes text ≡ output_of (config constant settings.now) net frames.now) }
+    ensures { IfOk result (λ text. string_bytes text ≡ output_of (config constant settings.now) a.now b.now) }
 {
     let mut state = LinkState::new(alloc, settings)?;
     let mut text = String::new(alloc);
-    for frame in frames {
+    let mut frames = Merge { a, b };
+    while let Some((net, frame)) = frames.next() {
         play_frame(alloc, constant, settings, &mut state, net, frame, &mut text)?;
     }
     Ok(text)
@@ -40,8 +41,7 @@ fn play_frame(
     timed: &TimedFrame,
     text: &mut String,
 ) -> Result<(), Memory>
-    requires network { net ≡ Net.A }
-    requires same { state.old.settings ≡ settings.now }
+    requires { state.old.settings ≡ settings.now }
     ensures stays { OnOk result (state.new.settings ≡ settings.now) }
     ensures past { OnOk result (past_of state.new ≡ past_with (config constant settings.now) (past_of state.old) (arrival net timed.now)) }
     ensures line { OnOk result (string_bytes text.new ≡ string_bytes text.old ++ line_of (config constant settings.now) (past_of state.old) (arrival net timed.now)) }

@@ -24,6 +24,7 @@ fn receive(
     alloc: Global,
     settings: &LinkSettings,
     state: &mut LinkState,
+    net: Net,
     now: u64,
     octets: &[u8],
 ) -> Verdict
@@ -33,12 +34,13 @@ fn receive(
     let frame = read_frame(DEFAULT_CONSTANT, octets).expect(rt, "a frame");
     assert!(rt; frame.vl == settings.vl());
     let place = state.history().len();
-    let decision = state.decide(Net::A, now, &frame);
-    let verdict = state.take(alloc, Net::A, now, &frame).expect(rt, "memory");
+    let decision = state.decide(net, now, &frame);
+    let verdict = state.take(alloc, net, now, &frame).expect(rt, "memory");
     assert_eq!(rt; decision, Decision::Final(verdict));
     assert_eq!(rt; state.history().len(), place + 1);
     let event = state.history().last().expect(rt, "an event");
     assert_eq!(rt; event.verdict, verdict);
+    assert_eq!(rt; event.net, net);
     assert_eq!(rt; event.time, now);
     assert!(rt; event.room);
     assert!(rt; event.frame.as_slice() == octets);
@@ -56,6 +58,7 @@ fn the_newest_message_is_shown(rt: HostRuntime) -> Result<(), Fail> {
         alloc,
         &settings,
         &mut state,
+        Net::A,
         1000,
         &smallest(alloc, 0)?,
     );
@@ -122,7 +125,7 @@ fn numbers_pass_by_the_window(rt: HostRuntime) -> Result<(), Fail> {
     Ok(())
 }
 
-/// Frames with these numbers come to these verdicts, in a new receiver.
+/// Frames with these numbers on network A, far apart, come to these verdicts, in a new receiver.
 fn check_numbers(
     rt: &impl Abort,
     alloc: Global,
@@ -130,11 +133,184 @@ fn check_numbers(
     row: &[(u8, Verdict)],
 ) -> Result<(), Fail> {
     let mut state = LinkState::new(alloc, settings)?;
-    for (number, verdict) in row {
+    for (place, (number, verdict)) in row.iter().enumerate() {
+        let now = (place as u64).saturating_mul(10_000);
         let frame = smallest(alloc, *number)?;
-        let answer = receive(rt, alloc, settings, &mut state, 10_000, &frame);
+        let answer = receive(rt, alloc, settings, &mut state, Net::A, now, &frame);
         assert_eq!(rt; answer, *verdict, "number {number}");
     }
+    Ok(())
+}
+
+/// A frame's network, arrival time and number, and what it comes to.
+type Step = (Net, u64, u8, Verdict);
+
+/// Smallest frames come to these verdicts, in a new receiver.
+fn check_steps(
+    rt: &impl Abort,
+    alloc: Global,
+    settings: &LinkSettings,
+    steps: &[Step],
+) -> Result<(), Fail> {
+    let mut state = LinkState::new(alloc, settings)?;
+    for (net, now, number, verdict) in steps {
+        let frame = smallest(alloc, *number)?;
+        let answer = receive(rt, alloc, settings, &mut state, *net, *now, &frame);
+        assert_eq!(rt; answer, *verdict, "number {number} at {now}");
+    }
+    Ok(())
+}
+
+#[test]
+fn the_first_copy_is_forwarded(rt: HostRuntime) -> Result<(), Fail> {
+    let alloc = rt.alloc();
+    let settings = built_in(alloc)?;
+    let (one, two) = (Verdict::Sampled(POS, 1), Verdict::Sampled(POS, 2));
+    let copy = Verdict::Redundant;
+    // A copy within SkewMax, 1000 microseconds, and one behind it.
+    check_steps(
+        &rt,
+        alloc,
+        &settings,
+        &[(Net::A, 1000, 7, one), (Net::B, 2000, 7, copy)],
+    )?;
+    check_steps(
+        &rt,
+        alloc,
+        &settings,
+        &[(Net::A, 1000, 7, one), (Net::B, 2001, 7, two)],
+    )?;
+    // B is behind A by two frames.
+    check_steps(
+        &rt,
+        alloc,
+        &settings,
+        &[
+            (Net::A, 1000, 0, one),
+            (Net::A, 1100, 1, two),
+            (Net::B, 1200, 0, copy),
+            (Net::B, 1300, 1, copy),
+        ],
+    )?;
+    // A reset is ahead of 255.
+    check_steps(
+        &rt,
+        alloc,
+        &settings,
+        &[(Net::A, 1000, 0xff, one), (Net::A, 1200, 0, two)],
+    )?;
+    // Each network has its own numbers.
+    check_steps(
+        &rt,
+        alloc,
+        &settings,
+        &[
+            (Net::A, 1000, 7, one),
+            (Net::B, 1000, 9, two),
+            (Net::A, 1100, 8, copy),
+            (Net::B, 1100, 7, Verdict::OutOfSequence),
+        ],
+    )?;
+    // Time 0 is a time.
+    check_steps(
+        &rt,
+        alloc,
+        &settings,
+        &[(Net::A, 0, 7, one), (Net::B, 0, 7, copy)],
+    )
+}
+
+#[test]
+fn times_may_fall(rt: HostRuntime) -> Result<(), Fail> {
+    let alloc = rt.alloc();
+    let settings = built_in(alloc)?;
+    let (one, two) = (Verdict::Sampled(POS, 1), Verdict::Sampled(POS, 2));
+    let copy = Verdict::Redundant;
+    // Nothing has elapsed since a later time.
+    check_steps(
+        &rt,
+        alloc,
+        &settings,
+        &[(Net::A, 5000, 9, one), (Net::B, 10, 9, copy)],
+    )?;
+    // The greatest time counts, not the latest.
+    check_steps(
+        &rt,
+        alloc,
+        &settings,
+        &[
+            (Net::A, 5000, 9, one),
+            (Net::A, 4500, 10, two),
+            (Net::B, 5600, 9, copy),
+        ],
+    )?;
+    // A redundant frame moves nothing.
+    check_steps(
+        &rt,
+        alloc,
+        &settings,
+        &[
+            (Net::A, 1000, 9, one),
+            (Net::B, 1900, 9, copy),
+            (Net::A, 2500, 0, two),
+        ],
+    )
+}
+
+#[test]
+fn the_bounds_of_the_table(rt: HostRuntime) -> Result<(), Fail> {
+    let alloc = rt.alloc();
+    let settings = built_in(alloc)?;
+    let ahead = Verdict::Sampled(POS, 2);
+    let rows: [(u8, u8, Verdict); 10] = [
+        (0x00, 0x7f, ahead),
+        (0x00, 0x80, Verdict::Redundant),
+        (0x7f, 0x00, Verdict::Redundant),
+        (0x80, 0x00, ahead),
+        (0xc8, 0x48, ahead),
+        (0xc8, 0x49, Verdict::Redundant),
+        (0x01, 0x80, ahead),
+        (0x01, 0x81, Verdict::Redundant),
+        (0xfe, 0x01, ahead),
+        (0x09, 0x08, Verdict::Redundant),
+    ];
+    for (first, second, verdict) in rows {
+        let steps = [
+            (Net::A, 1000, first, Verdict::Sampled(POS, 1)),
+            (Net::B, 1000, second, verdict),
+        ];
+        check_steps(&rt, alloc, &settings, &steps)?;
+    }
+    Ok(())
+}
+
+#[test]
+fn every_copy_is_forwarded_without_management(rt: HostRuntime) -> Result<(), Fail> {
+    let alloc = rt.alloc();
+    let settings = with_max(alloc, 1471, false)?.ok_or("settings")?;
+    check_steps(
+        &rt,
+        alloc,
+        &settings,
+        &[
+            (Net::A, 1000, 7, Verdict::Sampled(POS, 1)),
+            (Net::B, 1000, 7, Verdict::Sampled(POS, 2)),
+        ],
+    )
+}
+
+#[test]
+fn a_frame_with_a_bad_header_was_forwarded(rt: HostRuntime) -> Result<(), Fail> {
+    let alloc = rt.alloc();
+    let settings = built_in(alloc)?;
+    let mut state = LinkState::new(alloc, &settings)?;
+    let ip = "4500002d000100000111cdcd0a010101e0e00011";
+    let bad = frame_of(alloc, &[ETHERNET, ip, UDP, PAYLOAD], 0)?;
+    let answer = receive(&rt, alloc, &settings, &mut state, Net::A, 1000, &bad);
+    assert_eq!(rt; answer, Verdict::BadHeader(PacketFault::Checksum));
+    let good = smallest(alloc, 0)?;
+    let answer = receive(&rt, alloc, &settings, &mut state, Net::B, 1100, &good);
+    assert_eq!(rt; answer, Verdict::Redundant);
     Ok(())
 }
 
@@ -251,7 +427,7 @@ fn headers_decide(rt: HostRuntime) -> Result<(), Fail> {
     for (ip, udp, payload, verdict) in rows {
         let mut state = LinkState::new(alloc, &settings)?;
         let frame = frame_of(alloc, &[ETHERNET, ip, udp, payload], 0)?;
-        let answer = receive(&rt, alloc, &settings, &mut state, 1000, &frame);
+        let answer = receive(&rt, alloc, &settings, &mut state, Net::A, 1000, &frame);
         assert_eq!(rt; answer, verdict, "{ip} {udp}");
     }
     Ok(())
@@ -263,14 +439,15 @@ fn a_datagram_of_eight_octets_has_an_empty_payload(rt: HostRuntime) -> Result<()
     let settings = built_in(alloc)?;
     let mut state = LinkState::new(alloc, &settings)?;
     let frame = frame_of(alloc, &[ETHERNET, IP, "1389138800080000", PAYLOAD], 0)?;
-    let _ = receive(&rt, alloc, &settings, &mut state, 1000, &frame);
+    let _ = receive(&rt, alloc, &settings, &mut state, Net::A, 1000, &frame);
     let (_, message) = state.newest(POS).ok_or("a message")?;
     assert!(rt; message.octets.is_empty());
     Ok(())
 }
 
-/// Link 17 with the sampling port `pos` alone, of this largest payload.
-fn with_max(alloc: Global, max: u16) -> Result<Option<LinkSettings>, Memory> {
+/// Link 17 with the sampling port `pos` alone, of this largest payload, and with redundancy
+/// management on or off.
+fn with_max(alloc: Global, max: u16, managed: bool) -> Result<Option<LinkSettings>, Memory> {
     let kind = PortKind::Sampling { refresh: 20_000 };
     let Some(name) = PortName::new("pos") else {
         return Ok(None);
@@ -279,7 +456,7 @@ fn with_max(alloc: Global, max: u16) -> Result<Option<LinkSettings>, Memory> {
         return Ok(None);
     };
     let ports = vec![in alloc; port]?;
-    Ok(LinkSettings::new(LinkNo(17), 1000, true, 50_000, ports))
+    Ok(LinkSettings::new(LinkNo(17), 1000, managed, 50_000, ports))
 }
 
 #[test]
@@ -294,13 +471,13 @@ fn payloads_are_compared_with_the_largest(rt: HostRuntime) -> Result<(), Fail> {
         (0, UDP, long),
     ];
     for (max, udp, verdict) in rows {
-        let settings = with_max(alloc, max)?.ok_or("settings")?;
+        let settings = with_max(alloc, max, true)?.ok_or("settings")?;
         let mut state = LinkState::new(alloc, &settings)?;
         let frame = frame_of(alloc, &[ETHERNET, IP, udp, PAYLOAD], 0)?;
-        let answer = receive(&rt, alloc, &settings, &mut state, 1000, &frame);
+        let answer = receive(&rt, alloc, &settings, &mut state, Net::A, 1000, &frame);
         assert_eq!(rt; answer, verdict, "largest {max}");
     }
-    assert!(rt; with_max(alloc, 1471)?.is_some());
-    assert!(rt; with_max(alloc, 1472)?.is_none());
+    assert!(rt; with_max(alloc, 1471, true)?.is_some());
+    assert!(rt; with_max(alloc, 1472, true)?.is_none());
     Ok(())
 }

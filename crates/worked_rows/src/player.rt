@@ -8,16 +8,30 @@ use trace_player::{
     DEFAULT_CONSTANT, Device, PlayFault, RunFault, TraceCause, built_in, play, status_of,
 };
 
-/// What the player answers, and what it wrote.
+/// A trace of no bytes.
+const NOTHING: &[u8] = &[];
+
+/// What the player answers for two traces, and what it wrote.
+fn both_played(
+    alloc: Global,
+    settings: &LinkSettings,
+    a: &[u8],
+    b: &[u8],
+) -> (Result<(), PlayFault>, Vec<u8>) {
+    let mut a = Device::new(a);
+    let mut b = Device::new(b);
+    let mut out = Device::new(Vec::new(alloc));
+    let answer = play(alloc, DEFAULT_CONSTANT, settings, &mut a, &mut b, &mut out);
+    (answer, out.inner)
+}
+
+/// The same for a trace of network A alone.
 fn played(
     alloc: Global,
     settings: &LinkSettings,
     trace: &[u8],
 ) -> (Result<(), PlayFault>, Vec<u8>) {
-    let mut a = Device::new(trace);
-    let mut out = Device::new(Vec::new(alloc));
-    let answer = play(alloc, DEFAULT_CONSTANT, settings, &mut a, &mut out);
-    (answer, out.inner)
+    both_played(alloc, settings, trace, &[])
 }
 
 /// A line of a trace.
@@ -51,7 +65,7 @@ fn frames_are_told_line_by_line(rt: HostRuntime) -> Result<(), Fail> {
         (link_273, IP, UDP, PAYLOAD, "filtered unknown-link"),
         (both, IP, UDP, PAYLOAD, "filtered not-ip"),
         (ETHERNET, ip, udp, longest, "vl 17 0 sampled pos 1"),
-        (ETHERNET, IP, UDP, PAYLOAD, "vl 17 1 sampled pos 2"),
+        (ETHERNET, IP, UDP, PAYLOAD, "vl 17 1 redundant"),
     ];
     let mut trace = String::new(alloc);
     let mut output = String::new(alloc);
@@ -222,7 +236,8 @@ fn a_source_that_fails_is_told(rt: HostRuntime) -> Result<(), Fail> {
         failed: false,
     };
     let mut out = Device::new(Vec::new(alloc));
-    let answer = play(alloc, DEFAULT_CONSTANT, &settings, &mut a, &mut out);
+    let mut b = Device::new(NOTHING);
+    let answer = play(alloc, DEFAULT_CONSTANT, &settings, &mut a, &mut b, &mut out);
     assert_eq!(rt; answer, Err(PlayFault::Read { net: Net::A }));
     assert!(rt; a.failed);
     assert!(rt; out.inner.is_empty());
@@ -242,7 +257,8 @@ fn a_sink_that_takes_nothing_more_is_told(rt: HostRuntime) -> Result<(), Fail> {
             written: Vec::new(alloc),
             failed: false,
         };
-        let answer = play(alloc, DEFAULT_CONSTANT, &settings, &mut a, &mut out);
+        let mut b = Device::new(NOTHING);
+        let answer = play(alloc, DEFAULT_CONSTANT, &settings, &mut a, &mut b, &mut out);
         assert_eq!(rt; answer, Err(PlayFault::Write));
         assert!(rt; out.failed);
         assert!(rt; out.written.as_slice() == &output[..room]);
@@ -253,7 +269,8 @@ fn a_sink_that_takes_nothing_more_is_told(rt: HostRuntime) -> Result<(), Fail> {
         written: Vec::new(alloc),
         failed: false,
     };
-    let answer = play(alloc, DEFAULT_CONSTANT, &settings, &mut a, &mut out);
+    let mut b = Device::new(NOTHING);
+    let answer = play(alloc, DEFAULT_CONSTANT, &settings, &mut a, &mut b, &mut out);
     assert_eq!(rt; answer, Ok(()));
     assert!(rt; out.written.as_slice() == output);
     Ok(())
@@ -281,5 +298,77 @@ fn faults_have_their_words_and_statuses(rt: HostRuntime) -> Result<(), Fail> {
         assert!(rt; fault.to_string(rt.alloc())?.as_str() == words);
         assert_eq!(rt; status_of(&fault), status);
     }
+    Ok(())
+}
+
+/// A trace of smallest frames, by their times and numbers.
+fn trace_of(alloc: Global, frames: &[(u64, u8)]) -> Result<String, Fail> {
+    let mut trace = String::new(alloc);
+    for (time, number) in frames {
+        let frame = smallest(alloc, *number)?;
+        trace.push_str(line_of(alloc, *time, &frame)?.as_str())?;
+    }
+    Ok(trace)
+}
+
+#[test]
+fn traces_are_merged_by_time(rt: HostRuntime) -> Result<(), Fail> {
+    let alloc = rt.alloc();
+    let settings = built_in(alloc)?;
+    // A comes first on equal times, B where it was earlier.
+    let a = trace_of(alloc, &[(1000, 7), (1500, 8), (1500, 9), (9000, 10)])?;
+    let b = trace_of(alloc, &[(1000, 7), (1400, 8), (1500, 9), (9001, 10)])?;
+    let output = "1000 A vl 17 0 sampled pos 1\n\
+        1000 B vl 17 1 redundant\n\
+        1400 B vl 17 2 sampled pos 2\n\
+        1500 A vl 17 3 redundant\n\
+        1500 A vl 17 4 sampled pos 3\n\
+        1500 B vl 17 5 redundant\n\
+        9000 A vl 17 6 sampled pos 4\n\
+        9001 B vl 17 7 redundant\n";
+    let (answer, written) = both_played(alloc, &settings, a.as_bytes(), b.as_bytes());
+    assert_eq!(rt; answer, Ok(()));
+    assert!(rt; written.as_slice() == output.as_bytes());
+    // Each network alone.
+    let (answer, written) = both_played(alloc, &settings, NOTHING, b.as_bytes());
+    assert_eq!(rt; answer, Ok(()));
+    assert!(rt; written.starts_with(b"1000 B vl 17 0 sampled pos 1\n"));
+    Ok(())
+}
+
+#[test]
+fn trace_a_is_checked_before_trace_b_is_read(rt: HostRuntime) -> Result<(), Fail> {
+    let alloc = rt.alloc();
+    let settings = built_in(alloc)?;
+    let cause = TraceCause::Hex;
+    let mut a = Device::new(b"1000 0".as_slice());
+    let mut b = Breaking {
+        text: NOTHING,
+        failed: false,
+    };
+    let mut out = Device::new(Vec::new(alloc));
+    let answer = play(alloc, DEFAULT_CONSTANT, &settings, &mut a, &mut b, &mut out);
+    assert_eq!(rt;
+        answer,
+        Err(PlayFault::Trace {
+            net: Net::A,
+            line: 1,
+            cause
+        })
+    );
+    assert!(rt; !b.failed);
+    let mut a = Device::new(b"1000 00".as_slice());
+    let answer = play(alloc, DEFAULT_CONSTANT, &settings, &mut a, &mut b, &mut out);
+    assert_eq!(rt; answer, Err(PlayFault::Read { net: Net::B }));
+    let (answer, _) = both_played(alloc, &settings, b"1000 00", b"\n1000 0");
+    assert_eq!(rt;
+        answer,
+        Err(PlayFault::Trace {
+            net: Net::B,
+            line: 2,
+            cause
+        })
+    );
+    assert!(rt; out.inner.is_empty());
     Ok(())
 }

@@ -1,15 +1,16 @@
-use Rattle.std.proofs.Common.{◌≡◌, List, reverse, map, take, string_bytes}
+use Rattle.std.proofs.Common.{◌≡◌, ◌+◌, ◌++◌, length, string_bytes}
 use Rattle.link_receiver.specs.Link.{past_of}
-use Rattle.es_base.specs.History.{Arrival}
-use Rattle.trace_player.specs.Output.{config, past_after, lines_of, arrival}
+use Rattle.trace_player.specs.Output.{config, lines_of, merged, output_of}
 use Rattle.trace_player.proofs.run.output_of.Given as goal
 
--- the frames so far are in the link's past and in the text
-abbrev pub invariant-loop-frame : goal.invariant-loop-frame
-invariant-loop-frame l =
-    let earlier : List Arrival = reverse (map (arrival l.net) (take l.frame-index l.frames)) in
+-- the text so far, and the lines of the frames that are left, are the whole
+abbrev pub invariant-loop-net : goal.invariant-loop-net
+invariant-loop-net l =
+    let c = config l.constant l.settings in
     record {
       settings : l.state.settings ≡ l.settings;
-      past : past_of l.state ≡ past_after (config l.constant l.settings) earlier;
-      lines : string_bytes l.text ≡ lines_of (config l.constant l.settings) earlier;
+      lines : string_bytes l.text ++ lines_of c (past_of l.state) (merged l.frames.a.now l.frames.b.now) ≡ output_of c l.a l.b;
     }
+
+abbrev pub decreases-loop-net : goal.decreases-loop-net
+decreases-loop-net l = length l.frames.a.now + length l.frames.b.now

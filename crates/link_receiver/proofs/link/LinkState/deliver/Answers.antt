@@ -1,4 +1,4 @@
-use Rattle.std.proofs.Common.{◌≡◌, ◌<◌, true, length, reverse, set, get_or, refl, ap, ◌∙◌, rules, None}
+use Rattle.std.proofs.Common.{◌≡◌, ◌<◌, true, length, reverse, set, get_or, refl, sym, ap, ◌∙◌, rules, None}
 use Rattle.std.proofs.lemmas.List.{length-set}
 use Rattle.std.proofs.lemmas.Option.{slice_get-get_or}
 use Rattle.es_base.specs.declared.event.Event.{Event}
@@ -8,7 +8,7 @@ use Rattle.link_receiver.specs.declared.register.Register.{Register}
 use Rattle.link_receiver.specs.Link.{arrived, event_of}
 use Rattle.link_receiver.specs.Register.{after_publishing}
 use Rattle.link_receiver.specs.Carried.{carried_parts}
-use Rattle.link_receiver.proofs.OneMore.{kept_more, shown_after_publishing}
+use Rattle.link_receiver.proofs.OneMore.{kept_more, shown_after_publishing, brought_first}
 use Rattle.link_receiver.proofs.link.LinkState.deliver.Goals as goal
 
 pub invariant_of-self-2 : goal.invariant_of-self-2
@@ -32,7 +32,9 @@ invariant_of-self-2 c =
     let register = get_or registers carried.port.0 none in
     let written : after ≡ set registers carried.port.0 (after_publishing register message) = search rules in
     let as_many : length after ≡ length registers = ap length written ∙ length-set registers carried.port.0 _ in
-    rw (c.note.ensures, c.args.frame.now.number_is) (kept_more settings history c.push_reserved.new.self.items c.self.inside.sequence.last registers after e
-    (search rules) c.self.invariant c.requires.network verdict refl as_many
+    let first = brought_first _ _ settings.ports c.args.frame.now.whole.now carried brings in
+    let stand = c.note.ensures origin (reverse history) e c.self.invariant.checked refl (sym c.args.frame.now.number_is) refl first in
+    kept_more settings history c.push_reserved.new.self.items c.self.inside.checks c.note.new.self registers after e
+    (search rules) c.self.invariant verdict refl stand as_many
     (shown_after_publishing origin (reverse history) e carried registers after register message there written brings refl few c.self.invariant.shown)
-    c.in_ok-reserve_event.ensures.few)
+    c.in_ok-reserve_event.ensures.few
