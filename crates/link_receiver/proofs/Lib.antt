@@ -1,2 +1,3 @@
+pub mod ByPlace
 pub mod OneMore
 pub mod Places

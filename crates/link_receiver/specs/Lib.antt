@@ -1,3 +1,4 @@
+pub mod ByPlace
 pub mod Carried
 pub mod Checks
 pub mod Kept

@@ -5,6 +5,7 @@
 
 mod carried;
 mod checks;
+pub mod laws;
 mod link;
 mod register;
 

@@ -1,4 +1,5 @@
 //! The frames of the rows.
+use es_base::{LinkNo, LinkSettings, Memory, PortKind, PortName, PortSettings};
 use hex::FromHexError;
 use std::alloc::Global;
 
@@ -29,4 +30,18 @@ pub(crate) fn frame_of(alloc: Global, texts: &[&str], number: u8) -> Result<Vec<
 /// The smallest frame, for the sampling port, with this sequence number.
 pub(crate) fn smallest(alloc: Global, number: u8) -> Result<Vec<u8>, FromHexError> {
     frame_of(alloc, &[ETHERNET, IP, UDP, PAYLOAD], number)
+}
+
+/// Link 17 with the sampling port `pos` alone, of this largest payload, and with redundancy
+/// management on or off.
+pub(crate) fn with_max(alloc: Global, max: u16, managed: bool) -> Result<Option<LinkSettings>, Memory> {
+    let kind = PortKind::Sampling { refresh: 20_000 };
+    let Some(name) = PortName::new("pos") else {
+        return Ok(None);
+    };
+    let Some(port) = PortSettings::new(name, 0xe0e0_0011, 5000, max, kind) else {
+        return Ok(None);
+    };
+    let ports = vec![in alloc; port]?;
+    Ok(LinkSettings::new(LinkNo(17), 1000, managed, 50_000, ports))
 }

@@ -1,11 +1,8 @@
 //! Rows through the receiver of one link, `decide` compared with `take` on each frame.
 ghost use Rattle.std.specs.Prelude.{◌≡◌};
 
-use crate::frames::{ETHERNET, IP, PAYLOAD, UDP, frame_of, smallest};
-use es_base::{
-    Decision, LinkNo, LinkSettings, Memory, Net, PacketFault, PortKind, PortName, PortNo,
-    PortSettings, Verdict,
-};
+use crate::frames::{ETHERNET, IP, PAYLOAD, UDP, frame_of, smallest, with_max};
+use es_base::{Decision, LinkSettings, Net, PacketFault, PortNo, Verdict};
 use frame_reader::read_frame;
 use link_receiver::LinkState;
 use std::alloc::Global;
@@ -443,20 +440,6 @@ fn a_datagram_of_eight_octets_has_an_empty_payload(rt: HostRuntime) -> Result<()
     let (_, message) = state.newest(POS).ok_or("a message")?;
     assert!(rt; message.octets.is_empty());
     Ok(())
-}
-
-/// Link 17 with the sampling port `pos` alone, of this largest payload, and with redundancy
-/// management on or off.
-fn with_max(alloc: Global, max: u16, managed: bool) -> Result<Option<LinkSettings>, Memory> {
-    let kind = PortKind::Sampling { refresh: 20_000 };
-    let Some(name) = PortName::new("pos") else {
-        return Ok(None);
-    };
-    let Some(port) = PortSettings::new(name, 0xe0e0_0011, 5000, max, kind) else {
-        return Ok(None);
-    };
-    let ports = vec![in alloc; port]?;
-    Ok(LinkSettings::new(LinkNo(17), 1000, managed, 50_000, ports))
 }
 
 #[test]
