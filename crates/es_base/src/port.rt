@@ -55,7 +55,8 @@ impl PortSettings {
         kind: PortKind,
     ) -> Option<PortSettings>
         ensures valid { IsSome result ↔ IsTrue (is_within_limits max kind) }
-        ensures value { IfSome result (λ p. p ≡ record { name = name; address = address; udp = udp; max = max; kind = kind }) }
+        ensures value { IfSome result (λ port.
+            port ≡ record { name = name; address = address; udp = udp; max = max; kind = kind }) }
     {
         let fits = match kind {
             PortKind::Sampling { refresh } => max <= LONGEST_SAMPLE && refresh <= LONGEST_REFRESH,

@@ -32,7 +32,13 @@ impl Model for LinkSettings {
 
     ghost Value = { Settings };
 
-    ghost view = { λ s. record { vl = s.vl; skew_max = s.skew_max; redundancy = s.redundancy; reassembly = s.reassembly; ports = s.ports.items } };
+    ghost view = { λ s. record {
+      vl = s.vl;
+      skew_max = s.skew_max;
+      redundancy = s.redundancy;
+      reassembly = s.reassembly;
+      ports = s.ports.items;
+    } };
 
     ghost invariant = { λ s. are_link_settings s.skew_max s.reassembly s.ports.items ≡ true };
 }
@@ -50,7 +56,13 @@ impl LinkSettings {
         ports: Vec<PortSettings>,
     ) -> Option<LinkSettings>
         ensures valid { IsSome result ↔ IsTrue (are_link_settings skew_max reassembly ports.items) }
-        ensures value { IfSome result (λ s. s ≡ record { vl = vl; skew_max = skew_max; redundancy = redundancy; reassembly = reassembly; ports = ports.items }) }
+        ensures value { IfSome result (λ settings. settings ≡ record {
+          vl = vl;
+          skew_max = skew_max;
+          redundancy = redundancy;
+          reassembly = reassembly;
+          ports = ports.items;
+        }) }
     {
         let fits = skew_max <= LONGEST_SKEW
             && reassembly <= LONGEST_REASSEMBLY

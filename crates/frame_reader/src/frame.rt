@@ -31,7 +31,8 @@ pub struct Frame<'a> {
 
 /// Reads a frame of 60 to 1514 octets that begins with the network's constant field.
 pub fn read_frame(constant: [u8; 4], bytes: &[u8]) -> Result<Frame<'_>, FrameFault>
-    ensures parts { Gives (λ frame. record { vl = frame.vl.0; number = frame.number; inner = frame.inner.now }) result (frame_of constant bytes.now) }
+    ensures parts { Gives (λ frame. record { vl = frame.vl.0; number = frame.number; inner = frame.inner.now })
+        result (frame_of constant bytes.now) }
     ensures whole { IfOk result (λ frame. frame.whole.now ≡ bytes.now) }
 {
     if bytes.len() < SHORTEST {

@@ -33,7 +33,8 @@ impl Sequence {
     /// Whether a frame with this number passes: it is the first, a reset, the next number, or the
     /// one after the next.
     pub fn check(&self, number: u8) -> bool
-        ensures { (numbers : List ℕ) → self.now ≡ latest numbers → result ≡ may_follow (latest numbers) number }
+        ensures { (numbers : List ℕ) → self.now ≡ latest numbers →
+            result ≡ may_follow (latest numbers) number }
     {
         match self.last {
             None => true,

@@ -1,5 +1,5 @@
 -- A run by places.
-use Rattle.std.proofs.Common.{◌≡◌, ℕ, zero, suc, ◌+◌, ◌<◌, ◌≤◌, List, [], ◌∷◌, ◌++◌, length, reverse, take, Some, refl, sym, ap, ◌∙◌, subst, arith, length-append, ⊎_elim}
+use Rattle.std.proofs.Common.{◌≡◌, ℕ, zero, suc, ◌<◌, ◌≤◌, List, [], ◌∷◌, ◌++◌, length, reverse, refl, sym, ◌∙◌, arith, length-append, ⊎_elim}
 use Rattle.std.specs.List.{slice_get}
 use Rattle.std.proofs.Math.Seq.{take-append_seam}
 use Rattle.std.proofs.lemmas.Bool.{cases_lt}
@@ -22,11 +22,11 @@ one_more_by_place o front x each is place e there =
     let size = length-append front (x ∷ []) in
     ⊎_elim
     (λ (before : place < length front).
-      rw (take-append-le place front (x ∷ []) (omega arith)) (each place e (sym (slice_get-append front (x ∷ []) place before) ∙ there)))
+    rw (take-append-le place front (x ∷ []) (omega arith)) (each place e (sym (slice_get-append front (x ∷ []) place before) ∙ there)))
     (λ (behind : length front ≤ place).
-      let last : place ≡ length front = omega (arith, within, size, behind) in
-      let same : x ≡ e = same_Some x e (sym (slice_get-push front x) ∙ (rw last at there)) in
-      rw (← same, last, take-append_seam front (x ∷ [])) is)
+    let last : place ≡ length front = omega (arith, within, size, behind) in
+    let same : x ≡ e = same_Some x e (sym (slice_get-push front x) ∙ (rw last at there)) in
+    rw (← same, last, take-append_seam front (x ∷ [])) is)
     (cases_lt place (length front))
 
 pub by_place : (o : Origin) (past : List Event) → IsRun o past → EachByPlace o (reverse past)

@@ -36,7 +36,8 @@ impl Checks {
 
     /// Whether a frame with this number passes integrity checking on its network.
     pub(crate) fn passes(&self, net: Net, number: u8) -> bool
-        ensures { (o : Origin) (past : List Event) → StandFor self.now o past → result ≡ may_follow (latest (numbers_on o past net)) number }
+        ensures { (o : Origin) (past : List Event) → StandFor self.now o past →
+            result ≡ may_follow (latest (numbers_on o past net)) number }
     {
         match net {
             Net::A => self.a.check(number),
@@ -46,7 +47,8 @@ impl Checks {
 
     /// Whether a frame that passes is forwarded; `managed` says whether redundancy management is on.
     pub(crate) fn forwards(&self, managed: bool, number: u8, now: u64) -> bool
-        ensures { (o : Origin) (past : List Event) → StandFor self.now o past → o.settings.redundancy ≡ managed →
+        ensures { (o : Origin) (past : List Event) → StandFor self.now o past →
+            o.settings.redundancy ≡ managed →
             result ≡ is_forwarded o.settings (forwarded o past) number now }
     {
         !managed || self.redundancy.would_forward(number, now)
@@ -54,8 +56,11 @@ impl Checks {
 
     /// One more frame; `first` says whether it was forwarded.
     pub(crate) fn note(&mut self, net: Net, number: u8, now: u64, first: bool)
-        ensures { (o : Origin) (past : List Event) (e : Event) → StandFor self.old o past → e.net ≡ net → number_of e.frame ≡ number → e.time ≡ now →
-            (passes o past (arrival_of e) && is_forwarded o.settings (forwarded o past) (number_of e.frame) e.time) ≡ first → StandFor self.new o (e ∷ past) }
+        ensures { (o : Origin) (past : List Event) (e : Event) → StandFor self.old o past →
+            e.net ≡ net → number_of e.frame ≡ number → e.time ≡ now →
+            (passes o past (arrival_of e)
+            && is_forwarded o.settings (forwarded o past) (number_of e.frame) e.time) ≡ first →
+            StandFor self.new o (e ∷ past) }
     {
         self.note_number(net, number);
         if first {
@@ -64,8 +69,10 @@ impl Checks {
     }
 
     fn note_number(&mut self, net: Net, number: u8)
-        ensures a { (numbers : List ℕ) → self.old.a ≡ latest numbers → self.new.a ≡ latest (if is_same_net net Net.A then number ∷ numbers else numbers) }
-        ensures b { (numbers : List ℕ) → self.old.b ≡ latest numbers → self.new.b ≡ latest (if is_same_net net Net.B then number ∷ numbers else numbers) }
+        ensures a { (numbers : List ℕ) → self.old.a ≡ latest numbers →
+            self.new.a ≡ latest (if is_same_net net Net.A then number ∷ numbers else numbers) }
+        ensures b { (numbers : List ℕ) → self.old.b ≡ latest numbers →
+            self.new.b ≡ latest (if is_same_net net Net.B then number ∷ numbers else numbers) }
         ensures redundancy { self.new.redundancy ≡ self.old.redundancy }
     {
         match net {

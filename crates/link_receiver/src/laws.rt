@@ -8,5 +8,4 @@ ghost use Rattle.link_receiver.specs.ByPlace.{EachByPlace};
 /// place.
 pub fn verdicts_by_place()
     ensures { (o : Origin) (history : List Event) → IsRun o (reverse history) → EachByPlace o history }
-{
-}
+{}

@@ -3,10 +3,12 @@ ghost use Rattle.std.specs.Prelude.{◌≡◌, ◌≤◌, ◌<◌, ◌^◌, ◌&
 ghost use Rattle.std.specs.Option.{option_map};
 ghost use Rattle.frame_reader.specs.Gives.{Gives};
 ghost use Rattle.es_base.specs.Number.{latest, may_follow};
-ghost use Rattle.es_base.specs.History.{IsRun, numbers_on, is_forwarded, forwarded, outcome, deliveries, decision_of, verdict_of, newest_of, sampled, BringsNothing};
+ghost use Rattle.es_base.specs.History.{IsRun, BringsNothing, is_forwarded, newest_of, sampled};
 ghost use Rattle.es_base.specs.declared.verdict.Decision.TheVariants.{Final};
 ghost use Rattle.link_receiver.specs.Carried.{carried_parts};
-ghost use Rattle.link_receiver.specs.Link.{origin_of, past_of, arrived, event_of, with_event};
+ghost use Rattle.link_receiver.specs.Link.{origin_of, past_of, numbers_of, forwarded_of, deliveries_of};
+ghost use Rattle.link_receiver.specs.Link.{outcome_after, decision_after, verdict_after};
+ghost use Rattle.link_receiver.specs.Link.{arrived, event_of, with_event};
 
 use crate::carried::{Carried, carried_in, datagram_in};
 use crate::checks::Checks;
@@ -66,7 +68,8 @@ impl LinkState {
     /// How many messages came to a sampling port, and the newest of them. None where none came, and
     /// where the port isn't sampling.
     pub fn newest(&self, port: PortNo) -> Option<(u64, &Message)>
-        ensures { option_map (λ newest. (newest.0, newest.1.now)) result ≡ newest_of (deliveries (origin_of self.now) (past_of self.now) port) }
+        ensures { option_map (λ newest. (newest.0, newest.1.now)) result
+            ≡ newest_of (deliveries_of self.now port) }
     {
         match self.registers.get(port.0 as usize) {
             Some(register) => register.newest(),
@@ -76,7 +79,7 @@ impl LinkState {
 
     /// What would become of a frame that came now, at `now` microseconds. Nothing changes.
     pub fn decide(&self, net: Net, now: u64, frame: &Frame<'_>) -> Decision
-        ensures { result ≡ decision_of (origin_of self.now) (past_of self.now) (arrived net now frame.now.whole.now) }
+        ensures { result ≡ decision_after self.now (arrived net now frame.now.whole.now) }
     {
         match self.outcome(net, now, frame) {
             Err(verdict) => Decision::Final(verdict),
@@ -94,8 +97,10 @@ impl LinkState {
         frame: &Frame<'_>,
     ) -> Result<Verdict, Memory>
         requires { frame.now.vl ≡ self.old.settings.vl }
-        ensures event { IfOk result (λ verdict. self.new ≡ with_event self.old (arrived net now frame.now.whole.now) verdict) }
-        ensures verdict { IfOk result (λ verdict. verdict ≡ verdict_of (origin_of self.old) (past_of self.old) (arrived net now frame.now.whole.now) true) }
+        ensures event { IfOk result (λ verdict.
+            self.new ≡ with_event self.old (arrived net now frame.now.whole.now) verdict) }
+        ensures verdict { IfOk result (λ verdict.
+            verdict ≡ verdict_after self.old (arrived net now frame.now.whole.now)) }
         ensures err { OnErr result (self.new ≡ self.old) }
     {
         match self.outcome(net, now, frame) {
@@ -107,7 +112,7 @@ impl LinkState {
     /// What the frame brings to which port, or the verdict of a frame that brings nothing to one.
     #[tactic(auto, unfolding(es_base::specs::History::outcome_if))]
     fn outcome<'a>(&self, net: Net, now: u64, frame: &Frame<'a>) -> Result<Carried<'a>, Verdict>
-        ensures value { Gives carried_parts result (outcome (origin_of self.now) (past_of self.now) (arrived net now frame.now.whole.now)) }
+        ensures value { Gives carried_parts result (outcome_after self.now (arrived net now frame.now.whole.now)) }
         ensures port { IfOk result (λ carried. carried.port.0 < length self.now.settings.ports) }
     {
         if !self.passes(net, frame.number) {
@@ -124,14 +129,14 @@ impl LinkState {
 
     /// Whether a frame passes integrity checking.
     fn passes(&self, net: Net, number: u8) -> bool
-        ensures { result ≡ may_follow (latest (numbers_on (origin_of self.now) (past_of self.now) net)) number }
+        ensures { result ≡ may_follow (latest (numbers_of self.now net)) number }
     {
         self.checks.passes(net, number)
     }
 
     /// Whether a frame that passes is forwarded.
     fn forwards(&self, now: u64, number: u8) -> bool
-        ensures { result ≡ is_forwarded self.now.settings (forwarded (origin_of self.now) (past_of self.now)) number now }
+        ensures { result ≡ is_forwarded self.now.settings (forwarded_of self.now) number now }
     {
         self.checks
             .forwards(self.settings.redundancy(), number, now)
@@ -139,8 +144,8 @@ impl LinkState {
 
     /// Whether a frame passes and is forwarded.
     fn is_first(&self, net: Net, now: u64, number: u8) -> bool
-        ensures { result ≡ (may_follow (latest (numbers_on (origin_of self.now) (past_of self.now) net)) number
-            && is_forwarded self.now.settings (forwarded (origin_of self.now) (past_of self.now)) number now) }
+        ensures { result ≡ (may_follow (latest (numbers_of self.now net)) number
+            && is_forwarded self.now.settings (forwarded_of self.now) number now) }
     {
         self.passes(net, number) && self.forwards(now, number)
     }
@@ -148,7 +153,7 @@ impl LinkState {
     /// How many messages came to a port.
     fn published(&self, port: PortNo) -> u64
         requires { port.0 < length self.now.settings.ports }
-        ensures { result ≡ length (deliveries (origin_of self.now) (past_of self.now) port) }
+        ensures { result ≡ length (deliveries_of self.now port) }
     {
         self.registers[port.0 as usize].published
     }
@@ -162,9 +167,11 @@ impl LinkState {
         frame: &Frame<'_>,
         verdict: Verdict,
     ) -> Result<Verdict, Memory>
-        requires decision { decision_of (origin_of self.old) (past_of self.old) (arrived net now frame.now.whole.now) ≡ Final verdict }
-        requires nothing { BringsNothing (origin_of self.old) (past_of self.old) (arrived net now frame.now.whole.now) }
-        ensures event { OnOk result (self.new ≡ with_event self.old (arrived net now frame.now.whole.now) verdict) }
+        requires decision { decision_after self.old (arrived net now frame.now.whole.now) ≡ Final verdict }
+        requires nothing { BringsNothing (origin_of self.old) (past_of self.old)
+            (arrived net now frame.now.whole.now) }
+        ensures event { OnOk result (
+            self.new ≡ with_event self.old (arrived net now frame.now.whole.now) verdict) }
         ensures verdict { IfOk result (λ answer. answer ≡ verdict) }
         ensures err { OnErr result (self.new ≡ self.old) }
     {
@@ -187,9 +194,11 @@ impl LinkState {
         carried: Carried<'_>,
     ) -> Result<Verdict, Memory>
         requires port { carried.port.0 < length self.old.settings.ports }
-        requires brings { outcome (origin_of self.old) (past_of self.old) (arrived net now frame.now.whole.now) ≡ Ok (carried_parts carried) }
-        ensures event { IfOk result (λ verdict. self.new ≡ with_event self.old (arrived net now frame.now.whole.now) verdict) }
-        ensures verdict { IfOk result (λ verdict. verdict ≡ verdict_of (origin_of self.old) (past_of self.old) (arrived net now frame.now.whole.now) true) }
+        requires brings { outcome_after self.old (arrived net now frame.now.whole.now) ≡ Ok (carried_parts carried) }
+        ensures event { IfOk result (λ verdict.
+            self.new ≡ with_event self.old (arrived net now frame.now.whole.now) verdict) }
+        ensures verdict { IfOk result (λ verdict.
+            verdict ≡ verdict_after self.old (arrived net now frame.now.whole.now)) }
         ensures err { OnErr result (self.new ≡ self.old) }
     {
         let published = self.published(carried.port);

@@ -34,7 +34,8 @@ impl Register {
 
 /// Registers of so many ports, to which nothing came.
 pub(crate) fn empty_registers(alloc: Global, ports: usize) -> Result<Vec<Register>, Memory>
-    ensures { IfOk result (λ registers. registers.items ≡ replicate ports (record { published = 0; newest = None })) }
+    ensures { IfOk result (λ registers.
+        registers.items ≡ replicate ports (record { published = 0; newest = None })) }
 {
     let mut registers = Vec::with_capacity(alloc, ports)?;
     for _ in 0..ports {
@@ -49,7 +50,8 @@ pub(crate) fn empty_registers(alloc: Global, ports: usize) -> Result<Vec<Registe
 /// Makes `message` the newest at the port.
 pub(crate) fn publish(registers: &mut Vec<Register>, port: PortNo, message: Message)
     requires exists { port.0 < length registers.old.items }
-    requires numbered { (register : Register) → slice_get registers.old.items port.0 ≡ Some register → register.published < most_samples }
+    requires numbered { (register : Register) → slice_get registers.old.items port.0 ≡ Some register →
+        register.published < most_samples }
     ensures { (register : Register) → slice_get registers.old.items port.0 ≡ Some register →
         registers.new.items ≡ slice_set registers.old.items port.0 (after_publishing register message) }
 {

@@ -48,7 +48,8 @@ impl Redundancy {
     /// Whether a frame that passed integrity checking is forwarded: none was; or the latest was more
     /// than SkewMax ago; or its number is ahead of that of the frame forwarded last.
     pub fn would_forward(&self, number: u8, now: u64) -> bool
-        ensures { (skew_max : ℕ) (frames : List Forwarded) → StandsFor self.now skew_max frames → result ≡ is_first_copy skew_max frames number now }
+        ensures { (skew_max : ℕ) (frames : List Forwarded) → StandsFor self.now skew_max frames →
+            result ≡ is_first_copy skew_max frames number now }
     {
         match self.last {
             None => true,

@@ -17,9 +17,11 @@ impl<'a> Merge<'a> {
     /// The next frame and its network; on equal times that of A.
     pub(crate) fn next(&mut self) -> Option<(Net, &'a TimedFrame)>
         ensures frames { merged self.old.a.now self.old.b.now
-            ≡ option_to_list (option_map (λ next. arrival next.0 next.1.now) result) ++ merged self.new.a.now self.new.b.now }
+            ≡ option_to_list (option_map (λ next. arrival next.0 next.1.now) result)
+            ++ merged self.new.a.now self.new.b.now }
         ensures last { IfNone result (merged self.old.a.now self.old.b.now ≡ []) }
-        ensures fewer { IfSome result (λ next. length self.new.a.now + length self.new.b.now < length self.old.a.now + length self.old.b.now) }
+        ensures fewer { IfSome result (λ next.
+            length self.new.a.now + length self.new.b.now < length self.old.a.now + length self.old.b.now) }
     {
         match (self.a.split_first(), self.b.split_first()) {
             (Some((a, later)), None) => {

@@ -43,8 +43,10 @@ fn play_frame(
 ) -> Result<(), Memory>
     requires { state.old.settings ≡ settings.now }
     ensures stays { OnOk result (state.new.settings ≡ settings.now) }
-    ensures past { OnOk result (past_of state.new ≡ past_with (config constant settings.now) (past_of state.old) (arrival net timed.now)) }
-    ensures line { OnOk result (string_bytes text.new ≡ string_bytes text.old ++ line_of (config constant settings.now) (past_of state.old) (arrival net timed.now)) }
+    ensures past { OnOk result (past_of state.new
+        ≡ past_with (config constant settings.now) (past_of state.old) (arrival net timed.now)) }
+    ensures line { OnOk result (string_bytes text.new ≡ string_bytes text.old
+        ++ line_of (config constant settings.now) (past_of state.old) (arrival net timed.now)) }
 {
     let time = timed.time;
     match frame_for(constant, settings, timed.frame.as_slice()) {
@@ -77,7 +79,8 @@ fn frame_for<'a>(
     settings: &LinkSettings,
     octets: &'a [u8],
 ) -> Result<Frame<'a>, FilterCause>
-    ensures parts { Gives (λ frame. record { vl = frame.vl.0; number = frame.number; inner = frame.inner.now }) result (received (config constant settings.now) octets.now) }
+    ensures parts { Gives (λ frame. record { vl = frame.vl.0; number = frame.number; inner = frame.inner.now })
+        result (received (config constant settings.now) octets.now) }
     ensures whole { IfOk result (λ frame. frame.whole.now ≡ octets.now) }
     ensures link { IfOk result (λ frame. frame.vl ≡ settings.now.vl) }
 {

@@ -34,7 +34,8 @@ pub(crate) struct EventLine<'a> {
 }
 
 impl fmt::Display for EventLine<'_> {
-    ghost output = { λ line. Some (event_text line.time line.net line.vl line.place (verdict_text line.verdict.ports.now line.verdict.verdict)) };
+    ghost output = { λ line. Some (event_text line.time line.net line.vl line.place
+        (verdict_text line.verdict.ports.now line.verdict.verdict)) };
 
     fn fmt<W: fmt::Write>(&self, f: &mut fmt::Formatter<W>) -> fmt::Result {
         let head = EventHead {

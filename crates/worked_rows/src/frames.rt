@@ -34,7 +34,11 @@ pub(crate) fn smallest(alloc: Global, number: u8) -> Result<Vec<u8>, FromHexErro
 
 /// Link 17 with the sampling port `pos` alone, of this largest payload, and with redundancy
 /// management on or off.
-pub(crate) fn with_max(alloc: Global, max: u16, managed: bool) -> Result<Option<LinkSettings>, Memory> {
+pub(crate) fn with_max(
+    alloc: Global,
+    max: u16,
+    managed: bool,
+) -> Result<Option<LinkSettings>, Memory> {
     let kind = PortKind::Sampling { refresh: 20_000 };
     let Some(name) = PortName::new("pos") else {
         return Ok(None);

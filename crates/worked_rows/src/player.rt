@@ -334,42 +334,104 @@ fn numbers_and_copies_are_told(rt: HostRuntime) -> Result<(), Fail> {
     let alloc = rt.alloc();
     let on = built_in(alloc)?;
     // A discarded number counts as the number before.
-    let a = [(10_000, 5), (20_000, 6), (30_000, 8), (40_000, 11), (50_000, 12)];
-    check_played(&rt, alloc, &on, &a, &[], "10000 A vl 17 0 sampled pos 1\n\
+    let a = [
+        (10_000, 5),
+        (20_000, 6),
+        (30_000, 8),
+        (40_000, 11),
+        (50_000, 12),
+    ];
+    check_played(
+        &rt,
+        alloc,
+        &on,
+        &a,
+        &[],
+        "10000 A vl 17 0 sampled pos 1\n\
         20000 A vl 17 1 sampled pos 2\n\
         30000 A vl 17 2 sampled pos 3\n\
         40000 A vl 17 3 out-of-sequence\n\
-        50000 A vl 17 4 sampled pos 4\n")?;
+        50000 A vl 17 4 sampled pos 4\n",
+    )?;
     // 1 follows 255.
     let a = [(1000, 254), (2000, 255), (3000, 1)];
-    check_played(&rt, alloc, &on, &a, &[], "1000 A vl 17 0 sampled pos 1\n\
+    check_played(
+        &rt,
+        alloc,
+        &on,
+        &a,
+        &[],
+        "1000 A vl 17 0 sampled pos 1\n\
         2000 A vl 17 1 sampled pos 2\n\
-        3000 A vl 17 2 sampled pos 3\n")?;
+        3000 A vl 17 2 sampled pos 3\n",
+    )?;
     // A copy at SkewMax, and one behind it.
-    check_played(&rt, alloc, &on, &[(1000, 7)], &[(2000, 7)], "1000 A vl 17 0 sampled pos 1\n\
-        2000 B vl 17 1 redundant\n")?;
-    check_played(&rt, alloc, &on, &[(1000, 7)], &[(2001, 7)], "1000 A vl 17 0 sampled pos 1\n\
-        2001 B vl 17 1 sampled pos 2\n")?;
+    check_played(
+        &rt,
+        alloc,
+        &on,
+        &[(1000, 7)],
+        &[(2000, 7)],
+        "1000 A vl 17 0 sampled pos 1\n\
+        2000 B vl 17 1 redundant\n",
+    )?;
+    check_played(
+        &rt,
+        alloc,
+        &on,
+        &[(1000, 7)],
+        &[(2001, 7)],
+        "1000 A vl 17 0 sampled pos 1\n\
+        2001 B vl 17 1 sampled pos 2\n",
+    )?;
     // Two copies at one time.
-    check_played(&rt, alloc, &on, &[(1000, 7)], &[(1000, 7)], "1000 A vl 17 0 sampled pos 1\n\
-        1000 B vl 17 1 redundant\n")?;
+    check_played(
+        &rt,
+        alloc,
+        &on,
+        &[(1000, 7)],
+        &[(1000, 7)],
+        "1000 A vl 17 0 sampled pos 1\n\
+        1000 B vl 17 1 redundant\n",
+    )?;
     // B behind A by two frames.
     let (a, b) = ([(1000, 0), (1100, 1)], [(1200, 0), (1300, 1)]);
-    check_played(&rt, alloc, &on, &a, &b, "1000 A vl 17 0 sampled pos 1\n\
+    check_played(
+        &rt,
+        alloc,
+        &on,
+        &a,
+        &b,
+        "1000 A vl 17 0 sampled pos 1\n\
         1100 A vl 17 1 sampled pos 2\n\
         1200 B vl 17 2 redundant\n\
-        1300 B vl 17 3 redundant\n")?;
+        1300 B vl 17 3 redundant\n",
+    )?;
     // A reset is ahead of 255.
-    check_played(&rt, alloc, &on, &[(1000, 255), (1200, 0)], &[], "1000 A vl 17 0 sampled pos 1\n\
-        1200 A vl 17 1 sampled pos 2\n")
+    check_played(
+        &rt,
+        alloc,
+        &on,
+        &[(1000, 255), (1200, 0)],
+        &[],
+        "1000 A vl 17 0 sampled pos 1\n\
+        1200 A vl 17 1 sampled pos 2\n",
+    )
 }
 
 #[test]
 fn every_copy_is_told_without_management(rt: HostRuntime) -> Result<(), Fail> {
     let alloc = rt.alloc();
     let off = with_max(alloc, 1471, false)?.ok_or("settings")?;
-    check_played(&rt, alloc, &off, &[(1000, 7)], &[(2000, 7)], "1000 A vl 17 0 sampled pos 1\n\
-        2000 B vl 17 1 sampled pos 2\n")
+    check_played(
+        &rt,
+        alloc,
+        &off,
+        &[(1000, 7)],
+        &[(2000, 7)],
+        "1000 A vl 17 0 sampled pos 1\n\
+        2000 B vl 17 1 sampled pos 2\n",
+    )
 }
 
 #[test]
