@@ -1,5 +1,5 @@
 -- What a whole run does to its devices.
-use Rattle.std.specs.Prelude.{◌≡◌, ℕ, Bool, true, List, take, IfSome, Option, Result, Ok, Err}
+use Rattle.std.specs.Prelude.{◌≡◌, ℕ, Bool, true, false, List, take, IfSome, Option, Result, Ok, Err}
 use Rattle.std.specs.Io.KnownBytes.{Appends}
 use Rattle.es_base.specs.declared.place.Net.{Net}
 use Rattle.es_base.specs.declared.place.Net.TheVariants as nets
@@ -16,9 +16,9 @@ IsWhole given text = IfSome given (λ bytes. text ≡ bytes)
 
 -- ---- reading
 
--- the whole text was read; or a read failed, which the flag tells
+-- the whole text was read, and no read failed; or one did: the flag tells
 abbrev pub ReadsWhole : {X : Type 0} → Net → (X → List ℕ) → Option (List ℕ) → Bool → Result X PlayFault → Type 0
-ReadsWhole net view given failed (Ok x) = IsWhole given (view x)
+ReadsWhole net view given failed (Ok x) = (failed ≡ false) × IsWhole given (view x)
 ReadsWhole net view given failed (Err (Read at)) = (at ≡ net) × (failed ≡ true)
 ReadsWhole net view given failed (Err (Trace at line cause)) = ⊥
 ReadsWhole net view given failed (Err Write) = ⊥
@@ -26,17 +26,18 @@ ReadsWhole net view given failed (Err Memory) = Unit {0}
 
 -- the whole text was read and says these frames, or has this first fault; or a read failed
 abbrev pub IsRead : {X : Type 0} → Net → (X → List TimedFrame) → Option (List ℕ) → Bool → Result X PlayFault → Type 0
-IsRead net view given failed (Ok x) = (text : List ℕ) × IsWhole given text × (trace_of text ≡ Ok (view x))
-IsRead net view given failed (Err (Trace at line cause)) = (at ≡ net) × ((text : List ℕ) × IsWhole given text × (trace_of text ≡ Err (line, cause)))
+IsRead net view given failed (Ok x) = (failed ≡ false) × ((text : List ℕ) × IsWhole given text × (trace_of text ≡ Ok (view x)))
+IsRead net view given failed (Err (Trace at line cause)) =
+    (at ≡ net) × (failed ≡ false) × ((text : List ℕ) × IsWhole given text × (trace_of text ≡ Err (line, cause)))
 IsRead net view given failed (Err (Read at)) = (at ≡ net) × (failed ≡ true)
 IsRead net view given failed (Err Write) = ⊥
 IsRead net view given failed (Err Memory) = Unit {0}
 
 -- ---- writing
 
--- all the bytes were written; or the writer failed or took nothing, and a beginning was
+-- all the bytes were written, and no write failed; or the writer failed or took nothing, and a beginning was
 abbrev pub WritesWhole : {X : Type 0} → List ℕ → Option (List ℕ) → Option (List ℕ) → Bool → Result X PlayFault → Type 0
-WritesWhole bytes old new failed (Ok x) = Appends old new bytes
+WritesWhole bytes old new failed (Ok x) = (failed ≡ false) × Appends old new bytes
 WritesWhole bytes old new failed (Err Write) = (failed ≡ true) × ((count : ℕ) × Appends old new (take count bytes))
 WritesWhole bytes old new failed (Err (Trace at line cause)) = ⊥
 WritesWhole bytes old new failed (Err (Read at)) = ⊥
@@ -49,13 +50,13 @@ pub record Given : Type 0 where
   pub given : Option (List ℕ)
   pub failed : Bool
 
--- the text was read whole, and says these frames
+-- the text was read whole, no read failed, and it says these frames
 abbrev pub SaysFrames : Given → List TimedFrame → Type 0
-SaysFrames source frames = (text : List ℕ) × IsWhole source.given text × (trace_of text ≡ Ok frames)
+SaysFrames source frames = (source.failed ≡ false) × ((text : List ℕ) × IsWhole source.given text × (trace_of text ≡ Ok frames))
 
--- the text was read whole, and has this first fault
+-- the text was read whole, no read failed, and it has this first fault
 abbrev pub SaysFault : Given → ℕ → TraceCause → Type 0
-SaysFault source line cause = (text : List ℕ) × IsWhole source.given text × (trace_of text ≡ Err (line, cause))
+SaysFault source line cause = (source.failed ≡ false) × ((text : List ℕ) × IsWhole source.given text × (trace_of text ≡ Err (line, cause)))
 
 -- trace B is looked at where trace A says frames
 abbrev pub FirstFault : Given → Given → Net → ℕ → TraceCause → Type 0
@@ -73,7 +74,8 @@ PlaysTraces c a b Writes =
 
 -- What a run over two traces did; `contents` and `has_failed` tell of the sink, from `old` to `new`.
 abbrev pub Played : {S X : Type 0} → Config → Given → Given → (S → Option (List ℕ)) → (S → Bool) → S → S → Result X PlayFault → Type 0
-Played c a b contents has_failed old new (Ok x) = PlaysTraces c a b (λ text. Appends (contents old) (contents new) text)
+Played c a b contents has_failed old new (Ok x) =
+    (has_failed new ≡ false) × PlaysTraces c a b (λ text. Appends (contents old) (contents new) text)
 Played c a b contents has_failed old new (Err (Trace net line cause)) = FirstFault a b net line cause × (new ≡ old)
 Played c a b contents has_failed old new (Err (Read net)) = FirstFailed a b net × (new ≡ old)
 Played c a b contents has_failed old new (Err Write) =
