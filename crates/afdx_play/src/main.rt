@@ -1,29 +1,70 @@
-//! Plays a hex trace of network A from standard input, and prints what each frame came to.
+//! Plays the hex traces of two networks through the receiver, and prints what each frame came to.
 #![tactic(auto)]
 
-use std::alloc::Global;
-use std::io::{Stdin, Stdout};
-use std::process::ExitCode;
-use trace_player::{DEFAULT_CONSTANT, Device, PlayFault, RunFault, built_in, play, status_of};
+mod files;
 
-/// The trace of network B.
+use command_line::{Line, LineFault, line_of};
+use es_base::Net;
+use files::{config_text, open_trace, words_of};
+use std::process::ExitCode;
+use trace_player::{BUILT_IN, Device, PlayFault, RunFault, play, status_of};
+use vl_config::read_config;
+
+/// The trace of network B where the program is called with no words.
 const EMPTY: &[u8] = &[];
 
 fn main(rt: HostRuntime) -> ExitCode {
-    match run(rt.alloc(), rt.stdin(), rt.stdout()) {
+    match run(&rt) {
         Ok(()) => ExitCode::SUCCESS,
         Err(fault) => {
-            let _ = eprintln!(rt; "afdx_play: {fault}");
+            tell(&rt, &fault);
             ExitCode::from(status_of(&fault))
         }
     }
 }
 
-fn run(alloc: Global, input: Stdin, output: Stdout) -> Result<(), RunFault> {
-    let settings = built_in(alloc).map_err(PlayFault::from)?;
-    let mut a = Device::new(input);
+/// Writes a fault to the standard error. The text of a refused command line has its own beginning.
+fn tell(rt: &HostRuntime, fault: &RunFault) {
+    let _ = match fault {
+        RunFault::Line(LineFault::Refused(text)) => eprint!(rt; "{text}"),
+        fault => eprintln!(rt; "afdx_play: {fault}"),
+    };
+}
+
+fn run(rt: &HostRuntime) -> Result<(), RunFault> {
+    let words = words_of(rt)?;
+    if words.is_empty() {
+        return play_input(rt);
+    }
+    match line_of(rt.alloc(), &words) {
+        Ok(line) => play_files(rt, &line),
+        Err(LineFault::Help(text)) => show(rt, &text),
+        Err(fault) => Err(RunFault::Line(fault)),
+    }
+}
+
+/// Writes the text of the help to the standard output.
+fn show(rt: &HostRuntime, help: &clap::Error) -> Result<(), RunFault> {
+    print!(rt; "{help}").map_err(|_| RunFault::Play(PlayFault::Write))
+}
+
+/// Plays the standard input as the trace of network A, with the built-in configuration.
+fn play_input(rt: &HostRuntime) -> Result<(), RunFault> {
+    let config = read_config(rt.alloc(), BUILT_IN)?;
+    let mut a = Device::new(rt.stdin());
     let mut b = Device::new(EMPTY);
-    let mut out = Device::new(output);
-    play(alloc, DEFAULT_CONSTANT, &settings, &mut a, &mut b, &mut out)?;
+    let mut out = Device::new(rt.stdout());
+    play(rt.alloc(), &config, &mut a, &mut b, &mut out)?;
+    Ok(())
+}
+
+/// Plays the files of a command line.
+fn play_files(rt: &HostRuntime, line: &Line) -> Result<(), RunFault> {
+    let text = config_text(rt, &line.config)?;
+    let config = read_config(rt.alloc(), text.as_str())?;
+    let mut a = Device::new(open_trace(rt, Net::A, &line.a)?);
+    let mut b = Device::new(open_trace(rt, Net::B, &line.b)?);
+    let mut out = Device::new(rt.stdout());
+    play(rt.alloc(), &config, &mut a, &mut b, &mut out)?;
     Ok(())
 }

@@ -19,8 +19,10 @@ pub use fault::{FilterCause, FrameFault, PacketFault, UdpFault};
 pub use name::PortName;
 pub use octets::Octets;
 pub use place::{LinkNo, Net, PortNo};
-pub use port::{PortKind, PortSettings};
-pub use settings::LinkSettings;
+pub use port::{
+    DEEPEST_QUEUE, LONGEST_QUEUED, LONGEST_REFRESH, LONGEST_SAMPLE, PortKind, PortSettings,
+};
+pub use settings::{LONGEST_REASSEMBLY, LONGEST_SKEW, LinkSettings, MOST_PORTS};
 pub use verdict::{Decision, Verdict};
 
 /// Want of memory: a growth was refused.

@@ -1,4 +1,8 @@
 pub mod Digits
+pub mod Firsts
 pub mod Lines
 pub mod Pieces
 pub mod Runs
+pub mod States
+pub mod Turns
+pub mod Behind

@@ -1,16 +1,18 @@
--- The history that an output tells of.
-use Rattle.std.proofs.Common.{List, [], ◌∷◌, Result, Ok, Err, refl}
-use Rattle.es_base.specs.declared.fault.FilterCause.{FilterCause}
+-- The history of a link that an output tells of.
+use Rattle.std.proofs.Common.{ℕ, Bool, true, false, cond, List, [], ◌∷◌, refl}
 use Rattle.es_base.specs.declared.event.Event.{Event}
-use Rattle.es_base.specs.Reading.{FrameParts}
+use Rattle.es_base.specs.Settings.{Settings}
 use Rattle.es_base.specs.History.{Arrival, IsRun}
-use Rattle.trace_player.specs.Output.{Config, origin_of, received, with_frame, past_with, past_after}
+use Rattle.link_receiver.specs.Link.{event_of}
+use Rattle.trace_player.specs.Output.{origin_of, comes_to, verdict_at, past_after}
 
 -- one more frame
-with_frame_is_run : (c : Config) (a : Arrival) (past : List Event) (came : Result FrameParts FilterCause) → IsRun (origin_of c) past → IsRun (origin_of c) (with_frame c a past came)
-with_frame_is_run c a past (Ok parts) run = (refl, refl, run)
-with_frame_is_run c a past (Err cause) run = run
+one_more_is_run : (link : Settings) (past : List Event) (a : Arrival) (comes : Bool) → IsRun (origin_of link) past
+    → IsRun (origin_of link) (cond comes (event_of a (verdict_at link past a) ∷ past) past)
+one_more_is_run link past a true run = (refl, refl, run)
+one_more_is_run link past a false run = run
 
-pub past_after_is_run : (c : Config) (past : List Event) (arrivals : List Arrival) → IsRun (origin_of c) past → IsRun (origin_of c) (past_after c past arrivals)
-past_after_is_run c past [] run = run
-past_after_is_run c past (a ∷ later) run = past_after_is_run c (past_with c past a) later (with_frame_is_run c a past (received c a.frame) run)
+pub past_after_is_run : (constant : List ℕ) (link : Settings) (arrivals : List Arrival) → IsRun (origin_of link) (past_after constant link arrivals)
+past_after_is_run constant link [] = tt
+past_after_is_run constant link (a ∷ earlier) =
+    one_more_is_run link (past_after constant link earlier) a (comes_to constant link a.frame) (past_after_is_run constant link earlier)

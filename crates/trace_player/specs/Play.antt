@@ -3,12 +3,13 @@ use Rattle.std.specs.Prelude.{◌≡◌, ℕ, Bool, true, false, List, take, IfS
 use Rattle.std.specs.Io.KnownBytes.{Appends}
 use Rattle.es_base.specs.declared.place.Net.{Net}
 use Rattle.es_base.specs.declared.place.Net.TheVariants as nets
+use Rattle.vl_config.specs.Config.{Configuration}
 use Rattle.trace_player.specs.declared.trace.TimedFrame.{TimedFrame}
 use Rattle.trace_player.specs.declared.trace.TraceCause.{TraceCause}
 use Rattle.trace_player.specs.declared.fault.PlayFault.{PlayFault}
 use Rattle.trace_player.specs.declared.fault.PlayFault.TheVariants.{Trace, Read, Write, Memory}
 use Rattle.trace_player.specs.Trace.{trace_of}
-use Rattle.trace_player.specs.Output.{Config, output_of}
+use Rattle.trace_player.specs.Output.{output_of}
 
 -- the text is all that the source had, where that is known
 abbrev pub IsWhole : Option (List ℕ) → List ℕ → Type 0
@@ -68,12 +69,12 @@ FirstFailed a b nets.A = a.failed ≡ true
 FirstFailed a b nets.B = ((frames : List TimedFrame) × SaysFrames a frames) × (b.failed ≡ true)
 
 -- both texts were read whole, both are traces, and this is done with their output
-abbrev pub PlaysTraces : Config → Given → Given → (List ℕ → Type 0) → Type 0
+abbrev pub PlaysTraces : Configuration → Given → Given → (List ℕ → Type 0) → Type 0
 PlaysTraces c a b Writes =
     (frames_a : List TimedFrame) × ((frames_b : List TimedFrame) × SaysFrames a frames_a × SaysFrames b frames_b × Writes (output_of c frames_a frames_b))
 
 -- What a run over two traces did; `contents` and `has_failed` tell of the sink, from `old` to `new`.
-abbrev pub Played : {S X : Type 0} → Config → Given → Given → (S → Option (List ℕ)) → (S → Bool) → S → S → Result X PlayFault → Type 0
+abbrev pub Played : {S X : Type 0} → Configuration → Given → Given → (S → Option (List ℕ)) → (S → Bool) → S → S → Result X PlayFault → Type 0
 Played c a b contents has_failed old new (Ok x) =
     (has_failed new ≡ false) × PlaysTraces c a b (λ text. Appends (contents old) (contents new) text)
 Played c a b contents has_failed old new (Err (Trace net line cause)) = FirstFault a b net line cause × (new ≡ old)

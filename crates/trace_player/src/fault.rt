@@ -1,8 +1,7 @@
-//! How a run can fail, and in which words.
+//! How a play can fail, and in which words.
 ghost use Rattle.std.specs.Prelude.{◌≡◌, Some};
-ghost use Rattle.trace_player.specs.Fault.{cause_word, play_fault_text, status_of};
+ghost use Rattle.trace_player.specs.Fault.{cause_word, play_fault_text};
 ghost use Rattle.trace_player.specs.declared.fault.PlayFault.TheVariants as faults;
-ghost use Rattle.trace_player.specs.declared.fault.RunFault.TheVariants.{Play};
 
 use crate::TraceCause;
 use es_base::{Memory, Net};
@@ -59,45 +58,5 @@ impl fmt::Display for PlayFault {
             PlayFault::Write => f.write_str("output not written"),
             PlayFault::Memory => f.write_str("out of memory"),
         }
-    }
-}
-
-/// Any fault with which the program can end.
-#[derive(Clone, Copy, Debug, Drop, PartialEq, Eq)]
-pub enum RunFault {
-    Play(PlayFault),
-}
-
-impl fmt::Display for RunFault {
-    ghost use Rattle.std.specs.Prelude.{Some};
-    ghost use Rattle.trace_player.specs.Fault.{run_fault_text};
-
-    ghost output = { λ fault. Some (run_fault_text fault) };
-
-    fn fmt<W: fmt::Write>(&self, f: &mut fmt::Formatter<W>) -> fmt::Result {
-        match self {
-            RunFault::Play(fault) => write!(f, "{fault}"),
-        }
-    }
-}
-
-/// The program's exit status: 1 for a trace that is refused, 3 for a device that failed, 4 for want
-/// of memory.
-pub fn status_of(fault: &RunFault) -> u8
-    ensures { result ≡ status_of fault.now }
-{
-    match fault {
-        RunFault::Play(PlayFault::Trace { .. }) => 1,
-        RunFault::Play(PlayFault::Read { .. }) => 3,
-        RunFault::Play(PlayFault::Write) => 3,
-        RunFault::Play(PlayFault::Memory) => 4,
-    }
-}
-
-impl From<PlayFault> for RunFault {
-    ghost from_gives = { λ fault run. run ≡ Play fault };
-
-    fn from(fault: PlayFault) -> RunFault {
-        RunFault::Play(fault)
     }
 }

@@ -1,26 +1,26 @@
 //! A whole run: from the bytes of a trace to the bytes of the output.
 ghost use Rattle.std.specs.Prelude.{◌≡◌, ◌<◌, ◌^◌, [], IfOk, false, length};
-ghost use Rattle.trace_player.specs.Output.{config};
 ghost use Rattle.trace_player.specs.Play.{IsRead, ReadsWhole, WritesWhole, Played};
 
+use crate::frames::Frames;
 use crate::run::output_of;
 use crate::trace::{TraceError, read_trace};
-use crate::{PlayFault, Sink, Source, TimedFrame};
-use es_base::{LinkSettings, Memory, Net};
+use crate::{PlayFault, Sink, Source};
+use es_base::{Memory, Net};
 use std::alloc::Global;
+use vl_config::Config;
 
 /// How many bytes are asked of a source at once.
 const PIECE: usize = 65_536;
 
 /// Plays the traces of both networks: reads trace A whole and checks it, then trace B; gives their
-/// frames to the link one after another, by their times and those of A first; and writes what each
-/// came to. `constant` is the networks' constant field.
+/// frames one after another, by their times and those of A first, each to the configuration's link
+/// with its number; and writes what each came to.
 ///
 /// The text is made first and written last: after every fault but Write the sink wasn't touched.
 pub fn play<A: Source, B: Source, W: Sink>(
     alloc: Global,
-    constant: [u8; 4],
-    settings: &LinkSettings,
+    config: &Config,
     a: &mut A,
     b: &mut B,
     out: &mut W,
@@ -28,44 +28,53 @@ pub fn play<A: Source, B: Source, W: Sink>(
     requires source_a { A.has_failed a.old ≡ false }
     requires source_b { B.has_failed b.old ≡ false }
     requires sink { W.has_failed out.old ≡ false }
-    ensures { Played (config constant settings.now)
+    ensures { Played config.now
         (record { given = A.remaining a.old; failed = A.has_failed a.new })
         (record { given = B.remaining b.old; failed = B.has_failed b.new })
         W.contents W.has_failed out.old out.new result }
 {
-    let frames_a = trace_from(alloc, Net::A, a)?;
-    let frames_b = trace_from(alloc, Net::B, b)?;
-    let text = output_of(alloc, constant, settings, &frames_a, &frames_b)?;
+    let mut text = Vec::new(alloc);
+    let frames_a = trace_from(alloc, Net::A, a, &mut text)?;
+    let frames_b = trace_from(alloc, Net::B, b, &mut text)?;
+    drop(text);
+    let text = output_of(alloc, config, &frames_a, &frames_b)?;
     write_whole(out, text.as_bytes())
 }
 
-/// The frames of a trace that is read whole.
+/// The frames of a trace that is read whole. `text` is where it is read to: one text serves for both
+/// traces, one after the other.
 fn trace_from<S: Source>(
     alloc: Global,
     net: Net,
     source: &mut S,
-) -> Result<Vec<TimedFrame>, PlayFault>
+    text: &mut Vec<u8>,
+) -> Result<Frames, PlayFault>
     requires { S.has_failed source.old ≡ false }
-    ensures { IsRead net (λ frames. frames.items) (S.remaining source.old) (S.has_failed source.new) result }
+    ensures { IsRead net (λ frames. frames) (S.remaining source.old) (S.has_failed source.new) result }
 {
-    let text = read_whole(alloc, net, source)?;
-    match read_trace(alloc, &text) {
+    text.clear();
+    read_whole(alloc, net, source, text)?;
+    match read_trace(alloc, text) {
         Ok(frames) => Ok(frames),
         Err(TraceError::Line { line, cause }) => Err(PlayFault::Trace { net, line, cause }),
         Err(TraceError::Memory) => Err(PlayFault::Memory),
     }
 }
 
-/// All the bytes of a source.
-fn read_whole<S: Source>(alloc: Global, net: Net, source: &mut S) -> Result<Vec<u8>, PlayFault>
-    requires { S.has_failed source.old ≡ false }
-    ensures whole { ReadsWhole net (λ text. text.items) (S.remaining source.old) (S.has_failed source.new) result }
-    ensures small { IfOk result (λ text. length text.items < 2 ^ 63) }
+/// Reads all the bytes of a source.
+fn read_whole<S: Source>(
+    alloc: Global,
+    net: Net,
+    source: &mut S,
+    text: &mut Vec<u8>,
+) -> Result<(), PlayFault>
+    requires fresh { text.old.items ≡ [] }
+    requires clear { S.has_failed source.old ≡ false }
+    ensures whole { ReadsWhole net (λ _. text.new.items) (S.remaining source.old) (S.has_failed source.new) result }
+    ensures small { length text.new.items < 2 ^ 63 }
 {
-    let mut text = Vec::new(alloc);
     let mut piece = piece_of(alloc, PIECE)?;
-    read_onto(net, source, &mut piece, &mut text)?;
-    Ok(text)
+    read_onto(net, source, &mut piece, text)
 }
 
 fn piece_of(alloc: Global, size: usize) -> Result<Vec<u8>, Memory>

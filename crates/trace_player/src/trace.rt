@@ -9,6 +9,7 @@ ghost use Rattle.std.specs.List.{slice_split};
 ghost use Rattle.trace_player.specs.Trace.{is_line_end, lines_of, trace_of, ReadsTrace};
 ghost use Rattle.trace_player.specs.Trace.{time_digits, time_of, after_space, octets_in, line_in, Reads, ReadsLine};
 
+use crate::frames::Frames;
 use es_base::{Memory, Octets};
 use hex::FromHexError;
 use memchr::memchr;
@@ -20,7 +21,7 @@ const LONGEST_LINE: usize = 8192;
 
 /// A frame of a trace.
 #[derive(Debug, Drop)]
-pub struct TimedFrame {
+pub(crate) struct TimedFrame {
     /// When it came, in microseconds.
     pub time: u64,
     pub frame: Octets,
@@ -57,11 +58,11 @@ pub(crate) enum TraceError {
 }
 
 /// The frames of a trace, or its first fault.
-pub(crate) fn read_trace(alloc: Global, text: &[u8]) -> Result<Vec<TimedFrame>, TraceError>
+pub(crate) fn read_trace(alloc: Global, text: &[u8]) -> Result<Frames, TraceError>
     requires { length text.now < 2 ^ 63 }
-    ensures { ReadsTrace (λ frames. frames.items) result (trace_of text.now) }
+    ensures { ReadsTrace (λ frames. frames) result (trace_of text.now) }
 {
-    let mut frames = Vec::new(alloc);
+    let mut frames = Frames::new(alloc);
     let mut line = 1u64;
     let mut before = 0u64;
     let mut rest = Some(text);
@@ -71,7 +72,7 @@ pub(crate) fn read_trace(alloc: Global, text: &[u8]) -> Result<Vec<TimedFrame>, 
             Ok(None) => {}
             Ok(Some(frame)) => {
                 before = frame.time;
-                if frames.push(frame).is_err() {
+                if frames.push(frame.time, frame.frame.as_slice()).is_err() {
                     return Err(TraceError::Memory);
                 }
             }

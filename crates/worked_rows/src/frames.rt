@@ -3,6 +3,8 @@ use es_base::{LinkNo, LinkSettings, Memory, PortKind, PortName, PortSettings};
 use hex::FromHexError;
 use std::alloc::Global;
 
+/// The constant field of frames.
+pub(crate) const CONSTANT: [u8; 4] = [3, 0, 0, 0];
 /// Constant field, link 17, a source address, the EtherType of IPv4.
 pub(crate) const ETHERNET: &str = "0300000000110200000001200800";
 /// 45 octets from 10.1.1.1 to 224.224.0.17.

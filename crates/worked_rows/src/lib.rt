@@ -3,7 +3,13 @@
 #![tactic(auto)]
 
 #[cfg(test)]
+mod config;
+#[cfg(test)]
+mod configurations;
+#[cfg(test)]
 mod devices;
+#[cfg(test)]
+mod faults;
 #[cfg(test)]
 mod frames;
 #[cfg(test)]

@@ -1,14 +1,14 @@
 //! Rows through the receiver of one link, `decide` compared with `take` on each frame.
 ghost use Rattle.std.specs.Prelude.{◌≡◌};
 
-use crate::frames::{ETHERNET, IP, PAYLOAD, UDP, frame_of, smallest, with_max};
+use crate::configurations::first;
+use crate::frames::{CONSTANT, ETHERNET, IP, PAYLOAD, UDP, frame_of, smallest, with_max};
 use es_base::{Decision, LinkSettings, Net, PacketFault, PortNo, Verdict};
 use frame_reader::read_frame;
 use link_receiver::LinkState;
 use std::alloc::Global;
 use std::process::Abort;
 use std::test::Fail;
-use trace_player::{DEFAULT_CONSTANT, built_in};
 
 /// The sampling port `pos` of the built-in configuration.
 const POS: PortNo = PortNo(0);
@@ -28,7 +28,7 @@ fn receive(
     requires { state.old.settings ≡ settings.now }
     ensures { state.new.settings ≡ settings.now }
 {
-    let frame = read_frame(DEFAULT_CONSTANT, octets).expect(rt, "a frame");
+    let frame = read_frame(CONSTANT, octets).expect(rt, "a frame");
     assert!(rt; frame.vl == settings.vl());
     let place = state.history().len();
     let decision = state.decide(net, now, &frame);
@@ -47,13 +47,14 @@ fn receive(
 #[test]
 fn the_newest_message_is_shown(rt: HostRuntime) -> Result<(), Fail> {
     let alloc = rt.alloc();
-    let settings = built_in(alloc)?;
-    let mut state = LinkState::new(alloc, &settings)?;
+    let config = first(alloc)?;
+    let settings = &config.links()[0];
+    let mut state = LinkState::new(alloc, settings)?;
     assert!(rt; state.newest(POS).is_none());
     let verdict = receive(
         &rt,
         alloc,
-        &settings,
+        settings,
         &mut state,
         Net::A,
         1000,
@@ -72,7 +73,8 @@ fn the_newest_message_is_shown(rt: HostRuntime) -> Result<(), Fail> {
 #[test]
 fn numbers_pass_by_the_window(rt: HostRuntime) -> Result<(), Fail> {
     let alloc = rt.alloc();
-    let settings = built_in(alloc)?;
+    let config = first(alloc)?;
+    let settings = &config.links()[0];
     let out = Verdict::OutOfSequence;
     let rows: [[(u8, Verdict); 5]; 5] = [
         // A discarded number counts as the number before: 0c follows 0b.
@@ -117,7 +119,7 @@ fn numbers_pass_by_the_window(rt: HostRuntime) -> Result<(), Fail> {
         ],
     ];
     for row in &rows {
-        check_numbers(&rt, alloc, &settings, row)?;
+        check_numbers(&rt, alloc, settings, row)?;
     }
     Ok(())
 }
@@ -161,27 +163,28 @@ fn check_steps(
 #[test]
 fn the_first_copy_is_forwarded(rt: HostRuntime) -> Result<(), Fail> {
     let alloc = rt.alloc();
-    let settings = built_in(alloc)?;
+    let config = first(alloc)?;
+    let settings = &config.links()[0];
     let (one, two) = (Verdict::Sampled(POS, 1), Verdict::Sampled(POS, 2));
     let copy = Verdict::Redundant;
     // A copy within SkewMax, 1000 microseconds, and one behind it.
     check_steps(
         &rt,
         alloc,
-        &settings,
+        settings,
         &[(Net::A, 1000, 7, one), (Net::B, 2000, 7, copy)],
     )?;
     check_steps(
         &rt,
         alloc,
-        &settings,
+        settings,
         &[(Net::A, 1000, 7, one), (Net::B, 2001, 7, two)],
     )?;
     // B is behind A by two frames.
     check_steps(
         &rt,
         alloc,
-        &settings,
+        settings,
         &[
             (Net::A, 1000, 0, one),
             (Net::A, 1100, 1, two),
@@ -193,14 +196,14 @@ fn the_first_copy_is_forwarded(rt: HostRuntime) -> Result<(), Fail> {
     check_steps(
         &rt,
         alloc,
-        &settings,
+        settings,
         &[(Net::A, 1000, 0xff, one), (Net::A, 1200, 0, two)],
     )?;
     // Each network has its own numbers.
     check_steps(
         &rt,
         alloc,
-        &settings,
+        settings,
         &[
             (Net::A, 1000, 7, one),
             (Net::B, 1000, 9, two),
@@ -212,7 +215,7 @@ fn the_first_copy_is_forwarded(rt: HostRuntime) -> Result<(), Fail> {
     check_steps(
         &rt,
         alloc,
-        &settings,
+        settings,
         &[(Net::A, 0, 7, one), (Net::B, 0, 7, copy)],
     )
 }
@@ -220,21 +223,22 @@ fn the_first_copy_is_forwarded(rt: HostRuntime) -> Result<(), Fail> {
 #[test]
 fn times_may_fall(rt: HostRuntime) -> Result<(), Fail> {
     let alloc = rt.alloc();
-    let settings = built_in(alloc)?;
+    let config = first(alloc)?;
+    let settings = &config.links()[0];
     let (one, two) = (Verdict::Sampled(POS, 1), Verdict::Sampled(POS, 2));
     let copy = Verdict::Redundant;
     // Nothing has elapsed since a later time.
     check_steps(
         &rt,
         alloc,
-        &settings,
+        settings,
         &[(Net::A, 5000, 9, one), (Net::B, 10, 9, copy)],
     )?;
     // The greatest time counts, not the latest.
     check_steps(
         &rt,
         alloc,
-        &settings,
+        settings,
         &[
             (Net::A, 5000, 9, one),
             (Net::A, 4500, 10, two),
@@ -245,7 +249,7 @@ fn times_may_fall(rt: HostRuntime) -> Result<(), Fail> {
     check_steps(
         &rt,
         alloc,
-        &settings,
+        settings,
         &[
             (Net::A, 1000, 9, one),
             (Net::B, 1900, 9, copy),
@@ -257,7 +261,8 @@ fn times_may_fall(rt: HostRuntime) -> Result<(), Fail> {
 #[test]
 fn the_bounds_of_the_table(rt: HostRuntime) -> Result<(), Fail> {
     let alloc = rt.alloc();
-    let settings = built_in(alloc)?;
+    let config = first(alloc)?;
+    let settings = &config.links()[0];
     let ahead = Verdict::Sampled(POS, 2);
     let rows: [(u8, u8, Verdict); 10] = [
         (0x00, 0x7f, ahead),
@@ -276,7 +281,7 @@ fn the_bounds_of_the_table(rt: HostRuntime) -> Result<(), Fail> {
             (Net::A, 1000, first, Verdict::Sampled(POS, 1)),
             (Net::B, 1000, second, verdict),
         ];
-        check_steps(&rt, alloc, &settings, &steps)?;
+        check_steps(&rt, alloc, settings, &steps)?;
     }
     Ok(())
 }
@@ -299,14 +304,15 @@ fn every_copy_is_forwarded_without_management(rt: HostRuntime) -> Result<(), Fai
 #[test]
 fn a_frame_with_a_bad_header_was_forwarded(rt: HostRuntime) -> Result<(), Fail> {
     let alloc = rt.alloc();
-    let settings = built_in(alloc)?;
-    let mut state = LinkState::new(alloc, &settings)?;
+    let config = first(alloc)?;
+    let settings = &config.links()[0];
+    let mut state = LinkState::new(alloc, settings)?;
     let ip = "4500002d000100000111cdcd0a010101e0e00011";
     let bad = frame_of(alloc, &[ETHERNET, ip, UDP, PAYLOAD], 0)?;
-    let answer = receive(&rt, alloc, &settings, &mut state, Net::A, 1000, &bad);
+    let answer = receive(&rt, alloc, settings, &mut state, Net::A, 1000, &bad);
     assert_eq!(rt; answer, Verdict::BadHeader(PacketFault::Checksum));
     let good = smallest(alloc, 0)?;
-    let answer = receive(&rt, alloc, &settings, &mut state, Net::B, 1100, &good);
+    let answer = receive(&rt, alloc, settings, &mut state, Net::B, 1100, &good);
     assert_eq!(rt; answer, Verdict::Redundant);
     Ok(())
 }
@@ -314,7 +320,8 @@ fn a_frame_with_a_bad_header_was_forwarded(rt: HostRuntime) -> Result<(), Fail> 
 #[test]
 fn headers_decide(rt: HostRuntime) -> Result<(), Fail> {
     let alloc = rt.alloc();
-    let settings = built_in(alloc)?;
+    let config = first(alloc)?;
+    let settings = &config.links()[0];
     let zeros = "000000000000000000000000000000000000";
     let rows: [(&str, &str, &str, Verdict); 20] = [
         // A wrong checksum.
@@ -422,9 +429,9 @@ fn headers_decide(rt: HostRuntime) -> Result<(), Fail> {
         ),
     ];
     for (ip, udp, payload, verdict) in rows {
-        let mut state = LinkState::new(alloc, &settings)?;
+        let mut state = LinkState::new(alloc, settings)?;
         let frame = frame_of(alloc, &[ETHERNET, ip, udp, payload], 0)?;
-        let answer = receive(&rt, alloc, &settings, &mut state, Net::A, 1000, &frame);
+        let answer = receive(&rt, alloc, settings, &mut state, Net::A, 1000, &frame);
         assert_eq!(rt; answer, verdict, "{ip} {udp}");
     }
     Ok(())
@@ -433,10 +440,11 @@ fn headers_decide(rt: HostRuntime) -> Result<(), Fail> {
 #[test]
 fn a_datagram_of_eight_octets_has_an_empty_payload(rt: HostRuntime) -> Result<(), Fail> {
     let alloc = rt.alloc();
-    let settings = built_in(alloc)?;
-    let mut state = LinkState::new(alloc, &settings)?;
+    let config = first(alloc)?;
+    let settings = &config.links()[0];
+    let mut state = LinkState::new(alloc, settings)?;
     let frame = frame_of(alloc, &[ETHERNET, IP, "1389138800080000", PAYLOAD], 0)?;
-    let _ = receive(&rt, alloc, &settings, &mut state, Net::A, 1000, &frame);
+    let _ = receive(&rt, alloc, settings, &mut state, Net::A, 1000, &frame);
     let (_, message) = state.newest(POS).ok_or("a message")?;
     assert!(rt; message.octets.is_empty());
     Ok(())

@@ -1,13 +1,14 @@
 //! Rows through the player: from the bytes of a trace to the bytes of the output.
+use crate::configurations::{both_links, changed, first};
 use crate::devices::{Breaking, Filling};
-use crate::frames::{ETHERNET, IP, PAYLOAD, UDP, frame_of, smallest, with_max};
-use es_base::{LinkSettings, Memory, Net};
+use crate::frames::{ETHERNET, IP, PAYLOAD, UDP, frame_of, smallest};
+use es_base::{Memory, Net};
+use hex::FromHexError;
 use std::alloc::Global;
 use std::process::Abort;
 use std::test::Fail;
-use trace_player::{
-    DEFAULT_CONSTANT, Device, PlayFault, RunFault, TraceCause, built_in, play, status_of,
-};
+use trace_player::{BUILT_IN, Device, PlayFault, TraceCause, play};
+use vl_config::{Config, read_config};
 
 /// A trace of no bytes.
 const NOTHING: &[u8] = &[];
@@ -15,24 +16,20 @@ const NOTHING: &[u8] = &[];
 /// What the player answers for two traces, and what it wrote.
 fn both_played(
     alloc: Global,
-    settings: &LinkSettings,
+    config: &Config,
     a: &[u8],
     b: &[u8],
 ) -> (Result<(), PlayFault>, Vec<u8>) {
     let mut a = Device::new(a);
     let mut b = Device::new(b);
     let mut out = Device::new(Vec::new(alloc));
-    let answer = play(alloc, DEFAULT_CONSTANT, settings, &mut a, &mut b, &mut out);
+    let answer = play(alloc, config, &mut a, &mut b, &mut out);
     (answer, out.inner)
 }
 
 /// The same for a trace of network A alone.
-fn played(
-    alloc: Global,
-    settings: &LinkSettings,
-    trace: &[u8],
-) -> (Result<(), PlayFault>, Vec<u8>) {
-    both_played(alloc, settings, trace, &[])
+fn played(alloc: Global, config: &Config, trace: &[u8]) -> (Result<(), PlayFault>, Vec<u8>) {
+    both_played(alloc, config, trace, &[])
 }
 
 /// A line of a trace.
@@ -44,7 +41,7 @@ fn line_of(alloc: Global, time: u64, frame: &[u8]) -> Result<String, Memory> {
 #[test]
 fn frames_are_told_line_by_line(rt: HostRuntime) -> Result<(), Fail> {
     let alloc = rt.alloc();
-    let settings = built_in(alloc)?;
+    let config = first(alloc)?;
     let fives = vec![in alloc; 0x5a; 1472]?;
     let longer = hex::encode(alloc, fives.as_slice())?;
     let longest = hex::encode(alloc, &fives[..1471])?;
@@ -75,7 +72,7 @@ fn frames_are_told_line_by_line(rt: HostRuntime) -> Result<(), Fail> {
         trace.push_str(line_of(alloc, 1000, &frame)?.as_str())?;
         output.push_str(format!(in alloc; "1000 A {told}\n")?.as_str())?;
     }
-    let (answer, written) = played(alloc, &settings, trace.as_bytes());
+    let (answer, written) = played(alloc, &config, trace.as_bytes());
     assert_eq!(rt; answer, Ok(()));
     assert!(rt; written.as_slice() == output.as_bytes());
     Ok(())
@@ -84,7 +81,7 @@ fn frames_are_told_line_by_line(rt: HostRuntime) -> Result<(), Fail> {
 #[test]
 fn every_verdict_of_one_network_has_its_words(rt: HostRuntime) -> Result<(), Fail> {
     let alloc = rt.alloc();
-    let settings = built_in(alloc)?;
+    let config = first(alloc)?;
     let rows: [(&str, &str, u8, &str); 10] = [
         (IP, UDP, 5, "sampled pos 1"),
         (IP, UDP, 9, "out-of-sequence"),
@@ -134,7 +131,7 @@ fn every_verdict_of_one_network_has_its_words(rt: HostRuntime) -> Result<(), Fai
         trace.push_str(line_of(alloc, 7, &frame)?.as_str())?;
         output.push_str(format!(in alloc; "7 A vl 17 {place} {told}\n")?.as_str())?;
     }
-    let (answer, written) = played(alloc, &settings, trace.as_bytes());
+    let (answer, written) = played(alloc, &config, trace.as_bytes());
     assert_eq!(rt; answer, Ok(()));
     assert!(rt; written.as_slice() == output.as_bytes());
     Ok(())
@@ -143,7 +140,7 @@ fn every_verdict_of_one_network_has_its_words(rt: HostRuntime) -> Result<(), Fai
 #[test]
 fn skipped_lines_tell_nothing(rt: HostRuntime) -> Result<(), Fail> {
     let alloc = rt.alloc();
-    let settings = built_in(alloc)?;
+    let config = first(alloc)?;
     let rows: [(&str, &str); 6] = [
         ("", ""),
         ("\n", ""),
@@ -160,7 +157,7 @@ fn skipped_lines_tell_nothing(rt: HostRuntime) -> Result<(), Fail> {
         ),
     ];
     for (trace, output) in rows {
-        let (answer, written) = played(alloc, &settings, trace.as_bytes());
+        let (answer, written) = played(alloc, &config, trace.as_bytes());
         assert_eq!(rt; answer, Ok(()), "{trace}");
         assert!(rt; written.as_slice() == output.as_bytes(), "{trace}");
     }
@@ -170,7 +167,7 @@ fn skipped_lines_tell_nothing(rt: HostRuntime) -> Result<(), Fail> {
 #[test]
 fn a_refused_trace_writes_nothing(rt: HostRuntime) -> Result<(), Fail> {
     let alloc = rt.alloc();
-    let settings = built_in(alloc)?;
+    let config = first(alloc)?;
     let rows: [(&str, u64, TraceCause); 14] = [
         ("1000 00\n999 00", 2, TraceCause::Falls),
         ("1000 0", 1, TraceCause::Hex),
@@ -189,7 +186,7 @@ fn a_refused_trace_writes_nothing(rt: HostRuntime) -> Result<(), Fail> {
         ("# 9\n1000 00\n\nx\n999 00", 4, TraceCause::Time),
     ];
     for (trace, line, cause) in rows {
-        let (answer, written) = played(alloc, &settings, trace.as_bytes());
+        let (answer, written) = played(alloc, &config, trace.as_bytes());
         assert_eq!(rt;
             answer,
             Err(PlayFault::Trace {
@@ -207,13 +204,13 @@ fn a_refused_trace_writes_nothing(rt: HostRuntime) -> Result<(), Fail> {
 #[test]
 fn long_lines_are_refused(rt: HostRuntime) -> Result<(), Fail> {
     let alloc = rt.alloc();
-    let settings = built_in(alloc)?;
+    let config = first(alloc)?;
     let mut comment = vec![in alloc; b'#'; 8192]?;
-    let (answer, written) = played(alloc, &settings, &comment);
+    let (answer, written) = played(alloc, &config, &comment);
     assert_eq!(rt; answer, Ok(()));
     assert!(rt; written.is_empty());
     comment.push(b'#')?;
-    let (answer, written) = played(alloc, &settings, &comment);
+    let (answer, written) = played(alloc, &config, &comment);
     let cause = TraceCause::LongLine;
     assert_eq!(rt;
         answer,
@@ -230,7 +227,7 @@ fn long_lines_are_refused(rt: HostRuntime) -> Result<(), Fail> {
 #[test]
 fn a_source_that_fails_is_told(rt: HostRuntime) -> Result<(), Fail> {
     let alloc = rt.alloc();
-    let settings = built_in(alloc)?;
+    let config = first(alloc)?;
     // The read fails before the fault of the text is looked for.
     let mut a = Breaking {
         text: b"1000 0",
@@ -238,7 +235,7 @@ fn a_source_that_fails_is_told(rt: HostRuntime) -> Result<(), Fail> {
     };
     let mut out = Device::new(Vec::new(alloc));
     let mut b = Device::new(NOTHING);
-    let answer = play(alloc, DEFAULT_CONSTANT, &settings, &mut a, &mut b, &mut out);
+    let answer = play(alloc, &config, &mut a, &mut b, &mut out);
     assert_eq!(rt; answer, Err(PlayFault::Read { net: Net::A }));
     assert!(rt; a.failed);
     assert!(rt; out.inner.is_empty());
@@ -248,7 +245,7 @@ fn a_source_that_fails_is_told(rt: HostRuntime) -> Result<(), Fail> {
 #[test]
 fn a_sink_that_takes_nothing_more_is_told(rt: HostRuntime) -> Result<(), Fail> {
     let alloc = rt.alloc();
-    let settings = built_in(alloc)?;
+    let config = first(alloc)?;
     let text: &[u8] = b"5 00";
     let output: &[u8] = b"5 A filtered too-short\n";
     for room in 0..23 {
@@ -259,7 +256,7 @@ fn a_sink_that_takes_nothing_more_is_told(rt: HostRuntime) -> Result<(), Fail> {
             failed: false,
         };
         let mut b = Device::new(NOTHING);
-        let answer = play(alloc, DEFAULT_CONSTANT, &settings, &mut a, &mut b, &mut out);
+        let answer = play(alloc, &config, &mut a, &mut b, &mut out);
         assert_eq!(rt; answer, Err(PlayFault::Write));
         assert!(rt; out.failed);
         assert!(rt; out.written.as_slice() == &output[..room]);
@@ -271,34 +268,9 @@ fn a_sink_that_takes_nothing_more_is_told(rt: HostRuntime) -> Result<(), Fail> {
         failed: false,
     };
     let mut b = Device::new(NOTHING);
-    let answer = play(alloc, DEFAULT_CONSTANT, &settings, &mut a, &mut b, &mut out);
+    let answer = play(alloc, &config, &mut a, &mut b, &mut out);
     assert_eq!(rt; answer, Ok(()));
     assert!(rt; out.written.as_slice() == output);
-    Ok(())
-}
-
-#[test]
-fn faults_have_their_words_and_statuses(rt: HostRuntime) -> Result<(), Fail> {
-    let trace = |cause| PlayFault::Trace {
-        net: Net::A,
-        line: 2,
-        cause,
-    };
-    let rows: [(PlayFault, &str, u8); 8] = [
-        (trace(TraceCause::LongLine), "trace A line 2: long line", 1),
-        (trace(TraceCause::Time), "trace A line 2: time", 1),
-        (trace(TraceCause::Space), "trace A line 2: space", 1),
-        (trace(TraceCause::Hex), "trace A line 2: hex", 1),
-        (trace(TraceCause::Falls), "trace A line 2: time falls", 1),
-        (PlayFault::Read { net: Net::A }, "trace A not read", 3),
-        (PlayFault::Write, "output not written", 3),
-        (PlayFault::Memory, "out of memory", 4),
-    ];
-    for (fault, words, status) in rows {
-        let fault = RunFault::from(fault);
-        assert!(rt; fault.to_string(rt.alloc())?.as_str() == words);
-        assert_eq!(rt; status_of(&fault), status);
-    }
     Ok(())
 }
 
@@ -316,14 +288,14 @@ fn trace_of(alloc: Global, frames: &[(u64, u8)]) -> Result<String, Fail> {
 fn check_played(
     rt: &impl Abort,
     alloc: Global,
-    settings: &LinkSettings,
+    config: &Config,
     a: &[(u64, u8)],
     b: &[(u64, u8)],
     output: &str,
 ) -> Result<(), Fail> {
     let a = trace_of(alloc, a)?;
     let b = trace_of(alloc, b)?;
-    let (answer, written) = both_played(alloc, settings, a.as_bytes(), b.as_bytes());
+    let (answer, written) = both_played(alloc, config, a.as_bytes(), b.as_bytes());
     assert_eq!(rt; answer, Ok(()));
     assert!(rt; written.as_slice() == output.as_bytes(), "{output}");
     Ok(())
@@ -332,7 +304,7 @@ fn check_played(
 #[test]
 fn numbers_and_copies_are_told(rt: HostRuntime) -> Result<(), Fail> {
     let alloc = rt.alloc();
-    let on = built_in(alloc)?;
+    let on = first(alloc)?;
     // A discarded number counts as the number before.
     let a = [
         (10_000, 5),
@@ -422,7 +394,7 @@ fn numbers_and_copies_are_told(rt: HostRuntime) -> Result<(), Fail> {
 #[test]
 fn every_copy_is_told_without_management(rt: HostRuntime) -> Result<(), Fail> {
     let alloc = rt.alloc();
-    let off = with_max(alloc, 1471, false)?.ok_or("settings")?;
+    let off = changed(alloc, "vl = 17", "vl = 17\nredundancy = false")?;
     check_played(
         &rt,
         alloc,
@@ -437,13 +409,13 @@ fn every_copy_is_told_without_management(rt: HostRuntime) -> Result<(), Fail> {
 #[test]
 fn a_bad_header_is_told_as_forwarded(rt: HostRuntime) -> Result<(), Fail> {
     let alloc = rt.alloc();
-    let settings = built_in(alloc)?;
+    let config = first(alloc)?;
     let ip = "4500002d000100000111cdcd0a010101e0e00011";
     let bad = frame_of(alloc, &[ETHERNET, ip, UDP, PAYLOAD], 0)?;
     let a = line_of(alloc, 1000, &bad)?;
     let b = trace_of(alloc, &[(1100, 0)])?;
     let output = "1000 A vl 17 0 bad-header checksum\n1100 B vl 17 1 redundant\n";
-    let (answer, written) = both_played(alloc, &settings, a.as_bytes(), b.as_bytes());
+    let (answer, written) = both_played(alloc, &config, a.as_bytes(), b.as_bytes());
     assert_eq!(rt; answer, Ok(()));
     assert!(rt; written.as_slice() == output.as_bytes());
     Ok(())
@@ -452,7 +424,7 @@ fn a_bad_header_is_told_as_forwarded(rt: HostRuntime) -> Result<(), Fail> {
 #[test]
 fn traces_are_merged_by_time(rt: HostRuntime) -> Result<(), Fail> {
     let alloc = rt.alloc();
-    let settings = built_in(alloc)?;
+    let config = first(alloc)?;
     // A comes first on equal times, B where it was earlier.
     let a = trace_of(alloc, &[(1000, 7), (1500, 8), (1500, 9), (9000, 10)])?;
     let b = trace_of(alloc, &[(1000, 7), (1400, 8), (1500, 9), (9001, 10)])?;
@@ -464,11 +436,11 @@ fn traces_are_merged_by_time(rt: HostRuntime) -> Result<(), Fail> {
         1500 B vl 17 5 redundant\n\
         9000 A vl 17 6 sampled pos 4\n\
         9001 B vl 17 7 redundant\n";
-    let (answer, written) = both_played(alloc, &settings, a.as_bytes(), b.as_bytes());
+    let (answer, written) = both_played(alloc, &config, a.as_bytes(), b.as_bytes());
     assert_eq!(rt; answer, Ok(()));
     assert!(rt; written.as_slice() == output.as_bytes());
     // Each network alone.
-    let (answer, written) = both_played(alloc, &settings, NOTHING, b.as_bytes());
+    let (answer, written) = both_played(alloc, &config, NOTHING, b.as_bytes());
     assert_eq!(rt; answer, Ok(()));
     assert!(rt; written.starts_with(b"1000 B vl 17 0 sampled pos 1\n"));
     Ok(())
@@ -477,7 +449,7 @@ fn traces_are_merged_by_time(rt: HostRuntime) -> Result<(), Fail> {
 #[test]
 fn trace_a_is_checked_before_trace_b_is_read(rt: HostRuntime) -> Result<(), Fail> {
     let alloc = rt.alloc();
-    let settings = built_in(alloc)?;
+    let config = first(alloc)?;
     let cause = TraceCause::Hex;
     let mut a = Device::new(b"1000 0".as_slice());
     let mut b = Breaking {
@@ -485,7 +457,7 @@ fn trace_a_is_checked_before_trace_b_is_read(rt: HostRuntime) -> Result<(), Fail
         failed: false,
     };
     let mut out = Device::new(Vec::new(alloc));
-    let answer = play(alloc, DEFAULT_CONSTANT, &settings, &mut a, &mut b, &mut out);
+    let answer = play(alloc, &config, &mut a, &mut b, &mut out);
     assert_eq!(rt;
         answer,
         Err(PlayFault::Trace {
@@ -496,9 +468,9 @@ fn trace_a_is_checked_before_trace_b_is_read(rt: HostRuntime) -> Result<(), Fail
     );
     assert!(rt; !b.failed);
     let mut a = Device::new(b"1000 00".as_slice());
-    let answer = play(alloc, DEFAULT_CONSTANT, &settings, &mut a, &mut b, &mut out);
+    let answer = play(alloc, &config, &mut a, &mut b, &mut out);
     assert_eq!(rt; answer, Err(PlayFault::Read { net: Net::B }));
-    let (answer, _) = both_played(alloc, &settings, b"1000 00", b"\n1000 0");
+    let (answer, _) = both_played(alloc, &config, b"1000 00", b"\n1000 0");
     assert_eq!(rt;
         answer,
         Err(PlayFault::Trace {
@@ -508,5 +480,60 @@ fn trace_a_is_checked_before_trace_b_is_read(rt: HostRuntime) -> Result<(), Fail
         })
     );
     assert!(rt; out.inner.is_empty());
+    Ok(())
+}
+
+/// A smallest frame of link 18, with this sequence number.
+fn of_link_18(alloc: Global, number: u8) -> Result<Vec<u8>, FromHexError> {
+    let ethernet = "0300000000120200000001200800";
+    let ip = "4500002d000100000111cdcb0a010101e0e00012";
+    frame_of(alloc, &[ethernet, ip, UDP, PAYLOAD], number)
+}
+
+#[test]
+fn each_link_has_its_own_history(rt: HostRuntime) -> Result<(), Fail> {
+    let alloc = rt.alloc();
+    let config = read_config(alloc, both_links(alloc)?.as_str())?;
+    let a = trace_of(alloc, &[(1000, 0)])?;
+    let b = line_of(alloc, 1000, &of_link_18(alloc, 0)?)?;
+    let output = "1000 A vl 17 0 sampled pos 1\n1000 B vl 18 0 sampled alt 1\n";
+    let (answer, written) = both_played(alloc, &config, a.as_bytes(), b.as_bytes());
+    assert_eq!(rt; answer, Ok(()));
+    assert!(rt; written.as_slice() == output.as_bytes());
+    // Numbers, places and redundancy are a link's own.
+    let mut a = trace_of(alloc, &[(1000, 7), (2000, 8)])?;
+    a.push_str(line_of(alloc, 2000, &of_link_18(alloc, 90)?)?.as_str())?;
+    let mut b = String::new(alloc);
+    for number in [90, 91, 93, 97] {
+        b.push_str(line_of(alloc, 2000, &of_link_18(alloc, number)?)?.as_str())?;
+    }
+    b.push_str(trace_of(alloc, &[(2500, 8)])?.as_str())?;
+    let output = "1000 A vl 17 0 sampled pos 1\n\
+        2000 A vl 17 1 sampled pos 2\n\
+        2000 A vl 18 0 sampled alt 1\n\
+        2000 B vl 18 1 redundant\n\
+        2000 B vl 18 2 sampled alt 2\n\
+        2000 B vl 18 3 sampled alt 3\n\
+        2000 B vl 18 4 out-of-sequence\n\
+        2500 B vl 17 2 redundant\n";
+    let (answer, written) = both_played(alloc, &config, a.as_bytes(), b.as_bytes());
+    assert_eq!(rt; answer, Ok(()));
+    assert!(rt; written.as_slice() == output.as_bytes());
+    Ok(())
+}
+
+#[test]
+fn a_constant_that_is_configured_is_asked_of_each_frame(rt: HostRuntime) -> Result<(), Fail> {
+    let alloc = rt.alloc();
+    let text = format!(in alloc; "constant = \"0300000A\"\n{BUILT_IN}")?;
+    let config = read_config(alloc, text.as_str())?;
+    let ethernet = "0300000a00110200000001200800";
+    let own = frame_of(alloc, &[ethernet, IP, UDP, PAYLOAD], 0)?;
+    let mut trace = trace_of(alloc, &[(1000, 0)])?;
+    trace.push_str(line_of(alloc, 1000, &own)?.as_str())?;
+    let (answer, written) = played(alloc, &config, trace.as_bytes());
+    assert_eq!(rt; answer, Ok(()));
+    let output = "1000 A filtered foreign-constant\n1000 A vl 17 0 sampled pos 1\n";
+    assert!(rt; written.as_slice() == output.as_bytes());
     Ok(())
 }

@@ -1,16 +1,15 @@
 //! Rows that end before a link is reached.
-use crate::frames::{ETHERNET, IP, PAYLOAD, UDP, frame_of, smallest};
+use crate::frames::{CONSTANT, ETHERNET, IP, PAYLOAD, UDP, frame_of, smallest};
 use es_base::{FrameFault, UdpFault};
 use frame_reader::{read_frame, read_packet, read_udp};
 use std::test::Fail;
-use trace_player::DEFAULT_CONSTANT;
 
 #[test]
 fn every_beginning_of_the_smallest_frame_is_too_short(rt: HostRuntime) -> Result<(), Fail> {
     let frame = smallest(rt.alloc(), 0)?;
     assert_eq!(rt; frame.len(), 60);
     for length in 0..60 {
-        let fault = read_frame(DEFAULT_CONSTANT, &frame[..length]).err();
+        let fault = read_frame(CONSTANT, &frame[..length]).err();
         assert_eq!(rt; fault, Some(FrameFault::TooShort), "at {length} octets");
     }
     Ok(())
@@ -28,14 +27,14 @@ fn frames_are_refused_by_their_first_fault(rt: HostRuntime) -> Result<(), Fail> 
     for (ethernet, fault) in rows {
         let frame = frame_of(alloc, &[ethernet, IP, UDP, PAYLOAD], 0)?;
         assert_eq!(rt;
-            read_frame(DEFAULT_CONSTANT, &frame).err(),
+            read_frame(CONSTANT, &frame).err(),
             Some(fault),
             "{ethernet}"
         );
     }
     let long = vec![in alloc; 0u8; 1515]?;
     assert_eq!(rt;
-        read_frame(DEFAULT_CONSTANT, &long).err(),
+        read_frame(CONSTANT, &long).err(),
         Some(FrameFault::TooLong)
     );
     Ok(())
@@ -44,7 +43,7 @@ fn frames_are_refused_by_their_first_fault(rt: HostRuntime) -> Result<(), Fail> 
 #[test]
 fn the_smallest_frame_is_read_field_by_field(rt: HostRuntime) -> Result<(), Fail> {
     let frame = smallest(rt.alloc(), 7)?;
-    let frame = read_frame(DEFAULT_CONSTANT, &frame).ok().ok_or("a frame")?;
+    let frame = read_frame(CONSTANT, &frame).ok().ok_or("a frame")?;
     assert_eq!(rt; frame.vl.0, 17);
     assert_eq!(rt; frame.number, 7);
     assert_eq!(rt; frame.inner.len(), 45);
@@ -73,7 +72,7 @@ fn fragments_are_read(rt: HostRuntime) -> Result<(), Fail> {
     ];
     for (ip, offset) in rows {
         let frame = frame_of(rt.alloc(), &[ETHERNET, ip, UDP, PAYLOAD], 0)?;
-        let frame = read_frame(DEFAULT_CONSTANT, &frame).ok().ok_or("a frame")?;
+        let frame = read_frame(CONSTANT, &frame).ok().ok_or("a frame")?;
         let packet = read_packet(&frame).ok().ok_or("a packet")?;
         assert_eq!(rt; packet.ident, 2);
         assert!(rt; packet.more);

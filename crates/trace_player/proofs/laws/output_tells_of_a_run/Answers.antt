@@ -1,6 +1,5 @@
-use Rattle.std.proofs.Common.{[]}
 use Rattle.trace_player.proofs.Runs.{past_after_is_run}
 use Rattle.trace_player.proofs.laws.output_tells_of_a_run.Goals as goal
 
 pub returns : goal.returns
-returns c = λ config arrivals. past_after_is_run config [] arrivals tt
+returns c = past_after_is_run

@@ -8,7 +8,7 @@ use Rattle.trace_player.proofs.trace.read_trace.Given as goal
 abbrev pub invariant-loop-rest : goal.invariant-loop-rest
 invariant-loop-rest l =
     record {
-      told : with_front l.frames.items (frames_from l.line l.before (lines_of (option_map (λ rest. rest.now) l.rest))) ≡ trace_of l.fn.text;
+      told : with_front l.frames (frames_from l.line l.before (lines_of (option_map (λ rest. rest.now) l.rest))) ≡ trace_of l.fn.text;
       numbered : l.line + left_in (option_map (λ rest. rest.now) l.rest) ≤ length l.fn.text + 2;
     }
 

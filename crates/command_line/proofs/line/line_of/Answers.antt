@@ -1,0 +1,37 @@
+use Rattle.std.proofs.Common.{◌∙◌, sym, ap, subst}
+use Rattle.clap.specs.Words.{App, HasKind, fault_of, is_simple_and_free, takes}
+use Rattle.clap.specs.declared.error.kind.ErrorKind.{ErrorKind}
+use Rattle.command_line.specs.Command.{IsFaultOf, texts_of, told}
+use Rattle.command_line.specs.declared.fault.LineFault.{LineFault}
+use Rattle.command_line.proofs.Faults.{fault_says, fault_told, free}
+use Rattle.command_line.proofs.Options.{config_given, a_given, b_given}
+use Rattle.command_line.proofs.line.line_of.Goals as goal
+
+pub line_from-requires-clause-config : goal.line_from-requires-clause-config
+line_from-requires-clause-config c = config_given c.in_ok-play_command.field-0 c.in_ok-play_command.ensures c.in-Ok.matches c.in-Ok.ensures.parsed
+
+pub line_from-requires-clause-a : goal.line_from-requires-clause-a
+line_from-requires-clause-a c = a_given c.in_ok-play_command.field-0 c.in_ok-play_command.ensures c.in-Ok.matches c.in-Ok.ensures.parsed
+
+pub line_from-requires-clause-b : goal.line_from-requires-clause-b
+line_from-requires-clause-b c = b_given c.in_ok-play_command.field-0 c.in_ok-play_command.ensures c.in-Ok.matches c.in-Ok.ensures.parsed
+
+pub returns-in_ok-line_from-in-Ok-clause-taken : goal.returns-in_ok-line_from-in-Ok-clause-taken
+returns-in_ok-line_from-in-Ok-clause-taken c =
+    let is = c.in_ok-play_command.ensures in
+    let none = c.in-Ok.ensures.kinds (ap is_simple_and_free is ∙ free) in
+    (fault_says (texts_of c.args.words.now)).none (sym (ap (λ (a : App). fault_of a (texts_of c.args.words.now)) is) ∙ none)
+
+pub returns-in-Err-clause-fault : goal.returns-in-Err-clause-fault
+returns-in-Err-clause-fault c =
+    let is = c.in_ok-play_command.ensures in
+    let failed = c.in-Err.ensures.kinds (ap is_simple_and_free is ∙ free) in
+    let told_of = fault_told c.args.words.now c.in-Err.error
+    (subst (λ (a : App). HasKind (fault_of a (texts_of c.args.words.now)) c.in-Err.error) is failed) in
+    subst (λ (f : LineFault). IsFaultOf c.args.words.now f) (sym c.fault_from.ensures) told_of
+
+pub returns-in-Err-clause-memory : goal.returns-in-Err-clause-memory
+returns-in-Err-clause-memory c taken =
+    let is = c.in_ok-play_command.ensures in
+    let none = c.in-Err.ensures.passes (ap (λ (a : App). takes a (texts_of c.args.words.now)) is ∙ taken) in
+    c.fault_from.ensures ∙ ap (λ (k : ErrorKind). told k c.in-Err.error) none

@@ -1,0 +1,67 @@
+-- The command line of the program, `afdx_play --config FILE --a FILE --b FILE`, as `clap` reads it.
+use Rattle.std.specs.Prelude.{◌≡◌, ◌≢◌, List, [], ◌∷◌, map, true, Some, ⊤, String, codes, string_bytes}
+use Rattle.std.specs.declared.alloc.Global.{Global}
+use Rattle.clap.specs.Simple.{on_top}
+use Rattle.clap.specs.Words.{App, Rule, Row, Text, first_of, fault_of, found_of, kind_of, matches_of, new_app, new_rule, rows_of, takes, with_rule}
+use Rattle.clap.specs.declared.builder.action.ArgAction.TheVariants.{Set}
+use Rattle.clap.specs.declared.error.Error.{Error}
+use Rattle.clap.specs.declared.error.kind.ErrorKind.{ErrorKind}
+use Rattle.clap.specs.declared.error.kind.ErrorKind.TheVariants.{DisplayHelp, OutOfMemory}
+use Rattle.clap.specs.declared.parser.matches.ArgMatches.{ArgMatches}
+use Rattle.command_line.specs.declared.fault.LineFault.{LineFault}
+use Rattle.command_line.specs.declared.fault.LineFault.TheVariants.{Help, Refused, Memory}
+use Rattle.command_line.specs.declared.line.Line.{Line}
+
+-- an option that has to be given, with one value: `--NAME FILE`
+abbrev pub file_option : Text → Rule
+file_option name = record (new_rule name) {
+  long = Some name;
+  action = Some Set;
+  value_names = 1;
+  required = true;
+}
+
+-- the words are those after the program's name
+abbrev pub bare_command : App
+bare_command = on_top (λ top. record top { no_binary_name = true }) (new_app (codes "afdx_play"))
+
+abbrev pub play_command : App
+play_command = with_rule (with_rule (with_rule bare_command
+    (file_option (codes "config"))) (file_option (codes "a"))) (file_option (codes "b"))
+
+-- the words as texts
+abbrev pub texts_of : List (String Global) → List Text
+texts_of = map string_bytes
+
+-- the command takes the words
+abbrev pub IsTaken : List (String Global) → Type 0
+IsTaken words = takes play_command (texts_of words) ≡ true
+
+-- what a parse matched
+abbrev pub given : ArgMatches → List Row
+given matches = rows_of (found_of matches)
+
+-- the files are the values that the command matches in the words, each under its own option
+abbrev pub IsLineIn : List Row → Line → Type 0
+IsLineIn rows line = (first_of (codes "config") rows ≡ Some (string_bytes line.config))
+    × (first_of (codes "a") rows ≡ Some (string_bytes line.a))
+    × (first_of (codes "b") rows ≡ Some (string_bytes line.b))
+
+abbrev pub IsLineOf : List (String Global) → Line → Type 0
+IsLineOf words line = IsLineIn (matches_of play_command (texts_of words)) line
+
+-- the one fault that the command finds in the words
+abbrev pub HasFault : ErrorKind → List (String Global) → Type 0
+HasFault kind words = fault_of play_command (texts_of words) ≡ kind ∷ []
+
+-- the error is of the fault in the words: help where they ask for it, and else a refusal
+abbrev pub IsFaultOf : List (String Global) → LineFault → Type 0
+IsFaultOf words (Help error) = HasFault (kind_of error) words × (kind_of error ≡ DisplayHelp)
+IsFaultOf words (Refused error) = HasFault (kind_of error) words × (kind_of error ≢ DisplayHelp)
+IsFaultOf words Memory = ⊤
+
+-- how an error of the command is told
+abbrev pub told : ErrorKind → Error → LineFault
+told DisplayHelp error = Help error
+told OutOfMemory error = Memory
+told other error = Refused error

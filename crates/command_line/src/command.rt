@@ -1,0 +1,32 @@
+//! The command as `clap` is told of it.
+ghost use Rattle.std.specs.Prelude.{◌≡◌, IfOk, false};
+ghost use Rattle.clap.specs.Words.{app_of, rule_of};
+ghost use Rattle.command_line.specs.Command.{file_option, play_command};
+
+use clap::{Arg, ArgAction, Command};
+use std::alloc::{AllocError, Global};
+
+/// The command that the program answers to.
+pub fn play_command<'a>(alloc: Global) -> Result<Command<'a>, AllocError>
+    ensures { IfOk result (λ command. app_of command ≡ play_command) }
+{
+    Command::new(alloc, "afdx_play")
+        .about("Plays the hex traces of two redundant networks through a receiver")
+        .no_binary_name(true)
+        .arg(file_option(alloc, "config", "the configuration, a TOML document"))?
+        .arg(file_option(alloc, "a", "the hex trace of network A"))?
+        .arg(file_option(alloc, "b", "the hex trace of network B"))
+}
+
+/// The option `--NAME FILE`, which has to be given.
+fn file_option<'a>(alloc: Global, name: &'a str, help: &'a str) -> Arg<'a>
+    ensures rule { rule_of result ≡ file_option name.entry.now }
+    ensures local { result.global ≡ false }
+{
+    Arg::new(alloc, name)
+        .long(name)
+        .action(ArgAction::Set)
+        .value_name("FILE")
+        .required(true)
+        .help(help)
+}

@@ -1,0 +1,12 @@
+//! The command line of the program: which words it takes, and what they say.
+#![tactic(auto)]
+
+mod command;
+mod fault;
+mod line;
+
+pub use fault::LineFault;
+pub use line::{Line, line_of};
+
+#[cfg(test)]
+mod tests;

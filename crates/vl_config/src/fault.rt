@@ -1,0 +1,108 @@
+//! Why a document is no configuration.
+ghost use Rattle.std.specs.Prelude.{◌≡◌, Some};
+ghost use Rattle.vl_config.specs.Fault.{key_name};
+ghost use Rattle.vl_config.specs.declared.fault.ConfigFault.TheVariants as faults;
+
+use es_base::Memory as WantOfMemory;
+use std::alloc::AllocFailed;
+use std::fmt;
+use thiserror::Error;
+
+/// A key of the document.
+#[derive(Clone, Copy, Debug, Drop, PartialEq, Eq)]
+pub enum Key {
+    Constant,
+    Link,
+    Vl,
+    SkewMaxUs,
+    Redundancy,
+    ReassemblyUs,
+    Port,
+    Name,
+    Kind,
+    Address,
+    Udp,
+    Max,
+    RefreshUs,
+    Depth,
+}
+
+impl Key {
+    /// The key as it is spelled in the document.
+    pub fn name(self) -> &'static str
+        ensures { result.now ≡ key_name self }
+    {
+        match self {
+            Key::Constant => "constant",
+            Key::Link => "link",
+            Key::Vl => "vl",
+            Key::SkewMaxUs => "skew_max_us",
+            Key::Redundancy => "redundancy",
+            Key::ReassemblyUs => "reassembly_us",
+            Key::Port => "port",
+            Key::Name => "name",
+            Key::Kind => "kind",
+            Key::Address => "address",
+            Key::Udp => "udp",
+            Key::Max => "max",
+            Key::RefreshUs => "refresh_us",
+            Key::Depth => "depth",
+        }
+    }
+}
+
+impl fmt::Display for Key {
+    ghost output = { λ key. Some (key_name key) };
+
+    fn fmt<W: fmt::Write>(&self, f: &mut fmt::Formatter<W>) -> fmt::Result {
+        f.write_str(self.name())
+    }
+}
+
+/// The first fault of a document, in the order in which its keys are tested.
+#[derive(Clone, Copy, Debug, Drop, Error, PartialEq, Eq)]
+pub enum ConfigFault {
+    /// The text is no TOML document.
+    #[error("not TOML")]
+    Text,
+    /// A key is missing that has no default.
+    #[error("missing {0}")]
+    Missing(Key),
+    /// The value of a key is of another kind.
+    #[error("wrong kind of {0}")]
+    Kind(Key),
+    /// The value of a key is outside its range.
+    #[error("{0} out of range")]
+    Range(Key),
+    /// An earlier link has this number.
+    #[error("link given twice")]
+    DoubleLink,
+    /// An earlier port of the link has this address and UDP port.
+    #[error("port given twice")]
+    DoublePort,
+    /// An earlier port of the document has this name.
+    #[error("name given twice")]
+    DoubleName,
+    /// There are more than 64 links, or more than 32 ports at a link.
+    #[error("too many links or ports")]
+    TooMany,
+    /// Want of memory.
+    #[error("out of memory")]
+    Memory,
+}
+
+impl From<WantOfMemory> for ConfigFault {
+    ghost from_gives = { λ _ fault. fault ≡ faults.Memory };
+
+    fn from(_memory: WantOfMemory) -> ConfigFault {
+        ConfigFault::Memory
+    }
+}
+
+impl<T: Drop> From<AllocFailed<T>> for ConfigFault {
+    ghost from_gives = { λ _ fault. fault ≡ faults.Memory };
+
+    fn from(_refused: AllocFailed<T>) -> ConfigFault {
+        ConfigFault::Memory
+    }
+}

@@ -1,0 +1,141 @@
+//! A port of the document.
+ghost use Rattle.std.specs.Prelude.{◌≡◌, ◌≤◌, ◌++◌, true, false, IfOk};
+ghost use Rattle.std.specs.List.{list_any};
+ghost use Rattle.toml.specs.View.{table_view};
+ghost use Rattle.es_base.specs.Name.{is_port_name};
+ghost use Rattle.es_base.specs.Port.{is_end, is_kind, largest_payload};
+ghost use Rattle.vl_config.specs.Config.{has_name, ports_in};
+ghost use Rattle.vl_config.specs.Port as said;
+
+use crate::table::{number_at, number_or, text_at};
+use crate::{ConfigFault, Key};
+use es_base::{
+    DEEPEST_QUEUE, LONGEST_QUEUED, LONGEST_REFRESH, LONGEST_SAMPLE, LinkSettings, PortKind,
+    PortName, PortSettings,
+};
+use std::net::Ipv4Addr;
+use toml::Table;
+
+/// The two port services (ARINC 664 Part 7, port services).
+#[derive(Clone, Copy, Debug)]
+enum Service {
+    Sampling,
+    Queuing,
+}
+
+/// The port of this table. `links` are the earlier links of the document, `ports` the earlier ports
+/// of this one.
+pub(crate) fn port_from(
+    table: &Table,
+    links: &[LinkSettings],
+    ports: &[PortSettings],
+) -> Result<PortSettings, ConfigFault>
+    ensures value { result ≡ said.port_of (ports_in links.now ++ ports.now) ports.now (table_view table.now) }
+    ensures name { IfOk result (λ port. list_any (has_name port.name) (ports_in links.now ++ ports.now) ≡ false) }
+    ensures end { IfOk result (λ port. list_any (is_end port.address port.udp) ports.now ≡ false) }
+{
+    let name = name_from(table)?;
+    let service = service_from(table)?;
+    let address = address_from(table)?;
+    let udp = number_at(table, Key::Udp, 0, 65_535)? as u16;
+    let largest = largest_message(service);
+    let max = number_or(table, Key::Max, largest, 0, largest)? as u16;
+    let kind = kind_from(table, service)?;
+    if is_named(&name, links, ports) {
+        return Err(ConfigFault::DoubleName);
+    }
+    if has_end(ports, address, udp) {
+        return Err(ConfigFault::DoublePort);
+    }
+    Ok(PortSettings::new(name, address, udp, max, kind).unwrap())
+}
+
+fn name_from(table: &Table) -> Result<PortName, ConfigFault>
+    ensures { result ≡ said.name_at (table_view table.now) }
+{
+    let text = text_at(table, Key::Name)?;
+    PortName::new(text).ok_or(ConfigFault::Range(Key::Name))
+}
+
+fn service_from(table: &Table) -> Result<Service, ConfigFault>
+    ensures { result ≡ said.service_at (table_view table.now) }
+{
+    match text_at(table, Key::Kind)? {
+        "sampling" => Ok(Service::Sampling),
+        "queuing" => Ok(Service::Queuing),
+        _ => Err(ConfigFault::Range(Key::Kind)),
+    }
+}
+
+fn address_from(table: &Table) -> Result<u32, ConfigFault>
+    ensures { result ≡ said.address_at (table_view table.now) }
+{
+    let text = text_at(table, Key::Address)?;
+    address_of(text)
+}
+
+fn address_of(text: &str) -> Result<u32, ConfigFault>
+    ensures { result ≡ said.address_of text.now }
+{
+    match text.parse::<Ipv4Addr>() {
+        Ok(address) => Ok(address.to_bits()),
+        Err(_) => Err(ConfigFault::Range(Key::Address)),
+    }
+}
+
+/// The longest message of a port with this service, in octets.
+fn largest_message(service: Service) -> u64
+    ensures { result ≡ said.largest_message service }
+{
+    match service {
+        Service::Sampling => u64::from(LONGEST_SAMPLE),
+        Service::Queuing => u64::from(LONGEST_QUEUED),
+    }
+}
+
+fn kind_from(table: &Table, service: Service) -> Result<PortKind, ConfigFault>
+    ensures value { result ≡ said.kind_of service (table_view table.now) }
+    ensures limits { IfOk result (λ kind. (is_kind kind ≡ true) × (largest_payload kind ≡ said.largest_message service)) }
+{
+    match service {
+        Service::Sampling => {
+            let refresh = number_at(table, Key::RefreshUs, 0, LONGEST_REFRESH)?;
+            Ok(PortKind::Sampling { refresh })
+        }
+        Service::Queuing => {
+            let depth = number_at(table, Key::Depth, 1, u64::from(DEEPEST_QUEUE))?;
+            Ok(PortKind::Queuing { depth: depth as u8 })
+        }
+    }
+}
+
+/// Whether an earlier port of the document has this name.
+#[tactic(auto, using(crate::proofs::Names::any_of_document))]
+fn is_named(name: &PortName, links: &[LinkSettings], ports: &[PortSettings]) -> bool
+    ensures { result ≡ list_any (has_name name.now) (ports_in links.now ++ ports.now) }
+{
+    has_port_named(links, name) || has_name(ports, name)
+}
+
+fn has_port_named(links: &[LinkSettings], name: &PortName) -> bool
+    ensures { result ≡ list_any (λ link. list_any (has_name name.now) link.ports) links.now }
+{
+    links.iter().any(|link| has_name(link.ports(), name))
+}
+
+fn has_name(ports: &[PortSettings], name: &PortName) -> bool
+    ensures { result ≡ list_any (has_name name.now) ports.now }
+{
+    ports
+        .iter()
+        .any(|port| name.as_str() == port.name().as_str())
+}
+
+/// Whether an earlier port of the link has this address and UDP port.
+fn has_end(ports: &[PortSettings], address: u32, udp: u16) -> bool
+    ensures { result ≡ list_any (is_end address udp) ports.now }
+{
+    ports
+        .iter()
+        .any(|port| port.address() == address && port.udp() == udp)
+}
