@@ -1,14 +1,17 @@
 //! Plays the hex traces of two networks through the receiver, and prints what each frame came to.
 #![tactic(auto)]
 
+ghost use Rattle.std.specs.Prelude.{◌≡◌, false};
+
 mod files;
 
 use command_line::{Line, LineFault, line_of};
 use es_base::Net;
 use files::{config_text, open_trace, words_of};
+use std::mem;
 use std::process::ExitCode;
-use trace_player::{BUILT_IN, Device, PlayFault, RunFault, play, status_of};
-use vl_config::read_config;
+use trace_player::{BUILT_IN, Device, PlayFault, RunFault, Source, replay, status_of};
+use vl_config::{Config, read_config};
 
 /// The trace of network B where the program is called with no words.
 const EMPTY: &[u8] = &[];
@@ -53,9 +56,7 @@ fn play_input(rt: &HostRuntime) -> Result<(), RunFault> {
     let config = read_config(rt.alloc(), BUILT_IN)?;
     let mut a = Device::new(rt.stdin());
     let mut b = Device::new(EMPTY);
-    let mut out = Device::new(rt.stdout());
-    play(rt.alloc(), &config, &mut a, &mut b, &mut out)?;
-    Ok(())
+    play_all(rt, &config, &mut a, &mut b)
 }
 
 /// Plays the files of a command line.
@@ -64,7 +65,23 @@ fn play_files(rt: &HostRuntime, line: &Line) -> Result<(), RunFault> {
     let config = read_config(rt.alloc(), text.as_str())?;
     let mut a = Device::new(open_trace(rt, Net::A, &line.a)?);
     let mut b = Device::new(open_trace(rt, Net::B, &line.b)?);
+    play_all(rt, &config, &mut a, &mut b)
+}
+
+/// Plays two traces to the standard output.
+fn play_all<A: Source, B: Source>(
+    rt: &HostRuntime,
+    config: &Config,
+    a: &mut A,
+    b: &mut B,
+) -> Result<(), RunFault>
+    requires source_a { A.has_failed a.old ≡ false }
+    requires source_b { B.has_failed b.old ≡ false }
+{
     let mut out = Device::new(rt.stdout());
-    play(rt.alloc(), &config, &mut a, &mut b, &mut out)?;
+    let links = replay(rt.alloc(), config, a, b, &mut out)?;
+    // The program ends here, and with it the system takes the events' memory back at once: to give it
+    // back event by event takes a tenth of a long run.
+    mem::forget(links);
     Ok(())
 }

@@ -47,11 +47,19 @@ pub fn read_frame(constant: [u8; 4], bytes: &[u8]) -> Result<Frame<'_>, FrameFau
     if !bytes.starts_with(&constant) {
         return Err(FrameFault::ForeignConstant);
     }
+    Ok(frame_in(bytes))
+}
+
+/// The frame in octets that were read as a frame before, or would be.
+pub fn frame_in(bytes: &[u8]) -> Frame<'_>
+    requires { 60 ≤ length bytes.now }
+    ensures { result.whole.now ≡ bytes.now }
+{
     let last = bytes.len() - 1;
-    Ok(Frame {
+    Frame {
         vl: LinkNo(u16_at(bytes, 4)),
         number: bytes[last],
         inner: &bytes[14..last],
         whole: bytes,
-    })
+    }
 }

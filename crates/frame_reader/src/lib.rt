@@ -9,5 +9,5 @@ mod packet;
 
 pub use datagram::{Datagram, read_udp};
 pub use es_base::{FrameFault, PacketFault, UdpFault};
-pub use frame::{Frame, read_frame};
+pub use frame::{Frame, frame_in, read_frame};
 pub use packet::{Packet, read_packet};

@@ -5,7 +5,7 @@ ghost use Rattle.frame_reader.specs.Parts.{packet_parts};
 ghost use Rattle.es_base.specs.History.{whole, datagram_in, at_kind, carried_in};
 ghost use Rattle.link_receiver.specs.Carried.{carried_parts};
 
-use es_base::{LinkSettings, PortKind, PortNo, PortSettings, Verdict};
+use es_base::{LinkSettings, Octets, PortKind, PortNo, PortSettings, Verdict};
 use frame_reader::{Frame, Packet, read_packet, read_udp};
 
 /// A payload for a port.
@@ -13,6 +13,13 @@ use frame_reader::{Frame, Packet, read_packet, read_udp};
 pub(crate) struct Carried<'a> {
     pub port: PortNo,
     pub payload: &'a [u8],
+}
+
+/// The same, with octets of its own.
+#[derive(Drop)]
+pub(crate) struct Brought {
+    pub port: PortNo,
+    pub payload: Octets,
 }
 
 /// The datagram of a frame (RFC 791 3.1).

@@ -3,18 +3,19 @@ ghost use Rattle.std.specs.Prelude.{◌≡◌, ◌≤◌, ◌<◌, ◌^◌, ◌&
 ghost use Rattle.std.specs.Option.{option_map};
 ghost use Rattle.frame_reader.specs.Gives.{Gives};
 ghost use Rattle.es_base.specs.Number.{latest, may_follow};
+ghost use Rattle.es_base.specs.Reading.{number_of, vl_of};
 ghost use Rattle.es_base.specs.History.{IsRun, BringsNothing, is_forwarded, newest_of, sampled};
 ghost use Rattle.es_base.specs.declared.verdict.Decision.TheVariants.{Final};
-ghost use Rattle.link_receiver.specs.Carried.{carried_parts};
+ghost use Rattle.link_receiver.specs.Carried.{brought_parts, carried_parts};
 ghost use Rattle.link_receiver.specs.Link.{origin_of, past_of, numbers_of, forwarded_of, deliveries_of};
 ghost use Rattle.link_receiver.specs.Link.{outcome_after, decision_after, verdict_after};
 ghost use Rattle.link_receiver.specs.Link.{arrived, event_of, with_event};
 
-use crate::carried::{Carried, carried_in, datagram_in};
+use crate::carried::{Brought, Carried, carried_in, datagram_in};
 use crate::checks::Checks;
 use crate::register::{MOST_SAMPLES, Register, empty_registers, publish};
 use es_base::{Decision, Event, LinkSettings, Memory, Message, Net, Octets, PortNo, Verdict};
-use frame_reader::Frame;
+use frame_reader::{Frame, frame_in};
 use std::alloc::{AllocError, Global};
 use std::marker::Model;
 
@@ -103,9 +104,54 @@ impl LinkState {
             verdict ≡ verdict_after self.old (arrived net now frame.now.whole.now)) }
         ensures err { OnErr result (self.new ≡ self.old) }
     {
-        match self.outcome(net, now, frame) {
-            Err(verdict) => self.append(alloc, net, now, frame, verdict),
-            Ok(carried) => self.deliver(alloc, net, now, frame, carried),
+        let octets = Octets::copy_of(alloc, frame.whole)?;
+        self.take_octets(alloc, net, now, octets)
+    }
+
+    /// Takes a frame as `take` does, and keeps its octets themselves in the place of a copy. They are
+    /// those of a whole frame of this link. On want of memory they are given up.
+    pub fn take_octets(
+        &mut self,
+        alloc: Global,
+        net: Net,
+        now: u64,
+        octets: Octets,
+    ) -> Result<Verdict, Memory>
+        requires long { 60 ≤ length octets }
+        requires link { vl_of octets ≡ self.old.settings.vl.0 }
+        ensures event { IfOk result (λ verdict.
+            self.new ≡ with_event self.old (arrived net now octets) verdict) }
+        ensures verdict { IfOk result (λ verdict.
+            verdict ≡ verdict_after self.old (arrived net now octets)) }
+        ensures err { OnErr result (self.new ≡ self.old) }
+    {
+        match self.brought(alloc, net, now, octets.as_slice())? {
+            Err(verdict) => self.append(net, now, octets, verdict),
+            Ok(brought) => self.deliver(net, now, octets, brought),
+        }
+    }
+
+    /// What the frame in these octets brings, with octets of its own.
+    fn brought(
+        &self,
+        alloc: Global,
+        net: Net,
+        now: u64,
+        octets: &[u8],
+    ) -> Result<Result<Brought, Verdict>, Memory>
+        requires { 60 ≤ length octets.now }
+        ensures value { IfOk result (λ outcome.
+            Gives brought_parts outcome (outcome_after self.now (arrived net now octets.now))) }
+        ensures port { IfOk result (λ outcome.
+            IfOk outcome (λ brought. brought.port.0 < length self.now.settings.ports)) }
+    {
+        let frame = frame_in(octets);
+        match self.outcome(net, now, &frame) {
+            Err(verdict) => Ok(Err(verdict)),
+            Ok(carried) => Ok(Ok(Brought {
+                port: carried.port,
+                payload: Octets::copy_of(alloc, carried.payload)?,
+            })),
         }
     }
 
@@ -161,25 +207,23 @@ impl LinkState {
     /// Appends the event of a frame that changes nothing at a port.
     fn append(
         &mut self,
-        alloc: Global,
         net: Net,
         now: u64,
-        frame: &Frame<'_>,
+        octets: Octets,
         verdict: Verdict,
     ) -> Result<Verdict, Memory>
-        requires decision { decision_after self.old (arrived net now frame.now.whole.now) ≡ Final verdict }
-        requires nothing { BringsNothing (origin_of self.old) (past_of self.old)
-            (arrived net now frame.now.whole.now) }
-        ensures event { OnOk result (
-            self.new ≡ with_event self.old (arrived net now frame.now.whole.now) verdict) }
+        requires long { 60 ≤ length octets }
+        requires decision { decision_after self.old (arrived net now octets) ≡ Final verdict }
+        requires nothing { BringsNothing (origin_of self.old) (past_of self.old) (arrived net now octets) }
+        ensures event { OnOk result (self.new ≡ with_event self.old (arrived net now octets) verdict) }
         ensures verdict { IfOk result (λ answer. answer ≡ verdict) }
         ensures err { OnErr result (self.new ≡ self.old) }
     {
-        let number = frame.number;
+        let number = number_in(octets.as_slice());
         let first = self.is_first(net, now, number);
-        let event = event_of(alloc, net, now, frame, verdict)?;
         reserve_event(&mut self.history)?;
         self.checks.note(net, number, now, first);
+        let event = event_of(net, now, octets, verdict);
         self.history.push_reserved(event);
         Ok(verdict)
     }
@@ -187,33 +231,35 @@ impl LinkState {
     /// Appends the event of a frame that brings a message to a sampling port.
     fn deliver(
         &mut self,
-        alloc: Global,
         net: Net,
         now: u64,
-        frame: &Frame<'_>,
-        carried: Carried<'_>,
+        octets: Octets,
+        brought: Brought,
     ) -> Result<Verdict, Memory>
-        requires port { carried.port.0 < length self.old.settings.ports }
-        requires brings { outcome_after self.old (arrived net now frame.now.whole.now) ≡ Ok (carried_parts carried) }
+        requires long { 60 ≤ length octets }
+        requires port { brought.port.0 < length self.old.settings.ports }
+        requires brings { outcome_after self.old (arrived net now octets) ≡ Ok (brought_parts brought) }
         ensures event { IfOk result (λ verdict.
-            self.new ≡ with_event self.old (arrived net now frame.now.whole.now) verdict) }
+            self.new ≡ with_event self.old (arrived net now octets) verdict) }
         ensures verdict { IfOk result (λ verdict.
-            verdict ≡ verdict_after self.old (arrived net now frame.now.whole.now)) }
+            verdict ≡ verdict_after self.old (arrived net now octets)) }
         ensures err { OnErr result (self.new ≡ self.old) }
     {
-        let published = self.published(carried.port);
-        let verdict = sampled(carried.port, published);
+        let Brought { port, payload } = brought;
+        let published = self.published(port);
+        let verdict = sampled(port, published);
         if published >= MOST_SAMPLES {
-            return self.append(alloc, net, now, frame, verdict);
+            return self.append(net, now, octets, verdict);
         }
         let message = Message {
             time: now,
-            octets: Octets::copy_of(alloc, carried.payload)?,
+            octets: payload,
         };
-        let event = event_of(alloc, net, now, frame, verdict)?;
+        let number = number_in(octets.as_slice());
         reserve_event(&mut self.history)?;
-        self.checks.note(net, frame.number, now, true);
-        publish(&mut self.registers, carried.port, message);
+        self.checks.note(net, number, now, true);
+        publish(&mut self.registers, port, message);
+        let event = event_of(net, now, octets, verdict);
         self.history.push_reserved(event);
         Ok(verdict)
     }
@@ -230,23 +276,25 @@ fn sampled(port: PortNo, published: u64) -> Verdict
     }
 }
 
-/// The event of a frame, with a copy of its octets.
-fn event_of(
-    alloc: Global,
-    net: Net,
-    time: u64,
-    frame: &Frame<'_>,
-    verdict: Verdict,
-) -> Result<Event, Memory>
-    ensures { IfOk result (λ event. event ≡ event_of (arrived net time frame.now.whole.now) verdict) }
+/// The sequence number of a frame.
+fn number_in(octets: &[u8]) -> u8
+    requires { 60 ≤ length octets.now }
+    ensures { result ≡ number_of octets.now }
 {
-    Ok(Event {
+    frame_in(octets).number
+}
+
+/// The event of a frame.
+fn event_of(net: Net, time: u64, frame: Octets, verdict: Verdict) -> Event
+    ensures { result ≡ event_of (arrived net time frame) verdict }
+{
+    Event {
         net,
         time,
-        frame: Octets::copy_of(alloc, frame.whole)?,
+        frame,
         room: true,
         verdict,
-    })
+    }
 }
 
 /// Makes room for one event more.

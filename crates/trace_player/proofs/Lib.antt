@@ -5,4 +5,3 @@ pub mod Pieces
 pub mod Runs
 pub mod States
 pub mod Turns
-pub mod Behind

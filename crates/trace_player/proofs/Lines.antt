@@ -1,11 +1,13 @@
 -- What is left of a trace.
-use Rattle.std.proofs.Common.{◌≡◌, ℕ, ◌+◌, ◌<◌, ◌≤◌, true, false, List, [], ◌∷◌, Option, None, Some, length, take, drop, get_or, arith}
+use Rattle.std.proofs.Common.{◌≡◌, ◌∙◌, ℕ, ◌+◌, ◌<◌, ◌≤◌, true, false, List, [], ◌∷◌, ◌++◌, Option, None, Some, Result, Ok, Err, length, take, drop, get_or, append_assoc, ap, sym, refl, arith}
 use Rattle.std.specs.List.{slice_split, position_or_len}
 use Rattle.std.proofs.lemmas.Bool.{false_from_ne_true}
 use Rattle.std.proofs.lemmas.List.Elements.{All-from_get_or}
 use Rattle.std.proofs.lemmas.List.Splits.{slice_split_none, slice_split_first}
 use Rattle.std.proofs.lemmas.List.Sums.{position_or_len_is}
-use Rattle.trace_player.specs.Trace.{is_line_end}
+use Rattle.trace_player.specs.declared.trace.TimedFrame.{TimedFrame}
+use Rattle.trace_player.specs.declared.trace.TraceCause.{TraceCause}
+use Rattle.trace_player.specs.Trace.{is_line_end, line_in, with_front, and_then, frames_from}
 
 -- how much is left to read: a text, and the end of its last line
 abbrev pub left_in : Option (List ℕ) → ℕ
@@ -24,3 +26,16 @@ first_line text end within before ends =
     let place : position_or_len is_line_end text ≡ end =
     position_or_len_is is_line_end text end 0 (omega arith) (λ k below. false_from_ne_true _ (before k (omega arith) below)) (λ _. ends) in
     rw place at (slice_split_first is_line_end text 0 (rw place within))
+
+fronts : (xs ys : List TimedFrame) (read : Result (List TimedFrame) (ℕ × TraceCause)) → with_front (xs ++ ys) read ≡ with_front xs (with_front ys read)
+fronts xs ys (Ok zs) = ap Ok (append_assoc xs ys zs)
+fronts xs ys (Err fault) = refl
+
+-- a line with a frame was read
+pub one_more_frame : (number before : ℕ) (frames now : List TimedFrame) (line : List ℕ) (lines : List (List ℕ)) (frame : TimedFrame) (whole : Result (List TimedFrame) (ℕ × TraceCause))
+    → line_in before line ≡ Ok (Some frame) → now ≡ frames ++ frame ∷ [] → with_front frames (frames_from number before (line ∷ lines)) ≡ whole
+    → with_front now (frames_from (number + 1) frame.time lines) ≡ whole
+one_more_frame number before frames now line lines frame whole reads grown said =
+    let behind : ℕ → Result (List TimedFrame) (ℕ × TraceCause) = λ time. frames_from (number + 1) time lines in
+    let first : frames_from number before (line ∷ lines) ≡ with_front (frame ∷ []) (behind frame.time) = ap (λ (read : Result (Option TimedFrame) TraceCause). and_then number before read behind) reads in
+    ap (λ (f : List TimedFrame). with_front f (behind frame.time)) grown ∙ fronts frames (frame ∷ []) (behind frame.time) ∙ ap (with_front frames) (sym first) ∙ said

@@ -15,7 +15,7 @@ use Rattle.es_base.specs.Reading.{FrameParts, frame_of}
 use Rattle.es_base.specs.Settings.{Settings}
 use Rattle.es_base.specs.History.{Arrival}
 use Rattle.vl_config.specs.Config.{Configuration, AreLinks, number_of, has_number}
-use Rattle.link_receiver.specs.Link.{Link, past_of, arrived, event_of, with_event, verdict_after}
+use Rattle.link_receiver.specs.Link.{Link, past_of, event_of, with_event, verdict_after}
 use Rattle.trace_player.specs.Output.{or_unknown, addressed, link_of, is_addressed, comes_to, verdict_at, past_after, line_after, line_if, line_of}
 use Rattle.trace_player.specs.States.{state_after, states_after}
 use Rattle.trace_player.proofs.Firsts.{IsOnly, first_at, found_at, passes_found, nothing_found, map_none, map_one}
@@ -137,27 +137,24 @@ state_is c earlier states place link d there same =
     get_or_from_slice_get states place (view link) d (rw same (slice_get-map view c.links place ∙ ap (option_map view) there))
 
 -- what a frame leaves of all states, where its link's takes it
-pub taken_states : (c : Configuration) (earlier : List Arrival) (a : Arrival) (octets : List ℕ) (states : List Link) (place : ℕ) (link : Settings) (d after : Link)
-    → AreLinks c.links → Comes c a.frame place link → octets ≡ a.frame → after ≡ with_frame (get_or states place d) (arrived a.net a.time octets)
+pub taken_states : (c : Configuration) (earlier : List Arrival) (a : Arrival) (states : List Link) (place : ℕ) (link : Settings) (d after : Link)
+    → AreLinks c.links → Comes c a.frame place link → after ≡ with_frame (get_or states place d) a
     → states ≡ states_after c earlier → set states place after ≡ states_after c (a ∷ earlier)
-taken_states c earlier a octets states place link d after are comes whole took same =
-    let state = get_or states place d in
-    let took : after ≡ with_frame state a = subst (λ (frame : List ℕ). after ≡ with_frame state (arrived a.net a.time frame)) whole took in
+taken_states c earlier a states place link d after are comes took same =
     let is = state_is c earlier states place link d comes.there same in
     let after_is : after ≡ with_frame (state_after c.constant earlier link) a = subst (λ (s : Link). after ≡ with_frame s a) is took in
     rw (same, after_is) (moved_states c earlier a place link are comes)
 
 -- the line that is written of it
-pub taken_line : (c : Configuration) (earlier : List Arrival) (a : Arrival) (octets : List ℕ) (states : List Link) (place : ℕ) (link : Settings) (d : Link) (before after : List ℕ)
-    → Comes c a.frame place link → octets ≡ a.frame → after ≡ before ++ (line_after link (past_of (get_or states place d)) (arrived a.net a.time octets) ++ 10 ∷ [])
+pub taken_line : (c : Configuration) (earlier : List Arrival) (a : Arrival) (states : List Link) (place : ℕ) (link : Settings) (d : Link) (before after : List ℕ)
+    → Comes c a.frame place link → after ≡ before ++ (line_after link (past_of (get_or states place d)) a ++ 10 ∷ [])
     → states ≡ states_after c earlier → after ≡ before ++ line_of c earlier a
-taken_line c earlier a octets states place link d before after comes whole wrote same =
+taken_line c earlier a states place link d before after comes wrote same =
     let past = past_after c.constant link earlier in
     let is : past_of (get_or states place d) ≡ past = ap past_of (state_is c earlier states place link d comes.there same) ∙ reverse-reverse past in
-    let line : List Event → List ℕ → List ℕ = λ p frame. before ++ (line_after link p (arrived a.net a.time frame) ++ 10 ∷ []) in
-    let told = ap (λ (p : List Event). line p octets) is ∙ ap (line past) whole in
+    let line : List Event → List ℕ = λ p. before ++ (line_after link p a ++ 10 ∷ []) in
     let line_for : Result Settings FilterCause → List ℕ = λ to. before ++ (line_if c earlier a to ++ 10 ∷ []) in
-    wrote ∙ told ∙ sym (ap line_for (link_is c a.frame place link comes))
+    wrote ∙ ap line is ∙ sym (ap line_for (link_is c a.frame place link comes))
 
 link_there : (vl : ℕ) (links seen : List Settings) (place : ℕ) (link : Settings) → position (has_number vl) links ≡ Some place → seen ≡ links
     → link ≡ get_or seen place link → slice_get links place ≡ Some link

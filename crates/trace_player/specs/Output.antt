@@ -10,7 +10,8 @@ use Rattle.es_base.specs.declared.fault.FilterCause.{FilterCause}
 use Rattle.es_base.specs.declared.fault.FilterCause.TheVariants.{UnknownLink}
 use Rattle.es_base.specs.declared.event.Event.{Event}
 use Rattle.es_base.specs.declared.verdict.Verdict.{Verdict}
-use Rattle.es_base.specs.Reading.{FrameParts, frame_of, filter_cause}
+use Rattle.es_base.specs.declared.place.LinkNo.{LinkNo}
+use Rattle.es_base.specs.Reading.{FrameParts, frame_of, vl_of, number_of, inner_of, filter_cause}
 use Rattle.es_base.specs.Settings.{Settings}
 use Rattle.es_base.specs.History.{Origin, Arrival, verdict_of}
 use Rattle.vl_config.specs.Config.{Configuration, has_number}
@@ -19,6 +20,14 @@ use Rattle.trace_player.specs.declared.trace.TimedFrame.{TimedFrame}
 use Rattle.trace_player.specs.Text.{filtered_text, event_text, verdict_text}
 
 -- ---- which link a frame comes to
+
+-- the number of its link
+abbrev pub number_in : List ℕ → LinkNo
+number_in octets = record { 0 = vl_of octets }
+
+-- a frame's parts, each where it stands
+abbrev pub parts_of : List ℕ → FrameParts
+parts_of octets = record { vl = vl_of octets; number = number_of octets; inner = inner_of octets }
 
 -- a link that was found; none is an unknown link
 abbrev pub or_unknown : Option Settings → Result Settings FilterCause

@@ -1,5 +1,5 @@
 -- What a whole run does to its devices.
-use Rattle.std.specs.Prelude.{◌≡◌, ℕ, Bool, true, false, List, take, IfSome, Option, Result, Ok, Err}
+use Rattle.std.specs.Prelude.{◌≡◌, ℕ, Bool, true, false, List, take, reverse, IfSome, Option, Result, Ok, Err}
 use Rattle.std.specs.Io.KnownBytes.{Appends}
 use Rattle.es_base.specs.declared.place.Net.{Net}
 use Rattle.es_base.specs.declared.place.Net.TheVariants as nets
@@ -9,7 +9,9 @@ use Rattle.trace_player.specs.declared.trace.TraceCause.{TraceCause}
 use Rattle.trace_player.specs.declared.fault.PlayFault.{PlayFault}
 use Rattle.trace_player.specs.declared.fault.PlayFault.TheVariants.{Trace, Read, Write, Memory}
 use Rattle.trace_player.specs.Trace.{trace_of}
-use Rattle.trace_player.specs.Output.{output_of}
+use Rattle.link_receiver.specs.Link.{Link}
+use Rattle.trace_player.specs.Output.{merged, output_of}
+use Rattle.trace_player.specs.States.{states_after}
 
 -- the text is all that the source had, where that is known
 abbrev pub IsWhole : Option (List ℕ) → List ℕ → Type 0
@@ -68,17 +70,27 @@ abbrev pub FirstFailed : Given → Given → Net → Type 0
 FirstFailed a b nets.A = a.failed ≡ true
 FirstFailed a b nets.B = ((frames : List TimedFrame) × SaysFrames a frames) × (b.failed ≡ true)
 
--- both texts were read whole, both are traces, and this is done with their output
-abbrev pub PlaysTraces : Configuration → Given → Given → (List ℕ → Type 0) → Type 0
-PlaysTraces c a b Writes =
-    (frames_a : List TimedFrame) × ((frames_b : List TimedFrame) × SaysFrames a frames_a × SaysFrames b frames_b × Writes (output_of c frames_a frames_b))
+-- both texts were read whole, both are traces, and this holds of their frames
+abbrev pub PlaysTraces : Given → Given → (List TimedFrame → List TimedFrame → Type 0) → Type 0
+PlaysTraces a b Holds = (frames_a : List TimedFrame) × ((frames_b : List TimedFrame) × SaysFrames a frames_a × SaysFrames b frames_b × Holds frames_a frames_b)
 
 -- What a run over two traces did; `contents` and `has_failed` tell of the sink, from `old` to `new`.
 abbrev pub Played : {S X : Type 0} → Configuration → Given → Given → (S → Option (List ℕ)) → (S → Bool) → S → S → Result X PlayFault → Type 0
 Played c a b contents has_failed old new (Ok x) =
-    (has_failed new ≡ false) × PlaysTraces c a b (λ text. Appends (contents old) (contents new) text)
+    (has_failed new ≡ false) × PlaysTraces a b (λ frames_a frames_b. Appends (contents old) (contents new) (output_of c frames_a frames_b))
 Played c a b contents has_failed old new (Err (Trace net line cause)) = FirstFault a b net line cause × (new ≡ old)
 Played c a b contents has_failed old new (Err (Read net)) = FirstFailed a b net × (new ≡ old)
 Played c a b contents has_failed old new (Err Write) =
-    (has_failed new ≡ true) × PlaysTraces c a b (λ text. (count : ℕ) × Appends (contents old) (contents new) (take count text))
+    (has_failed new ≡ true) × PlaysTraces a b (λ frames_a frames_b. (count : ℕ) × Appends (contents old) (contents new) (take count (output_of c frames_a frames_b)))
 Played c a b contents has_failed old new (Err Memory) = new ≡ old
+
+-- the links' states are those after the frames of both traces
+abbrev pub AreAfter : Configuration → List TimedFrame → List TimedFrame → List Link → Type 0
+AreAfter c frames_a frames_b states = states ≡ states_after c (reverse (merged frames_a frames_b))
+
+-- the same where a run answers the links' states, seen through `view`
+abbrev pub Replayed : {S X : Type 0} → (X → List Link) → Configuration → Given → Given → (S → Option (List ℕ)) → (S → Bool) → S → S → Result X PlayFault → Type 0
+Replayed view c a b contents has_failed old new (Ok x) =
+    (has_failed new ≡ false)
+    × PlaysTraces a b (λ frames_a frames_b. Appends (contents old) (contents new) (output_of c frames_a frames_b) × AreAfter c frames_a frames_b (view x))
+Replayed view c a b contents has_failed old new (Err fault) = Played {X = Unit {0}} c a b contents has_failed old new (Err fault)

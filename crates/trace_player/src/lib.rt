@@ -19,7 +19,7 @@ mod trace;
 pub use built_in::BUILT_IN;
 pub use device::{Device, Failed};
 pub use fault::PlayFault;
-pub use player::play;
+pub use player::{play, replay};
 pub use run_fault::{RunFault, status_of};
 pub use sink::Sink;
 pub use source::Source;

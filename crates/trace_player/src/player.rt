@@ -1,17 +1,19 @@
 //! A whole run: from the bytes of a trace to the bytes of the output.
-ghost use Rattle.std.specs.Prelude.{◌≡◌, ◌<◌, ◌^◌, [], IfOk, false, length};
-ghost use Rattle.trace_player.specs.Play.{IsRead, ReadsWhole, WritesWhole, Played};
+ghost use Rattle.std.specs.Prelude.{◌≡◌, ◌≤◌, ◌<◌, ◌+◌, ◌||◌, IfOk, OnOk, false, is_err, length, take, drop};
+ghost use Rattle.std.specs.Io.KnownBytes.{ReadConsumes};
+ghost use Rattle.trace_player.specs.Play.{IsRead, ReadsWhole, WritesWhole, Played, Replayed};
 
 use crate::frames::Frames;
-use crate::run::output_of;
+use crate::run::{new_states, output_of};
 use crate::trace::{TraceError, read_trace};
-use crate::{PlayFault, Sink, Source};
+use crate::{Failed, PlayFault, Sink, Source};
 use es_base::{Memory, Net};
+use link_receiver::LinkState;
 use std::alloc::Global;
 use vl_config::Config;
 
-/// How many bytes are asked of a source at once.
-const PIECE: usize = 65_536;
+/// How many bytes the text grows by, where a source has more than it holds.
+const PIECE: usize = 262_144;
 
 /// Plays the traces of both networks: reads trace A whole and checks it, then trace B; gives their
 /// frames one after another, by their times and those of A first, each to the configuration's link
@@ -33,12 +35,35 @@ pub fn play<A: Source, B: Source, W: Sink>(
         (record { given = B.remaining b.old; failed = B.has_failed b.new })
         W.contents W.has_failed out.old out.new result }
 {
+    replay(alloc, config, a, b, out)?;
+    Ok(())
+}
+
+/// Plays as `play` does, and answers the links' states, in the order of the configuration: each has the
+/// history that the frames left.
+pub fn replay<A: Source, B: Source, W: Sink>(
+    alloc: Global,
+    config: &Config,
+    a: &mut A,
+    b: &mut B,
+    out: &mut W,
+) -> Result<Vec<LinkState>, PlayFault>
+    requires source_a { A.has_failed a.old ≡ false }
+    requires source_b { B.has_failed b.old ≡ false }
+    requires sink { W.has_failed out.old ≡ false }
+    ensures { Replayed (λ states. states.items) config.now
+        (record { given = A.remaining a.old; failed = A.has_failed a.new })
+        (record { given = B.remaining b.old; failed = B.has_failed b.new })
+        W.contents W.has_failed out.old out.new result }
+{
     let mut text = Vec::new(alloc);
     let frames_a = trace_from(alloc, Net::A, a, &mut text)?;
     let frames_b = trace_from(alloc, Net::B, b, &mut text)?;
     drop(text);
-    let text = output_of(alloc, config, &frames_a, &frames_b)?;
-    write_whole(out, text.as_bytes())
+    let mut states = new_states(alloc, config)?;
+    let output = output_of(alloc, config, &mut states, frames_a, frames_b)?;
+    write_whole(out, output.as_bytes())?;
+    Ok(states)
 }
 
 /// The frames of a trace that is read whole. `text` is where it is read to: one text serves for both
@@ -52,57 +77,54 @@ fn trace_from<S: Source>(
     requires { S.has_failed source.old ≡ false }
     ensures { IsRead net (λ frames. frames) (S.remaining source.old) (S.has_failed source.new) result }
 {
-    text.clear();
-    read_whole(alloc, net, source, text)?;
-    match read_trace(alloc, text) {
+    let count = read_whole(net, source, text)?;
+    match read_trace(alloc, &text[..count]) {
         Ok(frames) => Ok(frames),
         Err(TraceError::Line { line, cause }) => Err(PlayFault::Trace { net, line, cause }),
         Err(TraceError::Memory) => Err(PlayFault::Memory),
     }
 }
 
-/// Reads all the bytes of a source.
-fn read_whole<S: Source>(
-    alloc: Global,
-    net: Net,
-    source: &mut S,
-    text: &mut Vec<u8>,
-) -> Result<(), PlayFault>
-    requires fresh { text.old.items ≡ [] }
-    requires clear { S.has_failed source.old ≡ false }
-    ensures whole { ReadsWhole net (λ _. text.new.items) (S.remaining source.old) (S.has_failed source.new) result }
-    ensures small { length text.new.items < 2 ^ 63 }
+/// Reads all the bytes of a source to the front of `text`, and answers how many there are.
+fn read_whole<S: Source>(net: Net, source: &mut S, text: &mut Vec<u8>) -> Result<usize, PlayFault>
+    requires { S.has_failed source.old ≡ false }
+    ensures whole { ReadsWhole net (λ count. take count text.new.items)
+        (S.remaining source.old) (S.has_failed source.new) result }
+    ensures within { IfOk result (λ count. count ≤ length text.new.items) }
 {
-    let mut piece = piece_of(alloc, PIECE)?;
-    read_onto(net, source, &mut piece, text)
-}
-
-fn piece_of(alloc: Global, size: usize) -> Result<Vec<u8>, Memory>
-    requires { 0 < size }
-    ensures { IfOk result (λ piece. 0 < length piece.items) }
-{
-    vec![in alloc; 0u8; size]
-}
-
-/// Reads to the end, piece by piece.
-fn read_onto<S: Source>(
-    net: Net,
-    source: &mut S,
-    piece: &mut [u8],
-    text: &mut Vec<u8>,
-) -> Result<(), PlayFault>
-    requires room { 0 < length piece.old }
-    requires fresh { text.old.items ≡ [] }
-    requires clear { S.has_failed source.old ≡ false }
-    ensures { ReadsWhole net (λ _. text.new.items) (S.remaining source.old) (S.has_failed source.new) result }
-{
+    let mut filled = 0;
     'pieces: loop {
-        match source.read(piece) {
-            Ok(0) => return Ok(()),
-            Ok(count) => text.extend_from_slice(&piece[..count])?,
+        make_room(text, filled)?;
+        match read_behind(source, text, filled) {
+            Ok(0) => return Ok(filled),
+            Ok(count) => filled += count,
             Err(_) => return Err(PlayFault::Read { net }),
         }
     }
+}
+
+/// Makes room behind the first `filled` bytes of a text, where there is none.
+fn make_room(text: &mut Vec<u8>, filled: usize) -> Result<(), Memory>
+    requires { filled ≤ length text.old.items }
+    ensures front { OnOk result (take filled text.new.items ≡ take filled text.old.items) }
+    ensures room { OnOk result (filled < length text.new.items) }
+{
+    if filled == text.len() {
+        text.resize(filled + PIECE, 0)?;
+    }
+    Ok(())
+}
+
+/// Reads some bytes to the place behind the first `filled` of a text, and answers how many.
+fn read_behind<S: Source>(source: &mut S, text: &mut [u8], filled: usize) -> Result<usize, Failed>
+    requires { filled ≤ length text.old }
+    ensures front { take filled text.new ≡ take filled text.old }
+    ensures whole { length text.new ≡ length text.old }
+    ensures count { IfOk result (λ count. filled + count ≤ length text.new) }
+    ensures bytes { ReadConsumes (S.remaining source.old) (S.remaining source.new) result (drop filled text.new) }
+    ensures flag { S.has_failed source.new ≡ (S.has_failed source.old || is_err result) }
+{
+    source.read(&mut text[filled..])
 }
 
 /// Writes all the bytes.

@@ -10,7 +10,7 @@ ghost use Rattle.trace_player.specs.Trace.{is_line_end, lines_of, trace_of, Read
 ghost use Rattle.trace_player.specs.Trace.{time_digits, time_of, after_space, octets_in, line_in, Reads, ReadsLine};
 
 use crate::frames::Frames;
-use es_base::{Memory, Octets};
+use es_base::Octets;
 use hex::FromHexError;
 use memchr::memchr;
 use std::alloc::{AllocFailed, Global};
@@ -68,16 +68,16 @@ pub(crate) fn read_trace(alloc: Global, text: &[u8]) -> Result<Frames, TraceErro
     let mut rest = Some(text);
     while let Some(text) = rest {
         let (first, more) = cut_line(text);
-        match read_line(alloc, before, first) {
-            Ok(None) => {}
-            Ok(Some(frame)) => {
-                before = frame.time;
-                if frames.push(frame.time, frame.frame.as_slice()).is_err() {
-                    return Err(TraceError::Memory);
-                }
-            }
+        let found = match read_line(alloc, before, first) {
+            Ok(found) => found,
             Err(LineError::Fault(cause)) => return Err(TraceError::Line { line, cause }),
             Err(LineError::Memory) => return Err(TraceError::Memory),
+        };
+        if let Some(frame) = found {
+            before = frame.time;
+            if frames.push(frame).is_err() {
+                return Err(TraceError::Memory);
+            }
         }
         line += 1;
         rest = more;

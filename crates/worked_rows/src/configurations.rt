@@ -1,22 +1,8 @@
 //! The configurations of the rows.
+use config_rows::SECOND_LINK;
 use std::alloc::{AllocError, Global};
 use trace_player::BUILT_IN;
 use vl_config::{Config, ConfigFault, read_config};
-
-/// A second link, which stands behind the built-in configuration.
-pub(crate) const SECOND_LINK: &str = r#"
-[[link]]
-vl = 18
-skew_max_us = 1000
-reassembly_us = 50000
-
-[[link.port]]
-name = "alt"
-kind = "sampling"
-address = "224.224.0.18"
-udp = 5000
-refresh_us = 20000
-"#;
 
 /// Link 17 with the sampling port `pos` and the queuing port `nav`.
 pub(crate) fn first(alloc: Global) -> Result<Config, ConfigFault> {

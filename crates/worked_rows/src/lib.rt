@@ -3,8 +3,6 @@
 #![tactic(auto)]
 
 #[cfg(test)]
-mod config;
-#[cfg(test)]
 mod configurations;
 #[cfg(test)]
 mod devices;

@@ -3,7 +3,7 @@ ghost use Rattle.std.specs.Prelude.{◌≡◌};
 
 use crate::configurations::first;
 use crate::frames::{CONSTANT, ETHERNET, IP, PAYLOAD, UDP, frame_of, smallest, with_max};
-use es_base::{Decision, LinkSettings, Net, PacketFault, PortNo, Verdict};
+use es_base::{Decision, LinkSettings, Net, Octets, PacketFault, PortNo, Verdict};
 use frame_reader::read_frame;
 use link_receiver::LinkState;
 use std::alloc::Global;
@@ -67,6 +67,22 @@ fn the_newest_message_is_shown(rt: HostRuntime) -> Result<(), Fail> {
     assert!(rt; message.octets.as_slice() == hex::decode(alloc, PAYLOAD)?.as_slice());
     assert!(rt; state.newest(NAV).is_none());
     assert!(rt; state.newest(PortNo(2)).is_none());
+    Ok(())
+}
+
+#[test]
+fn octets_are_kept_in_the_place_of_a_copy(rt: HostRuntime) -> Result<(), Fail> {
+    let alloc = rt.alloc();
+    let config = first(alloc)?;
+    let settings = &config.links()[0];
+    let mut state = LinkState::new(alloc, settings)?;
+    let octets = Octets::from(smallest(alloc, 0)?);
+    let frame = read_frame(CONSTANT, octets.as_slice()).expect(&rt, "a frame");
+    assert!(rt; frame.vl == settings.vl());
+    let verdict = state.take_octets(alloc, Net::A, 1000, octets)?;
+    assert_eq!(rt; verdict, Verdict::Sampled(POS, 1));
+    let event = state.history().last().ok_or("an event")?;
+    assert!(rt; event.frame.as_slice() == smallest(alloc, 0)?.as_slice());
     Ok(())
 }
 

@@ -2,12 +2,12 @@
 use crate::configurations::{both_links, changed, first};
 use crate::devices::{Breaking, Filling};
 use crate::frames::{ETHERNET, IP, PAYLOAD, UDP, frame_of, smallest};
-use es_base::{Memory, Net};
+use es_base::{Memory, Net, PortNo};
 use hex::FromHexError;
 use std::alloc::Global;
 use std::process::Abort;
 use std::test::Fail;
-use trace_player::{BUILT_IN, Device, PlayFault, TraceCause, play};
+use trace_player::{BUILT_IN, Device, PlayFault, TraceCause, play, replay};
 use vl_config::{Config, read_config};
 
 /// A trace of no bytes.
@@ -519,6 +519,29 @@ fn each_link_has_its_own_history(rt: HostRuntime) -> Result<(), Fail> {
     let (answer, written) = both_played(alloc, &config, a.as_bytes(), b.as_bytes());
     assert_eq!(rt; answer, Ok(()));
     assert!(rt; written.as_slice() == output.as_bytes());
+    Ok(())
+}
+
+#[test]
+fn a_replay_answers_the_links_as_the_frames_left_them(rt: HostRuntime) -> Result<(), Fail> {
+    let alloc = rt.alloc();
+    let config = read_config(alloc, both_links(alloc)?.as_str())?;
+    let a = trace_of(alloc, &[(1000, 7), (2000, 8)])?;
+    let b = trace_of(alloc, &[(1100, 7)])?;
+    let mut a = Device::new(a.as_bytes());
+    let mut b = Device::new(b.as_bytes());
+    let mut out = Device::new(Vec::new(alloc));
+    let states = replay(alloc, &config, &mut a, &mut b, &mut out);
+    let states = states.ok().ok_or("states")?;
+    let [link_17, link_18] = states.as_slice() else {
+        return Err(Fail::from("two states"));
+    };
+    assert_eq!(rt; link_17.history().len(), 3);
+    let (number, message) = link_17.newest(PortNo(0)).ok_or("a message")?;
+    assert_eq!(rt; number, 2);
+    assert_eq!(rt; message.time, 2000);
+    assert!(rt; link_18.history().is_empty());
+    assert!(rt; out.inner.starts_with(b"1000 A vl 17 0 sampled pos 1\n"));
     Ok(())
 }
 

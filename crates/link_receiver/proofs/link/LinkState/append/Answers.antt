@@ -1,6 +1,7 @@
-use Rattle.std.proofs.Common.{true, refl, reverse, sym, ap, rules}
+use Rattle.std.proofs.Common.{◌∙◌, true, refl, reverse, sym, ap, rules}
 use Rattle.std.specs.List.{slice_get}
 use Rattle.es_base.specs.declared.event.Event.{Event}
+use Rattle.es_base.specs.Reading.{number_of}
 use Rattle.es_base.specs.Verdict.{settled}
 use Rattle.es_base.specs.History.{Origin}
 use Rattle.link_receiver.specs.Link.{arrived, event_of}
@@ -13,10 +14,10 @@ invariant_of-self-2 c =
     let history = c.self.inside.history.items in
     let registers = c.self.inside.registers.items in
     let origin : Origin = record { settings = settings } in
-    let e : Event = event_of (arrived c.args.net c.args.now c.args.frame.now.whole.now) c.args.verdict in
+    let e : Event = event_of (arrived c.args.net c.args.now c.args.octets) c.args.verdict in
     let nothing = rw (← c.self.view_is) at c.requires.nothing in
     let decision = rw (← c.self.view_is) at c.requires.decision in
-    let number = c.args.frame.now.number_is in
+    let number = c.number_in-number.ensures ∙ ap number_of c.as_slice.ensures in
     let first = rw (← c.self.view_is) at c.is_first-first.ensures in
     let stand = c.note.ensures origin (reverse history) e c.self.invariant.checked refl (sym number) refl (rw (← number) (sym first)) in
     kept_more settings history c.push_reserved.new.self.items c.self.inside.checks c.note.new.self registers registers e

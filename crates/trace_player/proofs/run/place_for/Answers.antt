@@ -2,7 +2,7 @@ use Rattle.std.proofs.Common.{sym}
 use Rattle.vl_config.specs.Config.{has_number}
 use Rattle.trace_player.proofs.Firsts.{found_nowhere}
 use Rattle.trace_player.proofs.States.{link_of_none}
-use Rattle.trace_player.proofs.run.frame_for.Goals as goal
+use Rattle.trace_player.proofs.run.place_for.Goals as goal
 
 pub returns-in-None-clause-filtered : goal.returns-in-None-clause-filtered
 returns-in-None-clause-filtered c =
