@@ -4,7 +4,7 @@
 # Plays the traces of each folder (config.toml, a.trace, b.trace) with this player and with OTHER, a
 # program with the same command line: ten times in a row each, output thrown away. Prints the least
 # wall time and the greatest resident memory of each and their ratios. Our lines must be the first
-# lines of OTHER's output, which may have a report behind them. PROGRAM names this player (default:
+# lines of OTHER's output, which may have a report after them. PROGRAM names this player (default:
 # the one that `rt run` leaves in crates/afdx_play/out).
 set -eu
 program=${PROGRAM:-"$(dirname "$0")/../crates/afdx_play/out/afdx_play"}

@@ -1,10 +1,11 @@
 //! The words and the files that the program is called with.
 use command_line::LineFault;
 use es_base::Net;
+use run_fault::RunFault;
 use std::fs::File;
 use std::io::{self, ErrorKind};
 use std::{env, fs};
-use trace_player::{PlayFault, RunFault};
+use trace_player::PlayFault;
 use vl_config::ConfigFault;
 
 /// The words after the program's name.

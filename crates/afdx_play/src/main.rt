@@ -8,10 +8,11 @@ mod files;
 use command_line::{Line, LineFault, line_of};
 use es_base::Net;
 use files::{config_text, open_trace, words_of};
+use run_fault::{RunFault, status_of};
 use std::mem;
 use std::process::ExitCode;
-use trace_player::{BUILT_IN, Device, PlayFault, RunFault, Source, replay, status_of};
-use vl_config::{Config, read_config};
+use trace_player::{Device, PlayFault, Source, replay};
+use vl_config::{BUILT_IN, Config, read_config};
 
 /// The trace of network B where the program is called with no words.
 const EMPTY: &[u8] = &[];
@@ -20,14 +21,14 @@ fn main(rt: HostRuntime) -> ExitCode {
     match run(&rt) {
         Ok(()) => ExitCode::SUCCESS,
         Err(fault) => {
-            tell(&rt, &fault);
+            print_fault(&rt, &fault);
             ExitCode::from(status_of(&fault))
         }
     }
 }
 
 /// Writes a fault to the standard error. The text of a refused command line has its own beginning.
-fn tell(rt: &HostRuntime, fault: &RunFault) {
+fn print_fault(rt: &HostRuntime, fault: &RunFault) {
     let _ = match fault {
         RunFault::Line(LineFault::Refused(text)) => eprint!(rt; "{text}"),
         fault => eprintln!(rt; "afdx_play: {fault}"),

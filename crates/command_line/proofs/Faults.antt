@@ -22,7 +22,7 @@ use Rattle.clap.proofs.FaultLemmas.{past}
 use Rattle.clap.proofs.WalkLemmas.{both}
 use Rattle.std.specs.Prelude.{String}
 use Rattle.std.specs.declared.alloc.Global.{Global}
-use Rattle.command_line.specs.Command.{HasFault, IsFaultOf, play_command, texts_of, told}
+use Rattle.command_line.specs.Command.{HasFault, IsFaultOf, play_command, texts_of, fault_from}
 
 -- there is one kind at most, and none only where the test passes
 pub record Says (kinds : Kinds) (passes : Bool) : Type 0 where
@@ -278,12 +278,12 @@ fault_says words = go (walk top.rules [] nothing_held words).stopped
     go None = play_says [] nothing_held words
     go (Some p) = play_says [] nothing_held words
 
--- how the command's answer is told
-pub fault_told : (words : List (String Global)) (e : Error) → HasKind (fault_of play_command (texts_of words)) e → IsFaultOf words (told (kind_of e) e)
-fault_told words e (inl none) = subst (λ (k : ErrorKind). IsFaultOf words (told k e)) (sym none) tt
-fault_told words e (inr among) = go (kind_of e) refl ((fault_says (texts_of words)).one (kind_of e) among)
+-- the fault that an error of the command becomes is of the words
+pub fault_of_words : (words : List (String Global)) (e : Error) → HasKind (fault_of play_command (texts_of words)) e → IsFaultOf words (fault_from (kind_of e) e)
+fault_of_words words e (inl none) = subst (λ (k : ErrorKind). IsFaultOf words (fault_from k e)) (sym none) tt
+fault_of_words words e (inr among) = go (kind_of e) refl ((fault_says (texts_of words)).one (kind_of e) among)
   where
-    go : (k : ErrorKind) → kind_of e ≡ k → HasFault (kind_of e) words → IsFaultOf words (told k e)
+    go : (k : ErrorKind) → kind_of e ≡ k → HasFault (kind_of e) words → IsFaultOf words (fault_from k e)
     go kind.DisplayHelp is has = (has, is)
     go kind.OutOfMemory is has = tt
     go other is has = (has, λ help. cc)

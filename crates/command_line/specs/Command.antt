@@ -60,8 +60,8 @@ IsFaultOf words (Help error) = HasFault (kind_of error) words × (kind_of error 
 IsFaultOf words (Refused error) = HasFault (kind_of error) words × (kind_of error ≢ DisplayHelp)
 IsFaultOf words Memory = ⊤
 
--- how an error of the command is told
-abbrev pub told : ErrorKind → Error → LineFault
-told DisplayHelp error = Help error
-told OutOfMemory error = Memory
-told other error = Refused error
+-- the fault of an error: help where the words ask for it, memory where it ran out, else a refusal
+abbrev pub fault_from : ErrorKind → Error → LineFault
+fault_from DisplayHelp error = Help error
+fault_from OutOfMemory error = Memory
+fault_from other error = Refused error

@@ -1,4 +1,4 @@
-//! The command as `clap` is told of it.
+//! The command and its options, as `clap` takes them.
 ghost use Rattle.std.specs.Prelude.{◌≡◌, IfOk, false};
 ghost use Rattle.clap.specs.Words.{app_of, rule_of};
 ghost use Rattle.command_line.specs.Command.{file_option, play_command};
@@ -6,8 +6,8 @@ ghost use Rattle.command_line.specs.Command.{file_option, play_command};
 use clap::{Arg, ArgAction, Command};
 use std::alloc::{AllocError, Global};
 
-/// The command that the program answers to.
-pub fn play_command<'a>(alloc: Global) -> Result<Command<'a>, AllocError>
+/// The command of the program, with its three options.
+pub(crate) fn play_command<'a>(alloc: Global) -> Result<Command<'a>, AllocError>
     ensures { IfOk result (λ command. app_of command ≡ play_command) }
 {
     Command::new(alloc, "afdx_play")
@@ -18,7 +18,7 @@ pub fn play_command<'a>(alloc: Global) -> Result<Command<'a>, AllocError>
         .arg(file_option(alloc, "b", "the hex trace of network B"))
 }
 
-/// The option `--NAME FILE`, which has to be given.
+/// The option `--NAME FILE`. It has to be given.
 fn file_option<'a>(alloc: Global, name: &'a str, help: &'a str) -> Arg<'a>
     ensures rule { rule_of result ≡ file_option name.entry.now }
     ensures local { result.global ≡ false }

@@ -1,18 +1,18 @@
-//! Why a command line gives no `Line`.
+//! Why words are no command line of the program.
 ghost use Rattle.std.specs.Prelude.{◌≡◌};
 ghost use Rattle.command_line.specs.declared.fault.LineFault.TheVariants as faults;
 
 use clap::Error;
 use std::alloc::AllocError;
 
-/// Why there is no line. The texts are those that `clap` makes for the user.
+/// Why there is no `Line`. The texts are those that `clap` writes for the user.
 #[derive(Debug, Drop)]
 pub enum LineFault {
     /// `--help` was given: the text of the help.
     Help(Error),
-    /// The words are no command line of the program: the text says why.
+    /// The words are no command line of the program: the text gives the reason.
     Refused(Error),
-    /// Want of memory.
+    /// Memory ran out.
     Memory,
 }
 

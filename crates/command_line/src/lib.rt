@@ -1,4 +1,4 @@
-//! The command line of the program: which words it takes, and what they say.
+//! The command line of the program: which words it takes, and which files they name.
 #![tactic(auto)]
 
 mod command;

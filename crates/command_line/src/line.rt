@@ -1,7 +1,7 @@
-//! From the words to the line.
+//! From the words after the program's name to the files that they name.
 ghost use Rattle.std.specs.Prelude.{◌≡◌, IfOk, IfErr, Some, true, is_some, codes, string_bytes};
 ghost use Rattle.clap.specs.Words.{first_of, kind_of};
-ghost use Rattle.command_line.specs.Command.{given, IsFaultOf, IsLineIn, IsLineOf, IsTaken, told};
+ghost use Rattle.command_line.specs.Command.{given, IsFaultOf, IsLineIn, IsLineOf, IsTaken, fault_from};
 ghost use Rattle.command_line.specs.declared.fault.LineFault.TheVariants.{Memory};
 
 use crate::LineFault;
@@ -21,8 +21,9 @@ pub struct Line {
     pub b: String,
 }
 
-/// Reads the words after the program's name. Help is answered where they ask for it, Refused where
-/// they are no command line of the program, both with the text that the user is to see.
+/// Reads the words after the program's name. The fault is Help where they ask for help, Refused where
+/// they are no command line of the program, each with the text for the user, and Memory where memory
+/// ran out.
 pub fn line_of(alloc: Global, words: &[String]) -> Result<Line, LineFault>
     ensures taken { IfOk result (λ _. IsTaken words.now) }
     ensures line { IfOk result (λ line. IsLineOf words.now line) }
@@ -35,7 +36,7 @@ pub fn line_of(alloc: Global, words: &[String]) -> Result<Line, LineFault>
     }
 }
 
-/// The line of a command line that has all three options.
+/// The files of a command line that has all three options.
 fn line_from(alloc: Global, matches: &ArgMatches<'_>) -> Result<Line, AllocError>
     requires config { is_some (first_of (codes "config") (given matches.now)) ≡ true }
     requires a { is_some (first_of (codes "a") (given matches.now)) ≡ true }
@@ -59,9 +60,9 @@ fn value_of(alloc: Global, matches: &ArgMatches<'_>, name: &str) -> Result<Strin
     String::from_str(alloc, value)
 }
 
-/// Which fault an error of the command is.
+/// The fault of an error of the command.
 fn fault_from(error: Error) -> LineFault
-    ensures { result ≡ told (kind_of error) error }
+    ensures { result ≡ fault_from (kind_of error) error }
 {
     match error.kind() {
         ErrorKind::DisplayHelp => LineFault::Help(error),

@@ -10,7 +10,7 @@ fn words_of(alloc: Global, words: &[&str]) -> Result<Vec<String>, AllocError> {
     Ok(owned)
 }
 
-/// What these words come to, as a text.
+/// What `line_of` returns for these words, as a text.
 fn answer(alloc: Global, words: &[&str]) -> Result<String, AllocError> {
     match line_of(alloc, &words_of(alloc, words)?) {
         Ok(line) => {
@@ -38,7 +38,7 @@ fn reads_the_files(rt: HostRuntime) -> Result<(), Fail> {
 }
 
 #[test]
-fn tells_the_help_from_a_refusal(rt: HostRuntime) -> Result<(), Fail> {
+fn help_and_refusals_differ(rt: HostRuntime) -> Result<(), Fail> {
     let lines: [(&[&str], &str); 8] = [
         (&["--help"], "help: "),
         (&["--config", "c", "-h"], "help: "),

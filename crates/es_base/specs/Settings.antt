@@ -1,6 +1,7 @@
 -- What a link's settings are.
 use Rattle.std.specs.Prelude.{ℕ, Bool, ◌&&◌, List, length, nat_le}
 use Rattle.es_base.specs.declared.place.LinkNo.{LinkNo}
+use Rattle.es_base.specs.Limits.{most_ports, longest_skew, longest_reassembly}
 use Rattle.es_base.specs.Port.{Port, are_apart}
 
 -- times in microseconds
@@ -14,4 +15,4 @@ pub record Settings : Type 0 where
 -- the limits of a link's settings (own)
 abbrev pub are_link_settings : ℕ → ℕ → List Port → Bool
 are_link_settings skew_max reassembly ports =
-    nat_le skew_max 1000000 && nat_le reassembly 10000000 && nat_le (length ports) 32 && are_apart ports
+    nat_le skew_max longest_skew && nat_le reassembly longest_reassembly && nat_le (length ports) most_ports && are_apart ports

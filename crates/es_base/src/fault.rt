@@ -1,7 +1,7 @@
 //! Why a frame, an IPv4 header or a UDP header is not taken.
 ghost use Rattle.std.specs.Prelude.{◌≡◌, Some};
 ghost use Rattle.es_base.specs.Word.{filter_word, header_word};
-ghost use Rattle.es_base.specs.Reading.{filter_cause};
+ghost use Rattle.es_base.specs.Frame.{filter_cause};
 
 use std::fmt;
 

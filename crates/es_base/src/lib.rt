@@ -5,8 +5,10 @@
 //! Nothing here waits, prints or looks at a clock. Times are microseconds, lengths are octets.
 #![tactic(auto)]
 
+mod config;
 mod event;
 mod fault;
+mod links;
 mod name;
 mod octets;
 mod place;
@@ -14,16 +16,18 @@ mod port;
 mod settings;
 mod verdict;
 
-pub use event::{Event, Message};
+pub use config::{Config, MOST_LINKS};
+pub use event::{Arrival, Event, Message};
 pub use fault::{FilterCause, FrameFault, PacketFault, UdpFault};
+pub use links::Links;
 pub use name::PortName;
 pub use octets::Octets;
 pub use place::{LinkNo, Net, PortNo};
 pub use port::{
     DEEPEST_QUEUE, LONGEST_QUEUED, LONGEST_REFRESH, LONGEST_SAMPLE, PortKind, PortSettings,
 };
-pub use settings::{LONGEST_REASSEMBLY, LONGEST_SKEW, LinkSettings, MOST_PORTS};
+pub use settings::{LONGEST_REASSEMBLY, LONGEST_SKEW, LinkSettings, MOST_PORTS, any_accepts};
 pub use verdict::{Decision, Verdict};
 
-/// Want of memory: a growth was refused.
+/// Memory ran out: a growth was refused.
 pub type Memory = std::alloc::AllocError;

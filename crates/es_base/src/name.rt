@@ -7,7 +7,7 @@ use arrayvec::ArrayString;
 use std::marker::Model;
 
 /// The most characters that a port's name has.
-pub const LONGEST_NAME: usize = 16;
+pub(crate) const LONGEST_NAME: usize = 16;
 
 /// A port's name: 1 to 16 of `a-z 0-9 _ -` (own).
 #[derive(Drop)]

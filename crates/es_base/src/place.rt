@@ -1,4 +1,4 @@
-//! Networks, links and ports by their names.
+//! Which network, which link, which port.
 ghost use Rattle.std.specs.Prelude.{Some};
 ghost use Rattle.std.specs.Fmt.{decimal};
 ghost use Rattle.es_base.specs.Word.{net_word};
@@ -23,7 +23,7 @@ impl fmt::Display for Net {
     }
 }
 
-/// The number of a virtual link: octets 4 and 5 of a frame, the low half of its destination
+/// A link number, that of a virtual link: octets 4 and 5 of a frame, the low half of its destination
 /// address (ARINC 664 Part 7, virtual link).
 #[derive(Clone, Copy, Debug, PartialEq, Eq)]
 pub struct LinkNo(pub u16);

@@ -1,11 +1,12 @@
 //! The settings of one port.
 ghost use Rattle.std.specs.Prelude.{◌≡◌, ◌↔◌, IsSome, IfSome, IsTrue, true};
-ghost use Rattle.es_base.specs.Port.{is_within_limits, largest_payload};
+ghost use Rattle.es_base.specs.Port.{accepts, is_within_limits};
 
 use crate::PortName;
 use std::marker::Model;
 
-/// The longest message of a sampling port: what one frame holds, in octets.
+/// The longest message of a sampling port, in octets: what a frame of 1514 holds beside its headers of
+/// 14 (Ethernet), 20 (IPv4) and 8 (UDP) octets and its sequence number.
 pub const LONGEST_SAMPLE: u16 = 1471;
 /// The longest message of a queuing port, in octets (ARINC 664 Part 7, queuing service).
 pub const LONGEST_QUEUED: u16 = 8192;
@@ -45,7 +46,7 @@ impl Model for PortSettings {
 }
 
 impl PortSettings {
-    /// A port that takes datagrams to the IPv4 `address` and the `udp` port, with payloads of up to
+    /// A port that takes UDP datagrams to the IPv4 `address` and the `udp` port, with payloads of up to
     /// `max` octets. None exactly where `max`, the refresh period or the depth is out of range.
     pub fn new(
         name: PortName,
@@ -110,6 +111,13 @@ impl PortSettings {
         ensures within { is_within_limits self.now.max self.now.kind ≡ true }
     {
         self.kind
+    }
+
+    /// Whether the port takes UDP datagrams to this address and UDP port.
+    pub fn accepts(&self, address: u32, udp: u16) -> bool
+        ensures { result ≡ accepts address udp self.now }
+    {
+        self.address == address && self.udp == udp
     }
 
     pub(crate) fn copy(&self) -> PortSettings

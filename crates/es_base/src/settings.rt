@@ -1,8 +1,11 @@
 //! The settings of one virtual link.
 ghost use Rattle.std.specs.Prelude.{◌≡◌, ◌≤◌, ◌<◌, ◌↔◌, IsSome, IfSome, IfOk, IsTrue, length, position, true};
-ghost use Rattle.es_base.specs.Port.{is_end, are_apart, port_for};
-ghost use Rattle.es_base.specs.Settings.{are_link_settings};
+ghost use Rattle.std.specs.Prelude.{slice_get, Some};
+ghost use Rattle.std.specs.Option.{option_map};
 ghost use Rattle.std.specs.List.{list_any};
+ghost use Rattle.es_base.specs.Limits.{most_ports};
+ghost use Rattle.es_base.specs.Port.{accepts, are_apart, port_of};
+ghost use Rattle.es_base.specs.Settings.{are_link_settings};
 
 use crate::{LinkNo, Memory, PortNo, PortSettings};
 use std::alloc::Global;
@@ -110,16 +113,16 @@ impl LinkSettings {
 
     pub fn ports(&self) -> &[PortSettings]
         ensures value { result.now ≡ self.now.ports }
-        ensures limit { length self.now.ports ≤ 32 }
+        ensures limit { length self.now.ports ≤ most_ports }
         ensures apart { are_apart self.now.ports ≡ true }
     {
         self.ports.as_slice()
     }
 
-    /// The port that takes datagrams to this address and UDP port. None where no port does.
+    /// The port that takes UDP datagrams to this address and UDP port. None where no port does.
     pub fn port_of(&self, address: u32, udp: u16) -> Option<PortNo>
-        ensures value { result ≡ port_for self.now.ports address udp }
-        ensures bound { IfSome result (λ port. (port.0 < length self.now.ports) × (port.0 < 32)) }
+        ensures value { result ≡ port_of self.now.ports address udp }
+        ensures bound { IfSome result (λ port. (port.0 < length self.now.ports) × (port.0 < most_ports)) }
     {
         match self.place_of(address, udp) {
             Some(place) => Some(PortNo(place as u8)),
@@ -127,13 +130,25 @@ impl LinkSettings {
         }
     }
 
+    /// The same port, with its settings.
+    pub fn port_for(&self, address: u32, udp: u16) -> Option<(PortNo, &PortSettings)>
+        ensures place { option_map (λ found. found.0) result ≡ port_of self.now.ports address udp }
+        ensures settings { IfSome result (λ found. slice_get self.now.ports found.0.0 ≡ Some found.1.now) }
+        ensures bound { IfSome result (λ found. found.0.0 < length self.now.ports) }
+    {
+        match self.place_of(address, udp) {
+            Some(place) => Some((PortNo(place as u8), &self.ports[place])),
+            None => None,
+        }
+    }
+
     fn place_of(&self, address: u32, udp: u16) -> Option<usize>
-        ensures value { result ≡ position (is_end address udp) self.now.ports }
-        ensures bound { IfSome result (λ place. (place < length self.now.ports) × (place < 32)) }
+        ensures value { result ≡ position (accepts address udp) self.now.ports }
+        ensures bound { IfSome result (λ place. (place < length self.now.ports) × (place < most_ports)) }
     {
         self.ports
             .iter()
-            .position(|port| port.address() == address && port.udp() == udp)
+            .position(|port| port.accepts(address, udp))
     }
 
     /// A copy of these settings.
@@ -167,14 +182,13 @@ fn are_apart(ports: &[PortSettings]) -> bool
 {
     match ports.split_first() {
         None => true,
-        Some((first, rest)) => !has_end(rest, first.address(), first.udp()) && are_apart(rest),
+        Some((first, rest)) => !any_accepts(rest, first.address(), first.udp()) && are_apart(rest),
     }
 }
 
-fn has_end(ports: &[PortSettings], address: u32, udp: u16) -> bool
-    ensures { result ≡ list_any (is_end address udp) ports.now }
+/// Whether one of these ports takes UDP datagrams to this address and UDP port.
+pub fn any_accepts(ports: &[PortSettings], address: u32, udp: u16) -> bool
+    ensures { result ≡ list_any (accepts address udp) ports.now }
 {
-    ports
-        .iter()
-        .any(|port| port.address() == address && port.udp() == udp)
+    ports.iter().any(|port| port.accepts(address, udp))
 }

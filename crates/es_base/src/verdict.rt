@@ -5,34 +5,35 @@ ghost use Rattle.es_base.specs.Verdict.{kind_of};
 use crate::{PacketFault, PortNo};
 
 /// What became of a frame that reached integrity checking. The tests stand in the order of the way
-/// of a frame: integrity checking, redundancy management, IPv4, reassembly, UDP, ports.
+/// of a frame: integrity checking, redundancy management, IPv4, reassembly, UDP, ports. Verdicts of
+/// joined fragments and of queues don't come up yet.
 #[derive(Clone, Copy, Debug, PartialEq, Eq)]
 pub enum Verdict {
-    /// Kind 1: integrity checking refuses its number.
+    /// Kind 1: integrity checking refuses its sequence number.
     OutOfSequence,
     /// Kind 2: a copy of it was forwarded before.
     Redundant,
     /// Kind 3: its IPv4 header has a fault.
     BadHeader(PacketFault),
-    /// Kind 4: it is a fragment that can't be joined.
+    /// Kind 4: it is a fragment that can't be joined. No fragment is joined yet.
     BadFragment,
-    /// Kind 5: it is a fragment of a datagram that isn't complete.
+    /// Kind 5: it is a fragment of a datagram that isn't complete. Doesn't come up yet.
     FragmentHeld,
     /// Kind 6: its UDP header has a fault.
     BadUdp,
-    /// Kind 7: no port takes its datagram.
+    /// Kind 7: no port takes its UDP datagram. Queuing ports take none yet.
     NoPort,
     /// Kind 8: its payload is longer than the port takes.
     TooLong(PortNo),
-    /// Kind 9: the datagram was joined of fragments, and the port samples.
+    /// Kind 9: its datagram was joined of fragments, and the port samples. Doesn't come up yet.
     FragmentedSample(PortNo),
-    /// Kind 10: it is the newest message of the sampling port, with this number, from 1.
+    /// Kind 10: it is the newest message of the sampling port, with this message number, from 1.
     Sampled(PortNo, u64),
-    /// Kind 11: it stands at the end of the port's queue.
+    /// Kind 11: it stands at the end of the port's queue. Doesn't come up yet.
     Queued(PortNo),
-    /// Kind 12: the port's queue was full.
+    /// Kind 12: the port's queue was full. Doesn't come up yet.
     Overflow(PortNo),
-    /// Kind 13: the sampling port has used up its numbers, 1 to 2^60 - 1.
+    /// Kind 13: the sampling port has used up its message numbers, 1 to 2^60 - 1.
     Exhausted(PortNo),
 }
 
@@ -66,6 +67,6 @@ impl Verdict {
 pub enum Decision {
     /// This verdict, whatever the queues hold.
     Final(Verdict),
-    /// Queued or Overflow at this port, as its queue has room or not.
+    /// Queued or Overflow at this port, as its queue has room or not. Doesn't come up yet.
     ByQueue(PortNo),
 }

@@ -1,5 +1,6 @@
--- A packet and a datagram by their fields.
-use Rattle.es_base.specs.Reading.{PacketParts, DatagramParts}
+-- A packet and a UDP datagram by their fields.
+use Rattle.es_base.specs.Packet.{PacketParts}
+use Rattle.es_base.specs.Udp.{UdpParts}
 use Rattle.frame_reader.specs.declared.packet.Packet.{Packet}
 use Rattle.frame_reader.specs.declared.datagram.Datagram.{Datagram}
 
@@ -13,8 +14,8 @@ packet_parts packet = record {
   octets = packet.octets.now;
 }
 
-abbrev pub datagram_parts : Datagram → DatagramParts
-datagram_parts datagram = record {
+abbrev pub udp_parts : Datagram → UdpParts
+udp_parts datagram = record {
   source_port = datagram.source_port;
   destination_port = datagram.destination_port;
   payload = datagram.payload.now;

@@ -1,10 +1,11 @@
 //! Numbers in network order, by their offset.
 ghost use Rattle.std.specs.Prelude.{◌≡◌, ◌+◌, ◌≤◌, length};
-ghost use Rattle.es_base.specs.Reading.{u16_at, u32_at};
+ghost use Rattle.es_base.specs.Octets.{u16_at, u32_at};
 
 use byteorder::{BigEndian, ByteOrder};
 
-#[tactic(auto, unfolding(es_base::specs::Reading::u16_at))]
+/// The number of two octets.
+#[tactic(auto, unfolding(es_base::specs::Octets::u16_at))]
 pub(crate) fn u16_at(octets: &[u8], offset: usize) -> u16
     requires { offset + 2 ≤ length octets.now }
     ensures { result ≡ u16_at offset octets.now }
@@ -12,7 +13,8 @@ pub(crate) fn u16_at(octets: &[u8], offset: usize) -> u16
     BigEndian::read_u16(&octets[offset..])
 }
 
-#[tactic(auto, unfolding(es_base::specs::Reading::u32_at))]
+/// The number of four octets.
+#[tactic(auto, unfolding(es_base::specs::Octets::u32_at))]
 pub(crate) fn u32_at(octets: &[u8], offset: usize) -> u32
     requires { offset + 4 ≤ length octets.now }
     ensures { result ≡ u32_at offset octets.now }

@@ -6,7 +6,8 @@ use Rattle.std.proofs.lemmas.Bool.{cases_lt}
 use Rattle.std.proofs.lemmas.List.{reverse-append, reverse-reverse, take-append-le}
 use Rattle.std.proofs.lemmas.Option.{slice_get_within, same_Some}
 use Rattle.es_base.specs.declared.event.Event.{Event}
-use Rattle.es_base.specs.History.{Origin, IsRun, arrival_of, verdict_of}
+use Rattle.es_base.specs.Past.{Origin, arrival_of}
+use Rattle.es_base.specs.Run.{IsRun, verdict_of}
 use Rattle.link_receiver.specs.ByPlace.{EachByPlace}
 use Rattle.link_receiver.proofs.Places.{slice_get-push}
 
@@ -23,8 +24,8 @@ one_more_by_place o front x each is place e there =
     ⊎_elim
     (λ (before : place < length front).
     rw (take-append-le place front (x ∷ []) (omega arith)) (each place e (sym (slice_get-append front (x ∷ []) place before) ∙ there)))
-    (λ (behind : length front ≤ place).
-    let last : place ≡ length front = omega (arith, within, size, behind) in
+    (λ (past : length front ≤ place).
+    let last : place ≡ length front = omega (arith, within, size, past) in
     let same : x ≡ e = same_Some x e (sym (slice_get-push front x) ∙ (rw last at there)) in
     rw (← same, last, take-append_seam front (x ∷ [])) is)
     (cases_lt place (length front))

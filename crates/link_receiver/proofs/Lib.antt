@@ -1,3 +1,4 @@
 pub mod ByPlace
-pub mod OneMore
+pub mod Forwarded
+pub mod Kept
 pub mod Places

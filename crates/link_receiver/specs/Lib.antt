@@ -1,6 +1,7 @@
 pub mod ByPlace
-pub mod Carried
+pub mod Change
 pub mod Checks
 pub mod Kept
 pub mod Link
 pub mod Register
+pub mod Seen

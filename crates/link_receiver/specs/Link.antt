@@ -1,61 +1,51 @@
 -- A link's state, as callers see it.
-use Rattle.std.specs.Prelude.{ℕ, true, List, [], ◌∷◌, ◌++◌, reverse, Result}
-use Rattle.es_base.specs.declared.place.Net.{Net}
+use Rattle.std.specs.Prelude.{ℕ, Bool, List, [], ◌∷◌, ◌++◌, reverse, Option, None, if◌then◌else◌}
 use Rattle.es_base.specs.declared.place.PortNo.{PortNo}
 use Rattle.es_base.specs.declared.verdict.Verdict.{Verdict}
 use Rattle.es_base.specs.declared.verdict.Decision.{Decision}
+use Rattle.es_base.specs.declared.event.Arrival.{Arrival}
 use Rattle.es_base.specs.declared.event.Message.{Message}
 use Rattle.es_base.specs.declared.event.Event.{Event}
 use Rattle.es_base.specs.Settings.{Settings}
-use Rattle.es_base.specs.Forwarding.{Forwarded}
-use Rattle.es_base.specs.History.{Origin, Arrival, Carried, numbers_on, forwarded, outcome, deliveries, decision_of, verdict_of}
+use Rattle.es_base.specs.Port.{samples_at}
+use Rattle.es_base.specs.Past.{event_of, origin_of}
+use Rattle.es_base.specs.Outcome.{Outcome, outcome}
+use Rattle.es_base.specs.Deliveries.{deliveries, newest_of}
+use Rattle.es_base.specs.Run.{decision_of, verdict_of}
 
 -- its settings, and its events in the order in which their frames came
 pub record Link : Type 0 where
   pub settings : Settings
   pub history : List Event
 
-abbrev pub origin_of : Link → Origin
-origin_of link = record { settings = link.settings }
-
 -- the latest event first
 abbrev pub past_of : Link → List Event
 past_of link = reverse link.history
 
--- ---- what the definitions say of a link
+-- ---- its ports
 
--- the numbers of its frames on a network, the latest first
-abbrev pub numbers_of : Link → Net → List ℕ
-numbers_of link net = numbers_on (origin_of link) (past_of link) net
-
--- its frames that were forwarded, the latest first
-abbrev pub forwarded_of : Link → List Forwarded
-forwarded_of link = forwarded (origin_of link) (past_of link)
-
--- the messages that came out at a port
+-- the messages that were delivered to a port
 abbrev pub deliveries_of : Link → PortNo → List Message
-deliveries_of link port = deliveries (origin_of link) (past_of link) port
+deliveries_of link port = deliveries (origin_of link.settings) (past_of link) port
 
--- what a frame that comes next brings to which port, or its verdict
-abbrev pub outcome_after : Link → Arrival → Result Carried Verdict
-outcome_after link a = outcome (origin_of link) (past_of link) a
+-- the newest message of a sampling port, and its message number
+abbrev pub newest_at : Link → PortNo → Option (ℕ × Message)
+newest_at link port = if samples_at port link.settings.ports then newest_of (deliveries_of link port) else None
 
--- what becomes of a frame that comes next
+-- ---- a frame that comes next
+
+-- how far it comes on its way to a port
+abbrev pub outcome_after : Link → Arrival → Outcome
+outcome_after link a = outcome (origin_of link.settings) (past_of link) a
+
+-- what becomes of it, but for the queue's answer
 abbrev pub decision_after : Link → Arrival → Decision
-decision_after link a = decision_of (origin_of link) (past_of link) a
+decision_after link a = decision_of (origin_of link.settings) (past_of link) a
 
-abbrev pub verdict_after : Link → Arrival → Verdict
-verdict_after link a = verdict_of (origin_of link) (past_of link) a true
+-- what becomes of it, where the queue that is asked has room or not
+abbrev pub verdict_after : Link → Arrival → Bool → Verdict
+verdict_after link a room = verdict_of (origin_of link.settings) (past_of link) a room
 
--- ---- frames and events
-
-abbrev pub arrived : Net → ℕ → List ℕ → Arrival
-arrived net time frame = record { net = net; time = time; frame = frame }
-
--- the event of a frame, where no queue refused its message
-abbrev pub event_of : Arrival → Verdict → Event
-event_of a verdict = record { net = a.net; time = a.time; frame = a.frame; room = true; verdict = verdict }
-
--- the link with one event more
-abbrev pub with_event : Link → Arrival → Verdict → Link
-with_event link a verdict = record link { history = link.history ++ event_of a verdict ∷ [] }
+-- the link with its event
+abbrev pub with_event : Link → Arrival → Bool → Verdict → Link
+with_event link a room verdict = record link { history = link.history ++ event_of a room verdict ∷ [] }

@@ -1,16 +1,19 @@
 //! Integrity checking on each network, and redundancy management over both.
-ghost use Rattle.std.specs.Prelude.{◌≡◌, ◌&&◌, ℕ, List, [], ◌∷◌, if◌then◌else◌};
+ghost use Rattle.std.specs.Prelude.{◌≡◌, ℕ, List, [], ◌∷◌, if◌then◌else◌};
+ghost use Rattle.es_base.specs.declared.event.Arrival.{Arrival};
 ghost use Rattle.es_base.specs.declared.event.Event.{Event};
-ghost use Rattle.es_base.specs.Number.{latest, may_follow};
-ghost use Rattle.es_base.specs.Reading.{number_of};
-ghost use Rattle.redundancy_manager.specs.Kept.{StandsFor};
-ghost use Rattle.es_base.specs.History.{Origin, numbers_on, is_same_net, passes, is_forwarded, forwarded, arrival_of};
+ghost use Rattle.es_base.specs.Frame.{sequence_number_of};
+ghost use Rattle.es_base.specs.Past.{Origin, arrival_of};
+ghost use Rattle.es_base.specs.Integrity.{is_same_net, passes};
+ghost use Rattle.es_base.specs.Redundancy.{forwarded, is_forwarded, is_redundant};
+ghost use Rattle.integrity_check.specs.Kept as sequence;
+ghost use Rattle.redundancy_manager.specs.Kept as redundancy;
 
 use es_base::Net;
 use integrity_check::Sequence;
 use redundancy_manager::Redundancy;
 
-/// What is kept of the numbers and times of a link's frames.
+/// What is kept of the sequence numbers and times of a link's frames.
 #[derive(Drop)]
 pub(crate) struct Checks {
     pub a: Sequence,
@@ -19,13 +22,13 @@ pub(crate) struct Checks {
 }
 
 impl Checks {
-    ghost use Rattle.link_receiver.specs.Checks.{StandFor};
+    ghost use Rattle.link_receiver.specs.Checks.{HavePast};
 
-    /// Before the first frame.
+    /// Before the first frame. `skew_max` is SkewMax, in microseconds.
     pub(crate) fn opening(skew_max: u64) -> Checks
-        ensures a { result.a ≡ latest [] }
-        ensures b { result.b ≡ latest [] }
-        ensures redundancy { StandsFor result.redundancy skew_max [] }
+        ensures a { sequence.StandsFor result.a [] }
+        ensures b { sequence.StandsFor result.b [] }
+        ensures redundancy { redundancy.StandsFor result.redundancy skew_max [] }
     {
         Checks {
             a: Sequence::opening(),
@@ -34,50 +37,50 @@ impl Checks {
         }
     }
 
-    /// Whether a frame with this number passes integrity checking on its network.
-    pub(crate) fn passes(&self, net: Net, number: u8) -> bool
-        ensures { (o : Origin) (past : List Event) → StandFor self.now o past →
-            result ≡ may_follow (latest (numbers_on o past net)) number }
+    /// Whether a frame with this sequence number passes integrity checking on its network.
+    pub(crate) fn passes(&self, net: Net, sequence_number: u8) -> bool
+        ensures { (o : Origin) (past : List Event) (a : Arrival) → HavePast self.now o past →
+            a.net ≡ net → sequence_number_of a.frame ≡ sequence_number → result ≡ passes o past a }
     {
         match net {
-            Net::A => self.a.check(number),
-            Net::B => self.b.check(number),
+            Net::A => self.a.check(sequence_number),
+            Net::B => self.b.check(sequence_number),
         }
     }
 
-    /// Whether a frame that passes is forwarded; `managed` says whether redundancy management is on.
-    pub(crate) fn forwards(&self, managed: bool, number: u8, now: u64) -> bool
-        ensures { (o : Origin) (past : List Event) → StandFor self.now o past →
-            o.settings.redundancy ≡ managed →
-            result ≡ is_forwarded o.settings (forwarded o past) number now }
+    /// Whether a frame that passes is redundant at `now`, in microseconds; `managed` says whether
+    /// redundancy management is on.
+    pub(crate) fn is_redundant(&self, managed: bool, sequence_number: u8, now: u64) -> bool
+        ensures { (o : Origin) (past : List Event) (a : Arrival) → HavePast self.now o past →
+            o.settings.redundancy ≡ managed → sequence_number_of a.frame ≡ sequence_number → a.time ≡ now →
+            result ≡ is_redundant o (forwarded o past) a }
     {
-        !managed || self.redundancy.would_forward(number, now)
+        managed && !self.redundancy.would_forward(sequence_number, now)
     }
 
-    /// One more frame; `first` says whether it was forwarded.
-    pub(crate) fn note(&mut self, net: Net, number: u8, now: u64, first: bool)
-        ensures { (o : Origin) (past : List Event) (e : Event) → StandFor self.old o past →
-            e.net ≡ net → number_of e.frame ≡ number → e.time ≡ now →
-            (passes o past (arrival_of e)
-            && is_forwarded o.settings (forwarded o past) (number_of e.frame) e.time) ≡ first →
-            StandFor self.new o (e ∷ past) }
+    /// One more frame, which came at `now`, in microseconds; `forwarded` says whether it was forwarded.
+    pub(crate) fn note(&mut self, net: Net, sequence_number: u8, now: u64, forwarded: bool)
+        ensures { (o : Origin) (past : List Event) (e : Event) → HavePast self.old o past →
+            e.net ≡ net → sequence_number_of e.frame ≡ sequence_number → e.time ≡ now →
+            is_forwarded o past (arrival_of e) ≡ forwarded →
+            HavePast self.new o (e ∷ past) }
     {
-        self.note_number(net, number);
-        if first {
-            self.redundancy.note_forwarded(number, now);
+        self.note_number(net, sequence_number);
+        if forwarded {
+            self.redundancy.note_forwarded(sequence_number, now);
         }
     }
 
-    fn note_number(&mut self, net: Net, number: u8)
-        ensures a { (numbers : List ℕ) → self.old.a ≡ latest numbers →
-            self.new.a ≡ latest (if is_same_net net Net.A then number ∷ numbers else numbers) }
-        ensures b { (numbers : List ℕ) → self.old.b ≡ latest numbers →
-            self.new.b ≡ latest (if is_same_net net Net.B then number ∷ numbers else numbers) }
+    fn note_number(&mut self, net: Net, sequence_number: u8)
+        ensures a { (numbers : List ℕ) → sequence.StandsFor self.old.a numbers →
+            sequence.StandsFor self.new.a (if is_same_net net Net.A then sequence_number ∷ numbers else numbers) }
+        ensures b { (numbers : List ℕ) → sequence.StandsFor self.old.b numbers →
+            sequence.StandsFor self.new.b (if is_same_net net Net.B then sequence_number ∷ numbers else numbers) }
         ensures redundancy { self.new.redundancy ≡ self.old.redundancy }
     {
         match net {
-            Net::A => self.a.note(number),
-            Net::B => self.b.note(number),
+            Net::A => self.a.note(sequence_number),
+            Net::B => self.b.note(sequence_number),
         }
     }
 }

@@ -1,13 +1,16 @@
-//! The receiver of one virtual link: integrity checking, redundancy management, IPv4,
-//! UDP and the link's ports. It keeps the link's history, every verdict of which is what the rules say of
-//! the events before it.
+//! The receiver of one virtual link: integrity checking, redundancy management, IPv4, UDP and the
+//! link's ports. It keeps the link's history, every verdict of which is what the rules say of the
+//! events before it.
 #![tactic(auto)]
 
-mod carried;
+mod change;
 mod checks;
 pub mod laws;
 mod link;
+mod outcome;
 mod register;
+mod verdict;
+mod way;
 
-pub use es_base::{Decision, Event, LinkSettings, Memory, Message, Net, PortNo, Verdict};
+pub use es_base::{Arrival, Decision, Event, LinkSettings, Memory, Message, Net, PortNo, Verdict};
 pub use link::LinkState;

@@ -1,20 +1,26 @@
 //! One link's state.
-ghost use Rattle.std.specs.Prelude.{◌≡◌, ◌≤◌, ◌<◌, ◌^◌, ◌&&◌, [], IfOk, OnOk, OnErr, length, Ok, true, vec_len, vec_capacity};
+ghost use Rattle.std.specs.Prelude.{◌≡◌, ◌≤◌, ◌<◌, ◌^◌, [], IfOk, OnOk, OnErr, length, true, vec_len, vec_capacity};
 ghost use Rattle.std.specs.Option.{option_map};
-ghost use Rattle.frame_reader.specs.Gives.{Gives};
-ghost use Rattle.es_base.specs.Number.{latest, may_follow};
-ghost use Rattle.es_base.specs.Reading.{number_of, vl_of};
-ghost use Rattle.es_base.specs.History.{IsRun, BringsNothing, is_forwarded, newest_of, sampled};
-ghost use Rattle.es_base.specs.declared.verdict.Decision.TheVariants.{Final};
-ghost use Rattle.link_receiver.specs.Carried.{brought_parts, carried_parts};
-ghost use Rattle.link_receiver.specs.Link.{origin_of, past_of, numbers_of, forwarded_of, deliveries_of};
-ghost use Rattle.link_receiver.specs.Link.{outcome_after, decision_after, verdict_after};
-ghost use Rattle.link_receiver.specs.Link.{arrived, event_of, with_event};
+ghost use Rattle.es_base.specs.Limits.{shortest_frame};
+ghost use Rattle.es_base.specs.Frame.{link_number_of};
+ghost use Rattle.es_base.specs.Port.{samples_at};
+ghost use Rattle.es_base.specs.Past.{arrived, origin_of};
+ghost use Rattle.es_base.specs.Deliveries.{delivered, newest_of};
+ghost use Rattle.es_base.specs.Run.{IsRun, decided};
+ghost use Rattle.link_receiver.specs.Change.{HasMessageNumber, IsChange, messages_for};
+ghost use Rattle.link_receiver.specs.Seen.{HasPort, outcome_seen};
+ghost use Rattle.link_receiver.specs.Link.{past_of, deliveries_of, newest_at};
+ghost use Rattle.link_receiver.specs.Link.{outcome_after, decision_after, verdict_after, with_event};
 
-use crate::carried::{Brought, Carried, carried_in, datagram_in};
+use crate::change::{Change, Delivery};
 use crate::checks::Checks;
-use crate::register::{MOST_SAMPLES, Register, empty_registers, publish};
-use es_base::{Decision, Event, LinkSettings, Memory, Message, Net, Octets, PortNo, Verdict};
+use crate::outcome::Outcome;
+use crate::register::{MOST_SAMPLES, Register, deliver, empty_registers};
+use crate::verdict::{sampled, settled};
+use crate::way::{brought_by, counts_as_forwarded};
+use es_base::{
+    Arrival, Decision, Event, LinkSettings, Memory, Message, Net, Octets, PortKind, PortNo, Verdict,
+};
 use frame_reader::{Frame, frame_in};
 use std::alloc::{AllocError, Global};
 use std::marker::Model;
@@ -22,8 +28,9 @@ use std::marker::Model;
 /// The most events of a history: 2^61 (own).
 const MOST_EVENTS: usize = 1 << 61;
 
-/// The state of one link: its settings and its history. What it keeps beside them, a number a
-/// network, the latest forwarded, and the newest message of each sampling port, follows from these two.
+/// The state of one link: its settings and its history. What it keeps beside them follows from these
+/// two: for each network a sequence number, what redundancy management compares with, and the newest
+/// message of each sampling port.
 #[derive(Drop)]
 pub struct LinkState {
     settings: LinkSettings,
@@ -57,24 +64,31 @@ impl LinkState {
         })
     }
 
+    /// The link's settings.
+    pub fn settings(&self) -> &LinkSettings
+        ensures { result.now ≡ self.now.settings }
+    {
+        &self.settings
+    }
+
     /// The link's events in the order in which their frames came.
     pub fn history(&self) -> &[Event]
         ensures events { result.now ≡ self.now.history }
-        ensures run { IsRun (origin_of self.now) (past_of self.now) }
+        ensures run { IsRun (origin_of self.now.settings) (past_of self.now) }
         ensures few { length self.now.history ≤ 2 ^ 61 }
     {
         self.history.as_slice()
     }
 
-    /// How many messages came to a sampling port, and the newest of them. None where none came, and
-    /// where the port isn't sampling.
+    /// The newest message of a sampling port, and its message number, from 1. None where none was delivered, and where
+    /// the port isn't sampling.
     pub fn newest(&self, port: PortNo) -> Option<(u64, &Message)>
-        ensures { option_map (λ newest. (newest.0, newest.1.now)) result
-            ≡ newest_of (deliveries_of self.now port) }
+        ensures { option_map (λ newest. (newest.0, newest.1.now)) result ≡ newest_at self.now port }
     {
-        match self.registers.get(port.0 as usize) {
-            Some(register) => register.newest(),
-            None => None,
+        if self.samples_at(port) {
+            self.newest_delivered(port)
+        } else {
+            None
         }
     }
 
@@ -82,14 +96,12 @@ impl LinkState {
     pub fn decide(&self, net: Net, now: u64, frame: &Frame<'_>) -> Decision
         ensures { result ≡ decision_after self.now (arrived net now frame.now.whole.now) }
     {
-        match self.outcome(net, now, frame) {
-            Err(verdict) => Decision::Final(verdict),
-            Ok(carried) => Decision::Final(sampled(carried.port, self.published(carried.port))),
-        }
+        let outcome = self.outcome(net, now, frame);
+        self.decision(&outcome)
     }
 
     /// Takes a frame that came at `now` microseconds: the history gains one event, and the frame's
-    /// verdict is answered. On want of memory nothing has changed.
+    /// verdict is returned. Where memory runs out nothing has changed.
     pub fn take(
         &mut self,
         alloc: Global,
@@ -99,104 +111,127 @@ impl LinkState {
     ) -> Result<Verdict, Memory>
         requires { frame.now.vl ≡ self.old.settings.vl }
         ensures event { IfOk result (λ verdict.
-            self.new ≡ with_event self.old (arrived net now frame.now.whole.now) verdict) }
+            self.new ≡ with_event self.old (arrived net now frame.now.whole.now) true verdict) }
         ensures verdict { IfOk result (λ verdict.
-            verdict ≡ verdict_after self.old (arrived net now frame.now.whole.now)) }
+            verdict ≡ verdict_after self.old (arrived net now frame.now.whole.now) true) }
         ensures err { OnErr result (self.new ≡ self.old) }
     {
-        let octets = Octets::copy_of(alloc, frame.whole)?;
-        self.take_octets(alloc, net, now, octets)
+        let arrival = Arrival {
+            net,
+            time: now,
+            frame: Octets::copy_of(alloc, frame.whole)?,
+        };
+        self.take_arrival(alloc, arrival)
     }
 
-    /// Takes a frame as `take` does, and keeps its octets themselves in the place of a copy. They are
-    /// those of a whole frame of this link. On want of memory they are given up.
-    pub fn take_octets(
-        &mut self,
-        alloc: Global,
-        net: Net,
-        now: u64,
-        octets: Octets,
-    ) -> Result<Verdict, Memory>
-        requires long { 60 ≤ length octets }
-        requires link { vl_of octets ≡ self.old.settings.vl.0 }
-        ensures event { IfOk result (λ verdict.
-            self.new ≡ with_event self.old (arrived net now octets) verdict) }
-        ensures verdict { IfOk result (λ verdict.
-            verdict ≡ verdict_after self.old (arrived net now octets)) }
+    /// Takes a frame as `take` does, and keeps its octets themselves in place of a copy. They are those
+    /// of a whole frame of this link. Where memory runs out they are given up.
+    pub fn take_arrival(&mut self, alloc: Global, arrival: Arrival) -> Result<Verdict, Memory>
+        requires long { shortest_frame ≤ length arrival.frame }
+        requires link { link_number_of arrival.frame ≡ self.old.settings.vl.0 }
+        ensures event { IfOk result (λ verdict. self.new ≡ with_event self.old arrival true verdict) }
+        ensures verdict { IfOk result (λ verdict. verdict ≡ verdict_after self.old arrival true) }
         ensures err { OnErr result (self.new ≡ self.old) }
     {
-        match self.brought(alloc, net, now, octets.as_slice())? {
-            Err(verdict) => self.append(net, now, octets, verdict),
-            Ok(brought) => self.deliver(net, now, octets, brought),
+        let change = self.change_by(alloc, &arrival)?;
+        self.append(arrival, change)
+    }
+
+    /// What an arrival changes. Its message has octets of its own.
+    fn change_by(&self, alloc: Global, arrival: &Arrival) -> Result<Change, Memory>
+        requires { shortest_frame ≤ length arrival.now.frame }
+        ensures { IfOk result (IsChange self.now arrival.now) }
+    {
+        let frame = frame_in(arrival.frame.as_slice());
+        let outcome = self.outcome(arrival.net, arrival.time, &frame);
+        Ok(Change {
+            sequence_number: frame.number,
+            forwarded: counts_as_forwarded(&outcome),
+            verdict: settled(self.decision(&outcome), true),
+            delivery: self.delivery_of(alloc, &outcome, arrival.time)?,
+        })
+    }
+
+    /// How far a frame that comes at `now`, in microseconds, comes on its way to a port.
+    #[tactic(auto, unfolding(es_base::specs::Outcome::outcome_if))]
+    fn outcome<'a>(&self, net: Net, now: u64, frame: &Frame<'a>) -> Outcome<'a>
+        ensures value { outcome_seen result ≡ outcome_after self.now (arrived net now frame.now.whole.now) }
+        ensures port { HasPort result (length self.now.settings.ports) }
+    {
+        if !self.checks.passes(net, frame.number) {
+            return Outcome::OutOfSequence;
+        }
+        let managed = self.settings.redundancy();
+        if self.checks.is_redundant(managed, frame.number, now) {
+            return Outcome::Redundant;
+        }
+        brought_by(&self.settings, frame)
+    }
+
+    /// What becomes of a frame with this outcome, but for the queue's answer.
+    fn decision(&self, outcome: &Outcome<'_>) -> Decision
+        requires { HasPort outcome.now (length self.now.settings.ports) }
+        ensures { result ≡ decided (outcome_seen outcome.now) (λ port. length (deliveries_of self.now port)) }
+    {
+        match outcome {
+            Outcome::OutOfSequence => Decision::Final(Verdict::OutOfSequence),
+            Outcome::Redundant => Decision::Final(Verdict::Redundant),
+            Outcome::Refused(verdict) => Decision::Final(*verdict),
+            Outcome::Brings(payload) => {
+                Decision::Final(sampled(payload.port, self.published(payload.port)))
+            }
         }
     }
 
-    /// What the frame in these octets brings, with octets of its own.
-    fn brought(
+    /// The message that a frame with this outcome delivers, with octets of its own; it came at `time`,
+    /// in microseconds.
+    fn delivery_of(
         &self,
         alloc: Global,
-        net: Net,
-        now: u64,
-        octets: &[u8],
-    ) -> Result<Result<Brought, Verdict>, Memory>
-        requires { 60 ≤ length octets.now }
-        ensures value { IfOk result (λ outcome.
-            Gives brought_parts outcome (outcome_after self.now (arrived net now octets.now))) }
-        ensures port { IfOk result (λ outcome.
-            IfOk outcome (λ brought. brought.port.0 < length self.now.settings.ports)) }
+        outcome: &Outcome<'_>,
+        time: u64,
+    ) -> Result<Option<Delivery>, Memory>
+        requires { HasPort outcome.now (length self.now.settings.ports) }
+        ensures messages { IfOk result (λ delivery. (port : PortNo) →
+            delivered (outcome_seen outcome.now) true time port (length (deliveries_of self.now port))
+            ≡ messages_for port delivery) }
+        ensures number { IfOk result (λ delivery. HasMessageNumber self.now delivery) }
     {
-        let frame = frame_in(octets);
-        match self.outcome(net, now, &frame) {
-            Err(verdict) => Ok(Err(verdict)),
-            Ok(carried) => Ok(Ok(Brought {
-                port: carried.port,
-                payload: Octets::copy_of(alloc, carried.payload)?,
-            })),
+        let Outcome::Brings(payload) = outcome else {
+            return Ok(None);
+        };
+        if self.published(payload.port) >= MOST_SAMPLES {
+            return Ok(None);
+        }
+        let octets = Octets::copy_of(alloc, payload.octets)?;
+        Ok(Some(Delivery {
+            port: payload.port,
+            message: Message { time, octets },
+        }))
+    }
+
+    /// Whether the port is one of the link's sampling ports.
+    fn samples_at(&self, port: PortNo) -> bool
+        ensures { result ≡ samples_at port self.now.settings.ports }
+    {
+        match self.settings.ports().get(port.0 as usize) {
+            Some(port) => matches!(port.kind(), PortKind::Sampling { refresh: _ }),
+            None => false,
         }
     }
 
-    /// What the frame brings to which port, or the verdict of a frame that brings nothing to one.
-    #[tactic(auto, unfolding(es_base::specs::History::outcome_if))]
-    fn outcome<'a>(&self, net: Net, now: u64, frame: &Frame<'a>) -> Result<Carried<'a>, Verdict>
-        ensures value { Gives carried_parts result (outcome_after self.now (arrived net now frame.now.whole.now)) }
-        ensures port { IfOk result (λ carried. carried.port.0 < length self.now.settings.ports) }
+    /// The newest message that was delivered to a port, and its message number.
+    fn newest_delivered(&self, port: PortNo) -> Option<(u64, &Message)>
+        ensures { option_map (λ newest. (newest.0, newest.1.now)) result
+            ≡ newest_of (deliveries_of self.now port) }
     {
-        if !self.passes(net, frame.number) {
-            return Err(Verdict::OutOfSequence);
-        }
-        if !self.forwards(now, frame.number) {
-            return Err(Verdict::Redundant);
-        }
-        match datagram_in(frame) {
-            Ok(packet) => carried_in(&self.settings, &packet),
-            Err(verdict) => Err(verdict),
+        match self.registers.get(port.0 as usize) {
+            Some(register) => register.newest(),
+            None => None,
         }
     }
 
-    /// Whether a frame passes integrity checking.
-    fn passes(&self, net: Net, number: u8) -> bool
-        ensures { result ≡ may_follow (latest (numbers_of self.now net)) number }
-    {
-        self.checks.passes(net, number)
-    }
-
-    /// Whether a frame that passes is forwarded.
-    fn forwards(&self, now: u64, number: u8) -> bool
-        ensures { result ≡ is_forwarded self.now.settings (forwarded_of self.now) number now }
-    {
-        self.checks
-            .forwards(self.settings.redundancy(), number, now)
-    }
-
-    /// Whether a frame passes and is forwarded.
-    fn is_first(&self, net: Net, now: u64, number: u8) -> bool
-        ensures { result ≡ (may_follow (latest (numbers_of self.now net)) number
-            && is_forwarded self.now.settings (forwarded_of self.now) number now) }
-    {
-        self.passes(net, number) && self.forwards(now, number)
-    }
-
-    /// How many messages came to a port.
+    /// How many messages were delivered to a port.
     fn published(&self, port: PortNo) -> u64
         requires { port.0 < length self.now.settings.ports }
         ensures { result ≡ length (deliveries_of self.now port) }
@@ -204,96 +239,26 @@ impl LinkState {
         self.registers[port.0 as usize].published
     }
 
-    /// Appends the event of a frame that changes nothing at a port.
-    fn append(
-        &mut self,
-        net: Net,
-        now: u64,
-        octets: Octets,
-        verdict: Verdict,
-    ) -> Result<Verdict, Memory>
-        requires long { 60 ≤ length octets }
-        requires decision { decision_after self.old (arrived net now octets) ≡ Final verdict }
-        requires nothing { BringsNothing (origin_of self.old) (past_of self.old) (arrived net now octets) }
-        ensures event { OnOk result (self.new ≡ with_event self.old (arrived net now octets) verdict) }
-        ensures verdict { IfOk result (λ answer. answer ≡ verdict) }
+    /// Appends the event of an arrival that changes this.
+    fn append(&mut self, arrival: Arrival, change: Change) -> Result<Verdict, Memory>
+        requires { IsChange self.old arrival change }
+        ensures event { IfOk result (λ verdict. self.new ≡ with_event self.old arrival true verdict) }
+        ensures verdict { IfOk result (λ verdict. verdict ≡ change.verdict) }
         ensures err { OnErr result (self.new ≡ self.old) }
     {
-        let number = number_in(octets.as_slice());
-        let first = self.is_first(net, now, number);
+        let Change {
+            sequence_number,
+            forwarded,
+            verdict,
+            delivery,
+        } = change;
         reserve_event(&mut self.history)?;
-        self.checks.note(net, number, now, first);
-        let event = event_of(net, now, octets, verdict);
-        self.history.push_reserved(event);
+        self.checks
+            .note(arrival.net, sequence_number, arrival.time, forwarded);
+        deliver(&mut self.registers, delivery);
+        self.history
+            .push_reserved(Event::of(arrival, true, verdict));
         Ok(verdict)
-    }
-
-    /// Appends the event of a frame that brings a message to a sampling port.
-    fn deliver(
-        &mut self,
-        net: Net,
-        now: u64,
-        octets: Octets,
-        brought: Brought,
-    ) -> Result<Verdict, Memory>
-        requires long { 60 ≤ length octets }
-        requires port { brought.port.0 < length self.old.settings.ports }
-        requires brings { outcome_after self.old (arrived net now octets) ≡ Ok (brought_parts brought) }
-        ensures event { IfOk result (λ verdict.
-            self.new ≡ with_event self.old (arrived net now octets) verdict) }
-        ensures verdict { IfOk result (λ verdict.
-            verdict ≡ verdict_after self.old (arrived net now octets)) }
-        ensures err { OnErr result (self.new ≡ self.old) }
-    {
-        let Brought { port, payload } = brought;
-        let published = self.published(port);
-        let verdict = sampled(port, published);
-        if published >= MOST_SAMPLES {
-            return self.append(net, now, octets, verdict);
-        }
-        let message = Message {
-            time: now,
-            octets: payload,
-        };
-        let number = number_in(octets.as_slice());
-        reserve_event(&mut self.history)?;
-        self.checks.note(net, number, now, true);
-        publish(&mut self.registers, port, message);
-        let event = event_of(net, now, octets, verdict);
-        self.history.push_reserved(event);
-        Ok(verdict)
-    }
-}
-
-/// The verdict of a message that comes to a sampling port after so many others.
-fn sampled(port: PortNo, published: u64) -> Verdict
-    ensures { result ≡ sampled port published }
-{
-    if published < MOST_SAMPLES {
-        Verdict::Sampled(port, published + 1)
-    } else {
-        Verdict::Exhausted(port)
-    }
-}
-
-/// The sequence number of a frame.
-fn number_in(octets: &[u8]) -> u8
-    requires { 60 ≤ length octets.now }
-    ensures { result ≡ number_of octets.now }
-{
-    frame_in(octets).number
-}
-
-/// The event of a frame.
-fn event_of(net: Net, time: u64, frame: Octets, verdict: Verdict) -> Event
-    ensures { result ≡ event_of (arrived net time frame) verdict }
-{
-    Event {
-        net,
-        time,
-        frame,
-        room: true,
-        verdict,
     }
 }
 

@@ -1,17 +1,18 @@
 //! What a sampling port shows.
-ghost use Rattle.std.specs.Prelude.{◌≡◌, ◌+◌, ◌<◌, ◌^◌, IfOk, Some, None, length, replicate, slice_get, slice_set};
+ghost use Rattle.std.specs.Prelude.{◌≡◌, ◌<◌, IfOk, IfSome, Some, None, length, replicate, slice_get};
 ghost use Rattle.std.specs.Option.{option_map};
-ghost use Rattle.es_base.specs.History.{most_samples};
-ghost use Rattle.link_receiver.specs.Register.{after_publishing};
+ghost use Rattle.es_base.specs.Limits.{most_samples};
+ghost use Rattle.link_receiver.specs.Register.{Delivers};
 ghost use Rattle.link_receiver.specs.declared.register.Register.{Register};
 
-use es_base::{Memory, Message, PortNo};
+use crate::change::Delivery;
+use es_base::{Memory, Message};
 use std::alloc::Global;
 
 /// How many messages a sampling port numbers: 2^60 - 1 (own).
 pub(crate) const MOST_SAMPLES: u64 = (1 << 60) - 1;
 
-/// How many messages came to a port, and the newest of them.
+/// How many messages were published at a port, and the newest of them.
 #[derive(Drop)]
 pub(crate) struct Register {
     pub published: u64,
@@ -21,7 +22,7 @@ pub(crate) struct Register {
 impl Register {
     ghost use Rattle.link_receiver.specs.Register.{newest_in};
 
-    /// The newest message, and how many there were.
+    /// The newest message, and its message number.
     pub(crate) fn newest(&self) -> Option<(u64, &Message)>
         ensures { option_map (λ newest. (newest.0, newest.1.now)) result ≡ newest_in (Some self.now) }
     {
@@ -32,7 +33,7 @@ impl Register {
     }
 }
 
-/// Registers of so many ports, to which nothing came.
+/// The registers of this number of ports, before any message.
 pub(crate) fn empty_registers(alloc: Global, ports: usize) -> Result<Vec<Register>, Memory>
     ensures { IfOk result (λ registers.
         registers.items ≡ replicate ports (record { published = 0; newest = None })) }
@@ -47,15 +48,16 @@ pub(crate) fn empty_registers(alloc: Global, ports: usize) -> Result<Vec<Registe
     Ok(registers)
 }
 
-/// Makes `message` the newest at the port.
-pub(crate) fn publish(registers: &mut Vec<Register>, port: PortNo, message: Message)
-    requires exists { port.0 < length registers.old.items }
-    requires numbered { (register : Register) → slice_get registers.old.items port.0 ≡ Some register →
-        register.published < most_samples }
-    ensures { (register : Register) → slice_get registers.old.items port.0 ≡ Some register →
-        registers.new.items ≡ slice_set registers.old.items port.0 (after_publishing register message) }
+/// Makes a delivery's message the newest at its port.
+pub(crate) fn deliver(registers: &mut Vec<Register>, delivery: Option<Delivery>)
+    requires exists { IfSome delivery (λ d. d.port.0 < length registers.old.items) }
+    requires numbered { IfSome delivery (λ d. (register : Register)
+        → slice_get registers.old.items d.port.0 ≡ Some register → register.published < most_samples) }
+    ensures { Delivers registers.old.items registers.new.items delivery }
 {
-    let register = &mut registers[port.0 as usize];
-    register.published += 1;
-    register.newest = Some(message);
+    if let Some(Delivery { port, message }) = delivery {
+        let register = &mut registers[port.0 as usize];
+        register.published += 1;
+        register.newest = Some(message);
+    }
 }

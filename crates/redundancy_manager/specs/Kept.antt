@@ -1,17 +1,22 @@
--- What is kept of the frames that were forwarded.
+-- What is kept of the frames of one link that were forwarded.
 use Rattle.std.specs.Prelude.{◌≡◌, ℕ, List, [], ◌∷◌, Option, None, Some}
-use Rattle.es_base.specs.Forwarding.{Forwarded, greatest_time}
+use Rattle.es_base.specs.Redundancy.{Forwarded, greatest_time}
 
--- SkewMax, and of the frames the latest number and the greatest time
+-- the sequence number of the latest, and the greatest time of all, in microseconds
+pub record Summary : Type 0 where
+  pub latest_number : ℕ
+  pub greatest_time : ℕ
+
 pub record Kept : Type 0 where
   pub skew_max : ℕ
-  pub last : Option Forwarded
+  pub summary : Option Summary
 
--- the latest number and the greatest time of some frames, the latest first
-abbrev pub summary : List Forwarded → Option Forwarded
-summary [] = None
-summary (frame ∷ earlier) = Some (record { number = frame.number; time = greatest_time (frame ∷ earlier) })
+-- the summary of some frames, the latest first
+abbrev pub summary_of : List Forwarded → Option Summary
+summary_of [] = None
+summary_of (frame ∷ earlier) =
+    Some (record { latest_number = frame.sequence_number; greatest_time = greatest_time (frame ∷ earlier) })
 
--- what is kept is that of these frames
+-- what is kept is SkewMax, and the summary of these frames
 abbrev pub StandsFor : Kept → ℕ → List Forwarded → Type 0
-StandsFor kept skew_max frames = (kept.skew_max ≡ skew_max) × (kept.last ≡ summary frames)
+StandsFor kept skew_max frames = (kept.skew_max ≡ skew_max) × (kept.summary ≡ summary_of frames)

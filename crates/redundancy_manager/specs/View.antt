@@ -1,8 +1,8 @@
 -- What a redundancy manager keeps, by its fields.
 use Rattle.std.specs.Prelude.{Option, None, Some}
-use Rattle.es_base.specs.Forwarding.{Forwarded}
-use Rattle.redundancy_manager.specs.declared.Latest.{Latest}
+use Rattle.redundancy_manager.specs.Kept as kept
+use Rattle.redundancy_manager.specs.declared.Summary.{Summary}
 
-abbrev pub kept_of : Option Latest → Option Forwarded
-kept_of None = None
-kept_of (Some last) = Some (record { number = last.number; time = last.time })
+abbrev pub summary_seen : Option Summary → Option kept.Summary
+summary_seen None = None
+summary_seen (Some summary) = Some (record { latest_number = summary.latest_number; greatest_time = summary.greatest_time })

@@ -3,25 +3,26 @@
 #![tactic(auto)]
 
 ghost use Rattle.std.specs.Prelude.{◌≡◌, ℕ, List, [], ◌∷◌};
-ghost use Rattle.es_base.specs.Number.{is_ahead};
-ghost use Rattle.es_base.specs.Forwarding.{Forwarded, is_first_copy};
+ghost use Rattle.es_base.specs.Redundancy.{Forwarded, is_ahead, is_first_copy};
 ghost use Rattle.redundancy_manager.specs.Kept.{StandsFor};
 
 use std::marker::Model;
 
-/// Stands for all frames of one link that were forwarded. It keeps the number of the latest and the
-/// greatest time.
+/// Stands for all frames of one link that were forwarded. It keeps their summary.
 #[derive(Debug, Drop)]
 pub struct Redundancy {
     skew_max: u64,
-    last: Option<Latest>,
+    /// None before the first frame was forwarded.
+    summary: Option<Summary>,
 }
 
-/// The number of the frame forwarded last, and the greatest time of all that were, in microseconds.
+/// Of the frames that were forwarded, what the next one is compared with.
 #[derive(Clone, Copy, Debug)]
-struct Latest {
-    number: u8,
-    time: u64,
+struct Summary {
+    /// The sequence number of the latest.
+    latest_number: u8,
+    /// The greatest time of all, in microseconds.
+    greatest_time: u64,
 }
 
 impl Model for Redundancy {
@@ -29,9 +30,9 @@ impl Model for Redundancy {
 
     ghost Value = { Kept };
 
-    ghost use Rattle.redundancy_manager.specs.View.{kept_of};
+    ghost use Rattle.redundancy_manager.specs.View.{summary_seen};
 
-    ghost view = { λ r. record { skew_max = r.skew_max; last = kept_of r.last } };
+    ghost view = { λ r. record { skew_max = r.skew_max; summary = summary_seen r.summary } };
 }
 
 impl Redundancy {
@@ -41,48 +42,53 @@ impl Redundancy {
     {
         Redundancy {
             skew_max,
-            last: None,
+            summary: None,
         }
     }
 
-    /// Whether a frame that passed integrity checking is forwarded: none was; or the latest was more
-    /// than SkewMax ago; or its number is ahead of that of the frame forwarded last.
-    pub fn would_forward(&self, number: u8, now: u64) -> bool
+    /// Whether a frame with this sequence number that passed integrity checking is forwarded at `now`,
+    /// in microseconds: none was; or the greatest time of those that were is more than SkewMax ago; or
+    /// its number is ahead of that of the latest.
+    pub fn would_forward(&self, sequence_number: u8, now: u64) -> bool
         ensures { (skew_max : ℕ) (frames : List Forwarded) → StandsFor self.now skew_max frames →
-            result ≡ is_first_copy skew_max frames number now }
+            result ≡ is_first_copy skew_max frames sequence_number now }
     {
-        match self.last {
+        match self.summary {
             None => true,
-            Some(last) => {
-                now.saturating_sub(last.time) > self.skew_max || is_ahead(last.number, number)
+            Some(before) => {
+                now.saturating_sub(before.greatest_time) > self.skew_max
+                    || is_ahead(before.latest_number, sequence_number)
             }
         }
     }
 
-    /// One more frame was forwarded.
-    pub fn note_forwarded(&mut self, number: u8, now: u64)
+    /// One more frame was forwarded, with this sequence number, at `now`, in microseconds.
+    pub fn note_forwarded(&mut self, sequence_number: u8, now: u64)
         ensures { (skew_max : ℕ) (frames : List Forwarded) → StandsFor self.old skew_max frames →
-            StandsFor self.new skew_max (record { number = number; time = now } ∷ frames) }
+            StandsFor self.new skew_max (record { sequence_number = sequence_number; time = now } ∷ frames) }
     {
-        let time = match self.last {
+        let greatest_time = match self.summary {
             None => now,
-            Some(last) => now.max(last.time),
+            Some(before) => now.max(before.greatest_time),
         };
-        self.last = Some(Latest { number, time });
+        self.summary = Some(Summary {
+            latest_number: sequence_number,
+            greatest_time,
+        });
     }
 }
 
-/// Whether `number` is ahead of `last`: within the 127 numbers behind it on the circle of 1 to 255,
-/// where 0 lies between the upper and the lower half.
-fn is_ahead(last: u8, number: u8) -> bool
-    ensures { result ≡ is_ahead last number }
+/// Whether sequence number `sequence_number` is ahead of `latest`: one of the 127 numbers after it on the
+/// circle of 1 to 255, where 0 lies between the upper and the lower half.
+fn is_ahead(latest: u8, sequence_number: u8) -> bool
+    ensures { result ≡ is_ahead latest sequence_number }
 {
-    if last == 0 {
-        1 <= number && number <= 127
-    } else if number == 0 {
-        128 <= last
+    if latest == 0 {
+        1 <= sequence_number && sequence_number <= 127
+    } else if sequence_number == 0 {
+        128 <= latest
     } else {
-        let distance = (u16::from(number) + 255 - u16::from(last)) % 255;
+        let distance = (u16::from(sequence_number) + 255 - u16::from(latest)) % 255;
         1 <= distance && distance <= 127
     }
 }

@@ -1,7 +1,3 @@
-pub mod Digits
-pub mod Firsts
-pub mod Lines
-pub mod Pieces
+pub mod Histories
 pub mod Runs
-pub mod States
 pub mod Turns

@@ -1,8 +1,7 @@
 pub mod Fault
-pub mod Frames
+pub mod Histories
+pub mod Merge
 pub mod Output
 pub mod Play
 pub mod Sink
-pub mod States
 pub mod Text
-pub mod Trace

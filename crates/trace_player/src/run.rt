@@ -1,21 +1,20 @@
 //! The frames of two traces through the receivers of their links, and the text of what they came to.
-ghost use Rattle.std.specs.Prelude.{◌≡◌, ◌∷◌, ◌++◌, List, [], ◌≤◌, Ok, Err, Some, IfErr, OnOk, IfOk, length, map, reverse, string_bytes};
-ghost use Rattle.es_base.specs.Reading.{frame_of};
-ghost use Rattle.es_base.specs.History.{Arrival};
-ghost use Rattle.vl_config.specs.Config.{link_for};
-ghost use Rattle.link_receiver.specs.Link.{arrived, past_of, verdict_after, with_event};
-ghost use Rattle.trace_player.specs.Output.{arrival, link_of, line_after, line_of, merged, number_in, output_of, parts_of};
-ghost use Rattle.trace_player.specs.States.{states_after};
+ghost use Rattle.std.specs.Prelude.{◌≡◌, ◌∷◌, ◌++◌, List, [], ◌≤◌, OnOk, IfOk, length, map, reverse, string_bytes, true};
+ghost use Rattle.es_base.specs.declared.event.Arrival.{Arrival};
+ghost use Rattle.es_base.specs.Limits.{shortest_frame};
+ghost use Rattle.es_base.specs.Addressing.{addressee_of};
+ghost use Rattle.link_receiver.specs.Link.{past_of, verdict_after, with_event};
+ghost use Rattle.trace_player.specs.Histories.{states_after};
+ghost use Rattle.trace_player.specs.Merge.{merged};
+ghost use Rattle.trace_player.specs.Output.{line_after, line_of, output_of};
 
-use crate::frames::Frames;
 use crate::merge::Merge;
 use crate::text::{EventLine, FilteredLine, VerdictText};
-use crate::trace::TimedFrame;
-use es_base::{FilterCause, LinkSettings, Memory, Net, Octets};
-use frame_reader::read_frame;
+use es_base::{Arrival, Config, Memory};
+use frame_reader::read_addressed;
+use hex_trace::Frames;
 use link_receiver::LinkState;
 use std::alloc::Global;
-use vl_config::Config;
 
 /// The text of what the frames of two traces came to. The states are those of all links before any
 /// frame, and then after all of them.
@@ -32,8 +31,8 @@ pub(crate) fn output_of(
 {
     let mut text = String::new(alloc);
     let mut frames = Merge { a, b };
-    'frames: while let Some((net, frame)) = frames.next() {
-        play_frame(alloc, config, states, net, frame, &mut text)?;
+    'frames: while let Some(arrival) = frames.next() {
+        play_frame(alloc, config, states, arrival, &mut text)?;
     }
     Ok(text)
 }
@@ -55,78 +54,51 @@ fn play_frame(
     alloc: Global,
     config: &Config,
     states: &mut [LinkState],
-    net: Net,
-    frame: TimedFrame,
+    arrival: Arrival,
     text: &mut String,
 ) -> Result<(), Memory>
     requires { map (λ state. state.settings) states.old ≡ config.now.links }
     ensures states { OnOk result ((earlier : List Arrival) → states.old ≡ states_after config.now earlier
-        → states.new ≡ states_after config.now (arrival net frame ∷ earlier)) }
+        → states.new ≡ states_after config.now (arrival ∷ earlier)) }
     ensures line { OnOk result ((earlier : List Arrival) → states.old ≡ states_after config.now earlier
-        → string_bytes text.new ≡ string_bytes text.old ++ line_of config.now earlier (arrival net frame)) }
+        → string_bytes text.new ≡ string_bytes text.old ++ line_of config.now earlier arrival) }
 {
-    let TimedFrame { time, frame } = frame;
-    match place_for(config, frame.as_slice()) {
+    match read_addressed(config, arrival.frame.as_slice()) {
+        Ok((place, _)) => take_frame(alloc, &mut states[place], arrival, text),
         Err(cause) => {
+            let (time, net) = (arrival.time, arrival.net);
             let filtered = FilteredLine { time, net, cause };
             writeln!(text, "{filtered}")
         }
-        Ok(place) => {
-            let link = &config.links()[place];
-            let state = &mut states[place];
-            take_frame(alloc, link, state, net, time, frame, text)
-        }
-    }
-}
-
-/// The place of the link that a frame comes to; or why it is filtered.
-#[tactic(auto, unfolding(crate::specs::Output::link_of))]
-fn place_for(config: &Config, octets: &[u8]) -> Result<usize, FilterCause>
-    ensures filtered { IfErr result (λ cause. link_of config.now octets.now ≡ Err cause) }
-    ensures long { IfOk result (λ _. 60 ≤ length octets.now) }
-    ensures parts { IfOk result (λ _. frame_of config.now.constant octets.now ≡ Ok (parts_of octets.now)) }
-    ensures place { IfOk result (λ place. link_for config.now.links (number_in octets.now) ≡ Some place) }
-{
-    let frame = match read_frame(config.constant(), octets) {
-        Ok(frame) => frame,
-        Err(fault) => return Err(FilterCause::from(fault)),
-    };
-    match config.link_of(frame.vl) {
-        Some(place) => Ok(place),
-        None => Err(FilterCause::UnknownLink),
     }
 }
 
 /// Gives a frame of a link to its state, and adds the frame's line to the text.
 fn take_frame(
     alloc: Global,
-    link: &LinkSettings,
     state: &mut LinkState,
-    net: Net,
-    time: u64,
-    frame: Octets,
+    arrival: Arrival,
     text: &mut String,
 ) -> Result<(), Memory>
-    requires link { state.old.settings ≡ link.now }
-    requires long { 60 ≤ length frame }
-    requires number { number_in frame ≡ link.now.vl }
-    ensures state { let a = arrived net time frame in
-        OnOk result (state.new ≡ with_event state.old a (verdict_after state.old a)) }
-    ensures line { let a = arrived net time frame in
-        OnOk result (string_bytes text.new
-        ≡ string_bytes text.old ++ (line_after link.now (past_of state.old) a ++ 10 ∷ [])) }
+    requires long { shortest_frame ≤ length arrival.frame }
+    requires link { state.old.settings.vl ≡ addressee_of arrival.frame }
+    ensures state { OnOk result (state.new ≡ with_event state.old arrival true (verdict_after state.old arrival true)) }
+    ensures line { OnOk result (string_bytes text.new
+        ≡ string_bytes text.old ++ (line_after state.old.settings (past_of state.old) arrival ++ 10 ∷ [])) }
 {
+    let (time, net) = (arrival.time, arrival.net);
     let place = state.history().len();
-    let verdict = VerdictText {
-        verdict: state.take_octets(alloc, net, time, frame)?,
-        ports: link.ports(),
-    };
+    let verdict = state.take_arrival(alloc, arrival)?;
+    let settings = state.settings();
     let line = EventLine {
         time,
         net,
-        vl: link.vl(),
+        vl: settings.vl(),
         place,
-        verdict,
+        verdict: VerdictText {
+            verdict,
+            ports: settings.ports(),
+        },
     };
     writeln!(text, "{line}")
 }

@@ -3,7 +3,7 @@ ghost use Rattle.std.specs.Prelude.{◌≡◌, ◌≤◌, ◌||◌, ℕ, Bool, L
 ghost use Rattle.std.specs.Io.KnownBytes.{WriteAppends};
 ghost use Rattle.trace_player.specs.Sink.{is_refused};
 
-use crate::{Device, Failed};
+use hex_trace::{Device, Failed};
 use std::io::{self, ErrorKind};
 
 /// A writer of the output.
@@ -14,7 +14,7 @@ pub trait Sink {
     /// Whether a write has failed, or took nothing of a piece that isn't empty.
     ghost has_failed: { Self → Bool };
 
-    /// Writes the front of `piece`, and answers how many bytes.
+    /// Writes the front of `piece`, and returns how many bytes.
     fn write(&mut self, piece: &[u8]) -> Result<usize, Failed>
         ensures count { IfOk result (λ count. count ≤ length piece.now) }
         ensures bytes { WriteAppends (contents self.old) (contents self.new) result piece.now }

@@ -4,7 +4,7 @@ use Rattle.std.specs.List.{list_any}
 use Rattle.std.proofs.lemmas.List.Folds.{list_any-append}
 use Rattle.es_base.specs.Port.{Port}
 use Rattle.es_base.specs.Settings.{Settings}
-use Rattle.vl_config.specs.Config.{ports_in}
+use Rattle.es_base.specs.Config.{ports_in}
 
 -- a link that has such a port
 pub any_of_links : (p : Port → Bool) (links : List Settings) → list_any p (ports_in links) ≡ list_any (λ link. list_any p link.ports) links

@@ -1,5 +1,6 @@
--- The keys of a configuration by their spelling, and a step that can have a fault.
-use Rattle.std.specs.Prelude.{◌≡◌, ◌⊎◌, List, ℕ, codes, Result, Ok, Err}
+-- The keys of a configuration by their spelling, and what a function returns that takes memory.
+use Rattle.std.specs.Prelude.{◌≡◌, List, ℕ, codes, Result}
+use Rattle.es_base.specs.Returns.{GivesOr}
 use Rattle.vl_config.specs.declared.fault.ConfigFault.{ConfigFault}
 use Rattle.vl_config.specs.declared.fault.ConfigFault.TheVariants.{Memory}
 use Rattle.vl_config.specs.declared.fault.Key.{Key}
@@ -21,18 +22,6 @@ key_name keys.Max = codes "max"
 key_name keys.RefreshUs = codes "refresh_us"
 key_name keys.Depth = codes "depth"
 
--- the next step, where this one had no fault
-infixl 10 ◌>>=◌
-abbrev pub ◌>>=◌ : {A B : Type 0} → Result A ConfigFault → (A → Result B ConfigFault) → Result B ConfigFault
-Ok x >>= f = f x
-Err fault >>= f = Err fault
-
--- what is answered, seen through `view`, is what the document says, the fault included
-abbrev pub Gives : {X A : Type 0} → (X → A) → Result X ConfigFault → Result A ConfigFault → Type 0
-Gives view (Ok x) said = said ≡ Ok (view x)
-Gives view (Err fault) said = said ≡ Err fault
-
--- the same, or memory was wanted
-abbrev pub GivesOrWants : {X A : Type 0} → (X → A) → Result X ConfigFault → Result A ConfigFault → Type 0
-GivesOrWants view (Ok x) said = said ≡ Ok (view x)
-GivesOrWants view (Err fault) said = (fault ≡ Memory) ⊎ (said ≡ Err fault)
+-- what is returned, seen through `view`, is what was read, the fault included; or memory ran out
+abbrev pub GivesOrMemory : {X Y : Type 0} → (X → Y) → Result X ConfigFault → Result Y ConfigFault → Type 0
+GivesOrMemory view = GivesOr (λ fault. fault ≡ Memory) view

@@ -1,5 +1,5 @@
-pub mod Config
 pub mod Fault
+pub mod Collected
 pub mod Table
 pub mod Port
 pub mod Link

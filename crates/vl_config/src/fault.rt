@@ -1,9 +1,9 @@
-//! Why a document is no configuration.
+//! The keys of a document, and why a document is no configuration.
 ghost use Rattle.std.specs.Prelude.{◌≡◌, Some};
 ghost use Rattle.vl_config.specs.Fault.{key_name};
 ghost use Rattle.vl_config.specs.declared.fault.ConfigFault.TheVariants as faults;
 
-use es_base::Memory as WantOfMemory;
+use es_base::Memory;
 use std::alloc::AllocFailed;
 use std::fmt;
 use thiserror::Error;
@@ -65,36 +65,36 @@ pub enum ConfigFault {
     /// The text is no TOML document.
     #[error("not TOML")]
     Text,
-    /// A key is missing that has no default.
+    /// A key without a default is missing.
     #[error("missing {0}")]
     Missing(Key),
-    /// The value of a key is of another kind.
+    /// The value of a key has another kind, as a text in place of an integer.
     #[error("wrong kind of {0}")]
     Kind(Key),
     /// The value of a key is outside its range.
     #[error("{0} out of range")]
     Range(Key),
-    /// An earlier link has this number.
+    /// Two links have one link number.
     #[error("link given twice")]
     DoubleLink,
-    /// An earlier port of the link has this address and UDP port.
+    /// Two ports of a link have one address and UDP port.
     #[error("port given twice")]
     DoublePort,
-    /// An earlier port of the document has this name.
+    /// Two ports of the document have one name.
     #[error("name given twice")]
     DoubleName,
     /// There are more than 64 links, or more than 32 ports at a link.
     #[error("too many links or ports")]
     TooMany,
-    /// Want of memory.
+    /// Memory ran out.
     #[error("out of memory")]
     Memory,
 }
 
-impl From<WantOfMemory> for ConfigFault {
+impl From<Memory> for ConfigFault {
     ghost from_gives = { λ _ fault. fault ≡ faults.Memory };
 
-    fn from(_memory: WantOfMemory) -> ConfigFault {
+    fn from(_memory: Memory) -> ConfigFault {
         ConfigFault::Memory
     }
 }

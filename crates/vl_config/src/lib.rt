@@ -1,14 +1,14 @@
 //! The configuration of a receiver: a TOML document, read into settings within their limits.
 #![tactic(auto)]
 
-mod config;
+mod built_in;
 mod document;
 mod fault;
 mod link;
-mod links;
 mod port;
 mod table;
 
-pub use config::{Config, MOST_LINKS};
+pub use built_in::BUILT_IN;
 pub use document::read_config;
+pub use es_base::{Config, MOST_LINKS};
 pub use fault::{ConfigFault, Key};

@@ -1,67 +1,69 @@
 //! A link of the document.
-ghost use Rattle.std.specs.Prelude.{◌≡◌, ◌≤◌, ◌++◌, [], map, length, true, false, IfOk};
+ghost use Rattle.std.specs.Prelude.{◌≡◌, ◌≤◌, ◌++◌, map, length, true, false, IfOk};
 ghost use Rattle.std.specs.List.{list_any, IsDistinct};
 ghost use Rattle.toml.specs.View.{table_view};
+ghost use Rattle.es_base.specs.Returns.{Gives};
+ghost use Rattle.es_base.specs.Limits.{most_ports};
 ghost use Rattle.es_base.specs.Port.{are_apart};
-ghost use Rattle.vl_config.specs.Config.{has_number, same_name, ports_in};
-ghost use Rattle.vl_config.specs.Fault.{Gives, GivesOrWants};
-ghost use Rattle.vl_config.specs.Link as said;
+ghost use Rattle.es_base.specs.Config.{has_link_number, same_name, ports_in};
+ghost use Rattle.vl_config.specs.Fault.{GivesOrMemory};
+ghost use Rattle.vl_config.specs.Link.{link_from, link_number_from, port_tables, ports_from};
 
 use crate::port::port_from;
-use crate::table::{flag_or, number_at, tables_of, value_at};
+use crate::table::{flag_or, integer_at, tables_from, u16_value_at, value_at};
 use crate::{ConfigFault, Key};
 use es_base::{LONGEST_REASSEMBLY, LONGEST_SKEW, LinkNo, LinkSettings, MOST_PORTS, PortSettings};
 use std::alloc::Global;
 use toml::Table;
 
-/// The link of this table, behind these links of the document.
+/// The link of this table. `links` are the links of the document that were read before it.
 pub(crate) fn link_from(
     alloc: Global,
     table: &Table,
     links: &[LinkSettings],
 ) -> Result<LinkSettings, ConfigFault>
     requires { IsDistinct same_name (ports_in links.now) }
-    ensures value { GivesOrWants (λ link. link) result (said.link_of links.now (table_view table.now)) }
-    ensures number { IfOk result (λ link. list_any (has_number link.vl.0) links.now ≡ false) }
+    ensures value { GivesOrMemory (λ link. link) result (link_from links.now (table_view table.now)) }
+    ensures fresh { IfOk result (λ link. list_any (has_link_number link.vl.0) links.now ≡ false) }
     ensures names { IfOk result (λ link. IsDistinct same_name (ports_in links.now ++ link.ports)) }
 {
-    let vl = number_from(table, links)?;
-    let skew_max = number_at(table, Key::SkewMaxUs, 0, LONGEST_SKEW)?;
+    let vl = link_number_from(table, links)?;
+    let skew_max = integer_at(table, Key::SkewMaxUs, 0, LONGEST_SKEW)?;
     let redundancy = flag_or(table, Key::Redundancy, true)?;
-    let reassembly = number_at(table, Key::ReassemblyUs, 0, LONGEST_REASSEMBLY)?;
+    let reassembly = integer_at(table, Key::ReassemblyUs, 0, LONGEST_REASSEMBLY)?;
     let tables = port_tables(alloc, table)?;
     let ports = ports_from(alloc, &tables, links)?;
     Ok(LinkSettings::new(vl, skew_max, redundancy, reassembly, ports).unwrap())
 }
 
-/// The number of the link, which no earlier link has.
-fn number_from(table: &Table, links: &[LinkSettings]) -> Result<LinkNo, ConfigFault>
-    ensures value { Gives (λ vl. vl.0) result (said.number_of links.now (table_view table.now)) }
-    ensures fresh { IfOk result (λ vl. list_any (has_number vl.0) links.now ≡ false) }
+/// The link number, 0 to 65,535, which no earlier link has.
+fn link_number_from(table: &Table, links: &[LinkSettings]) -> Result<LinkNo, ConfigFault>
+    ensures value { Gives (λ vl. vl.0) result (link_number_from links.now (table_view table.now)) }
+    ensures fresh { IfOk result (λ vl. list_any (has_link_number vl.0) links.now ≡ false) }
 {
-    let vl = number_at(table, Key::Vl, 0, 65_535)? as u16;
-    if has_number(links, vl) {
+    let vl = u16_value_at(table, Key::Vl)?;
+    if has_link_number(links, vl) {
         Err(ConfigFault::DoubleLink)
     } else {
         Ok(LinkNo(vl))
     }
 }
 
-fn has_number(links: &[LinkSettings], vl: u16) -> bool
-    ensures { result ≡ list_any (has_number vl) links.now }
+fn has_link_number(links: &[LinkSettings], vl: u16) -> bool
+    ensures { result ≡ list_any (has_link_number vl) links.now }
 {
     links.iter().any(|link| link.vl().0 == vl)
 }
 
-/// The tables of the link's ports, of which there may be none.
+/// The tables of the link's ports: 0 to 32.
 fn port_tables<'a>(alloc: Global, table: &'a Table) -> Result<Vec<&'a Table>, ConfigFault>
-    ensures value { GivesOrWants (λ tables. map (λ table. table_view table.now) tables.items) result
-        (said.port_tables (table_view table.now)) }
-    ensures limit { IfOk result (λ tables. length tables.items ≤ 32) }
+    ensures value { GivesOrMemory (λ tables. map (λ table. table_view table.now) tables.items) result
+        (port_tables (table_view table.now)) }
+    ensures limit { IfOk result (λ tables. length tables.items ≤ most_ports) }
 {
     match value_at(table, Key::Port) {
         None => Ok(Vec::new(alloc)),
-        Some(value) => tables_of(alloc, value, Key::Port, MOST_PORTS),
+        Some(value) => tables_from(alloc, value, Key::Port, MOST_PORTS),
     }
 }
 
@@ -72,8 +74,8 @@ fn ports_from(
     links: &[LinkSettings],
 ) -> Result<Vec<PortSettings>, ConfigFault>
     requires { IsDistinct same_name (ports_in links.now) }
-    ensures value { GivesOrWants (λ ports. ports.items) result
-        (said.ports_of (ports_in links.now) [] (map (λ table. table_view table.now) tables.now)) }
+    ensures value { GivesOrMemory (λ ports. ports.items) result
+        (ports_from (ports_in links.now) (map (λ table. table_view table.now) tables.now)) }
     ensures few { IfOk result (λ ports. length ports.items ≡ length tables.now) }
     ensures apart { IfOk result (λ ports. are_apart ports.items ≡ true) }
     ensures names { IfOk result (λ ports. IsDistinct same_name (ports_in links.now ++ ports.items)) }

@@ -1,17 +1,16 @@
 //! A port of the document.
-ghost use Rattle.std.specs.Prelude.{◌≡◌, ◌≤◌, ◌++◌, true, false, IfOk};
+ghost use Rattle.std.specs.Prelude.{◌≡◌, ◌++◌, true, false, IfOk};
 ghost use Rattle.std.specs.List.{list_any};
 ghost use Rattle.toml.specs.View.{table_view};
-ghost use Rattle.es_base.specs.Name.{is_port_name};
-ghost use Rattle.es_base.specs.Port.{is_end, is_kind, largest_payload};
-ghost use Rattle.vl_config.specs.Config.{has_name, ports_in};
-ghost use Rattle.vl_config.specs.Port as said;
+ghost use Rattle.es_base.specs.Port.{accepts, is_kind_within_limits, largest_payload};
+ghost use Rattle.es_base.specs.Config.{has_name, ports_in};
+ghost use Rattle.vl_config.specs.Port.{port_from, name_at, service_at, address_at, address_from, largest_message, kind_from};
 
-use crate::table::{number_at, number_or, text_at};
+use crate::table::{integer_at, integer_or, text_at, u16_value_at};
 use crate::{ConfigFault, Key};
 use es_base::{
     DEEPEST_QUEUE, LONGEST_QUEUED, LONGEST_REFRESH, LONGEST_SAMPLE, LinkSettings, PortKind,
-    PortName, PortSettings,
+    PortName, PortSettings, any_accepts,
 };
 use std::net::Ipv4Addr;
 use toml::Table;
@@ -23,42 +22,42 @@ enum Service {
     Queuing,
 }
 
-/// The port of this table. `links` are the earlier links of the document, `ports` the earlier ports
-/// of this one.
+/// The port of this table. `links` are the earlier links of the document, `ports` the ports of the
+/// same link that were read before it.
 pub(crate) fn port_from(
     table: &Table,
     links: &[LinkSettings],
     ports: &[PortSettings],
 ) -> Result<PortSettings, ConfigFault>
-    ensures value { result ≡ said.port_of (ports_in links.now ++ ports.now) ports.now (table_view table.now) }
+    ensures value { result ≡ port_from (ports_in links.now) ports.now (table_view table.now) }
     ensures name { IfOk result (λ port. list_any (has_name port.name) (ports_in links.now ++ ports.now) ≡ false) }
-    ensures end { IfOk result (λ port. list_any (is_end port.address port.udp) ports.now ≡ false) }
+    ensures apart { IfOk result (λ port. list_any (accepts port.address port.udp) ports.now ≡ false) }
 {
-    let name = name_from(table)?;
-    let service = service_from(table)?;
-    let address = address_from(table)?;
-    let udp = number_at(table, Key::Udp, 0, 65_535)? as u16;
+    let name = name_at(table)?;
+    let service = service_at(table)?;
+    let address = address_at(table)?;
+    let udp = u16_value_at(table, Key::Udp)?;
     let largest = largest_message(service);
-    let max = number_or(table, Key::Max, largest, 0, largest)? as u16;
+    let max = integer_or(table, Key::Max, largest, 0, largest)? as u16;
     let kind = kind_from(table, service)?;
     if is_named(&name, links, ports) {
         return Err(ConfigFault::DoubleName);
     }
-    if has_end(ports, address, udp) {
+    if any_accepts(ports, address, udp) {
         return Err(ConfigFault::DoublePort);
     }
     Ok(PortSettings::new(name, address, udp, max, kind).unwrap())
 }
 
-fn name_from(table: &Table) -> Result<PortName, ConfigFault>
-    ensures { result ≡ said.name_at (table_view table.now) }
+fn name_at(table: &Table) -> Result<PortName, ConfigFault>
+    ensures { result ≡ name_at (table_view table.now) }
 {
     let text = text_at(table, Key::Name)?;
     PortName::new(text).ok_or(ConfigFault::Range(Key::Name))
 }
 
-fn service_from(table: &Table) -> Result<Service, ConfigFault>
-    ensures { result ≡ said.service_at (table_view table.now) }
+fn service_at(table: &Table) -> Result<Service, ConfigFault>
+    ensures { result ≡ service_at (table_view table.now) }
 {
     match text_at(table, Key::Kind)? {
         "sampling" => Ok(Service::Sampling),
@@ -67,15 +66,16 @@ fn service_from(table: &Table) -> Result<Service, ConfigFault>
     }
 }
 
-fn address_from(table: &Table) -> Result<u32, ConfigFault>
-    ensures { result ≡ said.address_at (table_view table.now) }
+/// The IPv4 destination address, in network order.
+fn address_at(table: &Table) -> Result<u32, ConfigFault>
+    ensures { result ≡ address_at (table_view table.now) }
 {
     let text = text_at(table, Key::Address)?;
-    address_of(text)
+    address_from(text)
 }
 
-fn address_of(text: &str) -> Result<u32, ConfigFault>
-    ensures { result ≡ said.address_of text.now }
+fn address_from(text: &str) -> Result<u32, ConfigFault>
+    ensures { result ≡ address_from text.now }
 {
     match text.parse::<Ipv4Addr>() {
         Ok(address) => Ok(address.to_bits()),
@@ -85,7 +85,7 @@ fn address_of(text: &str) -> Result<u32, ConfigFault>
 
 /// The longest message of a port with this service, in octets.
 fn largest_message(service: Service) -> u64
-    ensures { result ≡ said.largest_message service }
+    ensures { result ≡ largest_message service }
 {
     match service {
         Service::Sampling => u64::from(LONGEST_SAMPLE),
@@ -93,17 +93,19 @@ fn largest_message(service: Service) -> u64
     }
 }
 
+/// The kind of a port with this service: with its refresh period, 0 to 1,000,000,000 microseconds, or
+/// with its depth, 1 to 64 messages.
 fn kind_from(table: &Table, service: Service) -> Result<PortKind, ConfigFault>
-    ensures value { result ≡ said.kind_of service (table_view table.now) }
-    ensures limits { IfOk result (λ kind. (is_kind kind ≡ true) × (largest_payload kind ≡ said.largest_message service)) }
+    ensures value { result ≡ kind_from service (table_view table.now) }
+    ensures limits { IfOk result (λ kind. (is_kind_within_limits kind ≡ true) × (largest_payload kind ≡ largest_message service)) }
 {
     match service {
         Service::Sampling => {
-            let refresh = number_at(table, Key::RefreshUs, 0, LONGEST_REFRESH)?;
+            let refresh = integer_at(table, Key::RefreshUs, 0, LONGEST_REFRESH)?;
             Ok(PortKind::Sampling { refresh })
         }
         Service::Queuing => {
-            let depth = number_at(table, Key::Depth, 1, u64::from(DEEPEST_QUEUE))?;
+            let depth = integer_at(table, Key::Depth, 1, u64::from(DEEPEST_QUEUE))?;
             Ok(PortKind::Queuing { depth: depth as u8 })
         }
     }
@@ -129,13 +131,4 @@ fn has_name(ports: &[PortSettings], name: &PortName) -> bool
     ports
         .iter()
         .any(|port| name.as_str() == port.name().as_str())
-}
-
-/// Whether an earlier port of the link has this address and UDP port.
-fn has_end(ports: &[PortSettings], address: u32, udp: u16) -> bool
-    ensures { result ≡ list_any (is_end address udp) ports.now }
-{
-    ports
-        .iter()
-        .any(|port| port.address() == address && port.udp() == udp)
 }

@@ -1,8 +1,10 @@
 //! The value at one key of a table.
-ghost use Rattle.std.specs.Prelude.{◌≡◌, ◌≤◌, ◌<◌, map, [], length, option_map, IfOk};
+ghost use Rattle.std.specs.Prelude.{◌≡◌, ◌≤◌, map, length, option_map, IfOk};
 ghost use Rattle.toml.specs.View.{view, table_view, items_view};
-ghost use Rattle.vl_config.specs.Fault.{key_name, Gives, GivesOrWants};
-ghost use Rattle.vl_config.specs.Table as said;
+ghost use Rattle.es_base.specs.Returns.{Gives};
+ghost use Rattle.vl_config.specs.Fault.{GivesOrMemory};
+ghost use Rattle.vl_config.specs.Table.{value_at, required, text_at, text_from, flag_or, tables_from, tables_in};
+ghost use Rattle.vl_config.specs.Table.{integer_at, integer_or, integer_from, within, u16_value_at};
 
 use crate::{ConfigFault, Key};
 use std::alloc::Global;
@@ -10,33 +12,33 @@ use toml::{Table, Value};
 
 /// The value at this key.
 pub(crate) fn value_at<'a>(table: &'a Table, key: Key) -> Option<&'a Value>
-    ensures { option_map (λ v. view v.now) result ≡ said.value_at key (table_view table.now) }
+    ensures { option_map (λ v. view v.now) result ≡ value_at key (table_view table.now) }
 {
     table.get(key.name())
 }
 
 /// The value at this key, which has no default.
 pub(crate) fn required<'a>(table: &'a Table, key: Key) -> Result<&'a Value, ConfigFault>
-    ensures { Gives (λ value. view value.now) result (said.required key (table_view table.now)) }
+    ensures { Gives (λ value. view value.now) result (required key (table_view table.now)) }
 {
     value_at(table, key).ok_or(ConfigFault::Missing(key))
 }
 
-/// The number at this key.
-pub(crate) fn number_at(
+/// The integer at this key, from `least` to `greatest`.
+pub(crate) fn integer_at(
     table: &Table,
     key: Key,
     least: u64,
     greatest: u64,
 ) -> Result<u64, ConfigFault>
-    ensures value { result ≡ said.number_at key least greatest (table_view table.now) }
-    ensures limits { IfOk result (λ number. (least ≤ number) × (number ≤ greatest)) }
+    ensures value { result ≡ integer_at key least greatest (table_view table.now) }
+    ensures limits { IfOk result (λ integer. (least ≤ integer) × (integer ≤ greatest)) }
 {
-    number_of(required(table, key)?, key, least, greatest)
+    integer_from(required(table, key)?, key, least, greatest)
 }
 
-/// The number at this key, or the default where there is no such key.
-pub(crate) fn number_or(
+/// The integer at this key, from `least` to `greatest`, or the default where there is no such key.
+pub(crate) fn integer_or(
     table: &Table,
     key: Key,
     default: u64,
@@ -44,52 +46,60 @@ pub(crate) fn number_or(
     greatest: u64,
 ) -> Result<u64, ConfigFault>
     requires { (least ≤ default) × (default ≤ greatest) }
-    ensures value { result ≡ said.number_or key least greatest default (table_view table.now) }
-    ensures limits { IfOk result (λ number. (least ≤ number) × (number ≤ greatest)) }
+    ensures value { result ≡ integer_or key least greatest default (table_view table.now) }
+    ensures limits { IfOk result (λ integer. (least ≤ integer) × (integer ≤ greatest)) }
 {
     match value_at(table, key) {
         None => Ok(default),
-        Some(value) => number_of(value, key, least, greatest),
+        Some(value) => integer_from(value, key, least, greatest),
     }
 }
 
-fn number_of(value: &Value, key: Key, least: u64, greatest: u64) -> Result<u64, ConfigFault>
-    ensures value { result ≡ said.number_of key least greatest (view value.now) }
-    ensures limits { IfOk result (λ number. (least ≤ number) × (number ≤ greatest)) }
+/// The integer of 16 bits at this key: a link number or a UDP port, 0 to 65,535.
+pub(crate) fn u16_value_at(table: &Table, key: Key) -> Result<u16, ConfigFault>
+    ensures { result ≡ u16_value_at key (table_view table.now) }
+{
+    let integer = integer_at(table, key, 0, u64::from(u16::MAX))?;
+    Ok(integer as u16)
+}
+
+fn integer_from(value: &Value, key: Key, least: u64, greatest: u64) -> Result<u64, ConfigFault>
+    ensures value { result ≡ integer_from key least greatest (view value.now) }
+    ensures limits { IfOk result (λ integer. (least ≤ integer) × (integer ≤ greatest)) }
 {
     match value.as_integer() {
         None => Err(ConfigFault::Kind(key)),
-        Some(number) => within(number, key, least, greatest),
+        Some(integer) => within(integer, key, least, greatest),
     }
 }
 
-fn within(number: i64, key: Key, least: u64, greatest: u64) -> Result<u64, ConfigFault>
-    ensures value { result ≡ said.within key least greatest number }
-    ensures limits { IfOk result (λ number. (least ≤ number) × (number ≤ greatest)) }
+fn within(integer: i64, key: Key, least: u64, greatest: u64) -> Result<u64, ConfigFault>
+    ensures value { result ≡ within key least greatest integer }
+    ensures limits { IfOk result (λ integer. (least ≤ integer) × (integer ≤ greatest)) }
 {
-    match u64::try_from(number) {
-        Ok(number) if least <= number && number <= greatest => Ok(number),
+    match u64::try_from(integer) {
+        Ok(integer) if least <= integer && integer <= greatest => Ok(integer),
         _ => Err(ConfigFault::Range(key)),
     }
 }
 
 /// The text at this key.
 pub(crate) fn text_at<'a>(table: &'a Table, key: Key) -> Result<&'a str, ConfigFault>
-    ensures { Gives (λ text. text.now) result (said.text_at key (table_view table.now)) }
+    ensures { Gives (λ text. text.now) result (text_at key (table_view table.now)) }
 {
-    text_of(required(table, key)?, key)
+    text_from(required(table, key)?, key)
 }
 
 /// The text that this value is.
-pub(crate) fn text_of<'a>(value: &'a Value, key: Key) -> Result<&'a str, ConfigFault>
-    ensures { Gives (λ text. text.now) result (said.text_of key (view value.now)) }
+pub(crate) fn text_from<'a>(value: &'a Value, key: Key) -> Result<&'a str, ConfigFault>
+    ensures { Gives (λ text. text.now) result (text_from key (view value.now)) }
 {
     value.as_str().ok_or(ConfigFault::Kind(key))
 }
 
 /// The truth value at this key, or the default where there is no such key.
 pub(crate) fn flag_or(table: &Table, key: Key, default: bool) -> Result<bool, ConfigFault>
-    ensures { result ≡ said.flag_or key default (table_view table.now) }
+    ensures { result ≡ flag_or key default (table_view table.now) }
 {
     match value_at(table, key) {
         None => Ok(default),
@@ -97,15 +107,15 @@ pub(crate) fn flag_or(table: &Table, key: Key, default: bool) -> Result<bool, Co
     }
 }
 
-/// The tables of an array of at most so many.
-pub(crate) fn tables_of<'a>(
+/// The tables of an array of up to `most` tables.
+pub(crate) fn tables_from<'a>(
     alloc: Global,
     value: &'a Value,
     key: Key,
     most: usize,
 ) -> Result<Vec<&'a Table>, ConfigFault>
-    ensures value { GivesOrWants (λ tables. map (λ table. table_view table.now) tables.items) result
-        (said.tables_of key most (view value.now)) }
+    ensures value { GivesOrMemory (λ tables. map (λ table. table_view table.now) tables.items) result
+        (tables_from key most (view value.now)) }
     ensures limit { IfOk result (λ tables. length tables.items ≤ most) }
 {
     let Some(items) = value.as_array() else {
@@ -120,8 +130,8 @@ pub(crate) fn tables_of<'a>(
 }
 
 fn tables_in<'a>(alloc: Global, items: &'a [Value], key: Key) -> Result<Vec<&'a Table>, ConfigFault>
-    ensures { GivesOrWants (λ tables. map (λ table. table_view table.now) tables.items) result
-        (said.tables_in key [] (items_view items.now)) }
+    ensures { GivesOrMemory (λ tables. map (λ table. table_view table.now) tables.items) result
+        (tables_in key (items_view items.now)) }
 {
     let mut tables = Vec::with_capacity(alloc, items.len())?;
     for item in items {

@@ -1,9 +1,9 @@
 use Rattle.std.proofs.Common.{◌∙◌, sym, ap, subst}
 use Rattle.clap.specs.Words.{App, HasKind, fault_of, is_simple_and_free, takes}
 use Rattle.clap.specs.declared.error.kind.ErrorKind.{ErrorKind}
-use Rattle.command_line.specs.Command.{IsFaultOf, texts_of, told}
+use Rattle.command_line.specs.Command.{IsFaultOf, texts_of, fault_from}
 use Rattle.command_line.specs.declared.fault.LineFault.{LineFault}
-use Rattle.command_line.proofs.Faults.{fault_says, fault_told, free}
+use Rattle.command_line.proofs.Faults.{fault_says, fault_of_words, free}
 use Rattle.command_line.proofs.Options.{config_given, a_given, b_given}
 use Rattle.command_line.proofs.line.line_of.Goals as goal
 
@@ -26,12 +26,12 @@ pub returns-in-Err-clause-fault : goal.returns-in-Err-clause-fault
 returns-in-Err-clause-fault c =
     let is = c.in_ok-play_command.ensures in
     let failed = c.in-Err.ensures.kinds (ap is_simple_and_free is ∙ free) in
-    let told_of = fault_told c.args.words.now c.in-Err.error
+    let read = fault_of_words c.args.words.now c.in-Err.error
     (subst (λ (a : App). HasKind (fault_of a (texts_of c.args.words.now)) c.in-Err.error) is failed) in
-    subst (λ (f : LineFault). IsFaultOf c.args.words.now f) (sym c.fault_from.ensures) told_of
+    subst (λ (f : LineFault). IsFaultOf c.args.words.now f) (sym c.fault_from.ensures) read
 
 pub returns-in-Err-clause-memory : goal.returns-in-Err-clause-memory
 returns-in-Err-clause-memory c taken =
     let is = c.in_ok-play_command.ensures in
     let none = c.in-Err.ensures.passes (ap (λ (a : App). takes a (texts_of c.args.words.now)) is ∙ taken) in
-    c.fault_from.ensures ∙ ap (λ (k : ErrorKind). told k c.in-Err.error) none
+    c.fault_from.ensures ∙ ap (λ (k : ErrorKind). fault_from k c.in-Err.error) none

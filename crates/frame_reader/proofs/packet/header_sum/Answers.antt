@@ -1,5 +1,5 @@
 use Rattle.std.proofs.Common.{rules, add-one}
-use Rattle.es_base.specs.Reading.{ones_sum}
+use Rattle.es_base.specs.Packet.{ones_sum}
 use Rattle.frame_reader.proofs.packet.header_sum.Goals as goal
 
 pub loop-i-init : goal.loop-i-init

@@ -1,5 +1,5 @@
 use Rattle.std.proofs.Common.{◌≡◌}
-use Rattle.es_base.specs.Reading.{ones_sum}
+use Rattle.es_base.specs.Packet.{ones_sum}
 use Rattle.frame_reader.proofs.packet.header_sum.Given as goal
 
 -- the sum of the words so far

@@ -1,6 +1,5 @@
 use Rattle.std.proofs.Common.{◌∷◌}
-use Rattle.trace_player.specs.Output.{arrival}
-use Rattle.trace_player.proofs.States.{are_of_links}
+use Rattle.trace_player.proofs.Histories.{are_of_links}
 use Rattle.trace_player.proofs.Turns.{frames_go_on, lines_go_on}
 use Rattle.trace_player.proofs.run.output_of.Goals as goal
 
@@ -11,7 +10,7 @@ pub frames-preserved : goal.frames-preserved
 frames-preserved c =
     let config = c.args.config.now in
     let earlier = c.frames.invariant.0 in
-    let a = arrival c.in-Some.net c.in-Some.frame in
+    let a = c.in-Some.arrival in
     let new = c.in_ok-play_frame.ensures.states earlier c.frames.invariant.1 in
     let grown = c.in_ok-play_frame.ensures.line earlier c.frames.invariant.1 in
     let next = c.in-Some.ensures.frames in

@@ -1,7 +1,8 @@
 use Rattle.std.proofs.Common.{◌≡◌, ◌+◌, ◌++◌, List, length, reverse, string_bytes}
-use Rattle.es_base.specs.History.{Arrival}
-use Rattle.trace_player.specs.Output.{lines_of, merged, output_of}
-use Rattle.trace_player.specs.States.{states_after}
+use Rattle.es_base.specs.declared.event.Arrival.{Arrival}
+use Rattle.trace_player.specs.Histories.{states_after}
+use Rattle.trace_player.specs.Merge.{merged}
+use Rattle.trace_player.specs.Output.{lines_of, output_of}
 use Rattle.trace_player.proofs.run.output_of.Given as goal
 
 -- the states are those after the frames that came; these and those that are left are all; and so are

@@ -1,19 +1,22 @@
 use Rattle.std.proofs.Common.{◌≡◌, ◌∙◌, ◌++◌, [], ◌∷◌, rules, sym}
 use Rattle.toml.specs.View.{table_view}
-use Rattle.vl_config.specs.Config.{ports_in}
-use Rattle.vl_config.proofs.Ports.{apart_push, names_push, one_more}
+use Rattle.es_base.specs.Config.{ports_in}
+use Rattle.vl_config.specs.Port.{port_from}
+use Rattle.vl_config.proofs.Collected.{one_more}
+use Rattle.vl_config.proofs.Ports.{apart_push, names_push}
 use Rattle.vl_config.proofs.link.ports_from.Goals as goal
 
 pub loop-table-preserved : goal.loop-table-preserved
 loop-table-preserved c =
+    let earlier = ports_in c.args.links.now in
     let done = c.loop-table.ports.items in
     let port = c.in_ok-port.port in
     let kept = c.loop-table.invariant in
     let pushed : c.push.new.self.items ≡ done ++ port ∷ [] = search rules in
     rw pushed (record {
-      said = sym (one_more (λ table. table_view table.now) (ports_in c.args.links.now) done c.args.tables.now c.loop-table.table-index c.table-item.result port
-          (search rules) c.table-item.is (search rules)) ∙ kept.said;
+      value = sym (one_more (port_from earlier) (λ table. table_view table.now) done c.args.tables.now c.loop-table.table-index c.table-item.result port
+          (search rules) c.table-item.is (search rules)) ∙ kept.value;
       few = search rules;
       apart = apart_push done port kept.apart (search rules);
-      names = names_push (ports_in c.args.links.now) done port kept.names (search rules);
+      names = names_push earlier done port kept.names (search rules);
     })

@@ -1,11 +1,8 @@
-use Rattle.std.proofs.Common.{◌∙◌, true, refl, reverse, sym, ap, rules}
-use Rattle.std.specs.List.{slice_get}
+use Rattle.std.proofs.Common.{true, refl, reverse, sym, rules}
 use Rattle.es_base.specs.declared.event.Event.{Event}
-use Rattle.es_base.specs.Reading.{number_of}
-use Rattle.es_base.specs.Verdict.{settled}
-use Rattle.es_base.specs.History.{Origin}
-use Rattle.link_receiver.specs.Link.{arrived, event_of}
-use Rattle.link_receiver.proofs.OneMore.{kept_more, shows_nothing_more}
+use Rattle.es_base.specs.Past.{event_of, origin_of}
+use Rattle.link_receiver.specs.Link.{Link}
+use Rattle.link_receiver.proofs.Kept.{has_register, kept_more}
 use Rattle.link_receiver.proofs.link.LinkState.append.Goals as goal
 
 pub invariant_of-self-2 : goal.invariant_of-self-2
@@ -13,14 +10,12 @@ invariant_of-self-2 c =
     let settings = c.self.inside.settings in
     let history = c.self.inside.history.items in
     let registers = c.self.inside.registers.items in
-    let origin : Origin = record { settings = settings } in
-    let e : Event = event_of (arrived c.args.net c.args.now c.args.octets) c.args.verdict in
-    let nothing = rw (← c.self.view_is) at c.requires.nothing in
-    let decision = rw (← c.self.view_is) at c.requires.decision in
-    let number = c.number_in-number.ensures ∙ ap number_of c.as_slice.ensures in
-    let first = rw (← c.self.view_is) at c.is_first-first.ensures in
-    let stand = c.note.ensures origin (reverse history) e c.self.invariant.checked refl (sym number) refl (rw (← number) (sym first)) in
-    kept_more settings history c.push_reserved.new.self.items c.self.inside.checks c.note.new.self registers registers e
-    (search rules) c.self.invariant (sym (ap (λ d. settled d true) decision)) refl stand refl
-    (λ port. shows_nothing_more (slice_get registers port) _ _ (nothing (record { 0 = port })) (c.self.invariant.shown port))
-    c.in_ok-reserve_event.ensures.few
+    let delivery = c.args.change.delivery in
+    let e : Event = event_of c.args.arrival true c.args.change.verdict in
+    let link : Link = record { settings = settings; history = history } in
+    let change = rw (← c.self.view_is) at c.requires in
+    let stand = c.note.ensures (origin_of settings) (reverse history) e c.self.invariant.checked refl (sym change.numbered) refl (sym change.forwarded) in
+    kept_more settings history c.push_reserved.new.self.items c.self.inside.checks c.note.new.self registers c.deliver.new.registers.items e delivery
+    (search rules) c.self.invariant change.verdict refl stand c.deliver.ensures
+    (has_register link delivery registers change.has_message_number c.self.invariant.as_many)
+    change.delivers c.in_ok-reserve_event.ensures.few

@@ -1,0 +1,112 @@
+//! The order in which a document is tested, and documents that are refused as a whole.
+use crate::checks::{Refused, check_fault, check_refused};
+use std::alloc::Global;
+use std::process::Abort;
+use std::test::Fail;
+use test_inputs::with_first_line;
+use vl_config::ConfigFault::{DoubleLink, Kind, Missing, Range, Text};
+use vl_config::{BUILT_IN, Config, ConfigFault, Key, read_config};
+
+/// A text, and the fault of the document that is made with it.
+type Row = (&'static str, ConfigFault);
+
+fn first_lines() -> [Row; 9] {
+    [
+        ("constant = 3", Kind(Key::Constant)),
+        ("constant = \"\"", Range(Key::Constant)),
+        ("constant = \"0300000\"", Range(Key::Constant)),
+        ("constant = \"030000000\"", Range(Key::Constant)),
+        ("constant = \"0300000g\"", Range(Key::Constant)),
+        ("vl = 99999999999999999999", Text),
+        ("constant = \"03000000\"\nconstant = \"03000000\"", Text),
+        ("link = 3", Text),
+        ("x =", Text),
+    ]
+}
+
+fn check_first_line(rt: &impl Abort, alloc: Global, line: &str, fault: Option<ConfigFault>) {
+    let answer = with_first_line(alloc, line).err();
+    assert_eq!(rt; answer, fault, "{line}");
+}
+
+#[test]
+fn the_constant_is_tested_before_the_links(rt: HostRuntime) {
+    for (line, fault) in first_lines() {
+        check_first_line(&rt, rt.alloc(), line, Some(fault));
+    }
+    check_first_line(&rt, rt.alloc(), "constant = \"0300000A\"", None);
+}
+
+fn documents_without_links() -> [Row; 8] {
+    [
+        ("", Missing(Key::Link)),
+        ("link = []", Missing(Key::Link)),
+        ("link = 3", Kind(Key::Link)),
+        ("[link]\nvl = 1", Kind(Key::Link)),
+        ("link.vl = 1", Kind(Key::Link)),
+        ("link = [{ vl = 1 }, 3]", Kind(Key::Link)),
+        ("link = [{}]", Missing(Key::Vl)),
+        // The constant is tested first.
+        ("constant = 1\nlink = 3", Kind(Key::Constant)),
+    ]
+}
+
+#[test]
+fn links_are_tables_of_an_array(rt: HostRuntime) {
+    for (document, fault) in documents_without_links() {
+        check_fault(&rt, rt.alloc(), document, Some(fault));
+    }
+}
+
+fn keys_of_a_link() -> [Row; 4] {
+    [
+        ("port = 3", Missing(Key::ReassemblyUs)),
+        ("reassembly_us = 0, port = 3", Kind(Key::Port)),
+        ("reassembly_us = 0, port = [3]", Kind(Key::Port)),
+        ("reassembly_us = 0, port = [{}]", Missing(Key::Name)),
+    ]
+}
+
+fn check_keys(rt: &impl Abort, alloc: Global, (keys, fault): Row) -> Result<(), Fail> {
+    let document = format!(in alloc; "link = [{{ vl = 1, skew_max_us = 0, {keys} }}]")?;
+    check_fault(rt, alloc, document.as_str(), Some(fault));
+    Ok(())
+}
+
+#[test]
+fn ports_are_tested_after_the_other_keys_of_their_link(rt: HostRuntime) -> Result<(), Fail> {
+    for row in keys_of_a_link() {
+        check_keys(&rt, rt.alloc(), row)?;
+    }
+    Ok(())
+}
+
+fn check_no_ports(rt: &impl Abort, config: &Config) {
+    assert!(rt; config.links()[0].ports().is_empty());
+}
+
+#[test]
+fn a_link_may_have_no_ports(rt: HostRuntime) -> Result<(), Fail> {
+    let document = "link = [{ vl = 1, skew_max_us = 0, reassembly_us = 0 }]";
+    check_no_ports(&rt, &read_config(rt.alloc(), document)?);
+    Ok(())
+}
+
+fn changes() -> [Refused; 2] {
+    [
+        ("vl = 17", "vl = 70000", Range(Key::Vl)),
+        ("vl = 17", "vl = ", Text),
+    ]
+}
+
+#[test]
+fn a_document_is_refused_for_one_wrong_value(rt: HostRuntime) -> Result<(), Fail> {
+    check_refused(&rt, rt.alloc(), &changes())
+}
+
+#[test]
+fn a_document_that_is_given_twice_is_refused(rt: HostRuntime) -> Result<(), Fail> {
+    let twice = format!(in rt.alloc(); "{BUILT_IN}{BUILT_IN}")?;
+    check_fault(&rt, rt.alloc(), twice.as_str(), Some(DoubleLink));
+    Ok(())
+}

@@ -1,0 +1,17 @@
+//! Tests of configurations: documents, each with the settings or the fault that it has to come to.
+#![tactic(auto)]
+
+#[cfg(test)]
+mod checks;
+#[cfg(test)]
+mod counts;
+#[cfg(test)]
+mod documents;
+#[cfg(test)]
+mod link_keys;
+#[cfg(test)]
+mod port_keys;
+#[cfg(test)]
+mod repetitions;
+#[cfg(test)]
+mod settings;

@@ -1,0 +1,50 @@
+//! The keys of a link: the faults of each, and the ends of its range.
+use crate::checks::{Refused, Taken, check_refused, check_taken};
+use std::test::Fail;
+use vl_config::ConfigFault::{Kind, Missing, Range};
+use vl_config::Key;
+
+fn faults() -> [Refused; 14] {
+    [
+        ("vl = 17\n", "", Missing(Key::Vl)),
+        ("vl = 17", "vl = \"17\"", Kind(Key::Vl)),
+        ("vl = 17", "vl = 17.0", Kind(Key::Vl)),
+        ("vl = 17", "vl = 65536", Range(Key::Vl)),
+        ("vl = 17", "vl = -1", Range(Key::Vl)),
+        ("skew_max_us = 1000\n", "", Missing(Key::SkewMaxUs)),
+        ("= 1000\n", "= true\n", Kind(Key::SkewMaxUs)),
+        ("= 1000\n", "= 1000001\n", Range(Key::SkewMaxUs)),
+        ("= 1000\n", "= -1\n", Range(Key::SkewMaxUs)),
+        ("= 17", "= 17\nredundancy = 1", Kind(Key::Redundancy)),
+        ("reassembly_us = 50000\n", "", Missing(Key::ReassemblyUs)),
+        ("50000", "[]", Kind(Key::ReassemblyUs)),
+        ("50000", "10000001", Range(Key::ReassemblyUs)),
+        ("50000", "-1", Range(Key::ReassemblyUs)),
+    ]
+}
+
+fn ends() -> [Taken; 10] {
+    [
+        ("vl = 17", "vl = 0"),
+        ("vl = 17", "vl = 65535"),
+        ("vl = 17", "vl = 0x11"),
+        ("vl = 17", "vl = 1_7"),
+        ("= 1000\n", "= 0\n"),
+        ("= 1000\n", "= 1000000\n"),
+        ("vl = 17", "vl = 17\nredundancy = true"),
+        ("50000", "0"),
+        ("50000", "10000000"),
+        // A key that has no meaning is ignored.
+        ("vl = 17", "vl = 17\ncolour = \"red\""),
+    ]
+}
+
+#[test]
+fn each_key_of_a_link_has_its_faults(rt: HostRuntime) -> Result<(), Fail> {
+    check_refused(&rt, rt.alloc(), &faults())
+}
+
+#[test]
+fn each_range_of_a_link_is_taken_to_its_ends(rt: HostRuntime) -> Result<(), Fail> {
+    check_taken(&rt, rt.alloc(), &ends())
+}

@@ -1,0 +1,65 @@
+//! Link numbers, port names and UDP ports that are given twice.
+use crate::checks::{Refused, check_fault, check_refused};
+use std::alloc::{AllocError, Global};
+use std::process::Abort;
+use std::test::Fail;
+use test_inputs::SECOND_LINK;
+use vl_config::ConfigFault::{DoubleLink, DoubleName, DoublePort};
+use vl_config::{BUILT_IN, ConfigFault};
+
+fn repetitions_in_a_link() -> [Refused; 2] {
+    [
+        ("\"nav\"", "\"pos\"", DoubleName),
+        ("5002", "5000", DoublePort),
+    ]
+}
+
+#[test]
+fn names_and_udp_ports_are_given_once_in_a_link(rt: HostRuntime) -> Result<(), Fail> {
+    check_refused(&rt, rt.alloc(), &repetitions_in_a_link())
+}
+
+#[test]
+fn a_name_is_tested_before_the_address_and_udp_port(rt: HostRuntime) -> Result<(), Fail> {
+    let alloc = rt.alloc();
+    let named = BUILT_IN.replace(alloc, "\"nav\"", "\"pos\"")?;
+    let both = named.replace(alloc, "5002", "5000")?;
+    check_fault(&rt, alloc, both.as_str(), Some(DoubleName));
+    Ok(())
+}
+
+/// A text of the second link, what stands in its place, and the fault of the document if it has one.
+type Change = (&'static str, &'static str, Option<ConfigFault>);
+
+fn changes_of_the_second_link() -> [Change; 5] {
+    [
+        ("\"alt\"", "\"pos\"", Some(DoubleName)),
+        ("\"alt\"", "\"nav\"", Some(DoubleName)),
+        ("224.224.0.18", "224.224.0.17", None),
+        ("vl = 18", "vl = 17", Some(DoubleLink)),
+        ("vl = 18", "vl = 273", None),
+    ]
+}
+
+fn check_change(rt: &impl Abort, alloc: Global, change: Change) -> Result<(), AllocError> {
+    let (old, new, fault) = change;
+    let link = SECOND_LINK.replace(alloc, old, new)?;
+    let document = format!(in alloc; "{BUILT_IN}{link}")?;
+    check_fault(rt, alloc, document.as_str(), fault);
+    Ok(())
+}
+
+#[test]
+fn link_numbers_and_names_are_given_once_over_the_links(rt: HostRuntime) -> Result<(), Fail> {
+    for change in changes_of_the_second_link() {
+        check_change(&rt, rt.alloc(), change)?;
+    }
+    Ok(())
+}
+
+#[test]
+fn a_repeated_link_number_is_tested_before_the_other_keys(rt: HostRuntime) -> Result<(), Fail> {
+    let document = format!(in rt.alloc(); "{BUILT_IN}\n[[link]]\nvl = 17\n")?;
+    check_fault(&rt, rt.alloc(), document.as_str(), Some(DoubleLink));
+    Ok(())
+}

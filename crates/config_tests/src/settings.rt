@@ -1,0 +1,139 @@
+//! The settings that a document gives, and the look-ups in them.
+use es_base::{LinkNo, PortKind, PortNo, PortSettings};
+use std::process::Abort;
+use std::test::Fail;
+use test_inputs::{both_links, changed, first, with_first_line};
+use vl_config::{Config, read_config};
+
+fn check_link(rt: &impl Abort, config: &Config) {
+    assert_eq!(rt; config.constant(), [3, 0, 0, 0]);
+    assert_eq!(rt; config.links().len(), 1);
+    let link = &config.links()[0];
+    assert_eq!(rt; link.vl(), LinkNo(17));
+    assert_eq!(rt; link.skew_max(), 1000);
+    assert!(rt; link.redundancy());
+    assert_eq!(rt; link.reassembly(), 50_000);
+}
+
+#[test]
+fn a_link_has_the_settings_of_its_table(rt: HostRuntime) -> Result<(), Fail> {
+    check_link(&rt, &first(rt.alloc())?);
+    Ok(())
+}
+
+/// A port's name, address, UDP port, largest payload and kind.
+type Port = (&'static str, u32, u16, u16, PortKind);
+
+fn built_in_ports() -> [Port; 2] {
+    [
+        (
+            "pos",
+            0xe0e0_0011,
+            5000,
+            1471,
+            PortKind::Sampling { refresh: 20_000 },
+        ),
+        (
+            "nav",
+            0xe0e0_0011,
+            5002,
+            8192,
+            PortKind::Queuing { depth: 4 },
+        ),
+    ]
+}
+
+fn check_port(rt: &impl Abort, port: &PortSettings, (name, address, udp, max, kind): Port) {
+    assert_eq!(rt; port.name().as_str(), name);
+    assert_eq!(rt; port.address(), address);
+    assert_eq!(rt; port.udp(), udp);
+    assert_eq!(rt; port.max(), max);
+    assert_eq!(rt; port.kind(), kind);
+}
+
+fn check_ports(rt: &impl Abort, config: &Config) {
+    let ports = config.links()[0].ports();
+    assert_eq!(rt; ports.len(), 2);
+    for (port, wanted) in ports.iter().zip(built_in_ports()) {
+        check_port(rt, port, wanted);
+    }
+}
+
+#[test]
+fn ports_have_the_settings_of_their_tables(rt: HostRuntime) -> Result<(), Fail> {
+    check_ports(&rt, &first(rt.alloc())?);
+    Ok(())
+}
+
+fn check_constant(rt: &impl Abort, config: &Config, constant: [u8; 4]) {
+    assert_eq!(rt; config.constant(), constant);
+}
+
+fn check_off(rt: &impl Abort, config: &Config) {
+    assert!(rt; !config.links()[0].redundancy());
+}
+
+#[test]
+fn the_constant_may_be_given(rt: HostRuntime) -> Result<(), Fail> {
+    let other = with_first_line(rt.alloc(), "constant = \"a1B2c3D4\"")?;
+    check_constant(&rt, &other, [0xa1, 0xb2, 0xc3, 0xd4]);
+    Ok(())
+}
+
+#[test]
+fn redundancy_management_may_be_switched_off(rt: HostRuntime) -> Result<(), Fail> {
+    let off = changed(rt.alloc(), "vl = 17", "vl = 17\nredundancy = false")?;
+    check_off(&rt, &off);
+    Ok(())
+}
+
+fn check_links_found(rt: &impl Abort, config: &Config) {
+    assert_eq!(rt; config.link_of(LinkNo(17)), Some(0));
+    assert_eq!(rt; config.link_of(LinkNo(18)), Some(1));
+    assert_eq!(rt; config.link_of(LinkNo(16)), None);
+    assert_eq!(rt; config.link_of(LinkNo(0x1111)), None);
+}
+
+#[test]
+fn links_are_found_by_their_numbers(rt: HostRuntime) -> Result<(), Fail> {
+    let document = both_links(rt.alloc())?;
+    check_links_found(&rt, &read_config(rt.alloc(), document.as_str())?);
+    Ok(())
+}
+
+#[test]
+fn a_copy_finds_the_same_links(rt: HostRuntime) -> Result<(), Fail> {
+    let document = both_links(rt.alloc())?;
+    let config = read_config(rt.alloc(), document.as_str())?;
+    check_links_found(&rt, &config.copy(rt.alloc())?);
+    Ok(())
+}
+
+/// A link number, an address and a UDP port, and the port that is found.
+type LookUp = (u16, u32, u16, Option<PortNo>);
+
+fn look_ups() -> [LookUp; 5] {
+    [
+        (17, 0xe0e0_0011, 5000, Some(PortNo(0))),
+        (17, 0xe0e0_0011, 5002, Some(PortNo(1))),
+        (17, 0xe0e0_0012, 5000, None),
+        (18, 0xe0e0_0012, 5000, Some(PortNo(0))),
+        (18, 0xe0e0_0012, 5002, None),
+    ]
+}
+
+fn check_look_up(rt: &impl Abort, config: &Config, row: LookUp) {
+    let (vl, address, udp, port) = row;
+    let link = config.link_of(LinkNo(vl)).expect(rt, "a link");
+    assert_eq!(rt; config.port_of(link, address, udp), port);
+}
+
+#[test]
+fn ports_are_found_by_their_addresses_and_udp_ports(rt: HostRuntime) -> Result<(), Fail> {
+    let document = both_links(rt.alloc())?;
+    let config = read_config(rt.alloc(), document.as_str())?;
+    for row in look_ups() {
+        check_look_up(&rt, &config, row);
+    }
+    Ok(())
+}

@@ -1,0 +1,45 @@
+-- Integrity checking, on each network: which frames pass (ARINC 664 Part 7, integrity checking; the
+-- window is own).
+use Rattle.std.specs.Prelude.{ℕ, ◌+◌, ◌==◌, Bool, true, false, ◌||◌, List, [], ◌∷◌, Option, None, Some, if◌then◌else◌}
+use Rattle.es_base.specs.declared.place.Net.{Net}
+use Rattle.es_base.specs.declared.place.Net.TheVariants as nets
+use Rattle.es_base.specs.declared.event.Arrival.{Arrival}
+use Rattle.es_base.specs.declared.event.Event.{Event}
+use Rattle.es_base.specs.Frame.{sequence_number_of}
+use Rattle.es_base.specs.Past.{Origin}
+
+-- ---- sequence numbers
+
+-- the sequence number that follows n: 1 follows 255, since 0 stands for a sender's reset
+abbrev pub next_number : ℕ → ℕ
+next_number n = if n == 255 then 1 else n + 1
+
+-- the latest of some sequence numbers, which are listed the latest first
+abbrev pub latest : List ℕ → Option ℕ
+latest [] = None
+latest (sequence_number ∷ earlier) = Some sequence_number
+
+-- whether a frame passes after the frame before it on its network, if there was one: its sequence
+-- number is a reset, the next one, or the one after the next
+abbrev pub may_follow : Option ℕ → ℕ → Bool
+may_follow None sequence_number = true
+may_follow (Some before) sequence_number =
+    sequence_number == 0 || sequence_number == next_number before || sequence_number == next_number (next_number before)
+
+-- ---- the frames of a link
+
+abbrev pub is_same_net : Net → Net → Bool
+is_same_net nets.A nets.A = true
+is_same_net nets.A nets.B = false
+is_same_net nets.B nets.A = false
+is_same_net nets.B nets.B = true
+
+-- the sequence numbers of the frames on a network, the latest first, whether or not they passed
+abbrev pub sequence_numbers_on : Origin → List Event → Net → List ℕ
+sequence_numbers_on o [] net = []
+sequence_numbers_on o (e ∷ past) net =
+    if is_same_net e.net net then sequence_number_of e.frame ∷ sequence_numbers_on o past net else sequence_numbers_on o past net
+
+-- whether a frame that comes after this past passes
+abbrev pub passes : Origin → List Event → Arrival → Bool
+passes o past a = may_follow (latest (sequence_numbers_on o past a.net)) (sequence_number_of a.frame)

@@ -1,0 +1,112 @@
+-- How far a frame comes on its way to a port: integrity checking, redundancy management, the IPv4
+-- packet, the datagram, the UDP datagram, the port.
+use Rattle.std.specs.Prelude.{ℕ, ◌==◌, Bool, true, false, not, ◌&&◌, List, length, slice_get, nat_lt, Option, None, Some, Result, Ok, Err, if◌then◌else◌}
+use Rattle.es_base.specs.declared.place.PortNo.{PortNo}
+use Rattle.es_base.specs.declared.port.PortKind.{PortKind}
+use Rattle.es_base.specs.declared.port.PortKind.TheVariants.{Sampling, Queuing}
+use Rattle.es_base.specs.declared.verdict.Verdict.{Verdict}
+use Rattle.es_base.specs.declared.verdict.Verdict.TheVariants as verdicts
+use Rattle.es_base.specs.declared.event.Arrival.{Arrival}
+use Rattle.es_base.specs.declared.event.Event.{Event}
+use Rattle.es_base.specs.Returns.{◌>>=◌}
+use Rattle.es_base.specs.Frame.{inner_of}
+use Rattle.es_base.specs.Packet.{PacketParts, packet_of}
+use Rattle.es_base.specs.Udp.{udp_of}
+use Rattle.es_base.specs.Port.{Port, port_of}
+use Rattle.es_base.specs.Past.{Origin}
+use Rattle.es_base.specs.Integrity.{passes}
+use Rattle.es_base.specs.Redundancy.{forwarded, is_redundant}
+
+-- what IPv4 hands on whole: octets for an address, and whether they were joined of fragments
+pub record Datagram : Type 0 where
+  pub destination : ℕ
+  pub joined : Bool
+  pub octets : List ℕ
+
+-- a payload for a port of this kind, and whether its datagram was joined of fragments
+pub record Payload : Type 0 where
+  pub port : PortNo
+  pub kind : PortKind
+  pub joined : Bool
+  pub octets : List ℕ
+
+pub data Outcome : Type 0 where
+  -- integrity checking refuses it
+  out_of_sequence : Outcome
+  -- a copy of it was forwarded before
+  redundant : Outcome
+  -- it is forwarded, and has this verdict, which changes nothing at any port
+  refused : Verdict → Outcome
+  -- it is forwarded, and brings this payload to a port
+  brings : Payload → Outcome
+
+-- a fault's verdict
+abbrev pub judged : {A E : Type 0} → (E → Verdict) → Result A E → Result A Verdict
+judged verdict (Ok x) = Ok x
+judged verdict (Err fault) = Err (verdict fault)
+
+-- ---- the datagram
+
+-- the datagram of a packet that is a whole one (RFC 791 3.1: offset 0, and no more fragments); others
+-- aren't joined yet
+abbrev pub datagram_of : PacketParts → Result Datagram Verdict
+datagram_of packet =
+    if packet.offset == 0 && not packet.more
+    then Ok (record { destination = packet.destination; joined = false; octets = packet.octets })
+    else Err verdicts.BadFragment
+
+unfoldable pub datagram_in : List ℕ → Result Datagram Verdict
+datagram_in frame = do
+  packet ← judged verdicts.BadHeader (packet_of (inner_of frame))
+  datagram_of packet
+
+-- ---- the port (ARINC 664 Part 7, port services)
+
+-- a payload at a port of this kind, with the largest that it takes; a sampling port takes none that was
+-- joined of fragments, and a queuing port none at all (own, until queues are built)
+abbrev pub payload_if : PortKind → ℕ → Payload → Result Payload Verdict
+payload_if (Queuing depth) max payload = Err verdicts.NoPort
+payload_if (Sampling refresh) max payload =
+    if payload.joined then Err (verdicts.FragmentedSample payload.port)
+    else if nat_lt max (length payload.octets) then Err (verdicts.TooLong payload.port)
+    else Ok payload
+
+-- a payload at the port that stands at this place
+abbrev pub payload_for : PortNo → Option Port → Bool → List ℕ → Result Payload Verdict
+payload_for place None joined octets = Err verdicts.NoPort
+payload_for place (Some port) joined octets =
+    payload_if port.kind port.max (record { port = place; kind = port.kind; joined = joined; octets = octets })
+
+abbrev pub payload_at : List Port → Option PortNo → Bool → List ℕ → Result Payload Verdict
+payload_at ports None joined octets = Err verdicts.NoPort
+payload_at ports (Some place) joined octets = payload_for place (slice_get ports place.0) joined octets
+
+-- the payload of a datagram, for the port with its address and UDP port
+unfoldable pub payload_in : List Port → Datagram → Result Payload Verdict
+payload_in ports datagram = do
+  udp ← judged (λ fault. verdicts.BadUdp) (udp_of datagram.octets)
+  payload_at ports (port_of ports datagram.destination udp.destination_port) datagram.joined udp.payload
+
+-- ---- the whole way
+
+abbrev pub brought : Result Payload Verdict → Outcome
+brought (Ok payload) = brings payload
+brought (Err verdict) = refused verdict
+
+abbrev pub payload_of : List Port → List ℕ → Result Payload Verdict
+payload_of ports frame = do
+  datagram ← datagram_in frame
+  payload_in ports datagram
+
+-- what a forwarded frame brings
+abbrev pub brought_by : List Port → List ℕ → Outcome
+brought_by ports frame = brought (payload_of ports frame)
+
+unfoldable pub outcome_if : Bool → Bool → List Port → List ℕ → Outcome
+outcome_if false is_copy ports frame = out_of_sequence
+outcome_if true true ports frame = redundant
+outcome_if true false ports frame = brought_by ports frame
+
+-- how far a frame comes that comes after this past
+abbrev pub outcome : Origin → List Event → Arrival → Outcome
+outcome o past a = outcome_if (passes o past a) (is_redundant o (forwarded o past) a) o.settings.ports a.frame

@@ -1,0 +1,28 @@
+-- What came to a link.
+--
+-- A past is a list of events, the latest first. Every definition about a frame looks back through the
+-- whole past, and none reads a stored verdict.
+use Rattle.std.specs.Prelude.{ℕ, Bool, List}
+use Rattle.es_base.specs.declared.place.Net.{Net}
+use Rattle.es_base.specs.declared.verdict.Verdict.{Verdict}
+use Rattle.es_base.specs.declared.event.Arrival.{Arrival}
+use Rattle.es_base.specs.declared.event.Event.{Event}
+use Rattle.es_base.specs.Settings.{Settings}
+
+-- where a past begins: the link's settings
+pub record Origin : Type 0 where
+  pub settings : Settings
+
+abbrev pub origin_of : Settings → Origin
+origin_of settings = record { settings = settings }
+
+-- a frame that came in on a network at a time, in microseconds
+abbrev pub arrived : Net → ℕ → List ℕ → Arrival
+arrived net time frame = record { net = net; time = time; frame = frame }
+
+abbrev pub arrival_of : Event → Arrival
+arrival_of event = arrived event.net event.time event.frame
+
+-- the event of an arrival: whether the queue had room, where one was asked, and the verdict
+abbrev pub event_of : Arrival → Bool → Verdict → Event
+event_of a room verdict = record { net = a.net; time = a.time; frame = a.frame; room = room; verdict = verdict }

@@ -1,0 +1,49 @@
+-- What becomes of a frame, and which histories are lawful.
+use Rattle.std.specs.Prelude.{◌≡◌, ℕ, ◌+◌, Bool, true, false, List, [], ◌∷◌, length, nat_lt, if◌then◌else◌}
+use Rattle.es_base.specs.declared.place.PortNo.{PortNo}
+use Rattle.es_base.specs.declared.port.PortKind.{PortKind}
+use Rattle.es_base.specs.declared.port.PortKind.TheVariants.{Sampling, Queuing}
+use Rattle.es_base.specs.declared.verdict.Verdict.{Verdict}
+use Rattle.es_base.specs.declared.verdict.Verdict.TheVariants as verdicts
+use Rattle.es_base.specs.declared.verdict.Decision.{Decision}
+use Rattle.es_base.specs.declared.verdict.Decision.TheVariants.{Final, ByQueue}
+use Rattle.es_base.specs.declared.event.Arrival.{Arrival}
+use Rattle.es_base.specs.declared.event.Event.{Event}
+use Rattle.es_base.specs.Limits.{most_samples}
+use Rattle.es_base.specs.Past.{Origin, arrival_of}
+use Rattle.es_base.specs.Outcome.{Outcome, out_of_sequence, redundant, refused, brings, outcome}
+use Rattle.es_base.specs.Deliveries.{deliveries}
+
+-- the verdict of a message at a sampling port, after this number of others
+abbrev pub sampled : PortNo → ℕ → Verdict
+sampled port before = if nat_lt before most_samples then verdicts.Sampled port (before + 1) else verdicts.Exhausted port
+
+abbrev pub decided_at : PortKind → PortNo → ℕ → Decision
+decided_at (Sampling refresh) port before = Final (sampled port before)
+decided_at (Queuing depth) port before = ByQueue port
+
+abbrev pub decided : Outcome → (PortNo → ℕ) → Decision
+decided out_of_sequence delivered = Final verdicts.OutOfSequence
+decided redundant delivered = Final verdicts.Redundant
+decided (refused verdict) delivered = Final verdict
+decided (brings payload) delivered = decided_at payload.kind payload.port (delivered payload.port)
+
+-- what becomes of a frame that comes after this past, but for the queue's answer
+abbrev pub decision_of : Origin → List Event → Arrival → Decision
+decision_of o past a = decided (outcome o past a) (λ port. length (deliveries o past port))
+
+-- the verdict, once the queue has said whether it has room
+abbrev pub settled : Decision → Bool → Verdict
+settled (Final verdict) room = verdict
+settled (ByQueue port) true = verdicts.Queued port
+settled (ByQueue port) false = verdicts.Overflow port
+
+-- what becomes of it
+abbrev pub verdict_of : Origin → List Event → Arrival → Bool → Verdict
+verdict_of o past a room = settled (decision_of o past a) room
+
+-- a lawful past: each event's verdict is what becomes of its frame after the events before it; and no
+-- queue refused a message, since none is asked yet
+abbrev pub IsRun : Origin → List Event → Type 0
+IsRun o [] = Unit {0}
+IsRun o (e ∷ past) = (e.verdict ≡ verdict_of o past (arrival_of e) e.room) × (e.room ≡ true) × IsRun o past

@@ -1,0 +1,27 @@
+//! Which link a frame comes to.
+ghost use Rattle.std.specs.Prelude.{◌≡◌, Err, IfErr, IfOk};
+ghost use Rattle.es_base.specs.Addressing.{ComesToPlace, addressed_link};
+
+use crate::frame::{Frame, read_frame};
+use es_base::{Config, FilterCause};
+
+/// Reads a frame, and finds the place of its link among those of the configuration; or says why the
+/// frame is filtered: the first fault of the frame, or that no link has its link number (own).
+#[tactic(auto, unfolding(es_base::specs::Addressing::addressed_link))]
+pub fn read_addressed<'a>(
+    config: &Config,
+    bytes: &'a [u8],
+) -> Result<(usize, Frame<'a>), FilterCause>
+    ensures filtered { IfErr result (λ cause. addressed_link config.now bytes.now ≡ Err cause) }
+    ensures place { IfOk result (λ found. ComesToPlace config.now bytes.now found.0) }
+    ensures whole { IfOk result (λ found. found.1.whole.now ≡ bytes.now) }
+{
+    let frame = match read_frame(config.constant(), bytes) {
+        Ok(frame) => frame,
+        Err(fault) => return Err(FilterCause::from(fault)),
+    };
+    match config.link_of(frame.vl) {
+        Some(place) => Ok((place, frame)),
+        None => Err(FilterCause::UnknownLink),
+    }
+}

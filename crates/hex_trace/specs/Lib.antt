@@ -1,0 +1,5 @@
+pub mod Frames
+pub mod Line
+pub mod Source
+pub mod Trace
+pub mod Word

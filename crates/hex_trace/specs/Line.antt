@@ -1,0 +1,70 @@
+-- What one line of a trace says (own).
+use Rattle.std.specs.Prelude.{◌≡◌, ℕ, ◌^◌, ◌==◌, Bool, ◌&&◌, ◌||◌, List, length, take, drop, take_while, slice_index, nat_lt, Option, None, Some, Result, Ok, Err, if◌then◌else◌}
+use Rattle.std.specs.Char.{is_ascii_digit}
+use Rattle.std.specs.Str.Parse.{digits_value}
+use Rattle.es_base.specs.Returns.{◌>>=◌}
+use Rattle.hex.specs.Hex.{decode_of}
+use Rattle.hex.specs.declared.error.FromHexError.{FromHexError}
+use Rattle.hex_trace.specs.declared.frames.TimedFrame.{TimedFrame}
+use Rattle.hex_trace.specs.declared.fault.TraceCause.{TraceCause}
+use Rattle.hex_trace.specs.declared.fault.TraceCause.TheVariants as causes
+use Rattle.hex_trace.specs.declared.line.BadLine.{BadLine}
+use Rattle.hex_trace.specs.declared.line.BadLine.TheVariants.{Cause, Memory}
+
+-- the longest line, in bytes, without its end
+abbrev pub longest_line : ℕ
+longest_line = 8192
+
+-- the byte with which a comment begins, `#`
+abbrev pub comment : ℕ
+comment = 35
+
+-- the byte after a line's time
+abbrev pub space : ℕ
+space = 32
+
+-- the digit 0
+abbrev pub zero_digit : ℕ
+zero_digit = 48
+
+-- the digits of a line's time: those that it begins with, but a first 0 ends them
+abbrev pub time_digits : List ℕ → List ℕ
+time_digits line = if slice_index line 0 == zero_digit then take 1 line else take_while is_ascii_digit line
+
+-- the time that digits say, in microseconds: there is one, and it fits 64 bits
+abbrev pub time_from : List ℕ → Result ℕ TraceCause
+time_from digits = if nat_lt 0 (length digits) && nat_lt (digits_value 10 digits) (2 ^ 64) then Ok (digits_value 10 digits) else Err causes.Time
+
+-- what stands after the space
+abbrev pub after_space : List ℕ → Result (List ℕ) TraceCause
+after_space rest = if slice_index rest 0 == space then Ok (drop 1 rest) else Err causes.Space
+
+abbrev pub octets_if : Result (List ℕ) FromHexError → Result (List ℕ) TraceCause
+octets_if (Ok octets) = Ok octets
+octets_if (Err fault) = Err causes.Hex
+
+-- the octets that hexadecimal digits say
+abbrev pub octets_from : List ℕ → Result (List ℕ) TraceCause
+octets_from digits = octets_if (decode_of digits)
+
+-- a line without a frame: it is empty, or begins with #
+abbrev pub is_skipped : List ℕ → Bool
+is_skipped line = length line == 0 || slice_index line 0 == comment
+
+-- the frame of a line that follows one with a frame of the time `before`, in microseconds: none where
+-- the line is skipped; or what is wrong with it
+unfoldable pub frame_from : ℕ → List ℕ → Result (Option TimedFrame) TraceCause
+frame_from before line =
+    if nat_lt longest_line (length line) then Err causes.LongLine
+    else if is_skipped line then Ok None
+    else do
+      time ← time_from (time_digits line)
+      digits ← after_space (drop (length (time_digits line)) line)
+      octets ← octets_from digits
+      if nat_lt time before then Err causes.Falls else Ok (Some (record { time = time; frame = octets }))
+
+-- what is returned is what the line says, unless memory ran out
+abbrev pub Reads : {X : Type 0} → Result X BadLine → Result X TraceCause → Type 0
+Reads (Ok x) said = said ≡ Ok x
+Reads (Err (Cause cause)) said = said ≡ Err cause
+Reads (Err Memory) said = Unit {0}

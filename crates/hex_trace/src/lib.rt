@@ -1,0 +1,20 @@
+//! Hex traces: where they come from, how one is read whole, and the frames that it says.
+//!
+//! A trace is text: a line a frame, with the frame's time in microseconds, a space, and its octets in
+//! hexadecimal digits.
+#![tactic(auto)]
+
+mod device;
+mod fault;
+mod frames;
+mod line;
+mod source;
+mod trace;
+mod whole;
+
+pub use device::{Device, Failed};
+pub use fault::{TraceCause, TraceFault};
+pub use frames::{Frames, TimedFrame};
+pub use line::LONGEST_LINE;
+pub use source::Source;
+pub use trace::read_trace;

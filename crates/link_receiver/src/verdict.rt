@@ -1,0 +1,33 @@
+//! The verdict of a frame.
+ghost use Rattle.std.specs.Prelude.{◌≡◌};
+ghost use Rattle.es_base.specs.Run.{sampled, settled};
+
+use crate::register::MOST_SAMPLES;
+use es_base::{Decision, PortNo, Verdict};
+
+/// The verdict of a message that comes to a sampling port after this number of others.
+pub(crate) fn sampled(port: PortNo, published: u64) -> Verdict
+    ensures { result ≡ sampled port published }
+{
+    if published < MOST_SAMPLES {
+        Verdict::Sampled(port, published + 1)
+    } else {
+        Verdict::Exhausted(port)
+    }
+}
+
+/// The verdict, where the queue that is asked has room or not.
+pub(crate) fn settled(decision: Decision, room: bool) -> Verdict
+    ensures { result ≡ settled decision room }
+{
+    match decision {
+        Decision::Final(verdict) => verdict,
+        Decision::ByQueue(port) => {
+            if room {
+                Verdict::Queued(port)
+            } else {
+                Verdict::Overflow(port)
+            }
+        }
+    }
+}

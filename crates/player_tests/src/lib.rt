@@ -1,0 +1,18 @@
+//! Tests of the player, from the bytes of two traces to the bytes of the output: worked traces, with
+//! values worked out by hand from the rules.
+#![tactic(auto)]
+
+#[cfg(test)]
+mod devices;
+#[cfg(test)]
+mod failures;
+#[cfg(test)]
+mod frames;
+#[cfg(test)]
+mod links;
+#[cfg(test)]
+mod networks;
+#[cfg(test)]
+mod played;
+#[cfg(test)]
+mod traces;

@@ -1,0 +1,125 @@
+//! Frames of two links, each with its own history.
+use crate::played::{Step, check_output, trace_line, trace_of};
+use es_base::Net::{A, B};
+use es_base::PortNo;
+use hex::FromHexError;
+use std::alloc::Global;
+use std::process::Abort;
+use std::test::Fail;
+use test_inputs::{PAYLOAD, UDP, both_links, frame_of};
+use trace_player::{Device, replay};
+use vl_config::{Config, read_config};
+
+/// A smallest frame of link 18, with this sequence number.
+fn of_link_18(alloc: Global, sequence_number: u8) -> Result<Vec<u8>, FromHexError> {
+    let ethernet = "0300000000120200000001200800";
+    let ip = "4500002d000100000111cdcb0a010101e0e00012";
+    frame_of(alloc, &[ethernet, ip, UDP, PAYLOAD], sequence_number)
+}
+
+/// The trace of smallest frames of link 18 with these sequence numbers, all at `time` microseconds.
+fn trace_of_link_18(alloc: Global, time: u64, sequence_numbers: &[u8]) -> Result<String, Fail> {
+    let mut trace = String::new(alloc);
+    for sequence_number in sequence_numbers {
+        let frame = of_link_18(alloc, *sequence_number)?;
+        trace.push_str(trace_line(alloc, time, &frame)?.as_str())?;
+    }
+    Ok(trace)
+}
+
+fn frames_of_link_17() -> [Step; 3] {
+    [
+        (A, 1000, 7, "sampled pos 1"),
+        (A, 2000, 8, "sampled pos 2"),
+        (B, 2500, 8, "redundant"),
+    ]
+}
+
+fn frame_of_link_17() -> [Step; 1] {
+    [(A, 1000, 0, "sampled pos 1")]
+}
+
+#[test]
+fn each_link_has_a_history_of_its_own(rt: HostRuntime) -> Result<(), Fail> {
+    let document = both_links(rt.alloc())?;
+    let config = read_config(rt.alloc(), document.as_str())?;
+    let a = trace_of(rt.alloc(), A, &frame_of_link_17())?;
+    let b = trace_of_link_18(rt.alloc(), 1000, &[0])?;
+    let output = "1000 A vl 17 0 sampled pos 1\n1000 B vl 18 0 sampled alt 1\n";
+    check_output(&rt, rt.alloc(), &config, a.as_str(), b.as_str(), output);
+    Ok(())
+}
+
+fn mixed_trace_a(alloc: Global) -> Result<String, Fail> {
+    let mut trace = trace_of(alloc, A, &frames_of_link_17())?;
+    trace.push_str(trace_of_link_18(alloc, 2000, &[90])?.as_str())?;
+    Ok(trace)
+}
+
+fn mixed_trace_b(alloc: Global) -> Result<String, Fail> {
+    let mut trace = trace_of_link_18(alloc, 2000, &[90, 91, 93, 97])?;
+    trace.push_str(trace_of(alloc, B, &frames_of_link_17())?.as_str())?;
+    Ok(trace)
+}
+
+/// The output for the mixed traces.
+const MIXED: &str = "1000 A vl 17 0 sampled pos 1\n\
+    2000 A vl 17 1 sampled pos 2\n\
+    2000 A vl 18 0 sampled alt 1\n\
+    2000 B vl 18 1 redundant\n\
+    2000 B vl 18 2 sampled alt 2\n\
+    2000 B vl 18 3 sampled alt 3\n\
+    2000 B vl 18 4 out-of-sequence\n\
+    2500 B vl 17 2 redundant\n";
+
+#[test]
+fn sequence_numbers_places_and_redundancy_are_of_a_link(rt: HostRuntime) -> Result<(), Fail> {
+    let document = both_links(rt.alloc())?;
+    let config = read_config(rt.alloc(), document.as_str())?;
+    let a = mixed_trace_a(rt.alloc())?;
+    let b = mixed_trace_b(rt.alloc())?;
+    check_output(&rt, rt.alloc(), &config, a.as_str(), b.as_str(), MIXED);
+    Ok(())
+}
+
+fn frames_of_a_replay() -> [Step; 3] {
+    [
+        (A, 1000, 7, "sampled pos 1"),
+        (B, 1100, 7, "redundant"),
+        (A, 2000, 8, "sampled pos 2"),
+    ]
+}
+
+/// A replay of these traces leaves three events and the message 2 at link 17, and nothing at link 18.
+fn check_replay(
+    rt: &impl Abort,
+    alloc: Global,
+    config: &Config,
+    a: &str,
+    b: &str,
+) -> Result<(), Fail> {
+    let mut a = Device::new(a.as_bytes());
+    let mut b = Device::new(b.as_bytes());
+    let mut out = Device::new(Vec::new(alloc));
+    let states = replay(alloc, config, &mut a, &mut b, &mut out);
+    let states = states.ok().ok_or("states")?;
+    assert!(rt; out.inner.starts_with(b"1000 A vl 17 0 sampled pos 1\n"));
+    let [link_17, link_18] = states.as_slice() else {
+        return Err(Fail::from("two states"));
+    };
+    assert_eq!(rt; link_17.history().len(), 3);
+    assert!(rt; link_18.history().is_empty());
+    let (message_number, message) = link_17.newest(PortNo(0)).expect(rt, "a message");
+    assert_eq!(rt; message_number, 2);
+    assert_eq!(rt; message.time, 2000);
+    Ok(())
+}
+
+#[test]
+fn a_replay_returns_the_links_as_the_frames_left_them(rt: HostRuntime) -> Result<(), Fail> {
+    let document = both_links(rt.alloc())?;
+    let config = read_config(rt.alloc(), document.as_str())?;
+    let a = trace_of(rt.alloc(), A, &frames_of_a_replay())?;
+    let b = trace_of(rt.alloc(), B, &frames_of_a_replay())?;
+    check_replay(&rt, rt.alloc(), &config, a.as_str(), b.as_str())
+}

@@ -1,0 +1,87 @@
+//! Traces given to the player, and the output that they have to come to.
+use es_base::{Memory, Net};
+use std::alloc::Global;
+use std::process::Abort;
+use std::test::Fail;
+use test_inputs::{first, smallest};
+use trace_player::{Device, PlayFault, play};
+use vl_config::Config;
+
+/// What the player returns for two traces, and what it wrote.
+pub(crate) fn played(
+    alloc: Global,
+    config: &Config,
+    a: &str,
+    b: &str,
+) -> (Result<(), PlayFault>, Vec<u8>) {
+    let mut a = Device::new(a.as_bytes());
+    let mut b = Device::new(b.as_bytes());
+    let mut out = Device::new(Vec::new(alloc));
+    let answer = play(alloc, config, &mut a, &mut b, &mut out);
+    (answer, out.inner)
+}
+
+/// The player accepts these traces and writes this output.
+pub(crate) fn check_output(
+    rt: &impl Abort,
+    alloc: Global,
+    config: &Config,
+    a: &str,
+    b: &str,
+    output: &str,
+) {
+    let (answer, written) = played(alloc, config, a, b);
+    assert_eq!(rt; answer, Ok(()));
+    assert!(rt; written.as_slice() == output.as_bytes(), "{output}");
+}
+
+/// The line of a trace for a frame that came at `time` microseconds.
+pub(crate) fn trace_line(alloc: Global, time: u64, frame: &[u8]) -> Result<String, Memory> {
+    let digits = hex::encode(alloc, frame)?;
+    format!(in alloc; "{time} {digits}\n")
+}
+
+/// The network, arrival time in microseconds and sequence number of a smallest frame, and the words of
+/// its verdict.
+pub(crate) type Step = (Net, u64, u8, &'static str);
+
+/// The trace of one network's frames.
+pub(crate) fn trace_of(alloc: Global, net: Net, steps: &[Step]) -> Result<String, Fail> {
+    let mut trace = String::new(alloc);
+    for (step_net, time, sequence_number, _) in steps {
+        if *step_net == net {
+            let frame = smallest(alloc, *sequence_number)?;
+            trace.push_str(trace_line(alloc, *time, &frame)?.as_str())?;
+        }
+    }
+    Ok(trace)
+}
+
+/// The output for frames of link 17 in this order.
+pub(crate) fn output_of(alloc: Global, steps: &[Step]) -> Result<String, Memory> {
+    let mut output = String::new(alloc);
+    for (place, (net, time, _, words)) in steps.iter().enumerate() {
+        writeln!(output, "{time} {net} vl 17 {place} {words}")?;
+    }
+    Ok(output)
+}
+
+/// Smallest frames of link 17, in the order in which they are played, come to these verdicts.
+pub(crate) fn check_steps_with(
+    rt: &impl Abort,
+    alloc: Global,
+    config: &Config,
+    steps: &[Step],
+) -> Result<(), Fail> {
+    let a = trace_of(alloc, Net::A, steps)?;
+    let b = trace_of(alloc, Net::B, steps)?;
+    let output = output_of(alloc, steps)?;
+    check_output(rt, alloc, config, a.as_str(), b.as_str(), output.as_str());
+    Ok(())
+}
+
+/// The same with the built-in configuration.
+pub(crate) fn check_steps(rt: &impl Abort, alloc: Global, steps: &[Step]) -> Result<(), Fail> {
+    let config = first(alloc)?;
+    check_steps_with(rt, alloc, &config, steps)
+}

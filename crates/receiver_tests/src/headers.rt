@@ -1,0 +1,136 @@
+//! What the headers of IPv4 and UDP decide about a frame.
+use crate::receive::{POS, receive_all};
+use es_base::PacketFault::{Checksum, HeaderLength, Protocol, TotalLength, Version};
+use es_base::Verdict::{BadFragment, BadHeader, BadUdp, NoPort, Sampled};
+use es_base::{Net, Verdict};
+use std::alloc::Global;
+use std::process::Abort;
+use std::test::Fail;
+use test_inputs::{IP, PAYLOAD, UDP, first};
+
+/// An IPv4 header, a UDP header, and the verdict of their frame.
+type Row = (&'static str, &'static str, Verdict);
+
+fn faults_of_the_ip_header() -> [Row; 8] {
+    [
+        (
+            "5500002d000100000111cdcc0a010101e0e00011",
+            UDP,
+            BadHeader(Version),
+        ),
+        (
+            "4600002d000100000111cdcc0a010101e0e00011",
+            UDP,
+            BadHeader(HeaderLength),
+        ),
+        (
+            "45000013000100000111cdcc0a010101e0e00011",
+            UDP,
+            BadHeader(TotalLength),
+        ),
+        (
+            "4500002e000100000111cdcc0a010101e0e00011",
+            UDP,
+            BadHeader(TotalLength),
+        ),
+        (
+            "4500002d000100000111cdcd0a010101e0e00011",
+            UDP,
+            BadHeader(Checksum),
+        ),
+        (
+            "4500002d000100000106cdd70a010101e0e00011",
+            UDP,
+            BadHeader(Protocol),
+        ),
+        // Of two faults the first decides.
+        (
+            "5600002d000100000111bccc0a010101e0e00011",
+            UDP,
+            BadHeader(Version),
+        ),
+        (
+            "4500002d000100000106cdcc0a010101e0e00011",
+            UDP,
+            BadHeader(Checksum),
+        ),
+    ]
+}
+
+/// Don't-fragment and the reserved flag aren't looked at. Fragments aren't joined yet.
+fn flags_of_the_ip_header() -> [Row; 4] {
+    [
+        (
+            "4500002d0001400001118dcc0a010101e0e00011",
+            UDP,
+            Sampled(POS, 1),
+        ),
+        (
+            "4500002d0001800001114dcc0a010101e0e00011",
+            UDP,
+            Sampled(POS, 1),
+        ),
+        ("45000024000220000111add40a010101e0e00011", UDP, BadFragment),
+        ("45000024000200020111cdd20a010101e0e00011", UDP, BadFragment),
+    ]
+}
+
+/// A UDP header may say 8 octets and as many as came, 25, but not 7 and not 26.
+fn lengths_of_udp_datagrams() -> [Row; 3] {
+    [
+        (IP, "1389138800080000", Sampled(POS, 1)),
+        (IP, "1389138800070000", BadUdp),
+        (IP, "13891388001a0000", BadUdp),
+    ]
+}
+
+/// No port has these destinations, and queuing ports take nothing yet.
+fn other_destinations() -> [Row; 4] {
+    [
+        (IP, "1389138900190000", NoPort),
+        (IP, "1389138a00190000", NoPort),
+        ("4500002d000100000111cdcb0a010101e0e00012", UDP, NoPort),
+        ("4500002d000100000111f7dbe0e00011e0e00012", UDP, NoPort),
+    ]
+}
+
+/// First frames of the built-in configuration's link, with the payload of the smallest frame.
+fn check_frames(rt: &impl Abort, alloc: Global, rows: &[Row]) -> Result<(), Fail> {
+    let config = first(alloc)?;
+    let settings = &config.links()[0];
+    for (ip, udp, verdict) in rows {
+        let frame = (Net::A, 1000, 0, *ip, *udp, PAYLOAD, *verdict);
+        receive_all(rt, alloc, settings, &[frame])?;
+    }
+    Ok(())
+}
+
+#[test]
+fn ip_headers_are_refused_by_their_first_fault(rt: HostRuntime) -> Result<(), Fail> {
+    check_frames(&rt, rt.alloc(), &faults_of_the_ip_header())
+}
+
+#[test]
+fn fragments_are_refused_and_other_flags_ignored(rt: HostRuntime) -> Result<(), Fail> {
+    check_frames(&rt, rt.alloc(), &flags_of_the_ip_header())
+}
+
+#[test]
+fn the_length_of_a_udp_datagram_has_bounds(rt: HostRuntime) -> Result<(), Fail> {
+    check_frames(&rt, rt.alloc(), &lengths_of_udp_datagrams())
+}
+
+#[test]
+fn seven_octets_are_no_udp_datagram(rt: HostRuntime) -> Result<(), Fail> {
+    let config = first(rt.alloc())?;
+    let ip = "4500001b000100000111cdde0a010101e0e00011";
+    let zeros = "000000000000000000000000000000000000";
+    let frame = (Net::A, 1000, 0, ip, "13891388000800", zeros, BadUdp);
+    receive_all(&rt, rt.alloc(), &config.links()[0], &[frame])?;
+    Ok(())
+}
+
+#[test]
+fn other_destinations_have_no_port(rt: HostRuntime) -> Result<(), Fail> {
+    check_frames(&rt, rt.alloc(), &other_destinations())
+}

@@ -1,0 +1,14 @@
+//! Tests of the receiver of one link, from the octets of a frame to its verdict and the newest
+//! messages: worked frames, with values worked out by hand from the rules.
+#![tactic(auto)]
+
+#[cfg(test)]
+mod headers;
+#[cfg(test)]
+mod integrity;
+#[cfg(test)]
+mod messages;
+#[cfg(test)]
+mod receive;
+#[cfg(test)]
+mod redundancy;

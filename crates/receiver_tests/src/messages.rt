@@ -1,0 +1,173 @@
+//! Messages at the ports: which are taken, and the newest of each port.
+use crate::receive::{FrameRow, NAV, POS, receive_all};
+use es_base::Net::A;
+use es_base::Verdict::{Sampled, TooLong};
+use es_base::{LinkSettings, Message, PortKind, PortName, PortNo, PortSettings, Verdict};
+use link_receiver::LinkState;
+use std::alloc::Global;
+use std::process::Abort;
+use std::test::Fail;
+use test_inputs::{IP, LONGEST_IP, LONGEST_UDP, PAYLOAD, UDP, changed, first, fives};
+
+fn check_message(rt: &impl Abort, message: &Message, time: u64, octets: &[u8]) {
+    assert_eq!(rt; message.time, time);
+    assert!(rt; message.octets.as_slice() == octets);
+}
+
+/// The newest message of a port has this message number, time in microseconds and payload.
+fn check_newest(
+    rt: &impl Abort,
+    alloc: Global,
+    newest: Option<(u64, &Message)>,
+    message_number: u64,
+    time: u64,
+    payload: &str,
+) -> Result<(), Fail> {
+    let octets = hex::decode(alloc, payload)?;
+    let (number, message) = newest.expect(rt, "a message");
+    assert_eq!(rt; number, message_number);
+    check_message(rt, message, time, &octets);
+    Ok(())
+}
+
+/// No port of a new receiver with these settings has a message.
+fn check_none(rt: &impl Abort, alloc: Global, settings: &LinkSettings) -> Result<(), Fail> {
+    let state = LinkState::new(alloc, settings)?;
+    assert!(rt; state.newest(POS).is_none());
+    assert!(rt; state.newest(NAV).is_none());
+    Ok(())
+}
+
+#[test]
+fn a_port_has_no_newest_message_before_the_first(rt: HostRuntime) -> Result<(), Fail> {
+    let config = first(rt.alloc())?;
+    check_none(&rt, rt.alloc(), &config.links()[0])
+}
+
+/// A first frame becomes message 1 of `pos`, with this payload, and comes to no other port. The frame
+/// has these headers, and `padded`: the payload and what follows it.
+fn check_delivered(
+    rt: &impl Abort,
+    alloc: Global,
+    (ip, udp): (&str, &str),
+    padded: &str,
+    payload: &str,
+) -> Result<(), Fail> {
+    let config = first(alloc)?;
+    let frame = (A, 1000, 0, ip, udp, padded, Sampled(POS, 1));
+    let state = receive_all(rt, alloc, &config.links()[0], &[frame])?;
+    check_newest(rt, alloc, state.newest(POS), 1, 1000, payload)?;
+    assert!(rt; state.newest(NAV).is_none());
+    assert!(rt; state.newest(PortNo(2)).is_none());
+    Ok(())
+}
+
+#[test]
+fn the_newest_message_of_a_port_is_shown(rt: HostRuntime) -> Result<(), Fail> {
+    check_delivered(&rt, rt.alloc(), (IP, UDP), PAYLOAD, PAYLOAD)
+}
+
+#[test]
+fn the_longest_frame_is_delivered_whole(rt: HostRuntime) -> Result<(), Fail> {
+    let payload = fives(rt.alloc(), 1471)?;
+    let headers = (LONGEST_IP, LONGEST_UDP);
+    check_delivered(&rt, rt.alloc(), headers, payload.as_str(), payload.as_str())
+}
+
+#[test]
+fn a_udp_datagram_of_eight_octets_has_an_empty_payload(rt: HostRuntime) -> Result<(), Fail> {
+    let headers = (IP, "1389138800080000");
+    check_delivered(&rt, rt.alloc(), headers, PAYLOAD, "")
+}
+
+/// A third port of link 17, sampling, to follow `nav`.
+const AUX_PORT: &str = r#"depth = 4
+
+[[link.port]]
+name = "aux"
+kind = "sampling"
+address = "224.224.0.17"
+udp = 5004
+refresh_us = 20000
+"#;
+
+const AUX: PortNo = PortNo(2);
+/// The UDP header of a datagram for `aux`, and a payload of 17 octets.
+const AUX_UDP: &str = "1389138c00190000";
+
+const AUX_PAYLOAD: &str = "2122232425262728292a2b2c2d2e2f3031";
+
+fn frames_for_two_ports() -> [FrameRow<'static>; 3] {
+    [
+        (A, 1000, 1, IP, UDP, PAYLOAD, Sampled(POS, 1)),
+        (A, 2000, 2, IP, AUX_UDP, AUX_PAYLOAD, Sampled(AUX, 1)),
+        (A, 3000, 3, IP, UDP, PAYLOAD, Sampled(POS, 2)),
+    ]
+}
+
+/// After these frames the newest message of `pos` has this message number and time, and that of `aux`
+/// is its first.
+fn check_two_ports(
+    rt: &impl Abort,
+    alloc: Global,
+    frames: &[FrameRow<'_>],
+    message_number: u64,
+    time: u64,
+) -> Result<(), Fail> {
+    let config = changed(alloc, "depth = 4\n", AUX_PORT)?;
+    let state = receive_all(rt, alloc, &config.links()[0], frames)?;
+    check_newest(rt, alloc, state.newest(POS), message_number, time, PAYLOAD)?;
+    check_newest(rt, alloc, state.newest(AUX), 1, 2000, AUX_PAYLOAD)
+}
+
+#[test]
+fn the_messages_of_each_port_are_numbered_apart(rt: HostRuntime) -> Result<(), Fail> {
+    let frames = frames_for_two_ports();
+    check_two_ports(&rt, rt.alloc(), &frames[..2], 1, 1000)?;
+    check_two_ports(&rt, rt.alloc(), &frames, 2, 3000)
+}
+
+/// The keys of `pos` from its UDP port to its largest payload, a UDP header before a payload of 17
+/// octets, and the verdict of their frame.
+type Row = (&'static str, &'static str, Verdict);
+
+fn largest_payloads() -> [Row; 4] {
+    [
+        ("udp = 5000\nmax = 16\n", UDP, TooLong(POS)),
+        ("udp = 5000\nmax = 17\n", UDP, Sampled(POS, 1)),
+        // The payload is cut to 16 octets first, and then compared.
+        (
+            "udp = 5000\nmax = 16\n",
+            "1389138800180000",
+            Sampled(POS, 1),
+        ),
+        ("udp = 5000\nmax = 0\n", UDP, TooLong(POS)),
+    ]
+}
+
+fn check_largest(rt: &impl Abort, alloc: Global, (keys, udp, verdict): Row) -> Result<(), Fail> {
+    let config = changed(alloc, "udp = 5000\n", keys)?;
+    let frame = (A, 1000, 0, IP, udp, PAYLOAD, verdict);
+    receive_all(rt, alloc, &config.links()[0], &[frame])?;
+    Ok(())
+}
+
+#[test]
+fn payloads_are_compared_with_the_largest(rt: HostRuntime) -> Result<(), Fail> {
+    for row in largest_payloads() {
+        check_largest(&rt, rt.alloc(), row)?;
+    }
+    Ok(())
+}
+
+/// A sampling port with this largest payload, where there is such a port.
+fn sampling_port(max: u16) -> Option<PortSettings> {
+    let kind = PortKind::Sampling { refresh: 20_000 };
+    PortSettings::new(PortName::new("pos")?, 0xe0e0_0011, 5000, max, kind)
+}
+
+#[test]
+fn the_largest_payload_of_a_sampling_port_is_1471_octets(rt: HostRuntime) {
+    assert!(rt; sampling_port(1471).is_some());
+    assert!(rt; sampling_port(1472).is_none());
+}

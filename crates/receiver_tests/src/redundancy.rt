@@ -1,0 +1,163 @@
+//! Which frames of both networks are forwarded.
+use crate::receive::{FrameRow, POS, Step, check_steps, check_steps_with, receive_all};
+use es_base::Net::{A, B};
+use es_base::Verdict::{BadHeader, OutOfSequence, Redundant, Sampled};
+use es_base::{PacketFault, Verdict};
+use std::test::Fail;
+use test_inputs::{IP, PAYLOAD, UDP, changed, first};
+
+/// A copy at SkewMax, 1000 microseconds.
+fn copy_at_skew_max() -> [Step; 2] {
+    [(A, 1000, 7, Sampled(POS, 1)), (B, 2000, 7, Redundant)]
+}
+
+/// A copy one microsecond later.
+fn copy_after_skew_max() -> [Step; 2] {
+    [(A, 1000, 7, Sampled(POS, 1)), (B, 2001, 7, Sampled(POS, 2))]
+}
+
+/// B follows A by two frames.
+fn two_frames_late() -> [Step; 4] {
+    [
+        (A, 1000, 0, Sampled(POS, 1)),
+        (A, 1100, 1, Sampled(POS, 2)),
+        (B, 1200, 0, Redundant),
+        (B, 1300, 1, Redundant),
+    ]
+}
+
+fn reset_after_255() -> [Step; 2] {
+    [
+        (A, 1000, 0xff, Sampled(POS, 1)),
+        (A, 1200, 0, Sampled(POS, 2)),
+    ]
+}
+
+/// Each network has its own sequence numbers.
+fn networks_apart() -> [Step; 4] {
+    [
+        (A, 1000, 7, Sampled(POS, 1)),
+        (B, 1000, 9, Sampled(POS, 2)),
+        (A, 1100, 8, Redundant),
+        (B, 1100, 7, OutOfSequence),
+    ]
+}
+
+fn copies_at_time_0() -> [Step; 2] {
+    [(A, 0, 7, Sampled(POS, 1)), (B, 0, 7, Redundant)]
+}
+
+#[test]
+fn a_copy_is_forwarded_only_after_skew_max(rt: HostRuntime) -> Result<(), Fail> {
+    check_steps(&rt, rt.alloc(), &copy_at_skew_max())?;
+    check_steps(&rt, rt.alloc(), &copy_after_skew_max())
+}
+
+#[test]
+fn only_the_first_copy_is_forwarded(rt: HostRuntime) -> Result<(), Fail> {
+    check_steps(&rt, rt.alloc(), &two_frames_late())?;
+    check_steps(&rt, rt.alloc(), &networks_apart())
+}
+
+#[test]
+fn a_reset_is_ahead_of_255(rt: HostRuntime) -> Result<(), Fail> {
+    check_steps(&rt, rt.alloc(), &reset_after_255())
+}
+
+#[test]
+fn time_0_is_a_time(rt: HostRuntime) -> Result<(), Fail> {
+    check_steps(&rt, rt.alloc(), &copies_at_time_0())
+}
+
+/// Nothing has elapsed since a later time.
+fn copy_before_its_first() -> [Step; 2] {
+    [(A, 5000, 9, Sampled(POS, 1)), (B, 10, 9, Redundant)]
+}
+
+/// The greatest time counts, not the latest.
+fn time_that_falls() -> [Step; 3] {
+    [
+        (A, 5000, 9, Sampled(POS, 1)),
+        (A, 4500, 10, Sampled(POS, 2)),
+        (B, 5600, 9, Redundant),
+    ]
+}
+
+/// A redundant frame moves nothing.
+fn redundant_frame_between() -> [Step; 3] {
+    [
+        (A, 1000, 9, Sampled(POS, 1)),
+        (B, 1900, 9, Redundant),
+        (A, 2500, 0, Sampled(POS, 2)),
+    ]
+}
+
+#[test]
+fn the_greatest_time_of_forwarded_frames_counts(rt: HostRuntime) -> Result<(), Fail> {
+    check_steps(&rt, rt.alloc(), &copy_before_its_first())?;
+    check_steps(&rt, rt.alloc(), &time_that_falls())?;
+    check_steps(&rt, rt.alloc(), &redundant_frame_between())
+}
+
+/// The sequence number forwarded last, that of a frame on the other network, and its verdict.
+type Pair = (u8, u8, Verdict);
+
+fn bounds() -> [Pair; 10] {
+    let ahead = Sampled(POS, 2);
+    [
+        (0x00, 0x7f, ahead),
+        (0x00, 0x80, Redundant),
+        (0x7f, 0x00, Redundant),
+        (0x80, 0x00, ahead),
+        (0xc8, 0x48, ahead),
+        (0xc8, 0x49, Redundant),
+        (0x01, 0x80, ahead),
+        (0x01, 0x81, Redundant),
+        (0xfe, 0x01, ahead),
+        (0x09, 0x08, Redundant),
+    ]
+}
+
+#[test]
+fn sequence_numbers_are_ahead_up_to_the_bounds(rt: HostRuntime) -> Result<(), Fail> {
+    for (last, next, verdict) in bounds() {
+        let steps = [(A, 1000, last, Sampled(POS, 1)), (B, 1000, next, verdict)];
+        check_steps(&rt, rt.alloc(), &steps)?;
+    }
+    Ok(())
+}
+
+/// Both copies are forwarded.
+fn both_copies() -> [Step; 2] {
+    [(A, 1000, 7, Sampled(POS, 1)), (B, 1000, 7, Sampled(POS, 2))]
+}
+
+#[test]
+fn every_copy_is_forwarded_without_redundancy_management(rt: HostRuntime) -> Result<(), Fail> {
+    let config = changed(rt.alloc(), "vl = 17", "vl = 17\nredundancy = false")?;
+    check_steps_with(&rt, rt.alloc(), &config.links()[0], &both_copies())
+}
+
+/// A frame with a wrong checksum, and a good copy of it.
+fn bad_and_good() -> [FrameRow<'static>; 2] {
+    let bad = "4500002d000100000111cdcd0a010101e0e00011";
+    [
+        (
+            A,
+            1000,
+            0,
+            bad,
+            UDP,
+            PAYLOAD,
+            BadHeader(PacketFault::Checksum),
+        ),
+        (B, 1100, 0, IP, UDP, PAYLOAD, Redundant),
+    ]
+}
+
+#[test]
+fn a_frame_with_a_bad_header_counts_as_forwarded(rt: HostRuntime) -> Result<(), Fail> {
+    let config = first(rt.alloc())?;
+    receive_all(&rt, rt.alloc(), &config.links()[0], &bad_and_good())?;
+    Ok(())
+}

@@ -1,8 +1,0 @@
--- The frames of a trace.
-use Rattle.std.specs.Prelude.{ℕ, List, [], ◌∷◌, Option, None, Some}
-use Rattle.trace_player.specs.declared.trace.TimedFrame.{TimedFrame}
-
--- when the first of these frames came
-abbrev pub first_time : List TimedFrame → Option ℕ
-first_time [] = None
-first_time (frame ∷ frames) = Some frame.time
