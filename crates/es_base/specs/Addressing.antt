@@ -1,12 +1,11 @@
 -- Which link a frame comes to, or why it is filtered before it comes to one (causes and order: own).
-use Rattle.std.specs.Prelude.{◌≡◌, ◌≤◌, ℕ, Bool, false, List, length, slice_get, Option, None, Some, Result, Ok, Err}
+use Rattle.std.specs.Prelude.{◌≡◌, ℕ, Bool, false, List, slice_get, Option, None, Some, Result, Ok, Err}
 use Rattle.std.specs.List.{find}
 use Rattle.es_base.specs.declared.fault.FrameFault.{FrameFault}
 use Rattle.es_base.specs.declared.fault.FilterCause.{FilterCause}
 use Rattle.es_base.specs.declared.fault.FilterCause.TheVariants.{UnknownLink}
 use Rattle.es_base.specs.declared.place.LinkNo.{LinkNo}
-use Rattle.es_base.specs.Limits.{shortest_frame}
-use Rattle.es_base.specs.Frame.{FrameParts, frame_of, parts_of, link_number_of, filter_cause}
+use Rattle.es_base.specs.Frame.{FrameParts, IsFrame, frame_of, parts_of, link_number_of, filter_cause}
 use Rattle.es_base.specs.Settings.{Settings}
 use Rattle.es_base.specs.Config.{AreLinks, Configuration, has_link_number, link_of}
 
@@ -42,7 +41,7 @@ pub record ComesToPlace (c : Configuration) (octets : List ℕ) (place : ℕ) : 
   pub comes : addressed_link c octets ≡ Ok link
   -- what this rests on
   pub is_frame : frame_of c.constant octets ≡ Ok (parts_of octets)
-  pub long : shortest_frame ≤ length octets
+  pub framed : IsFrame octets
   pub first : link_of c.links (addressee_of octets) ≡ Some place
   pub numbered : link.vl ≡ addressee_of octets
   pub links : AreLinks c.links

@@ -3,6 +3,8 @@ pub mod Returns
 pub mod Octets
 pub mod Frame
 pub mod Packet
+pub mod Fragments
+pub mod Groups
 pub mod Udp
 pub mod Name
 pub mod Port
@@ -14,6 +16,7 @@ pub mod Word
 pub mod Past
 pub mod Integrity
 pub mod Redundancy
+pub mod Reassembly
 pub mod Outcome
 pub mod Deliveries
 pub mod Run

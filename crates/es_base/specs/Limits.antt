@@ -21,6 +21,17 @@ longest_sample = 1471
 abbrev pub longest_queued : ℕ
 longest_queued = 8192
 
+-- ---- reassembly
+
+-- the longest datagram that is joined, in octets: the longest message of a queuing port, and its header
+-- of 8
+abbrev pub longest_joined : ℕ
+longest_joined = 8200
+
+-- the most partial datagrams of a link (own)
+abbrev pub most_partials : ℕ
+most_partials = 4
+
 -- ---- settings (own), times in microseconds
 
 abbrev pub most_links : ℕ

@@ -1,6 +1,6 @@
 -- How far a frame comes on its way to a port: integrity checking, redundancy management, the IPv4
--- packet, the datagram, the UDP datagram, the port.
-use Rattle.std.specs.Prelude.{ℕ, ◌==◌, Bool, true, false, not, ◌&&◌, List, length, slice_get, nat_lt, Option, None, Some, Result, Ok, Err, if◌then◌else◌}
+-- packet, reassembly, the UDP datagram, the port.
+use Rattle.std.specs.Prelude.{ℕ, Bool, true, false, List, length, slice_get, nat_lt, Option, None, Some, Result, Ok, Err, if◌then◌else◌}
 use Rattle.es_base.specs.declared.place.PortNo.{PortNo}
 use Rattle.es_base.specs.declared.port.PortKind.{PortKind}
 use Rattle.es_base.specs.declared.port.PortKind.TheVariants.{Sampling, Queuing}
@@ -9,13 +9,14 @@ use Rattle.es_base.specs.declared.verdict.Verdict.TheVariants as verdicts
 use Rattle.es_base.specs.declared.event.Arrival.{Arrival}
 use Rattle.es_base.specs.declared.event.Event.{Event}
 use Rattle.es_base.specs.Returns.{◌>>=◌}
-use Rattle.es_base.specs.Frame.{inner_of}
-use Rattle.es_base.specs.Packet.{PacketParts, packet_of}
+use Rattle.es_base.specs.Settings.{Settings}
 use Rattle.es_base.specs.Udp.{udp_of}
 use Rattle.es_base.specs.Port.{Port, port_of}
 use Rattle.es_base.specs.Past.{Origin}
 use Rattle.es_base.specs.Integrity.{passes}
 use Rattle.es_base.specs.Redundancy.{forwarded, is_redundant}
+use Rattle.es_base.specs.Groups.{Group, Fate, bad, held, whole, fate}
+use Rattle.es_base.specs.Reassembly.{packet_in, groups_in}
 
 -- what IPv4 hands on whole: octets for an address, and whether they were joined of fragments
 pub record Datagram : Type 0 where
@@ -33,7 +34,7 @@ pub record Payload : Type 0 where
 pub data Outcome : Type 0 where
   -- integrity checking refuses it
   out_of_sequence : Outcome
-  -- a copy of it was forwarded before
+  -- it passes, but redundancy management does not forward it
   redundant : Outcome
   -- it is forwarded, and has this verdict, which changes nothing at any port
   refused : Verdict → Outcome
@@ -47,18 +48,18 @@ judged verdict (Err fault) = Err (verdict fault)
 
 -- ---- the datagram
 
--- the datagram of a packet that is a whole one (RFC 791 3.1: offset 0, and no more fragments); others
--- aren't joined yet
-abbrev pub datagram_of : PacketParts → Result Datagram Verdict
-datagram_of packet =
-    if packet.offset == 0 && not packet.more
-    then Ok (record { destination = packet.destination; joined = false; octets = packet.octets })
-    else Err verdicts.BadFragment
+-- what becomes of a packet for this address: it has or completes a datagram, or its fragment is held or
+-- bad (RFC 791 3.2)
+abbrev pub datagram_by : ℕ → Fate → Result Datagram Verdict
+datagram_by destination bad = Err verdicts.BadFragment
+datagram_by destination held = Err verdicts.FragmentHeld
+datagram_by destination (whole octets joined) = Ok (record { destination = destination; joined = joined; octets = octets })
 
-unfoldable pub datagram_in : List ℕ → Result Datagram Verdict
-datagram_in frame = do
-  packet ← judged verdicts.BadHeader (packet_of (inner_of frame))
-  datagram_of packet
+-- the datagram of a forwarded frame, where these groups stand
+unfoldable pub datagram_in : ℕ → List Group → Arrival → Result Datagram Verdict
+datagram_in limit groups a = do
+  packet ← judged verdicts.BadHeader (packet_in a.frame)
+  datagram_by packet.destination (fate limit groups packet a.time)
 
 -- ---- the port (ARINC 664 Part 7, port services)
 
@@ -93,20 +94,20 @@ abbrev pub brought : Result Payload Verdict → Outcome
 brought (Ok payload) = brings payload
 brought (Err verdict) = refused verdict
 
-abbrev pub payload_of : List Port → List ℕ → Result Payload Verdict
-payload_of ports frame = do
-  datagram ← datagram_in frame
-  payload_in ports datagram
+abbrev pub payload_of : Settings → List Group → Arrival → Result Payload Verdict
+payload_of settings groups a = do
+  datagram ← datagram_in settings.reassembly groups a
+  payload_in settings.ports datagram
 
--- what a forwarded frame brings
-abbrev pub brought_by : List Port → List ℕ → Outcome
-brought_by ports frame = brought (payload_of ports frame)
+-- what a forwarded frame brings, where these groups stand
+abbrev pub brought_by : Settings → List Group → Arrival → Outcome
+brought_by settings groups a = brought (payload_of settings groups a)
 
-unfoldable pub outcome_if : Bool → Bool → List Port → List ℕ → Outcome
-outcome_if false is_copy ports frame = out_of_sequence
-outcome_if true true ports frame = redundant
-outcome_if true false ports frame = brought_by ports frame
+unfoldable pub outcome_if : Bool → Bool → Settings → List Group → Arrival → Outcome
+outcome_if false is_copy settings groups a = out_of_sequence
+outcome_if true true settings groups a = redundant
+outcome_if true false settings groups a = brought_by settings groups a
 
 -- how far a frame comes that comes after this past
 abbrev pub outcome : Origin → List Event → Arrival → Outcome
-outcome o past a = outcome_if (passes o past a) (is_redundant o (forwarded o past) a) o.settings.ports a.frame
+outcome o past a = outcome_if (passes o past a) (is_redundant o (forwarded o past) a) o.settings (groups_in o past) a

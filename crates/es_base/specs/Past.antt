@@ -2,11 +2,12 @@
 --
 -- A past is a list of events, the latest first. Every definition about a frame looks back through the
 -- whole past, and none reads a stored verdict.
-use Rattle.std.specs.Prelude.{ℕ, Bool, List}
+use Rattle.std.specs.Prelude.{◌≡◌, ℕ, Bool, List, [], ◌∷◌}
 use Rattle.es_base.specs.declared.place.Net.{Net}
 use Rattle.es_base.specs.declared.verdict.Verdict.{Verdict}
 use Rattle.es_base.specs.declared.event.Arrival.{Arrival}
 use Rattle.es_base.specs.declared.event.Event.{Event}
+use Rattle.es_base.specs.Frame.{IsFrame, link_number_of}
 use Rattle.es_base.specs.Settings.{Settings}
 
 -- where a past begins: the link's settings
@@ -26,3 +27,8 @@ arrival_of event = arrived event.net event.time event.frame
 -- the event of an arrival: whether the queue had room, where one was asked, and the verdict
 abbrev pub event_of : Arrival → Bool → Verdict → Event
 event_of a room verdict = record { net = a.net; time = a.time; frame = a.frame; room = room; verdict = verdict }
+
+-- the frame of each event is a frame of this link
+abbrev pub AreFramesOf : Settings → List Event → Type 0
+AreFramesOf settings [] = Unit {0}
+AreFramesOf settings (e ∷ past) = IsFrame e.frame × (link_number_of e.frame ≡ settings.vl.0) × AreFramesOf settings past

@@ -1,5 +1,5 @@
-//! The types that every layer of the receiver speaks of, and (in `specs/`) the definitions that
-//! every contract cites: how a frame is read, which frames pass, what becomes of each, and what a
+//! The types that every layer of the receiver speaks of, and (in `specs/`) the definitions of the
+//! receiver: how a frame is read, which frames pass, what becomes of each, and what a
 //! lawful history of a link is.
 //!
 //! Nothing here waits, prints or looks at a clock. Times are microseconds, lengths are octets.
@@ -8,6 +8,7 @@
 mod config;
 mod event;
 mod fault;
+mod fragment;
 mod links;
 mod name;
 mod octets;
@@ -19,6 +20,7 @@ mod verdict;
 pub use config::{Config, MOST_LINKS};
 pub use event::{Arrival, Event, Message};
 pub use fault::{FilterCause, FrameFault, PacketFault, UdpFault};
+pub use fragment::DatagramKey;
 pub use links::Links;
 pub use name::PortName;
 pub use octets::Octets;

@@ -5,19 +5,19 @@ ghost use Rattle.es_base.specs.Verdict.{kind_of};
 use crate::{PacketFault, PortNo};
 
 /// What became of a frame that reached integrity checking. The tests stand in the order of the way
-/// of a frame: integrity checking, redundancy management, IPv4, reassembly, UDP, ports. Verdicts of
-/// joined fragments and of queues don't come up yet.
+/// of a frame: integrity checking, redundancy management, IPv4, reassembly, UDP, ports. Verdicts
+/// of queues don't come up yet.
 #[derive(Clone, Copy, Debug, PartialEq, Eq)]
 pub enum Verdict {
     /// Kind 1: integrity checking refuses its sequence number.
     OutOfSequence,
-    /// Kind 2: a copy of it was forwarded before.
+    /// Kind 2: it passes, but redundancy management does not forward it.
     Redundant,
     /// Kind 3: its IPv4 header has a fault.
     BadHeader(PacketFault),
-    /// Kind 4: it is a fragment that can't be joined. No fragment is joined yet.
+    /// Kind 4: it is a fragment that is no piece of a datagram (RFC 791 3.2, and own).
     BadFragment,
-    /// Kind 5: it is a fragment of a datagram that isn't complete. Doesn't come up yet.
+    /// Kind 5: it is a fragment of a datagram that isn't complete (RFC 791 3.2).
     FragmentHeld,
     /// Kind 6: its UDP header has a fault.
     BadUdp,
@@ -25,7 +25,7 @@ pub enum Verdict {
     NoPort,
     /// Kind 8: its payload is longer than the port takes.
     TooLong(PortNo),
-    /// Kind 9: its datagram was joined of fragments, and the port samples. Doesn't come up yet.
+    /// Kind 9: its datagram was joined of fragments, and the port samples (own).
     FragmentedSample(PortNo),
     /// Kind 10: it is the newest message of the sampling port, with this message number, from 1.
     Sampled(PortNo, u64),

@@ -1,8 +1,8 @@
 //! Frames (ARINC 664 Part 7, frame format).
 ghost use Rattle.std.specs.Prelude.{◌≡◌, ◌≤◌, length, IfOk};
 ghost use Rattle.es_base.specs.Returns.{Gives};
-ghost use Rattle.es_base.specs.Limits.{shortest_frame};
-ghost use Rattle.es_base.specs.Frame.{link_number_of, sequence_number_of, inner_of, frame_of};
+ghost use Rattle.es_base.specs.Limits.{shortest_frame, longest_frame};
+ghost use Rattle.es_base.specs.Frame.{IsFrame, ethertype_of, ethertype_ipv4, link_number_of, sequence_number_of, inner_of, frame_of};
 
 use crate::field::u16_at;
 use es_base::{FrameFault, LinkNo};
@@ -13,7 +13,7 @@ const SHORTEST: usize = 60;
 /// The longest, in octets: 1518 less the FCS.
 const LONGEST: usize = 1514;
 
-/// Where the link number stands: the lower half of the destination address.
+/// Where the link number stands: the last two octets of the destination address.
 const LINK_NUMBER: usize = 4;
 
 /// Where the EtherType stands: after two addresses of 6 octets.
@@ -24,7 +24,7 @@ const ETHERTYPE_IPV4: u16 = 0x0800;
 /// Where the IPv4 packet stands: after the EtherType.
 const INNER: usize = 14;
 
-/// A frame of a virtual link, without its FCS.
+/// A frame of a virtual link, without its FCS: 60 to 1514 octets, with the EtherType of IPv4.
 #[derive(Clone, Copy)]
 pub struct Frame<'a> {
     /// The link number.
@@ -35,7 +35,9 @@ pub struct Frame<'a> {
     pub inner: &'a [u8],
     /// The frame as it came.
     pub whole: &'a [u8],
-    pub ghost long: { shortest_frame ≤ length whole.now },
+    pub ghost short: { shortest_frame ≤ length whole.now },
+    pub ghost long: { length whole.now ≤ longest_frame },
+    pub ghost carries: { ethertype_of whole.now ≡ ethertype_ipv4 },
     pub ghost vl_is: { vl.0 ≡ link_number_of whole.now },
     pub ghost number_is: { number ≡ sequence_number_of whole.now },
     pub ghost inner_is: { inner.now ≡ inner_of whole.now },
@@ -67,7 +69,7 @@ pub fn read_frame(constant: [u8; 4], bytes: &[u8]) -> Result<Frame<'_>, FrameFau
 
 /// The frame in octets that were read as a frame before, or would be.
 pub fn frame_in(bytes: &[u8]) -> Frame<'_>
-    requires { shortest_frame ≤ length bytes.now }
+    requires { IsFrame bytes.now }
     ensures { result.whole.now ≡ bytes.now }
 {
     let last = bytes.len() - 1;

@@ -9,7 +9,7 @@ mod frame;
 mod packet;
 
 pub use addressing::read_addressed;
-pub use datagram::{Datagram, read_udp};
+pub use datagram::{Datagram, UdpHead, read_udp, read_udp_head};
 pub use es_base::{FrameFault, PacketFault, UdpFault};
 pub use frame::{Frame, frame_in, read_frame};
 pub use packet::{Packet, read_packet};

@@ -1,3 +1,4 @@
 pub mod Digits
 pub mod Lines
+pub mod Pairs
 pub mod Pieces

@@ -1,3 +1,5 @@
+pub mod Device
+pub mod Digits
 pub mod Frames
 pub mod Line
 pub mod Source

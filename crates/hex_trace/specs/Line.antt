@@ -5,6 +5,7 @@ use Rattle.std.specs.Str.Parse.{digits_value}
 use Rattle.es_base.specs.Returns.{◌>>=◌}
 use Rattle.hex.specs.Hex.{decode_of}
 use Rattle.hex.specs.declared.error.FromHexError.{FromHexError}
+use Rattle.hex.specs.declared.error.FromHexError.TheVariants.{OutOfMemory}
 use Rattle.hex_trace.specs.declared.frames.TimedFrame.{TimedFrame}
 use Rattle.hex_trace.specs.declared.fault.TraceCause.{TraceCause}
 use Rattle.hex_trace.specs.declared.fault.TraceCause.TheVariants as causes
@@ -62,6 +63,11 @@ frame_from before line =
       digits ← after_space (drop (length (time_digits line)) line)
       octets ← octets_from digits
       if nat_lt time before then Err causes.Falls else Ok (Some (record { time = time; frame = octets }))
+
+-- why digits weren't decoded
+abbrev pub digits_fault : FromHexError → BadLine
+digits_fault OutOfMemory = Memory
+digits_fault _ = Cause causes.Hex
 
 -- what is returned is what the line says, unless memory ran out
 abbrev pub Reads : {X : Type 0} → Result X BadLine → Result X TraceCause → Type 0

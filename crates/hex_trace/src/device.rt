@@ -1,5 +1,8 @@
 //! Devices over the standard library's readers and writers.
 ghost use Rattle.std.specs.Prelude.{◌≡◌, false};
+ghost use Rattle.hex_trace.specs.Device.{told};
+
+use std::io::{self, ErrorKind};
 
 /// A read or a write that failed.
 #[derive(Clone, Copy, Debug, Drop, PartialEq, Eq)]
@@ -23,5 +26,17 @@ impl<T> Device<T> {
             inner,
             failed: false,
         }
+    }
+}
+
+/// What an answer of a reader or a writer of the standard library says to a source or a sink. None where
+/// the call was interrupted, and is to be made again.
+pub fn told(answer: io::Result<usize>) -> Option<Result<usize, Failed>>
+    ensures { result ≡ told answer }
+{
+    match answer {
+        Ok(count) => Some(Ok(count)),
+        Err(error) if error.kind() == ErrorKind::Interrupted => None,
+        Err(_) => Some(Err(Failed)),
     }
 }

@@ -4,6 +4,7 @@
 //! hexadecimal digits.
 #![tactic(auto)]
 
+mod decode;
 mod device;
 mod fault;
 mod frames;
@@ -12,7 +13,8 @@ mod source;
 mod trace;
 mod whole;
 
-pub use device::{Device, Failed};
+pub use decode::decode_digits;
+pub use device::{Device, Failed, told};
 pub use fault::{TraceCause, TraceFault};
 pub use frames::{Frames, TimedFrame};
 pub use line::LONGEST_LINE;

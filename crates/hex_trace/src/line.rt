@@ -3,10 +3,10 @@ ghost use Rattle.std.specs.Prelude.{◌≡◌, ◌≤◌, IfOk, IfErr, Ok, Err, 
 ghost use Rattle.std.specs.Char.{is_ascii_digit};
 ghost use Rattle.std.specs.List.{prefix_len};
 ghost use Rattle.std.specs.Str.{all_ascii_digits};
-ghost use Rattle.hex_trace.specs.Line.{time_digits, time_from, after_space, octets_from, frame_from, Reads};
+ghost use Rattle.hex_trace.specs.Line.{time_digits, time_from, after_space, digits_fault, octets_from, frame_from, Reads};
 ghost use Rattle.hex_trace.specs.declared.line.BadLine.TheVariants.{Cause as line_cause};
 
-use crate::{TimedFrame, TraceCause};
+use crate::{TimedFrame, TraceCause, decode_digits};
 use es_base::Octets;
 use hex::FromHexError;
 use std::alloc::Global;
@@ -115,9 +115,18 @@ fn after_space(rest: &[u8]) -> Result<&[u8], TraceCause>
 fn octets_from(alloc: Global, digits: &[u8]) -> Result<Octets, BadLine>
     ensures { Reads result (octets_from digits.now) }
 {
-    match hex::decode(alloc, digits) {
+    match decode_digits(alloc, digits) {
         Ok(octets) => Ok(Octets::from(octets)),
-        Err(FromHexError::OutOfMemory) => Err(BadLine::Memory),
-        Err(_) => Err(BadLine::Cause(TraceCause::Hex)),
+        Err(error) => Err(digits_fault(error)),
+    }
+}
+
+/// Why digits weren't decoded.
+fn digits_fault(error: FromHexError) -> BadLine
+    ensures { result ≡ digits_fault error }
+{
+    match error {
+        FromHexError::OutOfMemory => BadLine::Memory,
+        _ => BadLine::Cause(TraceCause::Hex),
     }
 }

@@ -2,8 +2,8 @@
 ghost use Rattle.std.specs.Prelude.{◌≡◌, ◌≤◌, ◌||◌, ℕ, Bool, List, Option, None, is_err, length, IfOk};
 ghost use Rattle.std.specs.Io.KnownBytes.{ReadConsumes};
 
-use crate::{Device, Failed};
-use std::io::{self, ErrorKind};
+use crate::{Device, Failed, told};
+use std::io;
 
 /// A reader of a trace.
 pub trait Source {
@@ -28,13 +28,9 @@ impl<T: io::Read> Source for Device<T> {
 
     fn read(&mut self, buffer: &mut [u8]) -> Result<usize, Failed> {
         for _ in 0..u64::MAX {
-            match self.inner.read(buffer) {
-                Ok(count) => return Ok(count),
-                Err(e) => {
-                    if e.kind() != ErrorKind::Interrupted {
-                        break;
-                    }
-                }
+            if let Some(answer) = told(self.inner.read(buffer)) {
+                self.failed |= answer.is_err();
+                return answer;
             }
         }
         self.failed = true;

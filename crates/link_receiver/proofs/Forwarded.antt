@@ -1,24 +1,42 @@
 -- Which outcomes are those of forwarded frames.
-use Rattle.std.proofs.Common.{◌≡◌, Bool, true, false, not, ◌&&◌, ℕ, List, Result, Ok, Err, refl}
+use Rattle.std.proofs.Common.{◌≡◌, Bool, true, false, not, ◌&&◌, List, Result, Ok, Err, refl, ◌∙◌, sym, ap}
 use Rattle.es_base.specs.declared.verdict.Verdict.{Verdict}
 use Rattle.es_base.specs.declared.event.Arrival.{Arrival}
 use Rattle.es_base.specs.declared.event.Event.{Event}
-use Rattle.es_base.specs.Port.{Port}
+use Rattle.es_base.specs.Settings.{Settings}
 use Rattle.es_base.specs.Past.{Origin}
 use Rattle.es_base.specs.Integrity.{passes}
 use Rattle.es_base.specs.Redundancy.{forwarded, is_forwarded, is_redundant}
-use Rattle.es_base.specs.Outcome.{Payload, brought, outcome, outcome_if, payload_of}
-use Rattle.link_receiver.specs.Seen.{counts_as_forwarded}
+use Rattle.es_base.specs.Groups.{Group}
+use Rattle.es_base.specs.Reassembly.{groups_in}
+use Rattle.es_base.specs.Outcome as way
+use Rattle.link_receiver.specs.declared.outcome.Outcome.{Outcome}
+use Rattle.link_receiver.specs.declared.outcome.Outcome.TheVariants.{OutOfSequence, Redundant, Refused, Brings}
+use Rattle.link_receiver.specs.Seen.{Sees, counts_as_forwarded}
 
-brought_counts : (payload : Result Payload Verdict) → counts_as_forwarded (brought payload) ≡ true
+-- whether a frame with this outcome is forwarded
+abbrev pub counts : way.Outcome → Bool
+counts way.out_of_sequence = false
+counts way.redundant = false
+counts (way.refused verdict) = true
+counts (way.brings payload) = true
+
+seen_counts : (seen : Outcome) (outcome : way.Outcome) → Sees seen outcome → counts_as_forwarded seen ≡ counts outcome
+seen_counts OutOfSequence outcome sees = sym (ap counts sees)
+seen_counts Redundant outcome sees = sym (ap counts sees)
+seen_counts (Refused verdict) outcome sees = sym (ap counts sees)
+seen_counts (Brings payload) outcome sees = sym (ap counts sees.1)
+
+brought_counts : (payload : Result way.Payload Verdict) → counts (way.brought payload) ≡ true
 brought_counts (Ok payload) = refl
 brought_counts (Err verdict) = refl
 
-counts_if : (passing is_copy : Bool) (ports : List Port) (frame : List ℕ) → counts_as_forwarded (outcome_if passing is_copy ports frame) ≡ (passing && not is_copy)
-unfolding outcome_if
-counts_if false is_copy ports frame = refl
-counts_if true true ports frame = refl
-counts_if true false ports frame = brought_counts (payload_of ports frame)
+counts_if : (passing is_copy : Bool) (settings : Settings) (groups : List Group) (a : Arrival) → counts (way.outcome_if passing is_copy settings groups a) ≡ (passing && not is_copy)
+unfolding way.outcome_if
+counts_if false is_copy settings groups a = refl
+counts_if true true settings groups a = refl
+counts_if true false settings groups a = brought_counts (way.payload_of settings groups a)
 
-pub counts_forwarded : (o : Origin) (past : List Event) (a : Arrival) → counts_as_forwarded (outcome o past a) ≡ is_forwarded o past a
-counts_forwarded o past a = counts_if (passes o past a) (is_redundant o (forwarded o past) a) o.settings.ports a.frame
+pub counts_forwarded : (o : Origin) (past : List Event) (a : Arrival) (seen : Outcome) → Sees seen (way.outcome o past a) → counts_as_forwarded seen ≡ is_forwarded o past a
+counts_forwarded o past a seen sees =
+    seen_counts seen (way.outcome o past a) sees ∙ counts_if (passes o past a) (is_redundant o (forwarded o past) a) o.settings (groups_in o past) a

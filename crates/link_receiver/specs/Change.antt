@@ -1,5 +1,6 @@
 -- What an arrival changes at its link.
-use Rattle.std.specs.Prelude.{◌≡◌, ◌<◌, true, List, [], ◌∷◌, length, Option, None, Some, IfSome, if◌then◌else◌}
+use Rattle.std.specs.Prelude.{◌≡◌, ◌<◌, Bool, true, false, List, [], ◌∷◌, length, Option, None, Some, IfSome, if◌then◌else◌}
+use Rattle.std.specs.Option.{option_map}
 use Rattle.es_base.specs.declared.place.PortNo.{PortNo}
 use Rattle.es_base.specs.declared.event.Arrival.{Arrival}
 use Rattle.es_base.specs.declared.event.Message.{Message}
@@ -7,9 +8,13 @@ use Rattle.es_base.specs.Limits.{most_samples}
 use Rattle.es_base.specs.Frame.{sequence_number_of}
 use Rattle.es_base.specs.Past.{origin_of}
 use Rattle.es_base.specs.Redundancy.{is_forwarded}
-use Rattle.es_base.specs.Deliveries.{delivered, is_same_port}
+use Rattle.es_base.specs.Reassembly.{offered}
+use Rattle.es_base.specs.Outcome.{Outcome, Payload, out_of_sequence, redundant, refused, brings}
+use Rattle.es_base.specs.Deliveries.{is_same_port, takes_one_more}
+use Rattle.frame_reader.specs.Parts.{packet_parts}
 use Rattle.link_receiver.specs.declared.change.Change.{Change}
 use Rattle.link_receiver.specs.declared.change.Delivery.{Delivery}
+use Rattle.link_receiver.specs.declared.change.Room.{Room}
 use Rattle.link_receiver.specs.Link.{Link, past_of, deliveries_of, outcome_after, verdict_after}
 
 -- the messages of a delivery for this port
@@ -18,14 +23,28 @@ messages_for port None = []
 messages_for port (Some delivery) = if is_same_port delivery.port port then delivery.message ∷ [] else []
 
 -- a message goes to a port of the link that has a message number for it
-abbrev pub HasMessageNumber : Link → Option Delivery → Type 0
-HasMessageNumber link delivery =
-    IfSome delivery (λ d. (d.port.0 < length link.settings.ports) × (length (deliveries_of link d.port) < most_samples))
+abbrev pub HasMessageNumber : Link → Option Room → Type 0
+HasMessageNumber link room =
+    IfSome room (λ r. (r.port.0 < length link.settings.ports) × (length (deliveries_of link r.port) < most_samples))
+
+-- whether a payload's port takes it, if its queue has room
+abbrev pub is_taken : Link → Payload → Bool
+is_taken link payload = takes_one_more payload.kind true (length (deliveries_of link payload.port))
+
+-- there is room for the message that a frame with this outcome delivers, and for no other
+abbrev pub RoomFor : Outcome → Link → Option Room → Type 0
+RoomFor (brings payload) link None = is_taken link payload ≡ false
+RoomFor (brings payload) link (Some room) =
+    (is_taken link payload ≡ true) × (payload.port ≡ room.port) × (length payload.octets ≡ room.len)
+RoomFor out_of_sequence link room = room ≡ None
+RoomFor redundant link room = room ≡ None
+RoomFor (refused verdict) link room = room ≡ None
 
 -- what the definitions say of an arrival that comes next, where no queue refuses its message
 pub record IsChange (link : Link) (a : Arrival) (change : Change) : Type 0 where
   pub numbered : change.sequence_number ≡ sequence_number_of a.frame
   pub forwarded : change.forwarded ≡ is_forwarded (origin_of link.settings) (past_of link) a
+  pub packet : option_map packet_parts change.packet ≡ offered (is_forwarded (origin_of link.settings) (past_of link) a) a.frame
   pub verdict : change.verdict ≡ verdict_after link a true
-  pub delivers : (port : PortNo) → delivered (outcome_after link a) true a.time port (length (deliveries_of link port)) ≡ messages_for port change.delivery
-  pub has_message_number : HasMessageNumber link change.delivery
+  pub room : RoomFor (outcome_after link a) link change.room
+  pub has_message_number : HasMessageNumber link change.room

@@ -1,22 +1,37 @@
--- What lends octets of a frame, as contracts see it.
-use Rattle.std.specs.Prelude.{ℕ, ◌<◌, Bool, true, false}
+-- What a frame comes to, as the code has it: without the octets of its payload.
+use Rattle.std.specs.Prelude.{◌≡◌, ℕ, ◌<◌, Bool, true, false, List, length, Result, Ok, Err}
+use Rattle.es_base.specs.declared.verdict.Verdict.{Verdict}
+use Rattle.es_base.specs.Returns.{◌>>=◌}
+use Rattle.es_base.specs.Port.{Port}
 use Rattle.es_base.specs.Outcome as way
-use Rattle.link_receiver.specs.declared.outcome.IpDatagram.{IpDatagram}
 use Rattle.link_receiver.specs.declared.outcome.Payload.{Payload}
 use Rattle.link_receiver.specs.declared.outcome.Outcome.{Outcome}
 use Rattle.link_receiver.specs.declared.outcome.Outcome.TheVariants.{OutOfSequence, Redundant, Refused, Brings}
 
-abbrev pub datagram_seen : IpDatagram → way.Datagram
-datagram_seen datagram = record { destination = datagram.destination; joined = datagram.joined; octets = datagram.octets.now }
+-- this is what is seen of a payload
+pub record IsPayload (seen : Payload) (payload : way.Payload) : Type 0 where
+  pub port : payload.port ≡ seen.port
+  pub kind : payload.kind ≡ seen.kind
+  pub joined : payload.joined ≡ seen.joined
+  pub long : length payload.octets ≡ seen.len
 
-abbrev pub payload_seen : Payload → way.Payload
-payload_seen payload = record { port = payload.port; kind = payload.kind; joined = payload.joined; octets = payload.octets.now }
+-- this is what is seen of a payload, or the verdict of a frame that brings none
+abbrev pub SeesPayload : Result Payload Verdict → Result way.Payload Verdict → Type 0
+SeesPayload (Ok seen) read = (payload : way.Payload) × (read ≡ Ok payload) × IsPayload seen payload
+SeesPayload (Err verdict) read = read ≡ Err verdict
 
-abbrev pub outcome_seen : Outcome → way.Outcome
-outcome_seen OutOfSequence = way.out_of_sequence
-outcome_seen Redundant = way.redundant
-outcome_seen (Refused verdict) = way.refused verdict
-outcome_seen (Brings payload) = way.brings (payload_seen payload)
+-- this is what is seen of an outcome
+abbrev pub Sees : Outcome → way.Outcome → Type 0
+Sees OutOfSequence outcome = outcome ≡ way.out_of_sequence
+Sees Redundant outcome = outcome ≡ way.redundant
+Sees (Refused verdict) outcome = outcome ≡ way.refused verdict
+Sees (Brings seen) outcome = (payload : way.Payload) × (outcome ≡ way.brings payload) × IsPayload seen payload
+
+-- the payload of a datagram, if there is one
+abbrev pub payload_after : List Port → Result way.Datagram Verdict → Result way.Payload Verdict
+payload_after ports read = do
+  datagram ← read
+  way.payload_in ports datagram
 
 -- a payload is for one of this number of ports
 abbrev pub HasPort : Outcome → ℕ → Type 0
@@ -26,8 +41,8 @@ HasPort (Refused verdict) ports = Unit {0}
 HasPort (Brings payload) ports = payload.port.0 < ports
 
 -- whether a frame with this outcome is forwarded
-abbrev pub counts_as_forwarded : way.Outcome → Bool
-counts_as_forwarded way.out_of_sequence = false
-counts_as_forwarded way.redundant = false
-counts_as_forwarded (way.refused verdict) = true
-counts_as_forwarded (way.brings payload) = true
+abbrev pub counts_as_forwarded : Outcome → Bool
+counts_as_forwarded OutOfSequence = false
+counts_as_forwarded Redundant = false
+counts_as_forwarded (Refused verdict) = true
+counts_as_forwarded (Brings payload) = true

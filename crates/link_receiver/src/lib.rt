@@ -1,5 +1,5 @@
-//! The receiver of one virtual link: integrity checking, redundancy management, IPv4, UDP and the
-//! link's ports. It keeps the link's history, every verdict of which is what the rules say of the
+//! The receiver of one virtual link: integrity checking, redundancy management, IPv4 and its reassembly,
+//! UDP and the link's ports. It keeps the link's history, every verdict of which is what the rules say of the
 //! events before it.
 #![tactic(auto)]
 
@@ -7,6 +7,7 @@ mod change;
 mod checks;
 pub mod laws;
 mod link;
+mod offer;
 mod outcome;
 mod register;
 mod verdict;

@@ -1,41 +1,43 @@
 //! One link's state.
-ghost use Rattle.std.specs.Prelude.{◌≡◌, ◌≤◌, ◌<◌, ◌^◌, [], IfOk, OnOk, OnErr, length, true, vec_len, vec_capacity};
+ghost use Rattle.std.specs.Prelude.{◌≡◌, ◌<◌, [], IfOk, OnOk, OnErr, length, true};
 ghost use Rattle.std.specs.Option.{option_map};
-ghost use Rattle.es_base.specs.Limits.{shortest_frame};
-ghost use Rattle.es_base.specs.Frame.{link_number_of};
+ghost use Rattle.es_base.specs.Frame.{IsFrame, link_number_of};
 ghost use Rattle.es_base.specs.Port.{samples_at};
-ghost use Rattle.es_base.specs.Past.{arrived, origin_of};
+ghost use Rattle.es_base.specs.Past.{AreFramesOf, arrived, origin_of};
 ghost use Rattle.es_base.specs.Deliveries.{delivered, newest_of};
 ghost use Rattle.es_base.specs.Run.{IsRun, decided};
-ghost use Rattle.link_receiver.specs.Change.{HasMessageNumber, IsChange, messages_for};
-ghost use Rattle.link_receiver.specs.Seen.{HasPort, outcome_seen};
+ghost use Rattle.es_base.specs.Reassembly.{groups_in, offered};
+ghost use Rattle.es_base.specs.Outcome.{Outcome as OutcomeValue, brought_by};
+ghost use Rattle.frame_reader.specs.Parts.{packet_parts};
+ghost use Rattle.link_receiver.specs.Change.{HasMessageNumber, IsChange, RoomFor};
+ghost use Rattle.link_receiver.specs.Seen.{HasPort, Sees, counts_as_forwarded};
 ghost use Rattle.link_receiver.specs.Link.{past_of, deliveries_of, newest_at};
 ghost use Rattle.link_receiver.specs.Link.{outcome_after, decision_after, verdict_after, with_event};
 
-use crate::change::{Change, Delivery};
+use crate::change::{Change, Room};
 use crate::checks::Checks;
+use crate::offer::offer;
 use crate::outcome::Outcome;
 use crate::register::{MOST_SAMPLES, Register, deliver, empty_registers};
 use crate::verdict::{sampled, settled};
-use crate::way::{brought_by, counts_as_forwarded};
+use crate::way::{brought, counts_as_forwarded, payload_by};
 use es_base::{
     Arrival, Decision, Event, LinkSettings, Memory, Message, Net, Octets, PortKind, PortNo, Verdict,
 };
-use frame_reader::{Frame, frame_in};
-use std::alloc::{AllocError, Global};
+use frame_reader::{Frame, Packet, frame_in, read_packet};
+use ip_reassembly::Reassembly;
+use std::alloc::Global;
 use std::marker::Model;
 
-/// The most events of a history: 2^61 (own).
-const MOST_EVENTS: usize = 1 << 61;
-
 /// The state of one link: its settings and its history. What it keeps beside them follows from these
-/// two: for each network a sequence number, what redundancy management compares with, and the newest
-/// message of each sampling port.
+/// two: for each network a sequence number, what redundancy management compares with, the pieces of
+/// datagrams that aren't complete, and the newest message of each sampling port.
 #[derive(Drop)]
 pub struct LinkState {
     settings: LinkSettings,
     history: Vec<Event>,
     checks: Checks,
+    reassembly: Reassembly,
     registers: Vec<Register>,
 }
 
@@ -48,7 +50,7 @@ impl Model for LinkState {
 
     ghost view = { λ s. record { settings = s.settings; history = s.history.items } };
 
-    ghost invariant = { λ s. IsKept s.settings s.history.items s.checks s.registers.items };
+    ghost invariant = { λ s. IsKept s.settings s.history.items s.checks s.reassembly s.registers.items };
 }
 
 impl LinkState {
@@ -60,6 +62,7 @@ impl LinkState {
             settings: settings.copy(alloc)?,
             history: Vec::new(alloc),
             checks: Checks::opening(settings.skew_max()),
+            reassembly: Reassembly::new(alloc, settings.reassembly())?,
             registers: empty_registers(alloc, settings.ports().len())?,
         })
     }
@@ -71,11 +74,11 @@ impl LinkState {
         &self.settings
     }
 
-    /// The link's events in the order in which their frames came.
+    /// The link's events in the order in which their frames came. Each has a frame of this link.
     pub fn history(&self) -> &[Event]
         ensures events { result.now ≡ self.now.history }
         ensures run { IsRun (origin_of self.now.settings) (past_of self.now) }
-        ensures few { length self.now.history ≤ 2 ^ 61 }
+        ensures frames { AreFramesOf self.now.settings (past_of self.now) }
     {
         self.history.as_slice()
     }
@@ -94,9 +97,10 @@ impl LinkState {
 
     /// What would become of a frame that came now, at `now` microseconds. Nothing changes.
     pub fn decide(&self, net: Net, now: u64, frame: &Frame<'_>) -> Decision
+        requires { frame.now.vl ≡ self.now.settings.vl }
         ensures { result ≡ decision_after self.now (arrived net now frame.now.whole.now) }
     {
-        let outcome = self.outcome(net, now, frame);
+        let (outcome, _) = self.outcome(net, now, frame);
         self.decision(&outcome)
     }
 
@@ -125,53 +129,90 @@ impl LinkState {
     }
 
     /// Takes a frame as `take` does, and keeps its octets themselves in place of a copy. They are those
-    /// of a whole frame of this link. Where memory runs out they are given up.
+    /// of a frame of this link, as `read_frame` returned it. Where memory runs out they are given up.
     pub fn take_arrival(&mut self, alloc: Global, arrival: Arrival) -> Result<Verdict, Memory>
-        requires long { shortest_frame ≤ length arrival.frame }
+        requires frame { IsFrame arrival.frame }
         requires link { link_number_of arrival.frame ≡ self.old.settings.vl.0 }
         ensures event { IfOk result (λ verdict. self.new ≡ with_event self.old arrival true verdict) }
         ensures verdict { IfOk result (λ verdict. verdict ≡ verdict_after self.old arrival true) }
         ensures err { OnErr result (self.new ≡ self.old) }
     {
         let change = self.change_by(alloc, &arrival)?;
-        self.append(arrival, change)
+        self.history.reserve(1)?;
+        let Change {
+            sequence_number,
+            forwarded,
+            packet,
+            verdict,
+            room,
+        } = change;
+        let (net, time) = (arrival.net, arrival.time);
+        self.checks.note(net, sequence_number, time, forwarded);
+        let delivery = offer(&mut self.reassembly, packet, time, room);
+        deliver(&mut self.registers, delivery);
+        self.history
+            .push_reserved(Event::of(arrival, true, verdict));
+        Ok(verdict)
     }
 
-    /// What an arrival changes. Its message has octets of its own.
-    fn change_by(&self, alloc: Global, arrival: &Arrival) -> Result<Change, Memory>
-        requires { shortest_frame ≤ length arrival.now.frame }
-        ensures { IfOk result (IsChange self.now arrival.now) }
+    /// What an arrival changes. All memory that it needs but for the history's place is taken here.
+    fn change_by<'a>(&self, alloc: Global, arrival: &'a Arrival) -> Result<Change<'a>, Memory>
+        requires { IsFrame arrival.now.frame }
+        ensures { IfOk result (λ change. IsChange self.now arrival.now change) }
     {
         let frame = frame_in(arrival.frame.as_slice());
-        let outcome = self.outcome(arrival.net, arrival.time, &frame);
+        let (outcome, packet) = self.outcome(arrival.net, arrival.time, &frame);
         Ok(Change {
             sequence_number: frame.number,
             forwarded: counts_as_forwarded(&outcome),
+            packet,
             verdict: settled(self.decision(&outcome), true),
-            delivery: self.delivery_of(alloc, &outcome, arrival.time)?,
+            room: self.room_for(alloc, &outcome)?,
         })
     }
 
-    /// How far a frame that comes at `now`, in microseconds, comes on its way to a port.
+    /// How far a frame that comes at `now`, in microseconds, comes on its way to a port; and the packet
+    /// that reassembly is offered, where it is taken.
     #[tactic(auto, unfolding(es_base::specs::Outcome::outcome_if))]
-    fn outcome<'a>(&self, net: Net, now: u64, frame: &Frame<'a>) -> Outcome<'a>
-        ensures value { outcome_seen result ≡ outcome_after self.now (arrived net now frame.now.whole.now) }
-        ensures port { HasPort result (length self.now.settings.ports) }
+    fn outcome<'a>(&self, net: Net, now: u64, frame: &Frame<'a>) -> (Outcome, Option<Packet<'a>>)
+        ensures value { Sees result.0 (outcome_after self.now (arrived net now frame.now.whole.now)) }
+        ensures packet { option_map packet_parts result.1 ≡ offered (counts_as_forwarded result.0) frame.now.whole.now }
+        ensures port { HasPort result.0 (length self.now.settings.ports) }
     {
         if !self.checks.passes(net, frame.number) {
-            return Outcome::OutOfSequence;
+            return (Outcome::OutOfSequence, None);
         }
         let managed = self.settings.redundancy();
         if self.checks.is_redundant(managed, frame.number, now) {
-            return Outcome::Redundant;
+            return (Outcome::Redundant, None);
         }
-        brought_by(&self.settings, frame)
+        self.forwarded_outcome(net, now, frame)
+    }
+
+    /// The same for a frame that is forwarded.
+    fn forwarded_outcome<'a>(
+        &self,
+        net: Net,
+        now: u64,
+        frame: &Frame<'a>,
+    ) -> (Outcome, Option<Packet<'a>>)
+        ensures value { Sees result.0 (brought_by self.now.settings (groups_in (origin_of self.now.settings) (past_of self.now)) (arrived net now frame.now.whole.now)) }
+        ensures packet { option_map packet_parts result.1 ≡ offered true frame.now.whole.now }
+        ensures forwarded { counts_as_forwarded result.0 ≡ true }
+        ensures port { HasPort result.0 (length self.now.settings.ports) }
+    {
+        let packet = match read_packet(frame) {
+            Ok(packet) => packet,
+            Err(fault) => return (Outcome::Refused(Verdict::BadHeader(fault)), None),
+        };
+        let payload = payload_by(&self.settings, &self.reassembly, &packet, now);
+        (brought(payload), Some(packet))
     }
 
     /// What becomes of a frame with this outcome, but for the queue's answer.
-    fn decision(&self, outcome: &Outcome<'_>) -> Decision
+    fn decision(&self, outcome: &Outcome) -> Decision
         requires { HasPort outcome.now (length self.now.settings.ports) }
-        ensures { result ≡ decided (outcome_seen outcome.now) (λ port. length (deliveries_of self.now port)) }
+        ensures { (is : OutcomeValue) → Sees outcome.now is → result ≡ decided is (λ port. length (deliveries_of self.now port)) }
     {
         match outcome {
             Outcome::OutOfSequence => Decision::Final(Verdict::OutOfSequence),
@@ -183,19 +224,11 @@ impl LinkState {
         }
     }
 
-    /// The message that a frame with this outcome delivers, with octets of its own; it came at `time`,
-    /// in microseconds.
-    fn delivery_of(
-        &self,
-        alloc: Global,
-        outcome: &Outcome<'_>,
-        time: u64,
-    ) -> Result<Option<Delivery>, Memory>
+    /// Room for the message that a frame with this outcome delivers.
+    fn room_for(&self, alloc: Global, outcome: &Outcome) -> Result<Option<Room>, Memory>
         requires { HasPort outcome.now (length self.now.settings.ports) }
-        ensures messages { IfOk result (λ delivery. (port : PortNo) →
-            delivered (outcome_seen outcome.now) true time port (length (deliveries_of self.now port))
-            ≡ messages_for port delivery) }
-        ensures number { IfOk result (λ delivery. HasMessageNumber self.now delivery) }
+        ensures room { IfOk result (λ room. (is : OutcomeValue) → Sees outcome.now is → RoomFor is self.now room) }
+        ensures number { IfOk result (λ room. HasMessageNumber self.now room) }
     {
         let Outcome::Brings(payload) = outcome else {
             return Ok(None);
@@ -203,10 +236,10 @@ impl LinkState {
         if self.published(payload.port) >= MOST_SAMPLES {
             return Ok(None);
         }
-        let octets = Octets::copy_of(alloc, payload.octets)?;
-        Ok(Some(Delivery {
+        Ok(Some(Room {
             port: payload.port,
-            message: Message { time, octets },
+            len: payload.len,
+            octets: Vec::with_capacity(alloc, payload.len)?,
         }))
     }
 
@@ -238,38 +271,4 @@ impl LinkState {
     {
         self.registers[port.0 as usize].published
     }
-
-    /// Appends the event of an arrival that changes this.
-    fn append(&mut self, arrival: Arrival, change: Change) -> Result<Verdict, Memory>
-        requires { IsChange self.old arrival change }
-        ensures event { IfOk result (λ verdict. self.new ≡ with_event self.old arrival true verdict) }
-        ensures verdict { IfOk result (λ verdict. verdict ≡ change.verdict) }
-        ensures err { OnErr result (self.new ≡ self.old) }
-    {
-        let Change {
-            sequence_number,
-            forwarded,
-            verdict,
-            delivery,
-        } = change;
-        reserve_event(&mut self.history)?;
-        self.checks
-            .note(arrival.net, sequence_number, arrival.time, forwarded);
-        deliver(&mut self.registers, delivery);
-        self.history
-            .push_reserved(Event::of(arrival, true, verdict));
-        Ok(verdict)
-    }
-}
-
-/// Makes room for one event more.
-fn reserve_event(history: &mut Vec<Event>) -> Result<(), Memory>
-    ensures items { history.new.items ≡ history.old.items }
-    ensures few { OnOk result (length history.old.items < 2 ^ 61) }
-    ensures room { OnOk result (vec_len history.new < vec_capacity history.new) }
-{
-    if history.len() >= MOST_EVENTS {
-        return Err(AllocError);
-    }
-    history.reserve(1)
 }

@@ -6,34 +6,26 @@ use es_base::{PortKind, PortNo, Verdict};
 
 /// What a frame comes to, before its port is asked.
 #[derive(Clone, Copy)]
-pub(crate) enum Outcome<'a> {
+pub(crate) enum Outcome {
     /// Integrity checking refuses it.
     OutOfSequence,
-    /// A copy of it was forwarded before.
+    /// It passes, but redundancy management does not forward it.
     Redundant,
     /// It is forwarded, and has this verdict, which changes nothing at any port.
     Refused(Verdict),
     /// It is forwarded, and brings this payload to a port.
-    Brings(Payload<'a>),
+    Brings(Payload),
 }
 
-/// A payload for a sampling port. Queuing ports take none yet.
+/// A payload for a sampling port. Queuing ports take none yet. Its octets aren't here: where they have to
+/// be joined of fragments, they are so only once the frame is taken.
 #[derive(Clone, Copy)]
-pub(crate) struct Payload<'a> {
+pub(crate) struct Payload {
     pub port: PortNo,
     pub kind: PortKind,
-    /// Whether its datagram was joined of fragments.
+    /// Whether its datagram is joined of fragments.
     pub joined: bool,
-    pub octets: &'a [u8],
+    /// How many octets it has.
+    pub len: usize,
     pub ghost sampled: { is_sampling kind ≡ true },
-}
-
-/// What IPv4 hands on whole.
-#[derive(Clone, Copy)]
-pub(crate) struct IpDatagram<'a> {
-    /// The destination address, in network order.
-    pub destination: u32,
-    /// Whether it was joined of fragments.
-    pub joined: bool,
-    pub octets: &'a [u8],
 }

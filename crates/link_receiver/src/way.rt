@@ -1,96 +1,88 @@
-//! The way of a frame to a port.
-ghost use Rattle.std.specs.Prelude.{◌≡◌, ◌<◌, IfOk, Some, length};
-ghost use Rattle.es_base.specs.Returns.{Gives};
-ghost use Rattle.es_base.specs.Outcome.{brought_by, datagram_in, datagram_of, payload_for, payload_in, payload_of};
+//! The way of a forwarded frame to a port, after its packet was read.
+ghost use Rattle.std.specs.Prelude.{◌≡◌, ◌<◌, ℕ, List, IfOk, Result, Some, length, true};
+ghost use Rattle.es_base.specs.Udp.{head_of};
+ghost use Rattle.es_base.specs.Groups.{Group, fate};
+ghost use Rattle.es_base.specs.declared.verdict.Verdict.{Verdict as VerdictValue};
+ghost use Rattle.es_base.specs.Outcome.{Payload as PayloadValue, brought, datagram_by, payload_for, payload_in};
 ghost use Rattle.frame_reader.specs.Parts.{packet_parts};
-ghost use Rattle.link_receiver.specs.Seen.{HasPort, counts_as_forwarded, datagram_seen, outcome_seen, payload_seen};
+ghost use Rattle.ip_reassembly.specs.Kept.{StandsFor};
+ghost use Rattle.link_receiver.specs.Seen.{HasPort, Sees, SeesPayload, counts_as_forwarded, payload_after};
 
-use crate::outcome::{IpDatagram, Outcome, Payload};
+use crate::outcome::{Outcome, Payload};
 use es_base::{LinkSettings, PortKind, PortNo, PortSettings, Verdict};
-use frame_reader::{Frame, Packet, read_packet, read_udp};
+use frame_reader::{Packet, read_udp_head};
+use ip_reassembly::{Preview, Reassembly};
 
 /// Whether a frame with this outcome is forwarded.
-pub(crate) fn counts_as_forwarded(outcome: &Outcome<'_>) -> bool
-    ensures { result ≡ counts_as_forwarded (outcome_seen outcome.now) }
+pub(crate) fn counts_as_forwarded(outcome: &Outcome) -> bool
+    ensures { result ≡ counts_as_forwarded outcome.now }
 {
     matches!(outcome, Outcome::Refused(_) | Outcome::Brings(_))
 }
 
-/// What a forwarded frame brings.
-pub(crate) fn brought_by<'a>(settings: &LinkSettings, frame: &Frame<'a>) -> Outcome<'a>
-    ensures value { outcome_seen result ≡ brought_by settings.now.ports frame.now.whole.now }
-    ensures port { HasPort result (length settings.now.ports) }
+/// What a forwarded frame brings that has this payload, or this verdict.
+pub(crate) fn brought(payload: Result<Payload, Verdict>) -> Outcome
+    ensures value { (read : Result PayloadValue VerdictValue) → SeesPayload payload read → Sees result (brought read) }
+    ensures forwarded { counts_as_forwarded result ≡ true }
+    ensures port { (ports : ℕ) → IfOk payload (λ payload. payload.port.0 < ports) → HasPort result ports }
 {
-    match payload_of(settings, frame) {
+    match payload {
         Ok(payload) => Outcome::Brings(payload),
         Err(verdict) => Outcome::Refused(verdict),
     }
 }
 
-/// The payload of a forwarded frame, or the verdict of one that brings none.
-fn payload_of<'a>(settings: &LinkSettings, frame: &Frame<'a>) -> Result<Payload<'a>, Verdict>
-    ensures value { Gives payload_seen result (payload_of settings.now.ports frame.now.whole.now) }
-    ensures port { IfOk result (λ payload. payload.port.0 < length settings.now.ports) }
-{
-    match datagram_in(frame) {
-        Ok(datagram) => payload_in(settings, &datagram),
-        Err(verdict) => Err(verdict),
-    }
-}
-
-/// The datagram of a frame (RFC 791 3.1).
-#[tactic(auto, unfolding(es_base::specs::Outcome::datagram_in))]
-fn datagram_in<'a>(frame: &Frame<'a>) -> Result<IpDatagram<'a>, Verdict>
-    ensures { Gives datagram_seen result (datagram_in frame.now.whole.now) }
-{
-    match read_packet(frame) {
-        Ok(packet) => datagram_of(packet),
-        Err(fault) => Err(Verdict::BadHeader(fault)),
-    }
-}
-
-/// The datagram of a packet that is a whole one. Fragments aren't joined yet.
-fn datagram_of(packet: Packet<'_>) -> Result<IpDatagram<'_>, Verdict>
-    ensures { Gives datagram_seen result (datagram_of (packet_parts packet.entry)) }
-{
-    if packet.offset == 0 && !packet.more {
-        Ok(IpDatagram {
-            destination: packet.destination,
-            joined: false,
-            octets: packet.octets,
-        })
-    } else {
-        Err(Verdict::BadFragment)
-    }
-}
-
-/// The payload of a datagram, for the port with its address and UDP port (RFC 768; ARINC 664 Part 7,
-/// port services).
-#[tactic(auto, unfolding(es_base::specs::Outcome::payload_in))]
-fn payload_in<'a>(
+/// The payload that a packet brings which comes at `now`, in microseconds.
+pub(crate) fn payload_by(
     settings: &LinkSettings,
-    datagram: &IpDatagram<'a>,
-) -> Result<Payload<'a>, Verdict>
-    ensures value { Gives payload_seen result (payload_in settings.now.ports (datagram_seen datagram.now)) }
+    reassembly: &Reassembly,
+    packet: &Packet<'_>,
+    now: u64,
+) -> Result<Payload, Verdict>
+    ensures value { (limit : ℕ) (groups : List Group) → StandsFor reassembly.now limit groups →
+        SeesPayload result (payload_after settings.now.ports (datagram_by packet.now.destination (fate limit groups (packet_parts packet.now) now))) }
     ensures port { IfOk result (λ payload. payload.port.0 < length settings.now.ports) }
 {
-    let Ok(udp) = read_udp(datagram.octets) else {
+    match reassembly.preview(packet, now) {
+        Preview::Bad => Err(Verdict::BadFragment),
+        Preview::Held => Err(Verdict::FragmentHeld),
+        Preview::Whole { len, head, joined } => {
+            payload_in(settings, packet.destination, &head, len, joined)
+        }
+    }
+}
+
+/// The payload of a datagram of `len` octets, which begins with these, for the port with its address and
+/// UDP port (RFC 768; ARINC 664 Part 7, port services).
+#[tactic(auto, unfolding(es_base::specs::Outcome::payload_in))]
+fn payload_in(
+    settings: &LinkSettings,
+    destination: u32,
+    head: &[u8; 8],
+    len: usize,
+    joined: bool,
+) -> Result<Payload, Verdict>
+    ensures value { (octets : List ℕ) → head.now ≡ head_of octets → length octets ≡ len →
+        SeesPayload result (payload_in settings.now.ports (record { destination = destination; joined = joined; octets = octets })) }
+    ensures port { IfOk result (λ payload. payload.port.0 < length settings.now.ports) }
+{
+    let Ok(udp) = read_udp_head(head, len) else {
         return Err(Verdict::BadUdp);
     };
-    match settings.port_for(datagram.destination, udp.destination_port) {
-        Some((place, port)) => payload_for(place, port, datagram.joined, udp.payload),
+    match settings.port_for(destination, udp.destination_port) {
+        Some((place, port)) => payload_for(place, port, joined, udp.payload_octets),
         None => Err(Verdict::NoPort),
     }
 }
 
-/// A payload for the port at this place. Queuing ports take none yet.
-fn payload_for<'a>(
+/// A payload of `len` octets for the port at this place. Queuing ports take none yet.
+fn payload_for(
     place: PortNo,
     port: &PortSettings,
     joined: bool,
-    octets: &'a [u8],
-) -> Result<Payload<'a>, Verdict>
-    ensures value { Gives payload_seen result (payload_for place (Some port.now) joined octets.now) }
+    len: usize,
+) -> Result<Payload, Verdict>
+    ensures value { (octets : List ℕ) → length octets ≡ len → SeesPayload result (payload_for place (Some port.now) joined octets) }
     ensures port { IfOk result (λ payload. payload.port ≡ place) }
 {
     let kind = port.kind();
@@ -99,14 +91,14 @@ fn payload_for<'a>(
         PortKind::Sampling { refresh: _ } => {
             if joined {
                 Err(Verdict::FragmentedSample(place))
-            } else if octets.len() > port.max() as usize {
+            } else if len > port.max() as usize {
                 Err(Verdict::TooLong(place))
             } else {
                 Ok(Payload {
                     port: place,
                     kind,
                     joined,
-                    octets,
+                    len,
                 })
             }
         }

@@ -1,108 +1,147 @@
-//! Devices that fail, and what the player returns then.
-use crate::devices::{Breaking, Filling};
+//! Devices that are interrupted or fail, and what the player returns then.
 use es_base::Net;
 use std::alloc::Global;
 use std::process::Abort;
 use std::test::Fail;
-use test_inputs::first;
+use test_inputs::{ReadCall, ScriptedReader, ScriptedWriter, WriteCall, first};
 use trace_player::{Device, PlayFault, TraceCause, play};
 use vl_config::Config;
-
-/// A trace of no bytes.
-const NOTHING: &[u8] = &[];
-
-/// The read of trace A fails before the fault of its text is looked for.
-fn check_failed_a(rt: &impl Abort, alloc: Global, config: &Config) {
-    let mut a = Breaking {
-        text: b"1000 0",
-        failed: false,
-    };
-    let mut b = Device::new(NOTHING);
-    let mut out = Device::new(Vec::new(alloc));
-    let answer = play(alloc, config, &mut a, &mut b, &mut out);
-    assert_eq!(rt; answer, Err(PlayFault::Read { net: Net::A }));
-    assert!(rt; a.failed);
-    assert!(rt; out.inner.is_empty());
-}
-
-#[test]
-fn a_failed_read_of_trace_a_is_returned(rt: HostRuntime) -> Result<(), Fail> {
-    check_failed_a(&rt, rt.alloc(), &first(rt.alloc())?);
-    Ok(())
-}
-
-/// The player returns this fault for trace A and a trace B that can't be read. Trace B was read then,
-/// or it wasn't.
-fn check_failing_b(
-    rt: &impl Abort,
-    alloc: Global,
-    config: &Config,
-    a: &[u8],
-    fault: PlayFault,
-    was_read: bool,
-) {
-    let mut a = Device::new(a);
-    let mut b = Breaking {
-        text: NOTHING,
-        failed: false,
-    };
-    let mut out = Device::new(Vec::new(alloc));
-    let answer = play(alloc, config, &mut a, &mut b, &mut out);
-    assert_eq!(rt; answer, Err(fault));
-    assert_eq!(rt; b.failed, was_read);
-    assert!(rt; out.inner.is_empty());
-}
-
-#[test]
-fn a_failed_read_of_trace_b_is_returned(rt: HostRuntime) -> Result<(), Fail> {
-    let config = first(rt.alloc())?;
-    let fault = PlayFault::Read { net: Net::B };
-    check_failing_b(&rt, rt.alloc(), &config, b"1000 00", fault, true);
-    Ok(())
-}
-
-#[test]
-fn trace_a_is_checked_before_trace_b_is_read(rt: HostRuntime) -> Result<(), Fail> {
-    let config = first(rt.alloc())?;
-    let fault = PlayFault::Trace {
-        net: Net::A,
-        line: 1,
-        cause: TraceCause::Hex,
-    };
-    check_failing_b(&rt, rt.alloc(), &config, b"1000 0", fault, false);
-    Ok(())
-}
 
 /// The output for the trace `5 00`, 23 bytes.
 const OUTPUT: &[u8] = b"5 A filtered too-short\n";
 
-/// The player writes to a sink with room for this many bytes, and returns this.
-fn check_room(
-    rt: &impl Abort,
-    alloc: Global,
-    config: &Config,
-    room: usize,
-    wanted: Result<(), PlayFault>,
-) {
-    let mut a = Device::new(b"5 00".as_slice());
-    let mut b = Device::new(NOTHING);
-    let mut out = Filling {
-        room,
-        written: Vec::new(alloc),
-        failed: false,
-    };
+/// A reader that fails after these bytes.
+fn broken_after(bytes: &'static [u8]) -> ScriptedReader<'static> {
+    ScriptedReader::new([ReadCall::Gives(bytes), ReadCall::Fails, ReadCall::Ends])
+}
+
+/// Two traces, what the player returns, and whether a read of each failed.
+type Reads = (
+    ScriptedReader<'static>,
+    ScriptedReader<'static>,
+    Result<(), PlayFault>,
+    (bool, bool),
+);
+
+fn reads() -> [Reads; 6] {
+    let empty = ScriptedReader::of(b"");
+    let of_a = PlayFault::Read { net: Net::A };
+    let of_b = PlayFault::Read { net: Net::B };
+    let (net, line, cause) = (Net::A, 1, TraceCause::Hex);
+    let hex = PlayFault::Trace { net, line, cause };
+    let good = ScriptedReader::of(b"5 00");
+    let interrupted = [
+        ReadCall::Interrupted,
+        ReadCall::Gives(b"5 00"),
+        ReadCall::Interrupted,
+    ];
+    [
+        (good, empty, Ok(()), (false, false)),
+        // An interrupted call is made again.
+        (
+            ScriptedReader::new(interrupted),
+            empty,
+            Ok(()),
+            (false, false),
+        ),
+        (broken_after(b"5 00"), empty, Err(of_a), (true, false)),
+        // A failed read comes before the fault of the text.
+        (broken_after(b"5 0"), empty, Err(of_a), (true, false)),
+        (good, broken_after(b"5 00"), Err(of_b), (false, true)),
+        // Trace A is checked before trace B is read.
+        (
+            ScriptedReader::of(b"5 0"),
+            broken_after(b""),
+            Err(hex),
+            (false, false),
+        ),
+    ]
+}
+
+fn check_reads(rt: &impl Abort, alloc: Global, config: &Config, row: Reads) {
+    let (a, b, wanted, (failed_a, failed_b)) = row;
+    let mut a = Device::new(a);
+    let mut b = Device::new(b);
+    let mut out = Device::new(Vec::new(alloc));
     let answer = play(alloc, config, &mut a, &mut b, &mut out);
-    assert_eq!(rt; answer, wanted, "room for {room}");
+    assert_eq!(rt; answer, wanted);
+    assert_eq!(rt; (a.failed, b.failed), (failed_a, failed_b));
+    assert_eq!(rt; out.inner.is_empty(), wanted.is_err());
+}
+
+#[test]
+fn failed_reads_are_returned_and_interrupted_ones_made_again(rt: HostRuntime) -> Result<(), Fail> {
+    let config = first(rt.alloc())?;
+    for row in reads() {
+        check_reads(&rt, rt.alloc(), &config, row);
+    }
+    Ok(())
+}
+
+/// What a sink does, how many bytes of the output it has then, and what the player returns.
+type Writes = (&'static [WriteCall], usize, Result<(), PlayFault>);
+
+fn writes() -> [Writes; 6] {
+    let fault = Err(PlayFault::Write);
+    [
+        (&[], 23, Ok(())),
+        (&[WriteCall::Interrupted, WriteCall::Takes(1)], 23, Ok(())),
+        (
+            &[
+                WriteCall::Takes(5),
+                WriteCall::Interrupted,
+                WriteCall::Takes(17),
+            ],
+            23,
+            Ok(()),
+        ),
+        (&[WriteCall::Takes(0)], 0, fault),
+        (&[WriteCall::Fails], 0, fault),
+        (&[WriteCall::Takes(22), WriteCall::Fails], 22, fault),
+    ]
+}
+
+fn check_writes(rt: &impl Abort, alloc: Global, config: &Config, row: Writes) {
+    let (calls, count, wanted) = row;
+    let mut a = Device::new(b"5 00".as_slice());
+    let mut b = Device::new(b"".as_slice());
+    let mut out = Device::new(ScriptedWriter {
+        calls,
+        written: Vec::new(alloc),
+    });
+    let answer = play(alloc, config, &mut a, &mut b, &mut out);
+    assert_eq!(rt; answer, wanted);
     assert_eq!(rt; out.failed, wanted.is_err());
-    assert_eq!(rt; OUTPUT.get(..room), Some(out.written.as_slice()));
+    assert_eq!(rt; OUTPUT.get(..count), Some(out.inner.written.as_slice()));
+}
+
+#[test]
+fn failed_writes_are_returned_and_interrupted_ones_made_again(rt: HostRuntime) -> Result<(), Fail> {
+    let config = first(rt.alloc())?;
+    for row in writes() {
+        check_writes(&rt, rt.alloc(), &config, row);
+    }
+    Ok(())
+}
+
+fn check_room(rt: &impl Abort, alloc: Global, config: &Config, room: usize) {
+    let calls = [WriteCall::Takes(room), WriteCall::Takes(0)];
+    let mut a = Device::new(b"5 00".as_slice());
+    let mut b = Device::new(b"".as_slice());
+    let mut out = Device::new(ScriptedWriter {
+        calls: &calls,
+        written: Vec::new(alloc),
+    });
+    let answer = play(alloc, config, &mut a, &mut b, &mut out);
+    assert_eq!(rt; answer, Err(PlayFault::Write), "room for {room}");
+    assert_eq!(rt; OUTPUT.get(..room), Some(out.inner.written.as_slice()));
 }
 
 #[test]
 fn a_sink_that_takes_nothing_more_is_a_failed_write(rt: HostRuntime) -> Result<(), Fail> {
     let config = first(rt.alloc())?;
     for room in 0..23 {
-        check_room(&rt, rt.alloc(), &config, room, Err(PlayFault::Write));
+        check_room(&rt, rt.alloc(), &config, room);
     }
-    check_room(&rt, rt.alloc(), &config, 23, Ok(()));
     Ok(())
 }

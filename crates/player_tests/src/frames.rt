@@ -68,7 +68,7 @@ fn a_filtered_frame_has_no_place_in_the_history(rt: HostRuntime) -> Result<(), F
 /// An IPv4 header, a UDP header and the sequence number of a frame, and the words of its verdict.
 type Row = (&'static str, &'static str, u8, &'static str);
 
-fn frames_with_every_verdict() -> [Row; 10] {
+fn frames_with_every_verdict() -> [Row; 11] {
     [
         (IP, UDP, 5, "sampled pos 1"),
         (IP, UDP, 9, "out-of-sequence"),
@@ -106,10 +106,16 @@ fn frames_with_every_verdict() -> [Row; 10] {
             "45000024000220000111add40a010101e0e00011",
             UDP,
             15,
+            "fragment-held",
+        ),
+        (
+            "45000020000220000111add80a010101e0e00011",
+            UDP,
+            16,
             "bad-fragment",
         ),
-        (IP, "1389138800070000", 16, "bad-udp"),
-        (IP, "1389138900190000", 17, "no-port"),
+        (IP, "1389138800070000", 17, "bad-udp"),
+        (IP, "1389138900190000", 18, "no-port"),
     ]
 }
 

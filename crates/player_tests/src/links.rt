@@ -1,12 +1,12 @@
 //! Frames of two links, each with its own history.
 use crate::played::{Step, check_output, trace_line, trace_of};
 use es_base::Net::{A, B};
-use es_base::PortNo;
+use es_base::{Memory, PortNo};
 use hex::FromHexError;
 use std::alloc::Global;
 use std::process::Abort;
 use std::test::Fail;
-use test_inputs::{PAYLOAD, UDP, both_links, frame_of};
+use test_inputs::{PAYLOAD, UDP, both_links, frame_of, smallest};
 use trace_player::{Device, replay};
 use vl_config::{Config, read_config};
 
@@ -122,4 +122,54 @@ fn a_replay_returns_the_links_as_the_frames_left_them(rt: HostRuntime) -> Result
     let a = trace_of(rt.alloc(), A, &frames_of_a_replay())?;
     let b = trace_of(rt.alloc(), B, &frames_of_a_replay())?;
     check_replay(&rt, rt.alloc(), &config, a.as_str(), b.as_str())
+}
+
+/// The document of links 1 to 64, which have no ports.
+fn most_links(alloc: Global) -> Result<String, Memory> {
+    let mut document = String::new(alloc);
+    for vl in 1..65 {
+        writeln!(document, "[[link]]")?;
+        writeln!(document, "vl = {vl}")?;
+        writeln!(document, "skew_max_us = 0")?;
+        writeln!(document, "reassembly_us = 0")?;
+    }
+    Ok(document)
+}
+
+/// A trace of one frame of each of the links 1 to 64.
+fn trace_of_most_links(alloc: Global) -> Result<String, Fail> {
+    let mut frame = smallest(alloc, 0)?;
+    let mut trace = String::new(alloc);
+    for vl in 1..65 {
+        if let Some(octet) = frame.get_mut(5) {
+            *octet = vl;
+        }
+        trace.push_str(trace_line(alloc, 7, &frame)?.as_str())?;
+    }
+    Ok(trace)
+}
+
+fn output_of_most_links(alloc: Global) -> Result<String, Memory> {
+    let mut output = String::new(alloc);
+    for vl in 1..65 {
+        writeln!(output, "7 A vl {vl} 0 no-port")?;
+    }
+    Ok(output)
+}
+
+#[test]
+fn sixty_four_links_have_a_history_each(rt: HostRuntime) -> Result<(), Fail> {
+    let document = most_links(rt.alloc())?;
+    let config = read_config(rt.alloc(), document.as_str())?;
+    let trace = trace_of_most_links(rt.alloc())?;
+    let output = output_of_most_links(rt.alloc())?;
+    check_output(
+        &rt,
+        rt.alloc(),
+        &config,
+        trace.as_str(),
+        "",
+        output.as_str(),
+    );
+    Ok(())
 }

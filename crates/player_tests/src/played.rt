@@ -66,22 +66,13 @@ pub(crate) fn output_of(alloc: Global, steps: &[Step]) -> Result<String, Memory>
     Ok(output)
 }
 
-/// Smallest frames of link 17, in the order in which they are played, come to these verdicts.
-pub(crate) fn check_steps_with(
-    rt: &impl Abort,
-    alloc: Global,
-    config: &Config,
-    steps: &[Step],
-) -> Result<(), Fail> {
+/// Smallest frames of link 17, in the order in which they are played, come to these verdicts with the
+/// built-in configuration.
+pub(crate) fn check_steps(rt: &impl Abort, alloc: Global, steps: &[Step]) -> Result<(), Fail> {
+    let config = first(alloc)?;
     let a = trace_of(alloc, Net::A, steps)?;
     let b = trace_of(alloc, Net::B, steps)?;
     let output = output_of(alloc, steps)?;
-    check_output(rt, alloc, config, a.as_str(), b.as_str(), output.as_str());
+    check_output(rt, alloc, &config, a.as_str(), b.as_str(), output.as_str());
     Ok(())
-}
-
-/// The same with the built-in configuration.
-pub(crate) fn check_steps(rt: &impl Abort, alloc: Global, steps: &[Step]) -> Result<(), Fail> {
-    let config = first(alloc)?;
-    check_steps_with(rt, alloc, &config, steps)
 }

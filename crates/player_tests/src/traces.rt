@@ -5,7 +5,7 @@ use std::alloc::{AllocError, Global};
 use std::process::Abort;
 use std::test::Fail;
 use test_inputs::first;
-use trace_player::{PlayFault, TraceCause};
+use trace_player::{PlayFault, TraceCause, play_texts};
 use vl_config::Config;
 
 /// A trace of network A, and the output.
@@ -35,6 +35,18 @@ fn empty_lines_and_comments_are_skipped(rt: HostRuntime) -> Result<(), Fail> {
     for (trace, output) in accepted() {
         check_output(&rt, rt.alloc(), &config, trace, "", output);
     }
+    Ok(())
+}
+
+fn check_texts(rt: &impl Abort, alloc: Global, config: &Config) {
+    let output = play_texts(alloc, config, b"5 00\n", b"4 0000").ok();
+    let wanted: &[u8] = b"4 B filtered too-short\n5 A filtered too-short\n";
+    assert!(rt; output.is_some_and(|output| output.as_slice() == wanted));
+}
+
+#[test]
+fn texts_in_memory_are_played(rt: HostRuntime) -> Result<(), Fail> {
+    check_texts(&rt, rt.alloc(), &first(rt.alloc())?);
     Ok(())
 }
 

@@ -1,7 +1,7 @@
 //! IPv4 packets and UDP datagrams as they are read, and their faults.
 use crate::frames::frame_from;
 use es_base::UdpFault;
-use frame_reader::{Packet, read_packet, read_udp};
+use frame_reader::{Packet, read_packet, read_udp, read_udp_head};
 use std::alloc::Global;
 use std::process::Abort;
 use std::test::Fail;
@@ -38,6 +38,30 @@ fn the_smallest_packet_is_read_field_by_field(rt: HostRuntime) -> Result<(), Fai
     Ok(())
 }
 
+/// The first 8 octets, with zeros where there are fewer.
+fn head_of(octets: &[u8]) -> [u8; 8] {
+    let mut head = [0; 8];
+    for i in 0..octets.len().min(8) {
+        head[i] = octets[i];
+    }
+    head
+}
+
+fn check_smallest_head(rt: &impl Abort, octets: &[u8]) {
+    let head = read_udp_head(&head_of(octets), octets.len()).expect(rt, "a UDP header");
+    assert_eq!(rt; head.source_port, 5001);
+    assert_eq!(rt; head.destination_port, 5000);
+    assert_eq!(rt; head.payload_octets, 17);
+}
+
+#[test]
+fn a_udp_header_is_read_in_the_first_octets(rt: HostRuntime) -> Result<(), Fail> {
+    let octets = smallest(rt.alloc(), 7)?;
+    let packet = packet_from(&rt, &octets);
+    check_smallest_head(&rt, packet.octets);
+    Ok(())
+}
+
 /// The IPv4 header of a fragment, and its offset in octets.
 type Fragment = (&'static str, u32);
 
@@ -69,6 +93,8 @@ fn fragments_are_read(rt: HostRuntime) -> Result<(), Fail> {
 
 fn check_udp(rt: &impl Abort, octets: &[u8], fault: Option<UdpFault>) {
     assert_eq!(rt; read_udp(octets).err(), fault);
+    let head = head_of(octets);
+    assert_eq!(rt; read_udp_head(&head, octets.len()).err(), fault);
 }
 
 #[test]

@@ -1,7 +1,7 @@
 //! What the headers of IPv4 and UDP decide about a frame.
 use crate::receive::{POS, receive_all};
 use es_base::PacketFault::{Checksum, HeaderLength, Protocol, TotalLength, Version};
-use es_base::Verdict::{BadFragment, BadHeader, BadUdp, NoPort, Sampled};
+use es_base::Verdict::{BadHeader, BadUdp, NoPort, Sampled};
 use es_base::{Net, Verdict};
 use std::alloc::Global;
 use std::process::Abort;
@@ -57,8 +57,8 @@ fn faults_of_the_ip_header() -> [Row; 8] {
     ]
 }
 
-/// Don't-fragment and the reserved flag aren't looked at. Fragments aren't joined yet.
-fn flags_of_the_ip_header() -> [Row; 4] {
+/// Don't-fragment and the reserved flag aren't looked at.
+fn flags_of_the_ip_header() -> [Row; 2] {
     [
         (
             "4500002d0001400001118dcc0a010101e0e00011",
@@ -70,8 +70,6 @@ fn flags_of_the_ip_header() -> [Row; 4] {
             UDP,
             Sampled(POS, 1),
         ),
-        ("45000024000220000111add40a010101e0e00011", UDP, BadFragment),
-        ("45000024000200020111cdd20a010101e0e00011", UDP, BadFragment),
     ]
 }
 
@@ -111,7 +109,7 @@ fn ip_headers_are_refused_by_their_first_fault(rt: HostRuntime) -> Result<(), Fa
 }
 
 #[test]
-fn fragments_are_refused_and_other_flags_ignored(rt: HostRuntime) -> Result<(), Fail> {
+fn other_flags_are_ignored(rt: HostRuntime) -> Result<(), Fail> {
     check_frames(&rt, rt.alloc(), &flags_of_the_ip_header())
 }
 

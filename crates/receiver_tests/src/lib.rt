@@ -3,9 +3,13 @@
 #![tactic(auto)]
 
 #[cfg(test)]
+mod fragments;
+#[cfg(test)]
 mod headers;
 #[cfg(test)]
 mod integrity;
+#[cfg(test)]
+mod many;
 #[cfg(test)]
 mod messages;
 #[cfg(test)]

@@ -9,7 +9,7 @@ use Rattle.hex_trace.specs.declared.frames.TimedFrame.{TimedFrame}
 use Rattle.hex_trace.specs.declared.fault.TraceFault.{TraceFault}
 use Rattle.hex_trace.specs.declared.fault.TraceFault.TheVariants as of_trace
 use Rattle.hex_trace.specs.Source.{Given}
-use Rattle.hex_trace.specs.Trace.{ReadsTrace}
+use Rattle.hex_trace.specs.Trace.{ReadsTrace, frames_in}
 use Rattle.trace_player.specs.declared.fault.PlayFault.{PlayFault}
 use Rattle.trace_player.specs.declared.fault.PlayFault.TheVariants.{Trace, Read, Write, Memory}
 use Rattle.trace_player.specs.Merge.{merged}
@@ -67,6 +67,11 @@ Played c a b contents has_failed old new (Err Memory) = (a.failed ≡ false) × 
 -- the links' states are those after the frames of both traces
 abbrev pub AreAfter : Configuration → List TimedFrame → List TimedFrame → List Link → Type 0
 AreAfter c frames_a frames_b states = states ≡ states_after c (reverse (merged frames_a frames_b))
+
+-- both texts are traces, and this is their output
+abbrev pub IsOutputOf : Configuration → List ℕ → List ℕ → List ℕ → Type 0
+IsOutputOf c a b output =
+    (frames_a : List TimedFrame) × ((frames_b : List TimedFrame) × (frames_in a ≡ Ok frames_a) × (frames_in b ≡ Ok frames_b) × (output ≡ output_of c frames_a frames_b))
 
 -- the same where a run returns the links' states, seen through `view`
 abbrev pub Replayed : {S X : Type 0} → (X → List Link) → Configuration → Given → Given → (S → Option (List ℕ)) → (S → Bool) → S → S → Result X PlayFault → Type 0

@@ -12,5 +12,5 @@ mod text;
 
 pub use fault::PlayFault;
 pub use hex_trace::{Device, Failed, Source, TraceCause};
-pub use player::{play, replay};
+pub use player::{play, play_texts, replay, write_whole};
 pub use sink::Sink;

@@ -1,12 +1,12 @@
 //! A whole run: from the bytes of a trace to the bytes of the output.
-ghost use Rattle.std.specs.Prelude.{◌≡◌, IfErr, false};
+ghost use Rattle.std.specs.Prelude.{◌≡◌, IfErr, IfOk, false};
 ghost use Rattle.es_base.specs.declared.place.Net.TheVariants.{A as net_a};
-ghost use Rattle.trace_player.specs.Play.{ReadsTraceOf, WritesWhole, Played, Replayed, IsFaultOfTrace};
+ghost use Rattle.trace_player.specs.Play.{ReadsTraceOf, WritesWhole, Played, Replayed, IsFaultOfTrace, IsOutputOf};
 
 use crate::run::{new_states, output_of};
 use crate::{PlayFault, Sink};
 use es_base::{Config, Net};
-use hex_trace::{Frames, Source, TraceFault, read_trace};
+use hex_trace::{Device, Frames, Source, TraceFault, read_trace};
 use link_receiver::LinkState;
 use std::alloc::Global;
 
@@ -34,6 +34,17 @@ pub fn play<A: Source, B: Source, W: Sink>(
 {
     replay(alloc, config, a, b, out)?;
     Ok(())
+}
+
+/// Plays two texts that are in memory, and returns the output.
+pub fn play_texts(alloc: Global, config: &Config, a: &[u8], b: &[u8]) -> Result<Vec<u8>, PlayFault>
+    ensures { IfOk result (λ output. IsOutputOf config.now a.now b.now output.items) }
+{
+    let mut a = Device::new(a);
+    let mut b = Device::new(b);
+    let mut out = Device::new(Vec::new(alloc));
+    play(alloc, config, &mut a, &mut b, &mut out)?;
+    Ok(out.inner)
 }
 
 /// Plays as `play` does, and returns the links' states, in the order of the configuration: each has the
@@ -83,8 +94,9 @@ fn trace_of<S: Source>(
     }
 }
 
-/// Writes all the bytes.
-fn write_whole<W: Sink>(out: &mut W, bytes: &[u8]) -> Result<(), PlayFault>
+/// Writes all the bytes. Write is returned where a write failed, or took nothing; then a beginning of
+/// them was written.
+pub fn write_whole<W: Sink>(out: &mut W, bytes: &[u8]) -> Result<(), PlayFault>
     requires { W.has_failed out.old ≡ false }
     ensures { WritesWhole bytes.now (W.contents out.old) (W.contents out.new) (W.has_failed out.new) result }
 {

@@ -1,7 +1,7 @@
 //! The frames of two traces through the receivers of their links, and the text of what they came to.
-ghost use Rattle.std.specs.Prelude.{◌≡◌, ◌∷◌, ◌++◌, List, [], ◌≤◌, OnOk, IfOk, length, map, reverse, string_bytes, true};
+ghost use Rattle.std.specs.Prelude.{◌≡◌, ◌∷◌, ◌++◌, List, [], OnOk, IfOk, map, reverse, string_bytes, true};
 ghost use Rattle.es_base.specs.declared.event.Arrival.{Arrival};
-ghost use Rattle.es_base.specs.Limits.{shortest_frame};
+ghost use Rattle.es_base.specs.Frame.{IsFrame};
 ghost use Rattle.es_base.specs.Addressing.{addressee_of};
 ghost use Rattle.link_receiver.specs.Link.{past_of, verdict_after, with_event};
 ghost use Rattle.trace_player.specs.Histories.{states_after};
@@ -80,7 +80,7 @@ fn take_frame(
     arrival: Arrival,
     text: &mut String,
 ) -> Result<(), Memory>
-    requires long { shortest_frame ≤ length arrival.frame }
+    requires frame { IsFrame arrival.frame }
     requires link { state.old.settings.vl ≡ addressee_of arrival.frame }
     ensures state { OnOk result (state.new ≡ with_event state.old arrival true (verdict_after state.old arrival true)) }
     ensures line { OnOk result (string_bytes text.new

@@ -3,8 +3,8 @@ ghost use Rattle.std.specs.Prelude.{◌≡◌, ◌≤◌, ◌||◌, ℕ, Bool, L
 ghost use Rattle.std.specs.Io.KnownBytes.{WriteAppends};
 ghost use Rattle.trace_player.specs.Sink.{is_refused};
 
-use hex_trace::{Device, Failed};
-use std::io::{self, ErrorKind};
+use hex_trace::{Device, Failed, told};
+use std::io;
 
 /// A writer of the output.
 pub trait Sink {
@@ -28,19 +28,22 @@ impl<T: io::Write> Sink for Device<T> {
 
     fn write(&mut self, piece: &[u8]) -> Result<usize, Failed> {
         for _ in 0..u64::MAX {
-            match self.inner.write(piece) {
-                Ok(count) => {
-                    self.failed |= count == 0 && !piece.is_empty();
-                    return Ok(count);
-                }
-                Err(e) => {
-                    if e.kind() != ErrorKind::Interrupted {
-                        break;
-                    }
-                }
+            if let Some(answer) = told(self.inner.write(piece)) {
+                self.failed |= is_refused(answer, piece);
+                return answer;
             }
         }
         self.failed = true;
         Err(Failed)
+    }
+}
+
+/// Whether a write of a piece failed, or took nothing of a piece that isn't empty.
+fn is_refused(answer: Result<usize, Failed>, piece: &[u8]) -> bool
+    ensures { result ≡ is_refused answer piece.now }
+{
+    match answer {
+        Ok(count) => count == 0 && !piece.is_empty(),
+        Err(_) => true,
     }
 }

@@ -71,6 +71,10 @@ abbrev pub values_in : Items → List Data
 values_in no_items = []
 values_in (item value items) = value ∷ values_in items
 
+-- the array that a value is
+abbrev pub items_from : Key → Data → Result Items ConfigFault
+items_from key value = ok_or (as_array value) (Kind key)
+
 -- the table that a value is
 abbrev pub table_from : Key → Data → Result Members ConfigFault
 table_from key value = ok_or (as_table value) (Kind key)
@@ -85,6 +89,6 @@ at_most most tables = if nat_le (length tables) most then Ok tables else Err Too
 -- the tables of an array of up to `most` tables
 abbrev pub tables_from : Key → ℕ → Data → Result (List Members) ConfigFault
 tables_from key most value = do
-  items ← ok_or (as_array value) (Kind key)
+  items ← items_from key value
   tables ← tables_in key items
   at_most most tables

@@ -3,6 +3,8 @@ ghost use Rattle.std.specs.Prelude.{◌≡◌, ◌≤◌, map, option_map, lengt
 ghost use Rattle.toml.specs.View.{view, table_view};
 ghost use Rattle.es_base.specs.Config.{AreLinks};
 ghost use Rattle.es_base.specs.Limits.{most_links};
+ghost use Rattle.toml.specs.Errors.{IsMemory};
+ghost use Rattle.vl_config.specs.declared.fault.ConfigFault.TheVariants.{Memory, Text};
 ghost use Rattle.vl_config.specs.Fault.{GivesOrMemory};
 ghost use Rattle.vl_config.specs.Document.{config_in, config_from, constant_if, octets_from, link_tables};
 ghost use Rattle.vl_config.specs.Link.{links_from};
@@ -13,6 +15,7 @@ use crate::{Config, ConfigFault, Key, MOST_LINKS};
 use es_base::Links;
 use hex::FromHex;
 use std::alloc::Global;
+use toml::de::Error;
 use toml::{Table, Value};
 
 /// The constant field of frames where the document has none (own).
@@ -27,10 +30,19 @@ const DEFAULT_CONSTANT: [u8; 4] = [3, 0, 0, 0];
 pub fn read_config(alloc: Global, text: &str) -> Result<Config, ConfigFault>
     ensures { GivesOrMemory (λ config. config) result (config_in text.now) }
 {
-    match toml::table_from_str(alloc, text) {
-        Ok(document) => config_from(alloc, &document),
-        Err(error) if error.is_memory() => Err(ConfigFault::Memory),
-        Err(_) => Err(ConfigFault::Text),
+    let document = toml::table_from_str(alloc, text).map_err(document_fault)?;
+    config_from(alloc, &document)
+}
+
+/// The fault of a text that `toml` refuses.
+fn document_fault(error: Error) -> ConfigFault
+    ensures memory { IsMemory error → result ≡ Memory }
+    ensures text { ¬ IsMemory error → result ≡ Text }
+{
+    if error.is_memory() {
+        ConfigFault::Memory
+    } else {
+        ConfigFault::Text
     }
 }
 

@@ -3,7 +3,7 @@ ghost use Rattle.std.specs.Prelude.{◌≡◌, ◌≤◌, map, length, option_ma
 ghost use Rattle.toml.specs.View.{view, table_view, items_view};
 ghost use Rattle.es_base.specs.Returns.{Gives};
 ghost use Rattle.vl_config.specs.Fault.{GivesOrMemory};
-ghost use Rattle.vl_config.specs.Table.{value_at, required, text_at, text_from, flag_or, tables_from, tables_in};
+ghost use Rattle.vl_config.specs.Table.{value_at, required, text_at, text_from, flag_or, items_from, table_from, at_most, tables_from, tables_in};
 ghost use Rattle.vl_config.specs.Table.{integer_at, integer_or, integer_from, within, u16_value_at};
 
 use crate::{ConfigFault, Key};
@@ -118,10 +118,33 @@ pub(crate) fn tables_from<'a>(
         (tables_from key most (view value.now)) }
     ensures limit { IfOk result (λ tables. length tables.items ≤ most) }
 {
-    let Some(items) = value.as_array() else {
-        return Err(ConfigFault::Kind(key));
-    };
-    let tables = tables_in(alloc, items, key)?;
+    let tables = tables_in(alloc, items_from(value, key)?, key)?;
+    at_most(tables, most)
+}
+
+/// The values of the array that this value is.
+fn items_from(value: &Value, key: Key) -> Result<&[Value], ConfigFault>
+    ensures { Gives (λ items. items_view items.now) result (items_from key (view value.now)) }
+{
+    match value.as_array() {
+        Some(items) => Ok(items),
+        None => Err(ConfigFault::Kind(key)),
+    }
+}
+
+/// The table that this value is.
+fn table_from(value: &Value, key: Key) -> Result<&Table, ConfigFault>
+    ensures { Gives (λ table. table_view table.now) result (table_from key (view value.now)) }
+{
+    value.as_table().ok_or(ConfigFault::Kind(key))
+}
+
+/// These tables, where there are up to `most`.
+fn at_most(tables: Vec<&Table>, most: usize) -> Result<Vec<&Table>, ConfigFault>
+    ensures value { Gives (λ tables. map (λ table. table_view table.now) tables.items) result
+        (at_most most (map (λ table. table_view table.now) tables.entry.items)) }
+    ensures limit { IfOk result (λ tables. length tables.items ≤ most) }
+{
     if tables.len() <= most {
         Ok(tables)
     } else {
@@ -135,10 +158,7 @@ fn tables_in<'a>(alloc: Global, items: &'a [Value], key: Key) -> Result<Vec<&'a 
 {
     let mut tables = Vec::with_capacity(alloc, items.len())?;
     for item in items {
-        match item.as_table() {
-            None => return Err(ConfigFault::Kind(key)),
-            Some(table) => tables.push(table)?,
-        }
+        tables.push(table_from(item, key)?)?;
     }
     Ok(tables)
 }

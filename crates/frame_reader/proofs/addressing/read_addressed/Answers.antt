@@ -1,6 +1,5 @@
-use Rattle.std.proofs.Common.{◌≡◌, ◌≤◌, Ok, Some, None, length, rules}
-use Rattle.es_base.specs.Limits.{shortest_frame}
-use Rattle.es_base.specs.Frame.{frame_of, parts_of}
+use Rattle.std.proofs.Common.{◌≡◌, Ok, Some, None, rules}
+use Rattle.es_base.specs.Frame.{IsFrame, frame_of, parts_of}
 use Rattle.es_base.specs.Config.{link_of}
 use Rattle.es_base.specs.Addressing.{addressee_of}
 use Rattle.frame_reader.proofs.Found.{comes_to_place, unknown_link}
@@ -12,8 +11,9 @@ returns-in-Some-clause-place c =
     let octets = c.args.bytes.now in
     let is_frame : frame_of config.constant octets ≡ Ok (parts_of octets) = search rules in
     let first : link_of config.links (addressee_of octets) ≡ Some c.in-Some.place = search rules in
-    let long : shortest_frame ≤ length octets = search rules in
-    comes_to_place config octets c.in-Some.place is_frame first c.in-Some.ensures.bound long c.in-Some.ensures.limits
+    let frame = c.in-Ok.frame in
+    let framed : IsFrame octets = record { short = search rules; long = search rules; carries = search rules } in
+    comes_to_place config octets c.in-Some.place is_frame first c.in-Some.ensures.bound framed c.in-Some.ensures.limits
 
 pub returns-in-None-clause-filtered : goal.returns-in-None-clause-filtered
 returns-in-None-clause-filtered c =

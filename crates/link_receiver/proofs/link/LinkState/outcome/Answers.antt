@@ -24,4 +24,4 @@ returns-clause-value c =
     let a = arrived c.args.net c.args.now c.args.frame.now.whole.now in
     let passing = c.passes.ensures _ _ a c.self.invariant.checked refl (sym c.args.frame.now.number_is) in
     let is_copy = c.is_redundant.ensures _ _ a c.self.invariant.checked (sym c.redundancy-managed.ensures) (sym c.args.frame.now.number_is) refl in
-    rw (← c.self.view_is, ← passing, c.if-not-passes.false, ← is_copy, c.if-is_redundant.false) c.brought_by.ensures.value
+    rw (← c.self.view_is, ← passing, c.if-not-passes.false, ← is_copy, c.if-is_redundant.false) (rw (← c.self.view_is) at c.forwarded_outcome.ensures.value)

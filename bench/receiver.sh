@@ -1,0 +1,246 @@
+#!/usr/bin/env bash
+# receiver.sh GENERATOR [FRAMES]
+#
+# Times the receiver alone, on frames that are in memory already: those of the traces that GENERATOR makes
+# of each profile (called as by beside.py; FRAMES of them, default 1,000,000). Each frame is read, its link
+# is found, and the link takes it. Prints nanoseconds a frame, the least and the median of eight passes, and
+# the longest single call, where for each call the least of eight passes counts; and picoseconds an octet
+# of decoding the digits of 10,000 frames, by `decode_digits` and by `hex`. Two networks of 100 Mbit/s bring at most 148,810
+# smallest frames a second each, one in 3,360 ns. The program is built in a folder of its own beside copies
+# of the crates, since it prints other numbers each time.
+set -eu
+if [ $# -lt 1 ]; then
+    echo "usage: receiver.sh GENERATOR [FRAMES]" >&2
+    exit 2
+fi
+generator=$1
+frames=${2:-1000000}
+here=$(cd "$(dirname "$0")/.." && pwd)
+folder=$(mktemp -d)
+trap 'rm -rf "$folder"' EXIT
+crate=$folder/crates/receiver_bench
+mkdir -p "$crate/src" "$crate/specs"
+cp "$here/HANDLES" "$folder"
+while IFS=: read -r name _; do
+    case $name in
+        '' | '#'*) ;;
+        *_tests | test_inputs | command_line | program | afdx_play) ;;
+        *) cp -r "$here/crates/$name" "$folder/crates" ;;
+    esac
+done < "$here/crates.txt"
+{
+    grep -vE '^#|_tests:|^(test_inputs|command_line|program|afdx_play):' "$here/crates.txt"
+    echo 'receiver_bench: es_base frame_reader vl_config link_receiver hex_trace hex'
+} > "$folder/crates.txt"
+touch "$crate/specs/Lib.antt"
+cat > "$crate/src/main.rt" <<'END'
+#![tactic(auto)]
+ghost use Rattle.std.specs.Prelude.{◌≡◌};
+
+use es_base::{Arrival, Config, Memory, Net, Octets};
+use frame_reader::read_addressed;
+use hex_trace::{Device, Frames, TimedFrame, decode_digits, read_trace};
+use link_receiver::LinkState;
+use std::alloc::Global;
+use std::fs::{self, File};
+use std::io::{self, ErrorKind};
+use std::time::Instant;
+use vl_config::read_config;
+
+/// How often each call is timed.
+const PASSES: usize = 8;
+
+/// Of how many frames the digits are decoded, at most.
+const DECODED: usize = 10_000;
+
+fn refused() -> io::Error {
+    io::Error::from(ErrorKind::InvalidData)
+}
+
+fn config_at(rt: &HostRuntime, path: &str) -> io::Result<Config> {
+    let text = fs::read_to_string(rt, path)?;
+    match read_config(rt.alloc(), text.as_str()) {
+        Ok(config) => Ok(config),
+        Err(_) => Err(refused()),
+    }
+}
+
+fn frames_at(rt: &HostRuntime, path: &str) -> io::Result<Frames> {
+    let mut source = Device::new(File::open(rt, path)?);
+    match read_trace(rt.alloc(), &mut source, &mut Vec::new(rt.alloc())) {
+        Ok(frames) => Ok(frames),
+        Err(_) => Err(refused()),
+    }
+}
+
+fn arrived(net: Net, timed: TimedFrame) -> Arrival {
+    Arrival {
+        net,
+        time: timed.time,
+        frame: timed.frame,
+    }
+}
+
+/// The next frame of two traces; on equal times that of A.
+fn next_of(a: &mut Frames, b: &mut Frames) -> Option<Arrival> {
+    let b_is_first = match (a.time(), b.time()) {
+        (Some(a), Some(b)) => b < a,
+        (first, _) => first.is_none(),
+    };
+    if b_is_first {
+        Some(arrived(Net::B, b.next()?))
+    } else {
+        Some(arrived(Net::A, a.next()?))
+    }
+}
+
+fn merged(alloc: Global, mut a: Frames, mut b: Frames) -> Result<Vec<Arrival>, Memory> {
+    let mut arrivals = Vec::new(alloc);
+    for _ in 0..u64::MAX {
+        match next_of(&mut a, &mut b) {
+            Some(arrival) => arrivals.push(arrival)?,
+            None => return Ok(arrivals),
+        }
+    }
+    Ok(arrivals)
+}
+
+fn new_states(alloc: Global, config: &Config) -> Result<Vec<LinkState>, Memory> {
+    let mut states = Vec::new(alloc);
+    for link in config.links() {
+        states.push(LinkState::new(alloc, link)?)?;
+    }
+    Ok(states)
+}
+
+fn take_one(
+    alloc: Global,
+    config: &Config,
+    states: &mut [LinkState],
+    arrival: &Arrival,
+) -> Result<(), Memory> {
+    if let Ok((place, frame)) = read_addressed(config, arrival.frame.as_slice()) {
+        if let Some(state) = states.get_mut(place) {
+            if state.settings().vl().0 == frame.vl.0 {
+                let _verdict = state.take(alloc, arrival.net, arrival.time, &frame)?;
+            }
+        }
+    }
+    Ok(())
+}
+
+/// Nanoseconds for all frames.
+fn one_pass(rt: &HostRuntime, config: &Config, arrivals: &[Arrival]) -> io::Result<u128> {
+    let mut states = new_states(rt.alloc(), config)?;
+    let start = Instant::now(rt)?;
+    for arrival in arrivals {
+        take_one(rt.alloc(), config, &mut states, arrival)?;
+    }
+    Ok(start.elapsed(rt)?.as_nanos())
+}
+
+/// Nanoseconds of each call in one pass, where that is less than in the passes before.
+fn time_calls(
+    rt: &HostRuntime,
+    config: &Config,
+    arrivals: &[Arrival],
+    times: &mut [u128],
+) -> io::Result<()> {
+    let mut states = new_states(rt.alloc(), config)?;
+    for (arrival, time) in arrivals.iter().zip(times.iter_mut()) {
+        let start = Instant::now(rt)?;
+        take_one(rt.alloc(), config, &mut states, arrival)?;
+        *time = (*time).min(start.elapsed(rt)?.as_nanos());
+    }
+    Ok(())
+}
+
+/// Nanoseconds of the longest call. Each pass does the same work at each call, so the least of its times
+/// is counted, and what other programs took from it is not.
+fn longest_call(rt: &HostRuntime, config: &Config, arrivals: &[Arrival]) -> io::Result<u128> {
+    let mut times = vec![in rt.alloc(); u128::MAX; arrivals.len()]?;
+    for _ in 0..PASSES {
+        time_calls(rt, config, arrivals, &mut times)?;
+    }
+    Ok(times.iter().copied().max().unwrap_or(0))
+}
+
+/// The frames' digits, and how many octets they say.
+fn digits_of(alloc: Global, arrivals: &[Arrival]) -> Result<(Vec<String>, u128), Memory> {
+    let mut texts = Vec::new(alloc);
+    let mut octets = 0u128;
+    for arrival in arrivals.iter().take(DECODED) {
+        octets = octets.wrapping_add(arrival.frame.len() as u128);
+        texts.push(hex::encode(alloc, arrival.frame.as_slice())?)?;
+    }
+    Ok((texts, octets))
+}
+
+fn time_ours(rt: &HostRuntime, texts: &[String]) -> io::Result<u128> {
+    let mut octets = 0usize;
+    let start = Instant::now(rt)?;
+    for text in texts {
+        if let Ok(decoded) = decode_digits(rt.alloc(), text.as_bytes()) {
+            octets = octets.wrapping_add(decoded.len());
+        }
+    }
+    let time = start.elapsed(rt)?.as_nanos();
+    if octets == 0 { Err(refused()) } else { Ok(time) }
+}
+
+fn time_hex(rt: &HostRuntime, texts: &[String]) -> io::Result<u128> {
+    let mut octets = 0usize;
+    let start = Instant::now(rt)?;
+    for text in texts {
+        if let Ok(decoded) = hex::decode(rt.alloc(), text.as_bytes()) {
+            octets = octets.wrapping_add(decoded.len());
+        }
+    }
+    let time = start.elapsed(rt)?.as_nanos();
+    if octets == 0 { Err(refused()) } else { Ok(time) }
+}
+
+fn show_receiver(rt: &HostRuntime, config: &Config, arrivals: &[Arrival]) -> io::Result<()> {
+    let mut times = Vec::new(rt.alloc());
+    for _ in 0..PASSES {
+        times.push(one_pass(rt, config, arrivals)?)?;
+    }
+    times.sort()?;
+    let frames = (arrivals.len() as u128).max(1);
+    let least = times.first().copied().unwrap_or(0) / frames;
+    let median = times.get(4).copied().unwrap_or(0) / frames;
+    let longest = longest_call(rt, config, arrivals)?;
+    println!(rt; "  {least} ns a frame, median {median}; the longest call {longest} ns")
+}
+
+fn show_decoder(rt: &HostRuntime, arrivals: &[Arrival]) -> io::Result<()> {
+    let (texts, octets) = digits_of(rt.alloc(), arrivals)?;
+    let mut ours = u128::MAX;
+    let mut theirs = u128::MAX;
+    for _ in 0..PASSES {
+        ours = ours.min(time_ours(rt, &texts)?);
+        theirs = theirs.min(time_hex(rt, &texts)?);
+    }
+    let octets = octets.max(1);
+    let (ours, theirs) = (ours.wrapping_mul(1000) / octets, theirs.wrapping_mul(1000) / octets);
+    println!(rt; "  decoding {ours} ps an octet, by hex {theirs}")
+}
+
+fn main(rt: HostRuntime) -> io::Result<()> {
+    let config = config_at(&rt, "config.toml")?;
+    let a = frames_at(&rt, "a.trace")?;
+    let b = frames_at(&rt, "b.trace")?;
+    let arrivals = merged(rt.alloc(), a, b)?;
+    show_receiver(&rt, &config, &arrivals)?;
+    show_decoder(&rt, &arrivals)
+}
+END
+cd "$crate"
+rt run < /dev/null > "$folder/log" 2>&1 || true
+[ -x out/receiver_bench ] || { tail -n 40 "$folder/log" >&2; exit 1; }
+for profile in sampling queuing fragments mixed; do
+    python3 "$generator" --frames "$frames" --profile "$profile" --out-dir "$folder/traces"
+    echo "$profile, $frames frames"
+    (cd "$folder/traces" && "$crate/out/receiver_bench")
+    rm -r "$folder/traces"
+done

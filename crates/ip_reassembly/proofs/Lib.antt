@@ -1,0 +1,7 @@
+pub mod Datagrams
+pub mod Latest
+pub mod Written
+pub mod Lists
+pub mod Stands
+pub mod Fates
+pub mod Apartness

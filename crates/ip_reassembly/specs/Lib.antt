@@ -1,0 +1,6 @@
+pub mod Held
+pub mod Covering
+pub mod Kept
+pub mod Answers
+pub mod Ends
+pub mod Apart

@@ -1,0 +1,146 @@
+//! The buffer of one partial datagram.
+ghost use Rattle.std.specs.Prelude.{◌≡◌, ℕ, ◌+◌, ◌<◌, ◌≤◌, List, [], ◌∷◌, length, slice_index, nat_lt, Some, IfSome, IfOk, option_map, if◌then◌else◌};
+ghost use Rattle.es_base.specs.Limits.{longest_joined};
+ghost use Rattle.es_base.specs.Fragments.{Piece, datagram_from};
+ghost use Rattle.es_base.specs.Udp.{head_of};
+ghost use Rattle.ip_reassembly.specs.Held.{Holds, written_at};
+
+use crate::cover::{are_covered, mark, set_all, unset};
+use es_base::Memory;
+use std::alloc::Global;
+use std::marker::Model;
+
+/// The longest datagram that is joined, in octets (own).
+pub const LONGEST_JOINED: usize = 8200;
+
+/// What came of one datagram: each octet at its place, and a mark for each that came.
+#[derive(Drop)]
+pub struct Buffer {
+    /// Where the datagram ends, once a piece with no more to follow came.
+    total: Option<usize>,
+    octets: Vec<u8>,
+    marks: Vec<bool>,
+}
+
+impl Model for Buffer {
+    ghost use Rattle.std.specs.Prelude.{◌≡◌, length};
+    ghost use Rattle.es_base.specs.Limits.{longest_joined};
+    ghost use Rattle.ip_reassembly.specs.Held.{Held};
+
+    ghost Value = { Held };
+
+    ghost view = { λ b. record { total = b.total; octets = b.octets.items; marks = b.marks.items } };
+
+    ghost invariant = { λ b. (length b.octets.items ≡ longest_joined) × (length b.marks.items ≡ longest_joined) };
+}
+
+impl Buffer {
+    /// A buffer for 8200 octets, of which none came.
+    pub(crate) fn new(alloc: Global) -> Result<Buffer, Memory>
+        ensures { IfOk result (λ buffer. Holds buffer []) }
+    {
+        let octets = zeros(alloc, LONGEST_JOINED)?;
+        let marks = unset(alloc, LONGEST_JOINED)?;
+        Ok(Buffer {
+            total: None,
+            octets,
+            marks,
+        })
+    }
+
+    /// Forgets all that came.
+    pub(crate) fn clear(&mut self)
+        ensures { Holds self.new [] }
+    {
+        self.total = None;
+        set_all(&mut self.marks, false);
+    }
+
+    /// One piece more. Its octets replace those that came before.
+    pub(crate) fn join(&mut self, more: bool, offset: usize, octets: &[u8])
+        requires { offset + length octets.now ≤ longest_joined }
+        ensures { (pieces : List Piece) (time : ℕ) → Holds self.old pieces →
+            Holds self.new (record { offset = offset; more = more; octets = octets.now; time = time } ∷ pieces) }
+    {
+        let end = offset + octets.len();
+        self.total = total_with(self.total, more, end);
+        write(&mut self.octets, offset, octets);
+        mark(&mut self.marks, offset, end);
+    }
+
+    /// The length of the datagram, if a piece of `len` octets from `offset` on completes it.
+    pub(crate) fn joined_with(&self, more: bool, offset: usize, len: usize) -> Option<usize>
+        requires { offset + len ≤ longest_joined }
+        ensures joined { (pieces : List Piece) (piece : Piece) → Holds self.now pieces →
+            piece.more ≡ more → piece.offset ≡ offset → length piece.octets ≡ len →
+            result ≡ option_map length (datagram_from (piece ∷ pieces)) }
+        ensures bound { IfSome result (λ total. total ≤ longest_joined) }
+    {
+        let end = offset + len;
+        let total = total_with(self.total, more, end)?;
+        if are_covered(&self.marks, offset, end, total) {
+            Some(total)
+        } else {
+            None
+        }
+    }
+
+    /// The first `len` octets, which are the datagram's where it is complete and so long.
+    pub(crate) fn octets(&self, len: usize) -> &[u8]
+        requires { len ≤ longest_joined }
+        ensures { (pieces : List Piece) (datagram : List ℕ) → Holds self.now pieces →
+            datagram_from pieces ≡ Some datagram → length datagram ≡ len → result.now ≡ datagram }
+    {
+        &self.octets[..len]
+    }
+
+    /// The first 8 octets of a datagram of `len` octets that this piece completes; zeros past its end.
+    pub(crate) fn head_with(&self, offset: usize, octets: &[u8], len: usize) -> [u8; 8]
+        ensures { (pieces : List Piece) (piece : Piece) (datagram : List ℕ) → Holds self.now pieces →
+            piece.offset ≡ offset → piece.octets ≡ octets.now →
+            datagram_from (piece ∷ pieces) ≡ Some datagram → length datagram ≡ len →
+            result ≡ head_of datagram }
+    {
+        let mut head = [0; 8];
+        for i in 0..len.min(8) {
+            head[i] = octet_with(&self.octets, offset, octets, i);
+        }
+        head
+    }
+}
+
+fn zeros(alloc: Global, places: usize) -> Result<Vec<u8>, Memory>
+    ensures { IfOk result (λ octets. length octets.items ≡ places) }
+{
+    Vec::from_elem(alloc, 0, places)
+}
+
+/// Where the datagram ends after one piece more, which ends at `end`: that is for the latest piece with no
+/// more to follow to say.
+fn total_with(total: Option<usize>, more: bool, end: usize) -> Option<usize>
+    ensures { result ≡ (if more then total else Some end) }
+{
+    if more { total } else { Some(end) }
+}
+
+/// Writes a piece over what was there.
+fn write(octets: &mut Vec<u8>, offset: usize, piece: &[u8])
+    requires { offset + length piece.now ≤ length octets.old.items }
+    ensures len { length octets.new.items ≡ length octets.old.items }
+    ensures places { (i : ℕ) →
+        slice_index octets.new.items i ≡ written_at octets.old.items offset piece.now i }
+{
+    octets[offset..offset + piece.len()].copy_from_slice(piece);
+}
+
+/// The octet at a place, where a piece were written over what is there.
+fn octet_with(octets: &[u8], offset: usize, piece: &[u8], place: usize) -> u8
+    requires { place < length octets.now }
+    ensures { result ≡ written_at octets.now offset piece.now place }
+{
+    if place >= offset && place - offset < piece.len() {
+        piece[place - offset]
+    } else {
+        octets[place]
+    }
+}

@@ -1,0 +1,55 @@
+//! What a packet alone says: whether it has a datagram whole, and whether it is a good fragment.
+ghost use Rattle.std.specs.Prelude.{◌≡◌};
+ghost use Rattle.es_base.specs.Fragments.{is_whole, is_bad, has_bad_length, key_of};
+ghost use Rattle.frame_reader.specs.Parts.{packet_parts};
+ghost use Rattle.es_base.specs.Udp.{head_of};
+
+use crate::buffer::LONGEST_JOINED;
+use es_base::DatagramKey;
+use frame_reader::Packet;
+
+/// Whether a packet has a datagram whole (RFC 791 3.1).
+pub(crate) fn is_whole(packet: &Packet<'_>) -> bool
+    ensures { result ≡ is_whole (packet_parts packet.now) }
+{
+    packet.offset == 0 && !packet.more
+}
+
+/// Whether a fragment is no piece of a datagram: its length is bad, or it ends past octet 8200, where the
+/// longest datagram ends that is joined (own).
+pub(crate) fn is_bad(packet: &Packet<'_>) -> bool
+    ensures { result ≡ is_bad (packet_parts packet.now) }
+{
+    let end = packet.offset as usize + packet.octets.len();
+    has_bad_length(packet) || end > LONGEST_JOINED
+}
+
+/// Whether more fragments follow one that is empty (own), or whose length is no multiple of 8 octets, the
+/// unit of offsets (RFC 791 3.1).
+fn has_bad_length(packet: &Packet<'_>) -> bool
+    ensures { result ≡ has_bad_length (packet_parts packet.now) }
+{
+    let len = packet.octets.len();
+    packet.more && (len == 0 || len % 8 != 0)
+}
+
+/// Which datagram a fragment is a piece of (RFC 791 3.2).
+pub(crate) fn key_of(packet: &Packet<'_>) -> DatagramKey
+    ensures { result ≡ key_of (packet_parts packet.now) }
+{
+    DatagramKey {
+        source: packet.source,
+        destination: packet.destination,
+        ident: packet.ident,
+    }
+}
+
+/// The first 8 octets, with zeros where there are fewer.
+pub(crate) fn head_of(octets: &[u8]) -> [u8; 8]
+    ensures { result ≡ head_of octets.now }
+{
+    let mut head = [0; 8];
+    let len = octets.len().min(8);
+    head[..len].copy_from_slice(&octets[..len]);
+    head
+}

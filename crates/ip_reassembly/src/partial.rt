@@ -1,0 +1,122 @@
+//! One partial datagram, and a list of them.
+ghost use Rattle.std.specs.Prelude.{◌≡◌, ℕ, ◌+◌, ◌-◌, ◌<◌, ◌≤◌, List, [], ◌∷◌, length, take, position, remove, slice_get, Some, IfSome, IfOk, option_map};
+ghost use Rattle.es_base.specs.Limits.{longest_joined};
+ghost use Rattle.es_base.specs.Fragments.{Piece, piece_of, datagram_from};
+ghost use Rattle.es_base.specs.Groups.{Group, is_over, fate_if};
+ghost use Rattle.frame_reader.specs.Parts.{packet_parts};
+ghost use Rattle.ip_reassembly.specs.Answers.{preview_of};
+ghost use Rattle.ip_reassembly.specs.Held.{Holds};
+ghost use Rattle.ip_reassembly.specs.Kept.{IsPartial, has_key_of};
+
+use crate::Preview;
+use crate::buffer::Buffer;
+use es_base::{DatagramKey, Memory};
+use frame_reader::Packet;
+use std::alloc::Global;
+
+/// A datagram of which some pieces came; or a spare one, which waits to begin.
+#[derive(Drop)]
+pub struct Partial {
+    /// What its pieces share.
+    pub(crate) key: DatagramKey,
+    /// When its first piece came, in microseconds.
+    pub(crate) begin: u64,
+    pub(crate) buffer: Buffer,
+}
+
+impl Partial {
+    /// A spare one, of which nothing came.
+    pub(crate) fn spare(alloc: Global) -> Result<Partial, Memory>
+        ensures { IfOk result (λ partial. Holds partial.buffer []) }
+    {
+        let key = DatagramKey {
+            source: 0,
+            destination: 0,
+            ident: 0,
+        };
+        let buffer = Buffer::new(alloc)?;
+        Ok(Partial {
+            key,
+            begin: 0,
+            buffer,
+        })
+    }
+
+    /// Begins again with one piece, which comes now.
+    pub(crate) fn begin(&mut self, key: DatagramKey, packet: &Packet<'_>, now: u64)
+        requires { packet.now.offset + length packet.now.octets.now ≤ longest_joined }
+        ensures { IsPartial self.new (record { key = key; pieces = piece_of (packet_parts packet.now) now ∷ [] }) }
+    {
+        self.key = key;
+        self.begin = now;
+        self.buffer.clear();
+        self.join(packet);
+    }
+
+    /// One piece more.
+    pub(crate) fn join(&mut self, packet: &Packet<'_>)
+        requires { packet.now.offset + length packet.now.octets.now ≤ longest_joined }
+        ensures key { self.new.key ≡ self.old.key }
+        ensures begin { self.new.begin ≡ self.old.begin }
+        ensures holds { (pieces : List Piece) (time : ℕ) → Holds self.old.buffer pieces →
+            Holds self.new.buffer (piece_of (packet_parts packet.now) time ∷ pieces) }
+    {
+        self.buffer
+            .join(packet.more, packet.offset as usize, packet.octets);
+    }
+
+    /// The length of the datagram, if one piece more completes it.
+    pub(crate) fn joined_with(&self, packet: &Packet<'_>) -> Option<usize>
+        requires { packet.now.offset + length packet.now.octets.now ≤ longest_joined }
+        ensures joined { (pieces : List Piece) (time : ℕ) → Holds self.now.buffer pieces →
+            result ≡ option_map length (datagram_from (piece_of (packet_parts packet.now) time ∷ pieces)) }
+        ensures bound { IfSome result (λ len. len ≤ longest_joined) }
+    {
+        self.buffer
+            .joined_with(packet.more, packet.offset as usize, packet.octets.len())
+    }
+
+    /// What one piece more would make of it.
+    pub(crate) fn preview_with(&self, packet: &Packet<'_>) -> Preview
+        requires { packet.now.offset + length packet.now.octets.now ≤ longest_joined }
+        ensures { (pieces : List Piece) (time : ℕ) → Holds self.now.buffer pieces → result
+            ≡ preview_of (fate_if (datagram_from (piece_of (packet_parts packet.now) time ∷ pieces))) }
+    {
+        match self.joined_with(packet) {
+            None => Preview::Held,
+            Some(len) => Preview::Whole {
+                len,
+                head: self
+                    .buffer
+                    .head_with(packet.offset as usize, packet.octets, len),
+                joined: true,
+            },
+        }
+    }
+
+    /// Whether its first piece came longer ago than the limit of time, in microseconds (own).
+    pub(crate) fn is_over(&self, limit: u64, now: u64) -> bool
+        ensures { (group : Group) → IsPartial self.now group → result ≡ is_over limit now group }
+    {
+        now.saturating_sub(self.begin) > limit
+    }
+}
+
+/// The place of the first that has a key.
+pub(crate) fn place_among(partials: &[Partial], key: DatagramKey) -> Option<usize>
+    ensures value { result ≡ position (has_key_of key) partials.now }
+    ensures bound { IfSome result (λ place. place < length partials.now) }
+{
+    partials.iter().position(|partial| partial.key == key)
+}
+
+/// Of those that stand, moves the one at a place to the end, and those after it up.
+pub(crate) fn move_to_end(partials: &mut [Partial], place: usize, standing: usize)
+    requires place { place < standing }
+    requires standing { standing ≤ length partials.old }
+    ensures len { length partials.new ≡ length partials.old }
+    ensures others { take (standing - 1) partials.new ≡ remove (take standing partials.old) place }
+    ensures last { slice_get partials.new (standing - 1) ≡ slice_get (take standing partials.old) place }
+{
+    partials[place..standing].rotate_left(1);
+}

@@ -1,0 +1,288 @@
+//! The partial datagrams of one link.
+ghost use Rattle.std.specs.Prelude.{◌≡◌, ℕ, ◌+◌, ◌<◌, ◌≤◌, ◌==◌, List, [], ◌∷◌, ◌++◌, length, remove, slice_set, slice_get, Some, IfSome, IfOk};
+ghost use Rattle.std.specs.Borrow.{sem};
+ghost use Rattle.es_base.specs.Limits.{longest_joined, most_partials};
+ghost use Rattle.es_base.specs.Fragments.{piece_of, key_of, datagram_from};
+ghost use Rattle.es_base.specs.Groups.{Group, place_of, found_for, group_with, with_room, without, fate, fate_if, groups_after};
+ghost use Rattle.frame_reader.specs.Parts.{packet_parts};
+ghost use Rattle.ip_reassembly.specs.Kept.{StandFor, StandsFor, Finds, joined_group};
+ghost use Rattle.ip_reassembly.specs.Answers.{preview_of, fate_seen};
+
+use crate::fragment::{head_of, is_bad, is_whole, key_of};
+use crate::partial::{Partial, move_to_end, place_among};
+use crate::{Offered, Preview};
+use arrayvec::ArrayVec;
+use es_base::{DatagramKey, Memory};
+use frame_reader::Packet;
+use std::alloc::Global;
+use std::marker::Model;
+
+/// The most partial datagrams that stand at one time (own).
+pub const MOST_PARTIALS: usize = 4;
+
+/// The pieces of datagrams that aren't complete yet.
+///
+/// Up to four partial datagrams stand (own). Where a fragment begins a fifth, the one that began first is
+/// given up, whichever was touched last. A datagram that comes whole gives up the partial one with its
+/// key: source, destination and identification.
+///
+/// A partial datagram whose first piece is older than the limit of time is given up when the next good
+/// fragment of its key comes, which begins a new one. Nothing is given up before, and no other key is
+/// looked at (own: the timer of RFC 791, which a fragment's time to live can raise, isn't used).
+#[derive(Drop)]
+pub struct Reassembly {
+    limit: u64,
+    /// How many partial datagrams stand.
+    standing: usize,
+    /// Those that stand come first, in the order in which they began; the others are spare.
+    partials: ArrayVec<Partial, MOST_PARTIALS>,
+}
+
+impl Model for Reassembly {
+    ghost use Rattle.std.specs.Prelude.{◌≡◌, ◌≤◌, take};
+    ghost use Rattle.arrayvec.specs.ArrayVec.{array_vec_len};
+    ghost use Rattle.es_base.specs.Limits.{most_partials};
+    ghost use Rattle.ip_reassembly.specs.Kept.{Kept};
+
+    ghost Value = { Kept };
+
+    ghost view = { λ r. record { limit = r.limit; partials = take r.standing r.partials.items } };
+
+    ghost invariant = { λ r. (array_vec_len r.partials ≡ most_partials) × (r.standing ≤ most_partials) };
+}
+
+impl Reassembly {
+    ghost use Rattle.ip_reassembly.specs.Ends.{EndsWith};
+
+    /// No partial datagrams. `limit` is the limit of time, in microseconds: how long pieces are waited
+    /// for after the first of them.
+    ///
+    /// All memory is taken here, and none after it: buffers for four datagrams of 8200 octets. The only
+    /// error is that there wasn't so much.
+    pub fn new(alloc: Global, limit: u64) -> Result<Reassembly, Memory>
+        ensures { IfOk result (λ reassembly. StandsFor reassembly limit []) }
+    {
+        let first = Partial::spare(alloc)?;
+        let second = Partial::spare(alloc)?;
+        let third = Partial::spare(alloc)?;
+        let fourth = Partial::spare(alloc)?;
+        Ok(Reassembly {
+            limit,
+            standing: 0,
+            partials: ArrayVec::from([first, second, third, fourth]),
+        })
+    }
+
+    /// The limit of time, in microseconds.
+    pub fn limit(&self) -> u64
+        ensures { result ≡ self.now.limit }
+    {
+        self.limit
+    }
+
+    /// What would become of a packet that comes at `now`, in microseconds: what `offer` would answer, but
+    /// with the first 8 octets of a datagram and its length. A caller can so take the memory that it needs
+    /// for a datagram, or read its UDP header, before anything has changed.
+    ///
+    /// Times may fall: where `now` is earlier than a partial datagram's first piece, its age is 0 (own).
+    pub fn preview(&self, packet: &Packet<'_>, now: u64) -> Preview
+        ensures { (limit : ℕ) (groups : List Group) → StandsFor self.now limit groups →
+            result ≡ preview_of (fate limit groups (packet_parts packet.now) now) }
+    {
+        if is_whole(packet) {
+            return Preview::Whole {
+                len: packet.octets.len(),
+                head: head_of(packet.octets),
+                joined: false,
+            };
+        }
+        if is_bad(packet) {
+            return Preview::Bad;
+        }
+        match self.found_for(key_of(packet), now) {
+            None => Preview::Held,
+            Some(place) => self.partial_at(place).preview_with(packet),
+        }
+    }
+
+    /// Takes a packet that comes at `now`, in microseconds, and says what becomes of it: `Bad` where it is
+    /// a fragment that is no piece, and then nothing has changed; `Held` where it is a piece of a datagram
+    /// that isn't complete; and else the datagram, whose partial one ends.
+    ///
+    /// The octets are the packet's own where nothing was joined. Else they are lent from the buffer that
+    /// they were joined in, without a copy.
+    pub fn offer<'a>(&'a mut self, packet: &'a Packet<'a>, now: u64) -> Offered<'a>
+        ensures answer { (limit : ℕ) (groups : List Group) → StandsFor self.old limit groups →
+            fate_seen result ≡ fate limit groups (packet_parts packet.now) now }
+        ensures* after { sem 𝓛 (EndsWith self.entry (λ r. (limit : ℕ) (groups : List Group) →
+            StandsFor self.old limit groups →
+            StandsFor r limit (groups_after limit groups (packet_parts packet.now) now))) }
+    {
+        let key = key_of(packet);
+        if is_whole(packet) {
+            self.give_up_key(key);
+            return Offered::Whole {
+                octets: packet.octets,
+                joined: false,
+            };
+        }
+        if is_bad(packet) {
+            return Offered::Bad;
+        }
+        match self.found_for(key, now) {
+            None => {
+                self.begin_anew(key, packet, now);
+                Offered::Held
+            }
+            Some(place) => self.offer_at(place, packet),
+        }
+    }
+
+    /// The place of the partial datagram with a key.
+    fn place_of(&self, key: DatagramKey) -> Option<usize>
+        ensures group { (groups : List Group) → StandFor self.now.partials groups → result ≡ place_of key groups }
+        ensures bound { IfSome result (λ place. place < length self.now.partials) }
+    {
+        place_among(&self.partials[..self.standing], key)
+    }
+
+    fn partial_at(&self, place: usize) -> &Partial
+        requires { place < length self.now.partials }
+        ensures { slice_get self.now.partials place ≡ Some result.now }
+    {
+        &self.partials[place]
+    }
+
+    /// The place of the partial datagram that a piece with this key joins.
+    fn found_for(&self, key: DatagramKey, now: u64) -> Option<usize>
+        ensures group { (groups : List Group) → StandFor self.now.partials groups →
+            Finds result groups key (found_for self.now.limit groups key now) }
+        ensures bound { IfSome result (λ place. place < length self.now.partials) }
+    {
+        let place = self.place_of(key)?;
+        if self.partial_at(place).is_over(self.limit, now) {
+            None
+        } else {
+            Some(place)
+        }
+    }
+
+    /// Gives up the partial datagram at a place.
+    fn give_up(&mut self, place: usize)
+        requires { place < length self.old.partials }
+        ensures stand { (groups : List Group) → StandFor self.old.partials groups →
+            StandFor self.new.partials (remove groups place) }
+        ensures one_less { length self.new.partials + 1 ≡ length self.old.partials }
+        ensures limit { self.new.limit ≡ self.old.limit }
+    {
+        move_to_end(&mut self.partials, place, self.standing);
+        self.standing -= 1;
+    }
+
+    /// Gives up the partial datagram with a key, if there is one.
+    fn give_up_key(&mut self, key: DatagramKey)
+        ensures stand { (groups : List Group) → StandFor self.old.partials groups →
+            StandFor self.new.partials (without groups (place_of key groups)) }
+        ensures limit { self.new.limit ≡ self.old.limit }
+    {
+        if let Some(place) = self.place_of(key) {
+            self.give_up(place);
+        }
+    }
+
+    /// Whether no partial datagram more may stand.
+    fn is_full(&self) -> bool
+        ensures value { result ≡ (length self.now.partials == most_partials) }
+        ensures bound { length self.now.partials ≤ most_partials }
+    {
+        self.standing == MOST_PARTIALS
+    }
+
+    /// Gives up the one that began first where four stand (own).
+    fn make_room(&mut self)
+        ensures stand { (groups : List Group) → StandFor self.old.partials groups →
+            StandFor self.new.partials (with_room groups) }
+        ensures room { length self.new.partials < most_partials }
+        ensures limit { self.new.limit ≡ self.old.limit }
+    {
+        if self.is_full() {
+            self.give_up(0);
+        }
+    }
+
+    /// One piece more for the partial datagram at a place.
+    fn join_at(&mut self, place: usize, packet: &Packet<'_>)
+        requires place { place < length self.old.partials }
+        requires end { packet.now.offset + length packet.now.octets.now ≤ longest_joined }
+        ensures stand { (groups : List Group) (group : Group) (time : ℕ) → StandFor self.old.partials groups →
+            slice_get groups place ≡ Some group → StandFor self.new.partials
+            (slice_set groups place (group_with group (piece_of (packet_parts packet.now) time))) }
+        ensures len { length self.new.partials ≡ length self.old.partials }
+        ensures limit { self.new.limit ≡ self.old.limit }
+    {
+        self.partials[place].join(packet);
+    }
+
+    /// A new partial datagram, after the others.
+    fn begin(&mut self, key: DatagramKey, packet: &Packet<'_>, now: u64)
+        requires room { length self.old.partials < most_partials }
+        requires end { packet.now.offset + length packet.now.octets.now ≤ longest_joined }
+        ensures stand { (groups : List Group) → StandFor self.old.partials groups → StandFor self.new.partials
+            (groups ++ record { key = key; pieces = piece_of (packet_parts packet.now) now ∷ [] } ∷ []) }
+        ensures limit { self.new.limit ≡ self.old.limit }
+    {
+        self.partials[self.standing].begin(key, packet, now);
+        self.standing += 1;
+    }
+
+    /// A new partial datagram, without an older one of its key, and with room for it.
+    fn begin_anew(&mut self, key: DatagramKey, packet: &Packet<'_>, now: u64)
+        requires { packet.now.offset + length packet.now.octets.now ≤ longest_joined }
+        ensures stand { (groups : List Group) → StandFor self.old.partials groups → StandFor self.new.partials
+            (with_room (without groups (place_of key groups))
+            ++ record { key = key; pieces = piece_of (packet_parts packet.now) now ∷ [] } ∷ []) }
+        ensures limit { self.new.limit ≡ self.old.limit }
+    {
+        self.give_up_key(key);
+        self.make_room();
+        self.begin(key, packet, now);
+    }
+
+    /// Ends the partial datagram at a place, which is complete, and lends its octets.
+    fn take_out(&mut self, place: usize, len: usize) -> &[u8]
+        requires place { place < length self.old.partials }
+        requires len { len ≤ longest_joined }
+        ensures octets { (groups : List Group) (group : Group) (datagram : List ℕ) →
+            StandFor self.old.partials groups → slice_get groups place ≡ Some group →
+            datagram_from group.pieces ≡ Some datagram → length datagram ≡ len → result.now ≡ datagram }
+        ensures* after { sem 𝓛 (EndsWith self.entry (λ r. (r.limit ≡ self.old.limit)
+            × ((groups : List Group) → StandFor self.old.partials groups → StandFor r.partials (remove groups place)))) }
+    {
+        move_to_end(&mut self.partials, place, self.standing);
+        self.standing -= 1;
+        self.partials[self.standing].buffer.octets(len)
+    }
+
+    /// What becomes of a piece that joins the partial datagram at a place.
+    fn offer_at(&mut self, place: usize, packet: &Packet<'_>) -> Offered<'_>
+        requires place { place < length self.old.partials }
+        requires end { packet.now.offset + length packet.now.octets.now ≤ longest_joined }
+        ensures answer { (groups : List Group) (group : Group) (time : ℕ) → StandFor self.old.partials groups →
+            slice_get groups place ≡ Some group →
+            fate_seen result ≡ fate_if (datagram_from (piece_of (packet_parts packet.now) time ∷ group.pieces)) }
+        ensures* after { sem 𝓛 (EndsWith self.entry (λ r. (r.limit ≡ self.old.limit)
+            × ((groups : List Group) (group : Group) (time : ℕ) → StandFor self.old.partials groups →
+            slice_get groups place ≡ Some group → StandFor r.partials
+            (joined_group groups place group (packet_parts packet.now) time)))) }
+    {
+        let joined = self.partial_at(place).joined_with(packet);
+        self.join_at(place, packet);
+        match joined {
+            None => Offered::Held,
+            Some(len) => Offered::Whole {
+                octets: self.take_out(place, len),
+                joined: true,
+            },
+        }
+    }
+}

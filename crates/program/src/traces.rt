@@ -1,0 +1,72 @@
+//! The traces of a run.
+ghost use Rattle.std.specs.Prelude.{◌≡◌, Result, IfOk, false};
+ghost use Rattle.std.specs.IoError.{error_kind};
+ghost use Rattle.program.specs.Outside.{open_fault};
+ghost use Rattle.program.specs.Run.{Plays, PlaysFiles, IsOpened};
+
+use crate::{Files, RunFault};
+use command_line::Line;
+use es_base::{Config, Net};
+use std::alloc::Global;
+use std::io::{self, ErrorKind};
+use std::mem;
+use trace_player::{PlayFault, Sink, Source, replay};
+
+/// Opens the files of both traces, A first, and plays them.
+pub(crate) fn play_files<F: Files, O: Sink>(
+    alloc: Global,
+    config: &Config,
+    line: &Line,
+    files: &mut F,
+    output: &mut O,
+) -> Result<(), RunFault>
+    requires { O.has_failed output.old ≡ false }
+    ensures { PlaysFiles (record { reads = F.reads; opens = F.opens; remaining = F.Trace.remaining; contents = O.contents; has_failed = O.has_failed; files = files.old; files_after = files.new; output = output.old; output_after = output.new }) config.now line.now result }
+{
+    let mut a = open_trace(files, Net::A, &line.a)?;
+    let mut b = open_trace(files, Net::B, &line.b)?;
+    play_all(alloc, config, &mut a, &mut b, output)
+}
+
+/// The file of a network's trace.
+fn open_trace<F: Files>(files: &mut F, net: Net, path: &str) -> Result<F::Trace, RunFault>
+    ensures opened { IsOpened F.opens (open_fault net) files.old path.now files.new result }
+    ensures flag { IfOk result (λ trace. F.Trace.has_failed trace ≡ false) }
+{
+    match files.open(path) {
+        Ok(trace) => Ok(trace),
+        Err(error) => Err(open_fault(net, error)),
+    }
+}
+
+/// The fault of a trace's file that could not be opened.
+fn open_fault(net: Net, error: io::Error) -> RunFault
+    ensures { result ≡ open_fault net (error_kind error) }
+{
+    match error.kind() {
+        ErrorKind::OutOfMemory => RunFault::Play(PlayFault::Memory),
+        _ => RunFault::Open { net },
+    }
+}
+
+/// Plays two traces.
+pub(crate) fn play_all<A: Source, B: Source, O: Sink>(
+    alloc: Global,
+    config: &Config,
+    a: &mut A,
+    b: &mut B,
+    output: &mut O,
+) -> Result<(), RunFault>
+    requires source_a { A.has_failed a.old ≡ false }
+    requires source_b { B.has_failed b.old ≡ false }
+    requires sink { O.has_failed output.old ≡ false }
+    ensures { Plays O.contents O.has_failed output.old output.new config.now
+        (record { bytes = A.remaining a.old; failed = A.has_failed a.new })
+        (record { bytes = B.remaining b.old; failed = B.has_failed b.new }) result }
+{
+    let links = replay(alloc, config, a, b, output)?;
+    // The program ends here, and with it the system takes the events' memory back at once: to give it
+    // back event by event takes a tenth of a long run.
+    mem::forget(links);
+    Ok(())
+}

@@ -1,0 +1,152 @@
+//! The queue of a queuing port: messages in order, none twice, and every loss told (ARINC 664 Part 7,
+//! queuing service; depth own). One end puts and the other takes, and two threads may use both at once.
+//!
+//! A call of `put` or `take` tries for its answer again while the other end is in the midst of a call,
+//! so both are passed `rt`. Neither takes memory. After more than 2^62 messages a call waits for ever.
+//!
+//! ```text
+//! let (mut putter, mut taker) = open_queue(alloc, 1)?;
+//! putter.put(&rt, first)      // Ok(())
+//! putter.put(&rt, second)     // Err(second): the queue is full
+//! taker.take(&rt)             // Some(first)
+//! taker.take(&rt)             // None: the queue is empty
+//! ```
+#![tactic(auto)]
+
+mod rule;
+
+ghost use Rattle.std.specs.Prelude.{◌≡◌, ◌+◌, ◌<◌, ◌≤◌, true, length, slice_get, IfOk, OnOk, IfErr, OnErr, IfSome, IfNone, IsOk};
+ghost use Rattle.es_base.specs.Port.{is_kind_within_limits};
+ghost use Rattle.es_base.specs.declared.port.PortKind.TheVariants.{Queuing};
+ghost use Rattle.queuing_port.specs.Queue.{Holds, WasEmpty, WasFull, WasOldest, opened, with_put, with_taken};
+
+use crate::rule::{Ends, Looks, Puts, Queue, Right, Spare, Takes};
+use es_base::{Memory, Message};
+use std::alloc::Global;
+use std::marker::Model;
+use std::mem;
+use std::sync::{Arc, Wait};
+
+/// The end that puts messages. Contracts see what it knows: the whole put list, and that part of the
+/// taken list which the taker had when the two ends met last.
+#[derive(Drop)]
+pub struct Putter {
+    queue: Arc<Queue, Global>,
+    right: Right,
+}
+
+impl Model for Putter {
+    ghost use Rattle.std.specs.Prelude.{◌≡◌, true};
+    ghost use Rattle.std.specs.Arc.{arc_value};
+    ghost use Rattle.crossbeam_queue.specs.Passes.{view as pass_view, IsPassOf, ruled_capacity};
+    ghost use Rattle.queuing_port.specs.Queue.{Known};
+
+    ghost Value = { Known };
+
+    ghost view = { λ p. record {
+      queue = p.right.table_id;
+      depth = ruled_capacity (arc_value p.queue);
+      put = (pass_view p.right).put;
+      taken = (pass_view p.right).taken;
+    } };
+
+    ghost invariant = { λ p. IsPassOf (arc_value p.queue) p.right × ((pass_view p.right).puts ≡ true) };
+}
+
+/// The end that takes messages. Contracts see what it knows: the whole taken list, and that part of the
+/// put list which the putter had when the two ends met last.
+#[derive(Drop)]
+pub struct Taker {
+    queue: Arc<Queue, Global>,
+    right: Right,
+}
+
+impl Model for Taker {
+    ghost use Rattle.std.specs.Prelude.{◌≡◌, true};
+    ghost use Rattle.std.specs.Arc.{arc_value};
+    ghost use Rattle.crossbeam_queue.specs.Passes.{view as pass_view, IsPassOf, ruled_capacity};
+    ghost use Rattle.queuing_port.specs.Queue.{Known};
+
+    ghost Value = { Known };
+
+    ghost view = { λ t. record {
+      queue = t.right.table_id;
+      depth = ruled_capacity (arc_value t.queue);
+      put = (pass_view t.right).put;
+      taken = (pass_view t.right).taken;
+    } };
+
+    ghost invariant = { λ t. IsPassOf (arc_value t.queue) t.right × ((pass_view t.right).takes ≡ true) };
+}
+
+/// Both ends of a new queue, which holds up to `depth` messages: 1 to 64. All memory of the queue but
+/// that of the messages is taken here.
+pub fn open_queue(alloc: Global, depth: u8) -> Result<(Putter, Taker), Memory>
+    requires { is_kind_within_limits (Queuing depth) ≡ true }
+    ensures putter { IfOk result (λ ends. ends.0 ≡ opened ends.0.queue depth) }
+    ensures taker { IfOk result (λ ends. ends.1 ≡ ends.0) }
+{
+    let (queue, mut right_to_put) = Queue::ruled(alloc, depth as usize)?;
+    let right_to_take = queue.another::<Ends>(&mut right_to_put);
+    let queue = Arc::new(alloc, queue)?;
+    let putter = Putter {
+        queue: Arc::try_clone(&queue)?,
+        right: right_to_put,
+    };
+    let taker = Taker {
+        queue,
+        right: right_to_take,
+    };
+    Ok((putter, taker))
+}
+
+/// The two ends of one queue meet: each then knows what the other did. Returns how many messages the
+/// queue holds: those that were put and not taken, at most its depth. Nothing else changes, and there is
+/// nobody to wait for, since both ends are here.
+pub fn meet<R: Wait>(rt: &R, putter: &mut Putter, taker: &mut Taker) -> usize
+    requires { taker.old.queue ≡ putter.old.queue }
+    ensures putter { putter.new ≡ record putter.old { taken = taker.old.taken } }
+    ensures taker { taker.new ≡ record taker.old { put = putter.old.put } }
+    ensures same { taker.new ≡ putter.new }
+    ensures held { Holds putter.new result }
+    ensures depth { result ≤ putter.old.depth }
+{
+    let queue = &putter.queue;
+    let spare = queue.another::<Spare>(&mut putter.right);
+    let right_to_take = mem::replace(&mut taker.right, spare);
+    queue.absorb::<Ends>(&mut putter.right, right_to_take);
+    let held = queue.len_as::<Looks, R>(rt, &mut putter.right);
+    taker.right = queue.another::<Ends>(&mut putter.right);
+    held
+}
+
+impl Putter {
+    /// Puts a message at the end of the queue. `Err` hands the message back, and only where the queue was
+    /// full at one moment of the call: never in the first `depth` puts, and never where fewer than
+    /// `depth` messages were put and not taken when the ends met, with the puts since then.
+    pub fn put<R: Wait>(&mut self, rt: &R, message: Message) -> Result<(), Message>
+        ensures ok { OnOk result (self.new ≡ with_put self.old message) }
+        ensures err { IfErr result (λ back. (back ≡ message) × (self.new ≡ self.old)) }
+        ensures full { OnErr result (WasFull self.old) }
+        ensures room { length self.old.put < length self.old.taken + self.old.depth → IsOk result }
+    {
+        let Putter { queue, right } = self;
+        queue.push_as::<Puts, R>(rt, right, message)
+    }
+}
+
+impl Taker {
+    /// Takes the oldest message. None only where the queue was empty at one moment of the call: never
+    /// while this end knows of a message that was put and that it hasn't taken.
+    pub fn take<R: Wait>(&mut self, rt: &R) -> Option<Message>
+        ensures some { IfSome result (λ message. self.new ≡ with_taken self.old message) }
+        ensures oldest { IfSome result (WasOldest self.old) }
+        ensures none { IfNone result (self.new ≡ self.old) }
+        ensures empty { IfNone result (WasEmpty self.old) }
+        ensures known { length self.old.taken < length self.old.put →
+            result ≡ slice_get self.old.put (length self.old.taken) }
+    {
+        let Taker { queue, right } = self;
+        queue.pop_as::<Takes, R>(rt, right)
+    }
+}

@@ -1,0 +1,14 @@
+//! Tests of how fragments become datagrams: packets as they are read from frames, with headers and
+//! octets that were worked out by hand from the rules. On each packet `preview` is compared with `offer`.
+#![tactic(auto)]
+
+#[cfg(test)]
+mod bad;
+#[cfg(test)]
+mod datagrams;
+#[cfg(test)]
+mod groups;
+#[cfg(test)]
+mod plain;
+#[cfg(test)]
+mod steps;

@@ -1,0 +1,11 @@
+pub mod Places
+pub mod Messages
+pub mod Phases
+pub mod WriterSteps
+pub mod ReaderSteps
+pub mod Interleavings
+pub mod FreeSlot
+pub mod Refusals
+pub mod Fields
+pub mod Schedules
+pub mod Octets

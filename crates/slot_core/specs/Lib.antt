@@ -1,0 +1,13 @@
+pub mod Words
+pub mod Message
+pub mod Octets
+pub mod State
+pub mod Lawful
+pub mod Steps
+pub mod Allowed
+pub mod Refusal
+pub mod Laws
+pub mod Stored
+pub mod Without
+pub mod Look
+pub mod Runs

@@ -1,0 +1,97 @@
+//! What holds of a sampling port after every list of events, whichever readers and writer they name.
+//! Each law is a function without work: its contract is the statement.
+ghost use Rattle.std.specs.Prelude.{◌≡◌, ◌≢◌, ◌↔◌, ℕ, ◌+◌, ◌^◌, ◌<◌, ◌≤◌, List, None, length, slice_index};
+ghost use Rattle.slot_core.specs.declared.event.CoreEvent.{CoreEvent};
+ghost use Rattle.slot_core.specs.declared.event.CoreEvent.TheVariants.{LoadSecond, StoreWord};
+ghost use Rattle.slot_core.specs.Words.{latest, slot_of, Shows};
+ghost use Rattle.slot_core.specs.Message.{IsMessage};
+ghost use Rattle.slot_core.specs.Octets.{AreOctets, octet_at, octets_of, words_of};
+ghost use Rattle.slot_core.specs.State.{State, last_of, opening, view_at, word_of};
+ghost use Rattle.slot_core.specs.Lawful.{Lawful};
+ghost use Rattle.slot_core.specs.Steps.{after, after_all};
+ghost use Rattle.slot_core.specs.Allowed.{Allowed, AreAllowed};
+ghost use Rattle.slot_core.specs.Refusal.{refusal_of};
+ghost use Rattle.slot_core.specs.Laws.{HasFreeSlot, HasMessage, Holds, HoldsNewest, IsHold, IsReached, Outlasts, after_hold};
+
+/// A port is lawful at the opening, and stays so through every list of allowed events. So it is lawful
+/// wherever any list leads from the opening. A word has room for 16 slots.
+pub fn a_port_stays_lawful()
+    ensures opening { (readers slots : ℕ) → Lawful readers slots (opening readers slots) }
+    ensures events { (readers slots : ℕ) (c : State) (events : List CoreEvent) → slots ≤ 16 → Lawful readers slots c →
+        AreAllowed readers slots c events → Lawful readers slots (after_all readers c events) }
+    ensures reached { (readers slots : ℕ) (c : State) → slots ≤ 16 → IsReached readers slots c → Lawful readers slots c }
+{}
+
+/// No slot is written while a reader holds it.
+pub fn a_held_slot_is_not_written()
+    ensures { (readers slots : ℕ) (c : State) (reader word slot index stored : ℕ) → Lawful readers slots c →
+        Holds readers c reader word → Allowed readers slots c (StoreWord slot index stored) → slot ≢ slot_of word }
+{}
+
+/// Where all readers were scanned a message can begin in some slot, if there are two slots more than
+/// readers.
+pub fn a_free_slot_exists()
+    ensures { (readers slots : ℕ) (c : State) → readers + 2 ≤ slots → length c.writer.scanned ≡ readers →
+        length c.writer.stored ≡ 0 → HasFreeSlot readers slots c }
+{}
+
+/// What a reader begins to hold is the newest message at that moment, its second look, and the reader
+/// has seen all that is published.
+pub fn a_held_message_was_the_newest()
+    ensures { (readers slots : ℕ) (c : State) (reader word : ℕ) → Lawful readers slots c →
+        Allowed readers slots c (LoadSecond reader) → Holds readers (after readers c (LoadSecond reader)) reader word →
+        HoldsNewest readers slots (after readers c (LoadSecond reader)) (view_at (after readers c (LoadSecond reader)).views reader) word }
+{}
+
+/// What a reader holds stays whole until the reader clears its announcement, whatever comes between.
+/// The reader's view stays as it is.
+pub fn a_held_message_stays_whole()
+    ensures view { (readers slots : ℕ) (c : State) (reader word : ℕ) (events : List CoreEvent) → Holds readers c reader word →
+        AreAllowed readers slots c events → Outlasts reader events →
+        view_at (after_all readers c events).views reader ≡ view_at c.views reader }
+    ensures message { (readers slots : ℕ) (c : State) (reader word : ℕ) (events : List CoreEvent) → slots ≤ 16 →
+        Lawful readers slots c → Holds readers c reader word → AreAllowed readers slots c events → Outlasts reader events →
+        HasMessage readers (after_all readers c events) word (last_of (view_at c.views reader).seen) }
+{}
+
+/// All of it together, from the opening on: after any list of events a reader looks again and holds; any
+/// list of events follows in which it doesn't clear its announcement. Then what it holds is the message
+/// that was the newest at that look, by its number; all words of that message stand in the slot; and no
+/// step that is allowed writes the slot.
+pub fn a_hold_is_of_the_newest_message_and_whole()
+    ensures newest { (readers slots : ℕ) (c : State) (reader word : ℕ) (events : List CoreEvent) → slots ≤ 16 →
+        IsHold readers slots c reader word events →
+        (word ≡ latest c.words) × Shows slots word (length c.writer.published) }
+    ensures whole { (readers slots : ℕ) (c : State) (reader word : ℕ) (events : List CoreEvent) → slots ≤ 16 →
+        IsHold readers slots c reader word events →
+        HasMessage readers (after_hold readers c reader events) word (last_of c.writer.published) }
+    ensures unwritten { (readers slots : ℕ) (c : State) (reader word slot index stored : ℕ) (events : List CoreEvent) → slots ≤ 16 →
+        IsHold readers slots c reader word events →
+        Allowed readers slots (after_hold readers c reader events) (StoreWord slot index stored) → slot ≢ slot_of word }
+{}
+
+/// A second look that finds another word comes after a newer message: the reader sees more than before.
+pub fn a_failed_look_sees_a_newer_message()
+    ensures { (readers slots : ℕ) (c : State) (reader : ℕ) → Lawful readers slots c → Allowed readers slots c (LoadSecond reader) →
+        latest c.words ≢ word_of (view_at c.views reader).phase →
+        length (view_at c.views reader).seen < length c.writer.published }
+{}
+
+/// A step is allowed exactly where there is no refusal of it.
+pub fn a_step_is_allowed_or_refused()
+    ensures { (readers slots : ℕ) (c : State) (event : CoreEvent) →
+        (refusal_of readers slots c event ≡ None) ↔ Allowed readers slots c event }
+{}
+
+/// The words of octets and a time are those of a message: they have its octets, and no other message has
+/// the same words. And whatever are words of a message, they are those of its octets and its time. Octets
+/// are below 256, and a message has at most 1471; words are below 2^64.
+pub fn a_message_has_words_of_its_own()
+    ensures message { (octets : List ℕ) (time : ℕ) → AreOctets octets → IsMessage (words_of octets time) }
+    ensures octet { (octets : List ℕ) (time place : ℕ) → AreOctets octets → place < length octets →
+        octet_at (words_of octets time) place ≡ slice_index octets place }
+    ensures own { (octets others : List ℕ) (time another : ℕ) → AreOctets octets → AreOctets others →
+        words_of octets time ≡ words_of others another → (octets ≡ others) × (time ≡ another) }
+    ensures again { (words : List ℕ) → IsMessage words → ((i : ℕ) → slice_index words i < 2 ^ 64) →
+        AreOctets (octets_of words) × (words_of (octets_of words) (slice_index words 1) ≡ words) }
+{}

@@ -1,0 +1,26 @@
+//! A sampling port as a machine: its words, what the writer and each reader know, and every step that
+//! one of them can take, as data (ARINC 664 Part 7, sampling ports; the protocol is own). A list of
+//! events is one interleaving of the writer and the readers, and the laws hold for every list.
+#![tactic(auto)]
+
+mod event;
+pub mod laws;
+mod look;
+mod machine;
+mod message;
+mod reader;
+mod schedule;
+mod steps;
+mod turns;
+mod view;
+pub mod without;
+
+pub use event::{CoreEvent, StepRefusal};
+pub use look::WriterPhase;
+pub use machine::Core;
+pub use message::MessageWords;
+pub use schedule::run;
+pub use view::{
+    LONGEST_MESSAGE, MOST_MESSAGES, Phase, READERS, ReaderView, SLOTS, TABLE_WORDS, WORDS,
+    WriterView,
+};

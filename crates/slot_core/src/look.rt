@@ -1,0 +1,90 @@
+//! What can be seen of a core.
+ghost use Rattle.std.specs.Prelude.{◌≡◌, ◌<◌, length, slice_index};
+ghost use Rattle.slot_core.specs.Words.{announcement, latest, place_of};
+ghost use Rattle.slot_core.specs.State.{view_at};
+ghost use Rattle.slot_core.specs.Look.{IsWriterPhase};
+
+use crate::steps::place_of;
+use crate::{Core, MessageWords, Phase, READERS, SLOTS, WORDS};
+
+/// Where the writer is. For each reader scanned so far there is the slot that it announced, or None.
+#[derive(Clone, Copy, Debug)]
+pub enum WriterPhase<'a> {
+    /// It scans the readers, or has scanned all.
+    Scanning {
+        scanned: &'a [Option<u64>],
+    },
+    /// It stores the words of a message in a slot.
+    Writing {
+        scanned: &'a [Option<u64>],
+        slot: u64,
+        stored: &'a [u64],
+    },
+}
+
+impl Core {
+    /// The word `latest`: 0 where nothing was published, or else the message number times 16, plus the
+    /// slot.
+    pub fn latest(&self) -> u64
+        ensures { result ≡ latest self.now.words }
+    {
+        self.words[0]
+    }
+
+    /// The announcement of a reader: 0, or a value that `latest` had.
+    pub fn announcement(&self, reader: usize) -> u64
+        requires { reader < READERS }
+        ensures { result ≡ announcement self.now.words reader }
+    {
+        self.words[1 + reader]
+    }
+
+    /// A word of a slot.
+    pub fn word(&self, slot: usize, index: usize) -> u64
+        requires slot { slot < SLOTS }
+        requires index { index < WORDS }
+        ensures { result ≡ slice_index self.now.words (place_of READERS slot index) }
+    {
+        self.words[place_of(slot, index)]
+    }
+
+    /// The words of each message published, in order.
+    pub fn published(&self) -> &[MessageWords]
+        ensures { result.now ≡ self.now.writer.published }
+    {
+        self.published.as_slice()
+    }
+
+    /// How many messages were published when the reader last loaded `latest`: it has seen that many of
+    /// `published`, from the first on.
+    pub fn seen(&self, reader: usize) -> u64
+        requires { reader < READERS }
+        ensures { result ≡ length (view_at self.now.views reader).seen }
+    {
+        self.reader(reader).seen as u64
+    }
+
+    /// Where the writer is.
+    pub fn writer_phase(&self) -> WriterPhase<'_>
+        ensures { IsWriterPhase result self.now.writer }
+    {
+        let scanned = self.scanned.as_slice();
+        if self.stored.is_empty() {
+            WriterPhase::Scanning { scanned }
+        } else {
+            WriterPhase::Writing {
+                scanned,
+                slot: self.chosen,
+                stored: self.stored.as_slice(),
+            }
+        }
+    }
+
+    /// Where a reader is.
+    pub fn reader_phase(&self, reader: usize) -> Phase
+        requires { reader < READERS }
+        ensures { result ≡ (view_at self.now.views reader).phase }
+    {
+        self.reader(reader).phase
+    }
+}

@@ -1,0 +1,115 @@
+//! The machine: a port's words, and what its writer and its readers know, stepped by events.
+ghost use Rattle.std.specs.Prelude.{◌≡◌, ◌<◌, IfErr, IfOk, OnErr, replicate};
+ghost use Rattle.slot_core.specs.Words.{latest, announcement};
+ghost use Rattle.slot_core.specs.State.{opening};
+ghost use Rattle.slot_core.specs.Steps.{after, after_all};
+ghost use Rattle.slot_core.specs.Allowed.{Allowed, AreAllowed};
+ghost use Rattle.slot_core.specs.Refusal.{IsRefusedBy};
+
+use crate::reader::Reader;
+use crate::{CoreEvent, MessageWords, Phase, READERS, SLOTS, StepRefusal, TABLE_WORDS, WORDS};
+use arrayvec::ArrayVec;
+use std::alloc::{AllocError, Global};
+use std::marker::Model;
+
+/// A sampling port, as data: its words, what is published, where the writer is and where each reader is.
+/// Contracts see it as a `State`.
+#[derive(Drop)]
+pub struct Core {
+    pub(crate) words: [u64; TABLE_WORDS],
+    /// For each reader scanned so far the slot that it announced, or None.
+    pub(crate) scanned: ArrayVec<Option<u64>, READERS>,
+    /// The slot that is written.
+    pub(crate) chosen: u64,
+    /// The words stored in it so far.
+    pub(crate) stored: ArrayVec<u64, WORDS>,
+    pub(crate) published: Vec<MessageWords>,
+    pub(crate) readers: [Reader; READERS],
+}
+
+impl Model for Core {
+    ghost use Rattle.slot_core.specs.State.{State};
+
+    ghost Value = { State };
+
+    ghost use Rattle.slot_core.specs.Stored.{IsStored, state_of};
+
+    ghost view = { state_of };
+
+    ghost invariant = { IsStored };
+}
+
+impl Core {
+    /// A port at which nothing was published, whose writer scans and whose readers are idle. It takes
+    /// no memory.
+    pub fn opening(alloc: Global) -> Core
+        ensures { result ≡ opening READERS SLOTS }
+    {
+        Core {
+            words: zeros(),
+            scanned: ArrayVec::new(),
+            chosen: 0,
+            stored: ArrayVec::new(),
+            published: Vec::new(alloc),
+            readers: newcomers(),
+        }
+    }
+
+    /// Takes one step. Ok exactly where the step is allowed, or else Memory where it stores `latest` and
+    /// memory ran out. Any other refusal is the first in the order place, turn, latest, announced. After
+    /// a refusal the core is as before. Only the store of `latest` takes memory.
+    ///
+    /// ```text
+    /// let mut core = Core::opening(alloc);
+    /// core.step(alloc, &CoreEvent::Scan { reader: 1 }) // Err(NotItsTurn): reader 0 is scanned first
+    /// core.step(alloc, &CoreEvent::Scan { reader: 0 }) // Ok(())
+    /// ```
+    pub fn step(&mut self, alloc: Global, event: &CoreEvent) -> Result<(), StepRefusal>
+        ensures allowed { IfOk result (λ _. Allowed READERS SLOTS self.old event.now) }
+        ensures state { IfOk result (λ _. self.new ≡ after READERS self.old event.now) }
+        ensures refusal { IfErr result (λ refusal. IsRefusedBy READERS SLOTS self.old event.now refusal) }
+        ensures unchanged { OnErr result (self.new ≡ self.old) }
+    {
+        match self.refusal_of(event) {
+            Some(refusal) => Err(refusal),
+            None => match self.take(alloc, event) {
+                Ok(()) => Ok(()),
+                Err(AllocError) => Err(StepRefusal::Memory),
+            },
+        }
+    }
+
+    /// Takes a step that is allowed.
+    fn take(&mut self, alloc: Global, event: &CoreEvent) -> Result<(), AllocError>
+        requires { Allowed READERS SLOTS self.old event.now }
+        ensures ok { IfOk result (λ _. self.new ≡ after READERS self.old event.now) }
+        ensures err { OnErr result (event.now ≡ CoreEvent.StoreLatest) }
+        ensures unchanged { OnErr result (self.new ≡ self.old) }
+    {
+        match *event {
+            CoreEvent::Scan { reader } => self.scan(reader),
+            CoreEvent::StoreWord { slot, index, word } => self.store_word(slot, index, word),
+            CoreEvent::StoreLatest => return self.store_latest(alloc),
+            CoreEvent::LoadFirst { reader } => self.load_first(reader),
+            CoreEvent::Announce { reader } => self.announce(reader),
+            CoreEvent::LoadSecond { reader } => self.load_second(reader),
+            CoreEvent::LoadWord { .. } => {}
+            CoreEvent::Clear { reader } => self.clear(reader),
+        }
+        Ok(())
+    }
+}
+
+/// The words of a table in which nothing was stored.
+fn zeros() -> [u64; TABLE_WORDS]
+    ensures { result ≡ replicate TABLE_WORDS 0 }
+{
+    [0; TABLE_WORDS]
+}
+
+/// Readers that have loaded nothing.
+fn newcomers() -> [Reader; READERS]
+    ensures { result ≡ replicate READERS (record { phase = Phase.Idle; own = 0; seen = 0 }) }
+{
+    [Reader::newcomer(); READERS]
+}

@@ -1,0 +1,57 @@
+//! The sizes of a sampling port, and what its writer and each of its readers know of it.
+
+use std::collections::LinkedList;
+
+/// The readers of a sampling port (own).
+pub const READERS: usize = 4;
+/// Its slots, each of which holds one message: one for each reader, one for the message that `latest`
+/// shows, and one to write (own).
+pub const SLOTS: usize = 6;
+/// The words of a slot: those of the longest message.
+pub const WORDS: usize = 186;
+/// All words of a port's table: `latest`, the announcements, the slots.
+pub const TABLE_WORDS: usize = 1 + READERS + WORDS * SLOTS;
+/// The longest message, in octets (ARINC 664 Part 7, sampling ports: one frame).
+pub const LONGEST_MESSAGE: u64 = 1471;
+/// How many messages a sampling port numbers: 2^60 - 1 (own).
+pub const MOST_MESSAGES: u64 = (1 << 60) - 1;
+
+/// Where a reader is. The word is the one of `latest` that it loaded.
+#[derive(Clone, Copy, Debug, PartialEq, Eq)]
+pub enum Phase {
+    /// It reads nothing.
+    Idle,
+    /// It loaded `latest`.
+    Loaded(u64),
+    /// It announced what it had loaded.
+    Announced(u64),
+    /// It found the same word in `latest` again: the slot stays as it is until the reader clears its
+    /// announcement.
+    Holding(u64),
+}
+
+/// What the writer knows. It writes where `stored` is not empty, and scans else. Contracts speak of
+/// such a view; no program makes one.
+#[derive(Drop)]
+pub struct WriterView {
+    /// For each reader scanned so far the slot that it announced, or None.
+    pub scanned: LinkedList<Option<u64>>,
+    /// The slot that it writes.
+    pub chosen: u64,
+    /// The words stored in this slot so far.
+    pub stored: LinkedList<u64>,
+    /// The word that it stored last in `latest`, or 0.
+    pub last: u64,
+    /// The words of each message published so far.
+    pub published: LinkedList<LinkedList<u64>>,
+}
+
+/// What a reader knows. Contracts speak of such a view; no program makes one.
+#[derive(Drop)]
+pub struct ReaderView {
+    pub phase: Phase,
+    /// Its own announcement.
+    pub own: u64,
+    /// The messages that were published when it last loaded `latest`.
+    pub seen: LinkedList<LinkedList<u64>>,
+}

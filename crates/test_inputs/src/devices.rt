@@ -1,0 +1,111 @@
+//! Readers and writers that do what a test asks, call by call.
+ghost use Rattle.std.specs.Prelude.{◌≤◌, length};
+
+use std::io::{Error, ErrorKind, Read, Result, Write};
+
+/// What a reader does at one call.
+#[derive(Clone, Copy, Drop)]
+pub enum ReadCall<'a> {
+    /// It gives these bytes, or as many as there is room for, and the others at the next calls.
+    Gives(&'a [u8]),
+    Interrupted,
+    Fails,
+    /// It is at its end.
+    Ends,
+}
+
+/// A reader that does this, one call after another, and is then at its end.
+#[derive(Clone, Copy, Drop)]
+pub struct ScriptedReader<'a> {
+    pub calls: [ReadCall<'a>; 3],
+    /// The place of the next call.
+    pub next: usize,
+    /// How many of its bytes were given before.
+    pub given: usize,
+}
+
+impl<'a> ScriptedReader<'a> {
+    /// A reader that does this, from its first call.
+    pub fn new(calls: [ReadCall<'a>; 3]) -> ScriptedReader<'a> {
+        ScriptedReader {
+            calls,
+            next: 0,
+            given: 0,
+        }
+    }
+
+    /// A reader that gives these bytes at once, and is then at its end.
+    pub fn of(bytes: &'a [u8]) -> ScriptedReader<'a> {
+        ScriptedReader::new([ReadCall::Gives(bytes), ReadCall::Ends, ReadCall::Ends])
+    }
+
+    /// Gives what is left of these bytes, or as many as there is room for.
+    fn give(&mut self, bytes: &[u8], buffer: &mut [u8]) -> usize
+        ensures { result ≤ length buffer.new }
+    {
+        let rest = &bytes[self.given.min(bytes.len())..];
+        let count = rest.len().min(buffer.len());
+        buffer[..count].copy_from_slice(&rest[..count]);
+        if count == rest.len() {
+            self.next = self.next.wrapping_add(1);
+            self.given = 0;
+        } else {
+            self.given = self.given.wrapping_add(count);
+        }
+        count
+    }
+}
+
+impl Read for ScriptedReader<'_> {
+    fn read(&mut self, buffer: &mut [u8]) -> Result<usize> {
+        let Some(call) = self.calls.get(self.next).copied() else {
+            return Ok(0);
+        };
+        if let ReadCall::Gives(bytes) = call {
+            return Ok(self.give(bytes, buffer));
+        }
+        self.next = self.next.wrapping_add(1);
+        match call {
+            ReadCall::Interrupted => Err(Error::from(ErrorKind::Interrupted)),
+            ReadCall::Fails => Err(Error::from(ErrorKind::BrokenPipe)),
+            _ => Ok(0),
+        }
+    }
+}
+
+/// What a writer does at one call.
+#[derive(Clone, Copy, Drop)]
+pub enum WriteCall {
+    /// It takes at most this many bytes.
+    Takes(usize),
+    Interrupted,
+    Fails,
+}
+
+/// A writer that does this, one call after another, and then takes everything.
+#[derive(Drop)]
+pub struct ScriptedWriter<'a> {
+    pub calls: &'a [WriteCall],
+    /// The bytes that it took.
+    pub written: Vec<u8>,
+}
+
+impl Write for ScriptedWriter<'_> {
+    fn write(&mut self, piece: &[u8]) -> Result<usize> {
+        let mut count = piece.len();
+        if let Some((call, rest)) = self.calls.split_first() {
+            self.calls = rest;
+            match call {
+                WriteCall::Takes(most) => count = count.min(*most),
+                WriteCall::Interrupted => return Err(Error::from(ErrorKind::Interrupted)),
+                WriteCall::Fails => return Err(Error::from(ErrorKind::BrokenPipe)),
+            }
+        }
+        self.written.extend_from_slice(&piece[..count])?;
+        Ok(count)
+    }
+
+    fn flush(&mut self) -> Result<()> {
+        Ok(())
+    }
+}

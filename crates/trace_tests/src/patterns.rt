@@ -1,0 +1,40 @@
+//! Digits, the octets that they say, and what a trace is read as.
+use es_base::Memory;
+use hex_trace::{Device, Frames, TraceCause, TraceFault, read_trace};
+use std::alloc::Global;
+
+/// Digits of both cases.
+const DIGITS: [u8; 22] = *b"0a1B2c3D4e5F6a7B8c9DeF";
+
+/// The octets of `DIGITS`.
+const OCTETS: [u8; 11] = [
+    0x0a, 0x1b, 0x2c, 0x3d, 0x4e, 0x5f, 0x6a, 0x7b, 0x8c, 0x9d, 0xef,
+];
+
+/// This many digits: `DIGITS` again and again.
+pub(crate) fn digits(alloc: Global, count: usize) -> Result<Vec<u8>, Memory> {
+    let mut digits = Vec::new(alloc);
+    for i in 0..count {
+        digits.push(DIGITS[i % 22])?;
+    }
+    Ok(digits)
+}
+
+/// This many octets: `OCTETS` again and again.
+pub(crate) fn octets(alloc: Global, count: usize) -> Result<Vec<u8>, Memory> {
+    let mut octets = Vec::new(alloc);
+    for i in 0..count {
+        octets.push(OCTETS[i % 11])?;
+    }
+    Ok(octets)
+}
+
+/// What a trace is read as. `text` serves for one trace after another.
+pub(crate) fn read(alloc: Global, trace: &[u8], text: &mut Vec<u8>) -> Result<Frames, TraceFault> {
+    read_trace(alloc, &mut Device::new(trace), text)
+}
+
+/// The fault of this line.
+pub(crate) fn fault_at(line: u64, cause: TraceCause) -> TraceFault {
+    TraceFault::Line { line, cause }
+}
