@@ -8,10 +8,10 @@
                                    a.trace and b.trace there
 
 Both are run several times in turn, output thrown away. For each trace it prints the least and the median
-wall time, the peak of resident memory and the page faults of each player, and the ratios; whether our
-lines are the same bytes as the first lines of the other's output, which may have a report after them; how
-the time grows from the smallest number of frames to the greatest; and, where `perf` is there, the share
-of decoding and the five greatest costs at the greatest.
+wall time, the peak of resident memory and the page faults of each player, and the ratios; whether both
+write the same bytes (the line of each frame, and the report after them once ours writes one); how the time
+grows from the smallest number of frames to the greatest; and, where `perf` is there, the share of decoding
+and the five greatest costs at the greatest.
 """
 import argparse
 import os
@@ -85,24 +85,35 @@ class Figures:
                 f"peak {self.peak:7} KiB, {self.faults:6} page faults")
 
 
+def is_verdict(line):
+    """A line of a frame begins with its time, a line of a report with a word."""
+    return line[:1].isdigit()
+
+
 def same_bytes(programs, case, folder):
-    """Says whether our output is the front of the other's."""
+    """Says whether our output is the other's: the frames' lines, and the report after them where ours has one."""
     paths = {name: os.path.join(folder, "output-" + name) for name in programs}
     for name, program in programs.items():
         run_once(program, case, paths[name])
     lines, differ, first, more = 0, 0, 0, 0
+    reports = False
     # Line by line: a child's peak begins at its parent's.
     with open(paths["ours"], "rb") as ours, open(paths["other"], "rb") as other:
         for line in ours:
             lines += 1
+            reports = reports or not is_verdict(line)
             if line != other.readline():
                 differ += 1
                 first = first or lines
-        more = sum(1 for _ in other)
-    report = f"; {more} lines of its report are not compared" if more else ""
+        for line in other:
+            more += 1
+            if reports or is_verdict(line):
+                differ += 1
+                first = first or lines + more
+    what = "the whole output" if reports else f"the lines of frames alone: ours has no report, and its {more} lines aren't compared"
     if not differ:
-        return f"the same bytes in {lines} lines{report}"
-    return f"{differ} of {lines} lines differ, the first is line {first}{report}"
+        return f"the same bytes in {lines} lines ({what})"
+    return f"{differ} lines differ of {lines}, the first is line {first} ({what})"
 
 
 def shares(program, case, folder):

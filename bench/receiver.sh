@@ -1,20 +1,30 @@
 #!/usr/bin/env bash
-# receiver.sh GENERATOR [FRAMES]
+# receiver.sh GENERATOR [FRAMES [PROFILE ..]]
 #
 # Times the receiver alone, on frames that are in memory already: those of the traces that GENERATOR makes
-# of each profile (called as by beside.py; FRAMES of them, default 1,000,000). Each frame is read, its link
-# is found, and the link takes it. Prints nanoseconds a frame, the least and the median of eight passes, and
-# the longest single call, where for each call the least of eight passes counts; and picoseconds an octet
-# of decoding the digits of 10,000 frames, by `decode_digits` and by `hex`. Two networks of 100 Mbit/s bring at most 148,810
-# smallest frames a second each, one in 3,360 ns. The program is built in a folder of its own beside copies
-# of the crates, since it prints other numbers each time.
+# of each profile (called as by beside.py; FRAMES of them, default 1,000,000; all four profiles where none
+# is named). Each frame is read, its link is found, and the link takes it. Prints
+#
+#   - nanoseconds a frame, the least and the median of eight passes, and how many times as many frames that
+#     is as two networks of 100 Mbit/s bring at most: 148,810 smallest frames a second each, one in 3,360 ns;
+#   - the longest single call, where for each call the least of eight passes counts; and how many calls took
+#     more than 100 microseconds;
+#   - picoseconds an octet of decoding the digits of 10,000 frames, by `decode_digits` and by `hex`.
+#
+# The program is built in a folder of its own beside copies of the crates, since it prints other numbers
+# each time.
 set -eu
 if [ $# -lt 1 ]; then
-    echo "usage: receiver.sh GENERATOR [FRAMES]" >&2
+    echo "usage: receiver.sh GENERATOR [FRAMES [PROFILE ..]]" >&2
     exit 2
 fi
 generator=$1
 frames=${2:-1000000}
+if [ $# -gt 2 ]; then
+    profiles=("${@:3}")
+else
+    profiles=(sampling queuing fragments mixed)
+fi
 here=$(cd "$(dirname "$0")/.." && pwd)
 folder=$(mktemp -d)
 trap 'rm -rf "$folder"' EXIT
@@ -49,6 +59,12 @@ use vl_config::read_config;
 
 /// How often each call is timed.
 const PASSES: usize = 8;
+
+/// Nanoseconds from one smallest frame to the next, where two networks of 100 Mbit/s bring all they can.
+const WIRE: u128 = 3_360;
+
+/// Nanoseconds after which a call is long.
+const LONG: u128 = 100_000;
 
 /// Of how many frames the digits are decoded, at most.
 const DECODED: usize = 10_000;
@@ -108,12 +124,15 @@ fn merged(alloc: Global, mut a: Frames, mut b: Frames) -> Result<Vec<Arrival>, M
 fn new_states(alloc: Global, config: &Config) -> Result<Vec<LinkState>, Memory> {
     let mut states = Vec::new(alloc);
     for link in config.links() {
-        states.push(LinkState::new(alloc, link)?)?;
+        // The takers are dropped: the queues fill and stay full.
+        let (state, _) = LinkState::new(alloc, link)?;
+        states.push(state)?;
     }
     Ok(states)
 }
 
 fn take_one(
+    rt: &HostRuntime,
     alloc: Global,
     config: &Config,
     states: &mut [LinkState],
@@ -122,7 +141,7 @@ fn take_one(
     if let Ok((place, frame)) = read_addressed(config, arrival.frame.as_slice()) {
         if let Some(state) = states.get_mut(place) {
             if state.settings().vl().0 == frame.vl.0 {
-                let _verdict = state.take(alloc, arrival.net, arrival.time, &frame)?;
+                let _verdict = state.take(rt, alloc, arrival.net, arrival.time, &frame)?;
             }
         }
     }
@@ -134,7 +153,7 @@ fn one_pass(rt: &HostRuntime, config: &Config, arrivals: &[Arrival]) -> io::Resu
     let mut states = new_states(rt.alloc(), config)?;
     let start = Instant::now(rt)?;
     for arrival in arrivals {
-        take_one(rt.alloc(), config, &mut states, arrival)?;
+        take_one(rt, rt.alloc(), config, &mut states, arrival)?;
     }
     Ok(start.elapsed(rt)?.as_nanos())
 }
@@ -149,20 +168,25 @@ fn time_calls(
     let mut states = new_states(rt.alloc(), config)?;
     for (arrival, time) in arrivals.iter().zip(times.iter_mut()) {
         let start = Instant::now(rt)?;
-        take_one(rt.alloc(), config, &mut states, arrival)?;
+        take_one(rt, rt.alloc(), config, &mut states, arrival)?;
         *time = (*time).min(start.elapsed(rt)?.as_nanos());
     }
     Ok(())
 }
 
-/// Nanoseconds of the longest call. Each pass does the same work at each call, so the least of its times
-/// is counted, and what other programs took from it is not.
-fn longest_call(rt: &HostRuntime, config: &Config, arrivals: &[Arrival]) -> io::Result<u128> {
+/// Nanoseconds of the longest call, and how many calls were longer than `LONG`. Each pass does the same work
+/// at each call, so the least of its times is counted, and what other programs took from it is not.
+fn longest_calls(
+    rt: &HostRuntime,
+    config: &Config,
+    arrivals: &[Arrival],
+) -> io::Result<(u128, usize)> {
     let mut times = vec![in rt.alloc(); u128::MAX; arrivals.len()]?;
     for _ in 0..PASSES {
         time_calls(rt, config, arrivals, &mut times)?;
     }
-    Ok(times.iter().copied().max().unwrap_or(0))
+    let longest = times.iter().copied().max().unwrap_or(0);
+    Ok((longest, times.iter().filter(|time| **time > LONG).count()))
 }
 
 /// The frames' digits, and how many octets they say.
@@ -209,8 +233,11 @@ fn show_receiver(rt: &HostRuntime, config: &Config, arrivals: &[Arrival]) -> io:
     let frames = (arrivals.len() as u128).max(1);
     let least = times.first().copied().unwrap_or(0) / frames;
     let median = times.get(4).copied().unwrap_or(0) / frames;
-    let longest = longest_call(rt, config, arrivals)?;
-    println!(rt; "  {least} ns a frame, median {median}; the longest call {longest} ns")
+    let (longest, long) = longest_calls(rt, config, arrivals)?;
+    let tenths = WIRE * 10 / least.max(1);
+    let (whole, tenth) = (tenths / 10, tenths % 10);
+    println!(rt; "  {least} ns a frame, median {median}: {whole}.{tenth} times what two networks bring")?;
+    println!(rt; "  the longest call {longest} ns; {long} calls longer than {LONG} ns")
 }
 
 fn show_decoder(rt: &HostRuntime, arrivals: &[Arrival]) -> io::Result<()> {
@@ -238,7 +265,7 @@ END
 cd "$crate"
 rt run < /dev/null > "$folder/log" 2>&1 || true
 [ -x out/receiver_bench ] || { tail -n 40 "$folder/log" >&2; exit 1; }
-for profile in sampling queuing fragments mixed; do
+for profile in "${profiles[@]}"; do
     python3 "$generator" --frames "$frames" --profile "$profile" --out-dir "$folder/traces"
     echo "$profile, $frames frames"
     (cd "$folder/traces" && "$crate/out/receiver_bench")

@@ -16,6 +16,7 @@ fn main(rt: HostRuntime) -> ExitCode {
     let mut output = Device::new(rt.stdout());
     let mut errors = rt.stderr();
     let ending = run(
+        &rt,
         rt.alloc(),
         words,
         &mut disk,

@@ -280,6 +280,7 @@ fault_says words = go (walk top.rules [] nothing_held words).stopped
 
 -- the fault that an error of the command becomes is of the words
 pub fault_of_words : (words : List (String Global)) (e : Error) → HasKind (fault_of play_command (texts_of words)) e → IsFaultOf words (fault_from (kind_of e) e)
+unfolding HasFault
 fault_of_words words e (inl none) = subst (λ (k : ErrorKind). IsFaultOf words (fault_from k e)) (sym none) tt
 fault_of_words words e (inr among) = go (kind_of e) refl ((fault_says (texts_of words)).one (kind_of e) among)
   where

@@ -1,9 +1,12 @@
--- The command line of the program, `afdx_play --config FILE --a FILE --b FILE`, as `clap` reads it.
-use Rattle.std.specs.Prelude.{◌≡◌, ◌≢◌, List, [], ◌∷◌, map, true, Some, ⊤, String, codes, string_bytes}
+-- The command line of the program, `afdx_play --config FILE --a FILE --b FILE [--at MICROSECONDS]`, as
+-- `clap` reads it.
+use Rattle.std.specs.Prelude.{◌≡◌, ◌≢◌, ◌≤◌, ℕ, List, [], ◌∷◌, map, true, Some, IfSome, option_map, ⊤, String, codes, string_bytes}
+use Rattle.std.specs.Str.Parse.{digits_value, without_leading_plus}
 use Rattle.std.specs.declared.alloc.Global.{Global}
 use Rattle.clap.specs.Simple.{on_top}
-use Rattle.clap.specs.Words.{App, Rule, Row, Text, first_of, fault_of, found_of, kind_of, matches_of, new_app, new_rule, rows_of, takes, with_rule}
+use Rattle.clap.specs.Words.{App, IsUnsignedIn, Rule, Row, Text, first_of, fault_of, found_of, kind_of, matches_of, new_app, new_rule, rows_of, takes, with_rule}
 use Rattle.clap.specs.declared.builder.action.ArgAction.TheVariants.{Set}
+use Rattle.clap.specs.declared.builder.value_parser.ValueParser.TheVariants.{Unsigned}
 use Rattle.clap.specs.declared.error.Error.{Error}
 use Rattle.clap.specs.declared.error.kind.ErrorKind.{ErrorKind}
 use Rattle.clap.specs.declared.error.kind.ErrorKind.TheVariants.{DisplayHelp, OutOfMemory}
@@ -21,37 +24,66 @@ file_option name = record (new_rule name) {
   required = true;
 }
 
+-- the latest time that an option takes, in microseconds: the greatest number of 63 bits (own)
+abbrev pub latest_time : ℕ
+latest_time = 9223372036854775807
+
+-- an option that may be left out, with one value, a time: `--NAME MICROSECONDS`
+abbrev pub time_option : Text → Rule
+time_option name = record (new_rule name) {
+  long = Some name;
+  action = Some Set;
+  value_names = 1;
+  parser = Some (Unsigned 0 latest_time);
+}
+
 -- the words are those after the program's name
 abbrev pub bare_command : App
 bare_command = on_top (λ top. record top { no_binary_name = true }) (new_app (codes "afdx_play"))
 
 abbrev pub play_command : App
-play_command = with_rule (with_rule (with_rule bare_command
-    (file_option (codes "config"))) (file_option (codes "a"))) (file_option (codes "b"))
+play_command = with_rule (with_rule (with_rule (with_rule bare_command
+    (file_option (codes "config"))) (file_option (codes "a"))) (file_option (codes "b"))) (time_option (codes "at"))
 
 -- the words as texts
 abbrev pub texts_of : List (String Global) → List Text
 texts_of = map string_bytes
 
--- the command takes the words
-abbrev pub IsTaken : List (String Global) → Type 0
+-- the command takes the words (crates above need not look at the command, so this is unfoldable, and so
+-- are the other two statements of words)
+unfoldable pub IsTaken : List (String Global) → Type 0
 IsTaken words = takes play_command (texts_of words) ≡ true
 
 -- what a parse matched
 abbrev pub given : ArgMatches → List Row
 given matches = rows_of (found_of matches)
 
--- the files are the values that the command matches in the words, each under its own option
+-- decimal digits, before which a plus may stand, of a number up to the latest time
+abbrev pub IsTime : Text → Type 0
+IsTime = IsUnsignedIn 0 latest_time
+
+-- the number that they say
+abbrev pub microseconds_in : Text → ℕ
+microseconds_in text = digits_value 10 (without_leading_plus text)
+
+-- the files are the values that the command matches in the words, each under its own option; the time of
+-- the report is the number that it matches, and there is none where the option isn't given
 abbrev pub IsLineIn : List Row → Line → Type 0
 IsLineIn rows line = (first_of (codes "config") rows ≡ Some (string_bytes line.config))
     × (first_of (codes "a") rows ≡ Some (string_bytes line.a))
     × (first_of (codes "b") rows ≡ Some (string_bytes line.b))
+    × (option_map microseconds_in (first_of (codes "at") rows) ≡ line.at)
 
-abbrev pub IsLineOf : List (String Global) → Line → Type 0
+-- the time of the report, if it is given, is at most the latest
+abbrev pub HasTimeInRange : Line → Type 0
+HasTimeInRange line = IfSome line.at (λ at. at ≤ latest_time)
+
+-- the same of what the command matches in these words
+unfoldable pub IsLineOf : List (String Global) → Line → Type 0
 IsLineOf words line = IsLineIn (matches_of play_command (texts_of words)) line
 
 -- the one fault that the command finds in the words
-abbrev pub HasFault : ErrorKind → List (String Global) → Type 0
+unfoldable pub HasFault : ErrorKind → List (String Global) → Type 0
 HasFault kind words = fault_of play_command (texts_of words) ≡ kind ∷ []
 
 -- the error is of the fault in the words: help where they ask for it, and else a refusal

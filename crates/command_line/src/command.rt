@@ -1,21 +1,25 @@
 //! The command and its options, as `clap` takes them.
 ghost use Rattle.std.specs.Prelude.{◌≡◌, IfOk, false};
 ghost use Rattle.clap.specs.Words.{app_of, rule_of};
-ghost use Rattle.command_line.specs.Command.{file_option, play_command};
+ghost use Rattle.command_line.specs.Command.{file_option, play_command, time_option};
 
-use clap::{Arg, ArgAction, Command};
+use clap::{Arg, ArgAction, Command, value_parser};
 use std::alloc::{AllocError, Global};
 
-/// The command of the program, with its three options.
+const TIME_OF_THE_REPORT: &str =
+    "the time of the report, in microseconds; by default the greatest arrival time";
+
+/// The command of the program, with its four options.
 pub(crate) fn play_command<'a>(alloc: Global) -> Result<Command<'a>, AllocError>
     ensures { IfOk result (λ command. app_of command ≡ play_command) }
 {
     Command::new(alloc, "afdx_play")
         .about("Plays the hex traces of two redundant networks through a receiver")
         .no_binary_name(true)
-        .arg(file_option(alloc, "config", "the configuration, a TOML document"))?
-        .arg(file_option(alloc, "a", "the hex trace of network A"))?
-        .arg(file_option(alloc, "b", "the hex trace of network B"))
+        .arg(file_option(alloc, "config", "the configuration, a TOML file"))?
+        .arg(file_option(alloc, "a", "the trace of network A"))?
+        .arg(file_option(alloc, "b", "the trace of network B"))?
+        .arg(time_option(alloc, "at", TIME_OF_THE_REPORT))
 }
 
 /// The option `--NAME FILE`. It has to be given.
@@ -28,5 +32,18 @@ fn file_option<'a>(alloc: Global, name: &'a str, help: &'a str) -> Arg<'a>
         .action(ArgAction::Set)
         .value_name("FILE")
         .required(true)
+        .help(help)
+}
+
+/// The option `--NAME MICROSECONDS`, a number from 0 to 9223372036854775807. It may be left out.
+fn time_option<'a>(alloc: Global, name: &'a str, help: &'a str) -> Arg<'a>
+    ensures rule { rule_of result ≡ time_option name.entry.now }
+    ensures local { result.global ≡ false }
+{
+    Arg::new(alloc, name)
+        .long(name)
+        .action(ArgAction::Set)
+        .value_name("MICROSECONDS")
+        .value_parser(value_parser!(u64).range(..=i64::MAX))
         .help(help)
 }

@@ -1,7 +1,7 @@
-//! From the words after the program's name to the files that they name.
-ghost use Rattle.std.specs.Prelude.{◌≡◌, IfOk, IfErr, Some, true, is_some, codes, string_bytes};
-ghost use Rattle.clap.specs.Words.{first_of, kind_of};
-ghost use Rattle.command_line.specs.Command.{given, IsFaultOf, IsLineIn, IsLineOf, IsTaken, fault_from};
+//! From the words after the program's name to the files and the time that they name.
+ghost use Rattle.std.specs.Prelude.{◌≡◌, ◌≤◌, IfOk, IfErr, IfSome, Some, true, is_some, option_map, codes, string_bytes};
+ghost use Rattle.clap.specs.Words.{first_of, kind_of, one_of};
+ghost use Rattle.command_line.specs.Command.{given, HasTimeInRange, IsFaultOf, IsLineIn, IsLineOf, IsTaken, IsTime, fault_from, latest_time, microseconds_in};
 ghost use Rattle.command_line.specs.declared.fault.LineFault.TheVariants.{Memory};
 
 use crate::LineFault;
@@ -10,7 +10,7 @@ use clap::error::ErrorKind;
 use clap::{ArgMatches, Error};
 use std::alloc::{AllocError, Global};
 
-/// The files that a command line names.
+/// The files and the time that a command line names.
 #[derive(Debug, Drop)]
 pub struct Line {
     /// The configuration.
@@ -19,14 +19,19 @@ pub struct Line {
     pub a: String,
     /// The trace of network B.
     pub b: String,
+    /// The time of the report, in microseconds, 0 to 9223372036854775807. None where it isn't given: the
+    /// report is then of the greatest arrival time.
+    pub at: Option<u64>,
 }
 
 /// Reads the words after the program's name. The fault is Help where they ask for help, Refused where
 /// they are no command line of the program, each with the text for the user, and Memory where memory
 /// ran out.
+#[tactic(auto, unfolding(crate::specs::Command::IsLineOf))]
 pub fn line_of(alloc: Global, words: &[String]) -> Result<Line, LineFault>
     ensures taken { IfOk result (λ _. IsTaken words.now) }
     ensures line { IfOk result (λ line. IsLineOf words.now line) }
+    ensures time { IfOk result HasTimeInRange }
     ensures fault { IfErr result (λ fault. IsFaultOf words.now fault) }
     ensures memory { IfErr result (λ fault. IsTaken words.now → fault ≡ Memory) }
 {
@@ -36,17 +41,21 @@ pub fn line_of(alloc: Global, words: &[String]) -> Result<Line, LineFault>
     }
 }
 
-/// The files of a command line that has all three options.
+/// The files and the time of a command line that names all three files.
 fn line_from(alloc: Global, matches: &ArgMatches<'_>) -> Result<Line, AllocError>
     requires config { is_some (first_of (codes "config") (given matches.now)) ≡ true }
     requires a { is_some (first_of (codes "a") (given matches.now)) ≡ true }
     requires b { is_some (first_of (codes "b") (given matches.now)) ≡ true }
-    ensures { IfOk result (λ line. IsLineIn (given matches.now) line) }
+    requires read { one_of (codes "at") (given matches.now) ≡ first_of (codes "at") (given matches.now) }
+    requires at { IfSome (first_of (codes "at") (given matches.now)) IsTime }
+    ensures line { IfOk result (λ line. IsLineIn (given matches.now) line) }
+    ensures time { IfOk result HasTimeInRange }
 {
     Ok(Line {
         config: value_of(alloc, matches, "config")?,
         a: value_of(alloc, matches, "a")?,
         b: value_of(alloc, matches, "b")?,
+        at: time_of(matches, "at"),
     })
 }
 
@@ -58,6 +67,16 @@ fn value_of(alloc: Global, matches: &ArgMatches<'_>, name: &str) -> Result<Strin
 {
     let value = matches.get_str(name).unwrap();
     String::from_str(alloc, value)
+}
+
+/// The time of an option, in microseconds. None where it wasn't given.
+fn time_of(matches: &ArgMatches<'_>, name: &str) -> Option<u64>
+    requires read { one_of name.now (given matches.now) ≡ first_of name.now (given matches.now) }
+    requires time { IfSome (first_of name.now (given matches.now)) IsTime }
+    ensures value { option_map microseconds_in (first_of name.now (given matches.now)) ≡ result }
+    ensures range { IfSome result (λ time. time ≤ latest_time) }
+{
+    matches.get_one(name)
 }
 
 /// The fault of an error of the command.

@@ -1,5 +1,6 @@
 use crate::{LineFault, line_of};
 use std::alloc::{AllocError, Global};
+use std::process::Abort;
 use std::test::Fail;
 
 fn words_of(alloc: Global, words: &[&str]) -> Result<Vec<String>, AllocError> {
@@ -12,10 +13,14 @@ fn words_of(alloc: Global, words: &[&str]) -> Result<Vec<String>, AllocError> {
 
 /// What `line_of` returns for these words, as a text.
 fn answer(alloc: Global, words: &[&str]) -> Result<String, AllocError> {
-    match line_of(alloc, &words_of(alloc, words)?) {
+    answer_to(alloc, &words_of(alloc, words)?)
+}
+
+fn answer_to(alloc: Global, words: &[String]) -> Result<String, AllocError> {
+    match line_of(alloc, words) {
         Ok(line) => {
-            let (config, a, b) = (&line.config, &line.a, &line.b);
-            format!(in alloc; "line {config} {a} {b}")
+            let (config, a, b, at) = (&line.config, &line.a, &line.b, line.at);
+            format!(in alloc; "line {config} {a} {b} {at:?}")
         }
         Err(LineFault::Help(error)) => format!(in alloc; "help: {error}"),
         Err(LineFault::Refused(error)) => format!(in alloc; "refused: {error}"),
@@ -32,7 +37,7 @@ fn reads_the_files(rt: HostRuntime) -> Result<(), Fail> {
     ];
     for words in lines {
         let text = answer(rt.alloc(), words)?;
-        assert!(rt; text.as_str() == "line c x y", "{text}");
+        assert!(rt; text.as_str() == "line c x y None", "{text}");
     }
     Ok(())
 }
@@ -69,13 +74,14 @@ fn help_and_refusals_differ(rt: HostRuntime) -> Result<(), Fail> {
 fn prints_the_help(rt: HostRuntime) -> Result<(), Fail> {
     let expected = "help: Plays the hex traces of two redundant networks through a receiver
 
-Usage: afdx_play --config <FILE> --a <FILE> --b <FILE>
+Usage: afdx_play [OPTIONS] --config <FILE> --a <FILE> --b <FILE>
 
 Options:
-      --config <FILE>  the configuration, a TOML document
-      --a <FILE>       the hex trace of network A
-      --b <FILE>       the hex trace of network B
-  -h, --help           Print help
+      --config <FILE>      the configuration, a TOML file
+      --a <FILE>           the trace of network A
+      --b <FILE>           the trace of network B
+      --at <MICROSECONDS>  the time of the report, in microseconds; by default the greatest arrival time
+  -h, --help               Print help
 ";
     let text = answer(rt.alloc(), &["--help"])?;
     assert!(rt; text.as_str() == expected, "{text}");
@@ -92,6 +98,154 @@ Usage: afdx_play --config <FILE> --a <FILE> --b <FILE>
 For more information, try '--help'.
 ";
     let text = answer(rt.alloc(), &["--config", "c", "--a", "x"])?;
+    assert!(rt; text.as_str() == expected, "{text}");
+    Ok(())
+}
+
+/// Words, and the text of their answer.
+type Row = (&'static [&'static str], &'static str);
+
+fn check_line(rt: &impl Abort, alloc: Global, (words, expected): Row) -> Result<(), Fail> {
+    let text = answer(alloc, words)?;
+    assert!(rt; text.as_str() == expected, "{text}");
+    Ok(())
+}
+
+/// The words that name three files, and then these.
+fn after_the_files(alloc: Global, more: &[&str]) -> Result<Vec<String>, AllocError> {
+    let mut words = words_of(alloc, &["--config", "c", "--a", "x", "--b", "y"])?;
+    for word in more {
+        words.push(String::from_str(alloc, word)?)?;
+    }
+    Ok(words)
+}
+
+/// The answer to these words after those that name three files starts with this text.
+fn check_after_the_files(rt: &impl Abort, alloc: Global, (more, start): Row) -> Result<(), Fail> {
+    let text = answer_to(alloc, &after_the_files(alloc, more)?)?;
+    assert!(rt; text.as_str().starts_with(start), "{text}");
+    Ok(())
+}
+
+fn places_of_the_time() -> [Row; 4] {
+    [
+        (
+            &["--at", "5", "--config", "c", "--a", "x", "--b", "y"],
+            "line c x y Some(5)",
+        ),
+        (
+            &["--config", "c", "--at", "5", "--a", "x", "--b", "y"],
+            "line c x y Some(5)",
+        ),
+        (
+            &["--config", "c", "--a", "x", "--b", "y", "--at", "5"],
+            "line c x y Some(5)",
+        ),
+        (
+            &["--config", "c", "--at=5", "--a", "x", "--b", "y"],
+            "line c x y Some(5)",
+        ),
+    ]
+}
+
+#[test]
+fn the_time_stands_before_or_after_the_files(rt: HostRuntime) -> Result<(), Fail> {
+    for row in places_of_the_time() {
+        check_line(&rt, rt.alloc(), row)?;
+    }
+    Ok(())
+}
+
+fn times() -> [Row; 7] {
+    [
+        (&[], "line c x y None"),
+        (&["--at", "0"], "line c x y Some(0)"),
+        (&["--at", "1000"], "line c x y Some(1000)"),
+        (&["--at", "+1000"], "line c x y Some(1000)"),
+        (&["--at", "0001000"], "line c x y Some(1000)"),
+        (
+            &["--at", "9223372036854775806"],
+            "line c x y Some(9223372036854775806)",
+        ),
+        (
+            &["--at", "9223372036854775807"],
+            "line c x y Some(9223372036854775807)",
+        ),
+    ]
+}
+
+#[test]
+fn reads_the_time(rt: HostRuntime) -> Result<(), Fail> {
+    for row in times() {
+        check_after_the_files(&rt, rt.alloc(), row)?;
+    }
+    Ok(())
+}
+
+fn bad_times() -> [Row; 10] {
+    [
+        (
+            &["--at", "9223372036854775808"],
+            "refused: error: invalid value '9223372036854775808' for '--at <MICROSECONDS>': ",
+        ),
+        (
+            &["--at", "18446744073709551616"],
+            "refused: error: invalid value '18446744073709551616' for '--at <MICROSECONDS>': ",
+        ),
+        (
+            &["--at=-1"],
+            "refused: error: invalid value '-1' for '--at <MICROSECONDS>': ",
+        ),
+        (
+            &["--at", "-1"],
+            "refused: error: unexpected argument '-1' found",
+        ),
+        (
+            &["--at", "x"],
+            "refused: error: invalid value 'x' for '--at <MICROSECONDS>': ",
+        ),
+        (
+            &["--at", "5x"],
+            "refused: error: invalid value '5x' for '--at <MICROSECONDS>': ",
+        ),
+        (
+            &["--at", ""],
+            "refused: error: invalid value '' for '--at <MICROSECONDS>': ",
+        ),
+        (
+            &["--at"],
+            "refused: error: a value is required for '--at <MICROSECONDS>' but none was supplied",
+        ),
+        (
+            &["--at", "5", "6"],
+            "refused: error: unexpected argument '6' found",
+        ),
+        (
+            &["--at", "5", "--at", "5"],
+            "refused: error: the argument '--at <MICROSECONDS>' cannot be used multiple times",
+        ),
+    ]
+}
+
+#[test]
+fn refuses_what_is_no_time(rt: HostRuntime) -> Result<(), Fail> {
+    for row in bad_times() {
+        check_after_the_files(&rt, rt.alloc(), row)?;
+    }
+    Ok(())
+}
+
+#[test]
+fn prints_the_refusal_of_a_time(rt: HostRuntime) -> Result<(), Fail> {
+    let expected = "refused: error: invalid value '9223372036854775808' for '--at <MICROSECONDS>': \
+        9223372036854775808 is not in 0..=9223372036854775807
+
+For more information, try '--help'.
+";
+    let text = answer_to(
+        rt.alloc(),
+        &after_the_files(rt.alloc(), &["--at", "9223372036854775808"])?,
+    )?;
     assert!(rt; text.as_str() == expected, "{text}");
     Ok(())
 }

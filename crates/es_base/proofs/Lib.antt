@@ -1,2 +1,3 @@
 pub mod Firsts
 pub mod Places
+pub mod Counted

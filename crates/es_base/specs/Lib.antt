@@ -20,3 +20,5 @@ pub mod Reassembly
 pub mod Outcome
 pub mod Deliveries
 pub mod Run
+pub mod Tally
+pub mod FilterTally

@@ -64,9 +64,11 @@ datagram_in limit groups a = do
 -- ---- the port (ARINC 664 Part 7, port services)
 
 -- a payload at a port of this kind, with the largest that it takes; a sampling port takes none that was
--- joined of fragments, and a queuing port none at all (own, until queues are built)
+-- joined of fragments (own)
 abbrev pub payload_if : PortKind → ℕ → Payload → Result Payload Verdict
-payload_if (Queuing depth) max payload = Err verdicts.NoPort
+payload_if (Queuing depth) max payload =
+    if nat_lt max (length payload.octets) then Err (verdicts.TooLong payload.port)
+    else Ok payload
 payload_if (Sampling refresh) max payload =
     if payload.joined then Err (verdicts.FragmentedSample payload.port)
     else if nat_lt max (length payload.octets) then Err (verdicts.TooLong payload.port)

@@ -1,5 +1,5 @@
 -- Reassembly at a link: which fragments stand there (RFC 791 3.2).
-use Rattle.std.specs.Prelude.{ℕ, Bool, true, false, List, [], ◌∷◌, Option, None, Some, Result, Ok, Err}
+use Rattle.std.specs.Prelude.{ℕ, Bool, true, false, List, [], ◌∷◌, Option, None, Some, Result}
 use Rattle.std.specs.Result.{result_ok}
 use Rattle.es_base.specs.declared.event.Event.{Event}
 use Rattle.es_base.specs.declared.fault.PacketFault.{PacketFault}

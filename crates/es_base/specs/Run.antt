@@ -1,5 +1,5 @@
 -- What becomes of a frame, and which histories are lawful.
-use Rattle.std.specs.Prelude.{◌≡◌, ℕ, ◌+◌, Bool, true, false, List, [], ◌∷◌, length, nat_lt, if◌then◌else◌}
+use Rattle.std.specs.Prelude.{◌≡◌, ℕ, ◌+◌, Bool, true, false, not, List, [], ◌∷◌, length, nat_le, nat_lt, if◌then◌else◌}
 use Rattle.es_base.specs.declared.place.PortNo.{PortNo}
 use Rattle.es_base.specs.declared.port.PortKind.{PortKind}
 use Rattle.es_base.specs.declared.port.PortKind.TheVariants.{Sampling, Queuing}
@@ -42,8 +42,35 @@ settled (ByQueue port) false = verdicts.Overflow port
 abbrev pub verdict_of : Origin → List Event → Arrival → Bool → Verdict
 verdict_of o past a room = settled (decision_of o past a) room
 
--- a lawful past: each event's verdict is what becomes of its frame after the events before it; and no
--- queue refused a message, since none is asked yet
+-- ---- the queue's answer
+
+-- whether a port of this kind may refuse a message, after this number of others were delivered to it: a
+-- queuing port once as many were as its queue holds
+abbrev pub may_be_full : PortKind → ℕ → Bool
+may_be_full (Sampling refresh) before = false
+may_be_full (Queuing depth) before = nat_le depth before
+
+abbrev pub may_refuse_with : Outcome → (PortNo → ℕ) → Bool
+may_refuse_with out_of_sequence delivered = false
+may_refuse_with redundant delivered = false
+may_refuse_with (refused verdict) delivered = false
+may_refuse_with (brings payload) delivered = may_be_full payload.kind (delivered payload.port)
+
+-- whether the frame brings a message that its queue may refuse
+abbrev pub may_refuse : Origin → List Event → Arrival → Bool
+may_refuse o past a = may_refuse_with (outcome o past a) (λ port. length (deliveries o past port))
+
+-- what a queue may answer: that it has room, and that it has none only where it may refuse
+abbrev pub MayAnswer : Origin → List Event → Arrival → Bool → Type 0
+MayAnswer o past a true = Unit {0}
+MayAnswer o past a false = may_refuse o past a ≡ true
+
+-- the answer of a queue of which no message is ever taken
+abbrev pub room_unread : Origin → List Event → Arrival → Bool
+room_unread o past a = not (may_refuse o past a)
+
+-- a lawful past: each event's verdict is what becomes of its frame after the events before it, with an
+-- answer that its queue may give
 abbrev pub IsRun : Origin → List Event → Type 0
 IsRun o [] = Unit {0}
-IsRun o (e ∷ past) = (e.verdict ≡ verdict_of o past (arrival_of e) e.room) × (e.room ≡ true) × IsRun o past
+IsRun o (e ∷ past) = (e.verdict ≡ verdict_of o past (arrival_of e) e.room) × MayAnswer o past (arrival_of e) e.room × IsRun o past

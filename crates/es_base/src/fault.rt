@@ -2,6 +2,7 @@
 ghost use Rattle.std.specs.Prelude.{◌≡◌, Some};
 ghost use Rattle.es_base.specs.Word.{filter_word, header_word};
 ghost use Rattle.es_base.specs.Frame.{filter_cause};
+ghost use Rattle.es_base.specs.FilterTally.{cause_kind, IsCauseKind};
 
 use std::fmt;
 
@@ -27,6 +28,22 @@ pub enum FilterCause {
     ForeignConstant,
     /// No link of the configuration has the frame's link number.
     UnknownLink,
+}
+
+impl FilterCause {
+    /// The kind that counters tell apart, 1 to 5.
+    pub fn kind(&self) -> u8
+        ensures kind { result ≡ cause_kind self.now }
+        ensures within { IsCauseKind result }
+    {
+        match self {
+            FilterCause::TooShort => 1,
+            FilterCause::TooLong => 2,
+            FilterCause::NotIp => 3,
+            FilterCause::ForeignConstant => 4,
+            FilterCause::UnknownLink => 5,
+        }
+    }
 }
 
 impl From<FrameFault> for FilterCause {

@@ -8,18 +8,22 @@
 mod config;
 mod event;
 mod fault;
+mod filter_tally;
 mod fragment;
+pub mod laws;
 mod links;
 mod name;
 mod octets;
 mod place;
 mod port;
 mod settings;
+mod tally;
 mod verdict;
 
 pub use config::{Config, MOST_LINKS};
 pub use event::{Arrival, Event, Message};
 pub use fault::{FilterCause, FrameFault, PacketFault, UdpFault};
+pub use filter_tally::FilterTally;
 pub use fragment::DatagramKey;
 pub use links::Links;
 pub use name::PortName;
@@ -29,6 +33,7 @@ pub use port::{
     DEEPEST_QUEUE, LONGEST_QUEUED, LONGEST_REFRESH, LONGEST_SAMPLE, PortKind, PortSettings,
 };
 pub use settings::{LONGEST_REASSEMBLY, LONGEST_SKEW, LinkSettings, MOST_PORTS, any_accepts};
+pub use tally::Tally;
 pub use verdict::{Decision, Verdict};
 
 /// Memory ran out: a growth was refused.

@@ -48,7 +48,8 @@ impl PortName {
         self.text.as_str()
     }
 
-    pub(crate) fn copy(&self) -> PortName
+    /// The same name.
+    pub fn copy(&self) -> PortName
         ensures { result ≡ self.now }
     {
         PortName { text: self.text }

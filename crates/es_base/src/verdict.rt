@@ -5,8 +5,7 @@ ghost use Rattle.es_base.specs.Verdict.{kind_of};
 use crate::{PacketFault, PortNo};
 
 /// What became of a frame that reached integrity checking. The tests stand in the order of the way
-/// of a frame: integrity checking, redundancy management, IPv4, reassembly, UDP, ports. Verdicts
-/// of queues don't come up yet.
+/// of a frame: integrity checking, redundancy management, IPv4, reassembly, UDP, ports.
 #[derive(Clone, Copy, Debug, PartialEq, Eq)]
 pub enum Verdict {
     /// Kind 1: integrity checking refuses its sequence number.
@@ -21,7 +20,7 @@ pub enum Verdict {
     FragmentHeld,
     /// Kind 6: its UDP header has a fault.
     BadUdp,
-    /// Kind 7: no port takes its UDP datagram. Queuing ports take none yet.
+    /// Kind 7: no port takes its UDP datagram.
     NoPort,
     /// Kind 8: its payload is longer than the port takes.
     TooLong(PortNo),
@@ -29,9 +28,9 @@ pub enum Verdict {
     FragmentedSample(PortNo),
     /// Kind 10: it is the newest message of the sampling port, with this message number, from 1.
     Sampled(PortNo, u64),
-    /// Kind 11: it stands at the end of the port's queue. Doesn't come up yet.
+    /// Kind 11: it stands at the end of the port's queue.
     Queued(PortNo),
-    /// Kind 12: the port's queue was full. Doesn't come up yet.
+    /// Kind 12: the port's queue was full, and the message is lost.
     Overflow(PortNo),
     /// Kind 13: the sampling port has used up its message numbers, 1 to 2^60 - 1.
     Exhausted(PortNo),
@@ -67,6 +66,6 @@ impl Verdict {
 pub enum Decision {
     /// This verdict, whatever the queues hold.
     Final(Verdict),
-    /// Queued or Overflow at this port, as its queue has room or not. Doesn't come up yet.
+    /// Queued or Overflow at this port, as its queue has room or not.
     ByQueue(PortNo),
 }

@@ -1,5 +1,6 @@
 -- Pair after pair of hexadecimal digits.
-use Rattle.std.proofs.Common.{◌≡◌, ◌∙◌, ℕ, zero, suc, ◌+◌, ◌*◌, ◌%◌, ◌<◌, ◌≤◌, Bool, true, false, ◌&&◌, nat_lt, List, [], length, take, drop, get_or, slice_index, slice_set, Option, None, Some, Ok, Err, MatchResult, refl, ap, arith}
+use Rattle.std.proofs.Common.{◌≡◌, ◌∙◌, ℕ, zero, suc, ◌+◌, ◌*◌, ◌%◌, ◌<◌, ◌≤◌, Bool, true, false, ◌&&◌, nat_lt, List, [], ◌∷◌, length, take, drop, get_or, slice_index, slice_set, Option, None, Some, Ok, Err, MatchResult, refl, ap, sym, arith}
+use Rattle.std.proofs.Math.Nat.{add-zero}
 use Rattle.std.proofs.lemmas.Bool.{lt-ltb}
 use Rattle.std.proofs.lemmas.List.{drop-drop, get_or-drop, get_or-take}
 use Rattle.std.specs.Simd.{first_chunks}
@@ -64,3 +65,10 @@ pair_at s (suc k) (suc i) within =
 -- the digits of a pair
 pub digit_at : (s : List ℕ) (k i j place : ℕ) → i < k → j < 2 → place ≡ 2 * i + j → get_or (get_or (first_chunks 2 k s) i []) j 0 ≡ slice_index s place
 digit_at s k i j place within half is = rw (pair_at s k i within, is) (get_or-take 2 (drop (2 * i) s) j 0 half ∙ get_or-drop (2 * i) s j 0)
+
+-- the pair that stands first in what is left, and what is left after it
+pub next_pair : (i : ℕ) (xs rest : List (List ℕ)) (x : List ℕ) → drop i xs ≡ x ∷ rest → (get_or xs i [] ≡ x) × (drop (i + 1) xs ≡ rest)
+next_pair i xs rest x left =
+    let first : get_or (drop i xs) 0 [] ≡ x = ap (λ ys. get_or ys 0 []) left in
+    let more : drop 1 (drop i xs) ≡ rest = ap (drop 1) left in
+    (ap (λ n. get_or xs n []) (sym (add-zero i)) ∙ sym (get_or-drop i xs 0 []) ∙ first, sym (drop-drop 1 i xs) ∙ more)

@@ -1,5 +1,6 @@
--- What a source gave, and what reading it whole returns.
-use Rattle.std.specs.Prelude.{◌≡◌, ℕ, Bool, true, false, List, IfSome, Option, Result, Ok, Err}
+-- What a source gave, and what reading some of it returns.
+use Rattle.std.specs.Prelude.{◌≡◌, ℕ, Bool, true, false, List, [], ◌++◌, IfSome, Option, Result, Ok, Err}
+use Rattle.std.specs.Io.KnownBytes.{Consumes, IsAtEnd}
 use Rattle.hex_trace.specs.declared.fault.TraceFault.{TraceFault}
 use Rattle.hex_trace.specs.declared.fault.TraceFault.TheVariants.{Line, Read, Memory}
 
@@ -12,10 +13,11 @@ pub record Given : Type 0 where
 abbrev pub IsWhole : Given → List ℕ → Type 0
 IsWhole given text = IfSome given.bytes (λ bytes. text ≡ bytes)
 
--- reading whole returns this: how many bytes stand in the front of the text, and they are all; or that
--- a read failed, exactly where one did; or that memory ran out
-abbrev pub ReadsWhole : Given → (ℕ → List ℕ) → Result ℕ TraceFault → Type 0
-ReadsWhole given front (Ok count) = (given.failed ≡ false) × IsWhole given (front count)
-ReadsWhole given front (Err (Line line cause)) = ⊥
-ReadsWhole given front (Err Read) = given.failed ≡ true
-ReadsWhole given front (Err Memory) = given.failed ≡ false
+-- some bytes of a source were read, and stand after the front of a text, which is `text count` then; none
+-- only at its end; or a read failed, exactly where one did; or memory ran out
+abbrev pub ReadsMore : Option (List ℕ) → Option (List ℕ) → Bool → List ℕ → (ℕ → List ℕ) → Result ℕ TraceFault → Type 0
+ReadsMore old new failed front text (Ok count) =
+    (failed ≡ false) × ((bytes : List ℕ) × Consumes old new bytes × (text count ≡ front ++ bytes) × (count ≡ 0 → (bytes ≡ []) × IsAtEnd new))
+ReadsMore old new failed front text (Err (Line line cause)) = ⊥
+ReadsMore old new failed front text (Err Read) = failed ≡ true
+ReadsMore old new failed front text (Err Memory) = failed ≡ false

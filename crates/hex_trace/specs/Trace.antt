@@ -12,11 +12,6 @@ use Rattle.hex_trace.specs.Source.{Given, IsWhole}
 abbrev pub is_line_end : ℕ → Bool
 is_line_end b = b == 10
 
--- the lines in what is left of a text
-abbrev pub lines_in : Option (List ℕ) → List (List ℕ)
-lines_in None = []
-lines_in (Some text) = slice_split is_line_end text
-
 -- these frames, and then those that are read
 abbrev pub with_front : List TimedFrame → Result (List TimedFrame) (ℕ × TraceCause) → Result (List TimedFrame) (ℕ × TraceCause)
 with_front front (Ok frames) = Ok (front ++ frames)

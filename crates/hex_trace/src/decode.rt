@@ -34,6 +34,9 @@ pub fn decode_digits(alloc: Global, digits: &[u8]) -> Result<Vec<u8>, FromHexErr
     hex::decode(alloc, digits)
 }
 
+/// The bit by which a letter of lower case differs from that of upper case.
+const CASE: u8 = b'a' - b'A';
+
 /// Decodes pairs of digits, and returns whether all were digits. Where one wasn't, what `octets` holds
 /// then means nothing.
 ///
@@ -47,12 +50,14 @@ fn decode_pairs(digits: &[u8], octets: &mut [u8]) -> bool
         (λ _. result ≡ false) }
 {
     let (pairs, _) = digits.as_chunks::<2>();
+    let mut rest = pairs.iter();
     let mut are_digits = true;
-    'pairs: for i in 0..octets.len() {
-        let high = digit_value(pairs[i][0]);
-        let low = digit_value(pairs[i][1]);
+    'pairs: for octet in octets.iter_mut() {
+        let Some(pair) = rest.next() else { break };
+        let high = digit_value(pair[0]);
+        let low = digit_value(pair[1]);
         are_digits = are_digits & (high < 16) & (low < 16);
-        octets[i] = high.wrapping_mul(16).wrapping_add(low);
+        *octet = high.wrapping_mul(16).wrapping_add(low);
     }
     are_digits
 }
@@ -63,14 +68,11 @@ fn digit_value(b: u8) -> u8
     ensures { result ≡ digit_value b }
 {
     let decimal = b.wrapping_sub(b'0');
-    let lower = b.wrapping_sub(b'a');
-    let upper = b.wrapping_sub(b'A');
+    let letter = (b | CASE).wrapping_sub(b'a');
     if decimal < 10 {
         decimal
-    } else if lower < 6 {
-        lower + 10
-    } else if upper < 6 {
-        upper + 10
+    } else if letter < 6 {
+        letter + 10
     } else {
         NO_DIGIT
     }

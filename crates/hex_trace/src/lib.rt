@@ -9,9 +9,10 @@ mod device;
 mod fault;
 mod frames;
 mod line;
+mod lines;
+mod piece;
 mod source;
 mod trace;
-mod whole;
 
 pub use decode::decode_digits;
 pub use device::{Device, Failed, told};

@@ -1,22 +1,20 @@
-//! A whole trace: its lines, one after another.
-ghost use Rattle.std.specs.Prelude.{◌≡◌, ◌<◌, ◌∷◌, ◌^◌, IfSome, Some, false, length};
-ghost use Rattle.std.specs.Option.{option_map};
-ghost use Rattle.std.specs.List.{slice_split};
-ghost use Rattle.hex_trace.specs.Trace.{is_line_end, lines_in, ReadsTrace};
+//! A whole trace, from its source to its frames.
+ghost use Rattle.std.specs.Prelude.{◌≡◌, ◌≤◌, ◌-◌, ◌++◌, ℕ, List, None, IfOk, false, length, take, drop};
+ghost use Rattle.hex_trace.specs.Trace.{ReadsTrace};
+ghost use Rattle.hex_trace.specs.Lines.{said_by, HasNoEnd};
 
-use crate::line::{BadLine, frame_from};
-use crate::whole::read_whole;
+use crate::lines::Lines;
+use crate::piece::read_more;
 use crate::{Frames, Source, TraceFault};
-use memchr::memchr;
+use es_base::Memory;
 use std::alloc::Global;
 
-/// Ends a line. After the last one of a text stands one more line, which may be empty.
-const LINE_END: u8 = b'\n';
-
-/// Reads a source whole, and then checks its lines: the frames of the trace, or its first fault.
+/// Reads a source whole and checks its lines: the frames of the trace, or its first fault. After a fault
+/// the rest is read, since a failed read comes before it.
 ///
-/// `text` is where the bytes are read to. What it holds before doesn't matter, and its memory serves
-/// for the next trace.
+/// `text` is where the bytes are read to: a piece of the source, and after a fault all that follows. What it
+/// holds before doesn't matter, and its memory serves for the next trace. Each byte that was read is
+/// kept, in a frame or as it came, so a source that never ends runs out of memory.
 pub fn read_trace<S: Source>(
     alloc: Global,
     source: &mut S,
@@ -25,48 +23,46 @@ pub fn read_trace<S: Source>(
     requires { S.has_failed source.old ≡ false }
     ensures { ReadsTrace (record { bytes = S.remaining source.old; failed = S.has_failed source.new }) result }
 {
-    let count = read_whole(source, text)?;
-    frames_in(alloc, &text[..count])
-}
-
-/// The frames of a text, or its first fault.
-fn frames_in(alloc: Global, text: &[u8]) -> Result<Frames, TraceFault>
-    requires { length text.now < 2 ^ 63 }
-    ensures { ReadsTrace (record { bytes = Some text.now; failed = false }) result }
-{
-    let mut frames = Frames::new(alloc);
-    let mut line_number = 1u64;
-    let mut before = 0u64;
-    let mut rest = Some(text);
-    'lines: while let Some(text) = rest {
-        let (line, more) = cut_line(text);
-        let found = match frame_from(alloc, before, line) {
-            Ok(found) => found,
-            Err(BadLine::Cause(cause)) => {
-                return Err(TraceFault::Line {
-                    line: line_number,
-                    cause,
-                });
-            }
-            Err(BadLine::Memory) => return Err(TraceFault::Memory),
-        };
-        if let Some(frame) = found {
-            before = frame.time;
-            frames.push(frame)?;
+    let mut lines = Lines::new(alloc);
+    let mut filled = 0;
+    'pieces: for _ in 0..u64::MAX {
+        let count = read_more(source, text, filled)?;
+        if count == 0 {
+            return lines.finish(alloc, &text[..filled]);
         }
-        line_number += 1;
-        rest = more;
+        filled = take_piece(alloc, &mut lines, text, filled + count)?;
     }
-    Ok(frames)
+    Err(TraceFault::Memory)
 }
 
-/// The first line, and the text after its end; None where no `LINE_END` stands.
-fn cut_line(text: &[u8]) -> (&[u8], Option<&[u8]>)
-    ensures lines { slice_split is_line_end text.now ≡ result.0.now ∷ lines_in (option_map (λ rest. rest.now) result.1) }
-    ensures shorter { IfSome result.1 (λ rest. length rest.now < length text.now) }
+/// Takes the whole lines of the first `filled` bytes of a text. What is left of them moves to its front;
+/// returns how many bytes that is.
+fn take_piece(
+    alloc: Global,
+    lines: &mut Lines,
+    text: &mut [u8],
+    filled: usize,
+) -> Result<usize, Memory>
+    requires { filled ≤ length text.old }
+    ensures said { IfOk result (λ left. (more : List ℕ)
+        → said_by lines.new (take left text.new ++ more) ≡ said_by lines.old (take filled text.old ++ more)) }
+    ensures rest { IfOk result (λ left. lines.new.fault ≡ None → HasNoEnd (take left text.new)) }
+    ensures within { IfOk result (λ left. left ≤ length text.new) }
+    ensures whole { length text.new ≡ length text.old }
 {
-    match memchr(LINE_END, text) {
-        None => (text, None),
-        Some(end) => (&text[..end], Some(&text[end + 1..])),
+    let taken = lines.take_lines(alloc, &text[..filled])?;
+    move_to_front(text, taken, filled);
+    Ok(filled - taken)
+}
+
+/// Moves the bytes from `start` to `end` to the front of a text.
+fn move_to_front(text: &mut [u8], start: usize, end: usize)
+    requires order { start ≤ end }
+    requires within { end ≤ length text.old }
+    ensures front { take (end - start) text.new ≡ drop start (take end text.old) }
+    ensures whole { length text.new ≡ length text.old }
+{
+    if start > 0 {
+        text.copy_within(start..end, 0);
     }
 }

@@ -1,7 +1,6 @@
 -- Where the octets of a payload stand: in the datagram that its packet has or completes.
-use Rattle.std.proofs.Common.{◌≡◌, ◌∙◌, ap, sym, subst, ℕ, ◌+◌, ◌-◌, ◌<◌, ◌≤◌, Bool, true, false, not, ◌&&◌, List, length, take, drop, nat_lt, Option, Some, None, Result, Ok, Err, if◌then◌else◌, refl, arith, ⊎_elim}
+use Rattle.std.proofs.Common.{◌≡◌, ◌∙◌, ap, ℕ, ◌+◌, ◌-◌, ◌<◌, ◌≤◌, Bool, true, false, List, length, take, drop, nat_lt, Option, Some, None, Result, Ok, Err, if◌then◌else◌, refl, arith, ⊎_elim}
 use Rattle.std.specs.List.{slice_get, slice_range}
-use Rattle.std.specs.Result.{result_ok}
 use Rattle.std.proofs.lemmas.Bool.{cases_lt, lt-ltb, le-ltb}
 use Rattle.std.proofs.lemmas.List.{length-drop, length-take-le}
 use Rattle.es_base.specs.declared.place.PortNo.{PortNo}
@@ -15,7 +14,7 @@ use Rattle.es_base.specs.declared.event.Arrival.{Arrival}
 use Rattle.es_base.specs.declared.event.Event.{Event}
 use Rattle.es_base.specs.Returns.{◌>>=◌}
 use Rattle.es_base.specs.Packet.{PacketParts}
-use Rattle.es_base.specs.Udp.{UdpHeadParts, udp_head_of, udp_of, udp_length, with_payload}
+use Rattle.es_base.specs.Udp.{UdpHeadParts, udp_head_of, udp_length, with_payload}
 use Rattle.es_base.specs.Port.{Port, port_of}
 use Rattle.es_base.specs.Settings.{Settings}
 use Rattle.es_base.specs.Past.{Origin}
@@ -36,8 +35,12 @@ accepted payload true long v w = tt
 accepted payload false true v w = tt
 accepted payload false false v w = refl
 
+not_long : (payload : way.Payload) (long : Bool) (w : Verdict) → HasOctets payload.octets (if long then Err w else Ok payload)
+not_long payload true w = tt
+not_long payload false w = refl
+
 if_octets : (kind : PortKind) (max : ℕ) (payload : way.Payload) → HasOctets payload.octets (way.payload_if kind max payload)
-if_octets (Queuing depth) max payload = tt
+if_octets (Queuing depth) max payload = not_long payload (nat_lt max (length payload.octets)) (verdicts.TooLong payload.port)
 if_octets (Sampling refresh) max payload = accepted payload payload.joined (nat_lt max (length payload.octets)) (verdicts.FragmentedSample payload.port) (verdicts.TooLong payload.port)
 
 for_octets : (place : PortNo) (port : Option Port) (joined : Bool) (octets : List ℕ) → HasOctets octets (way.payload_for place port joined octets)

@@ -1,7 +1,13 @@
 pub mod Brings
 pub mod ByPlace
+pub mod HandedOut
 pub mod Forwarded
 pub mod Kept
+pub mod Meetings
 pub mod Offers
+pub mod Outlets
 pub mod Places
+pub mod Refusals
+pub mod Rooms
+pub mod Taken
 pub mod Ways

@@ -1,11 +1,10 @@
 -- Room that is filled by what reassembly is offered.
-use Rattle.std.proofs.Common.{◌≡◌, ◌∙◌, ap, sym, ℕ, ◌+◌, ◌≤◌, ◌<◌, Bool, true, false, List, [], ◌∷◌, length, Option, None, Some, IfSome, if◌then◌else◌, refl, arith, ⊎_elim}
+use Rattle.std.proofs.Common.{◌≡◌, ◌∙◌, ap, ℕ, ◌+◌, Bool, true, false, List, length, Option, None, Some, IfSome, refl, arith, ⊎_elim}
 use Rattle.std.specs.List.{slice_range}
 use Rattle.es_base.specs.declared.place.PortNo.{PortNo}
 use Rattle.es_base.specs.declared.event.Arrival.{Arrival}
-use Rattle.es_base.specs.declared.event.Message.{Message}
 use Rattle.es_base.specs.Packet.{PacketParts}
-use Rattle.es_base.specs.Past.{Origin, origin_of}
+use Rattle.es_base.specs.Past.{origin_of}
 use Rattle.std.proofs.lemmas.Bool.{cases_Bool, eqb-true}
 use Rattle.std.proofs.lemmas.Option.{same_Some}
 use Rattle.es_base.specs.Groups.{Group, Fate, whole, fate}
@@ -17,8 +16,8 @@ use Rattle.ip_reassembly.specs.Kept as pieces
 use Rattle.link_receiver.specs.declared.change.Delivery.{Delivery}
 use Rattle.link_receiver.specs.declared.change.Room.{Room}
 use Rattle.link_receiver.specs.Link.{Link, past_of, deliveries_of, outcome_after}
-use Rattle.link_receiver.specs.Change.{HasMessageNumber, RoomFor, messages_for}
-use Rattle.link_receiver.specs.Offer.{Fills, IsRoomIn, Yields}
+use Rattle.link_receiver.specs.Change.{RoomFor, messages_for}
+use Rattle.link_receiver.specs.Offer.{Fills, IsRoomIn}
 use Rattle.link_receiver.proofs.Brings.{IsBroughtBy, is_brought}
 
 -- where there is room, the packet that is offered will fill it

@@ -1,11 +1,11 @@
 -- What an arrival changes at its link.
-use Rattle.std.specs.Prelude.{◌≡◌, ◌<◌, Bool, true, false, List, [], ◌∷◌, length, Option, None, Some, IfSome, if◌then◌else◌}
+use Rattle.std.specs.Prelude.{◌≡◌, Bool, true, false, List, [], ◌∷◌, length, slice_get, Option, None, Some, IfSome, if◌then◌else◌}
 use Rattle.std.specs.Option.{option_map}
 use Rattle.es_base.specs.declared.place.PortNo.{PortNo}
 use Rattle.es_base.specs.declared.event.Arrival.{Arrival}
 use Rattle.es_base.specs.declared.event.Message.{Message}
-use Rattle.es_base.specs.Limits.{most_samples}
 use Rattle.es_base.specs.Frame.{sequence_number_of}
+use Rattle.es_base.specs.Port.{Port}
 use Rattle.es_base.specs.Past.{origin_of}
 use Rattle.es_base.specs.Redundancy.{is_forwarded}
 use Rattle.es_base.specs.Reassembly.{offered}
@@ -15,17 +15,17 @@ use Rattle.frame_reader.specs.Parts.{packet_parts}
 use Rattle.link_receiver.specs.declared.change.Change.{Change}
 use Rattle.link_receiver.specs.declared.change.Delivery.{Delivery}
 use Rattle.link_receiver.specs.declared.change.Room.{Room}
-use Rattle.link_receiver.specs.Link.{Link, past_of, deliveries_of, outcome_after, verdict_after}
+use Rattle.link_receiver.specs.Link.{Link, past_of, deliveries_of, decision_after, outcome_after}
 
 -- the messages of a delivery for this port
 abbrev pub messages_for : PortNo → Option Delivery → List Message
 messages_for port None = []
 messages_for port (Some delivery) = if is_same_port delivery.port port then delivery.message ∷ [] else []
 
--- a message goes to a port of the link that has a message number for it
-abbrev pub HasMessageNumber : Link → Option Room → Type 0
-HasMessageNumber link room =
-    IfSome room (λ r. (r.port.0 < length link.settings.ports) × (length (deliveries_of link r.port) < most_samples))
+-- a message goes to a port of the link that takes one more, where its queue has room
+abbrev pub HasPlace : Link → Option Room → Type 0
+HasPlace link room =
+    IfSome room (λ r. (port : Port) × (slice_get link.settings.ports r.port.0 ≡ Some port) × (takes_one_more port.kind true (length (deliveries_of link r.port)) ≡ true))
 
 -- whether a payload's port takes it, if its queue has room
 abbrev pub is_taken : Link → Payload → Bool
@@ -36,15 +36,16 @@ abbrev pub RoomFor : Outcome → Link → Option Room → Type 0
 RoomFor (brings payload) link None = is_taken link payload ≡ false
 RoomFor (brings payload) link (Some room) =
     (is_taken link payload ≡ true) × (payload.port ≡ room.port) × (length payload.octets ≡ room.len)
+    × ((port : Port) × (slice_get link.settings.ports room.port.0 ≡ Some port) × (port.kind ≡ payload.kind))
 RoomFor out_of_sequence link room = room ≡ None
 RoomFor redundant link room = room ≡ None
 RoomFor (refused verdict) link room = room ≡ None
 
--- what the definitions say of an arrival that comes next, where no queue refuses its message
+-- what the definitions say of an arrival that comes next, but for its queue's answer
 pub record IsChange (link : Link) (a : Arrival) (change : Change) : Type 0 where
   pub numbered : change.sequence_number ≡ sequence_number_of a.frame
   pub forwarded : change.forwarded ≡ is_forwarded (origin_of link.settings) (past_of link) a
   pub packet : option_map packet_parts change.packet ≡ offered (is_forwarded (origin_of link.settings) (past_of link) a) a.frame
-  pub verdict : change.verdict ≡ verdict_after link a true
+  pub decision : change.decision ≡ decision_after link a
   pub room : RoomFor (outcome_after link a) link change.room
-  pub has_message_number : HasMessageNumber link change.room
+  pub has_place : HasPlace link change.room

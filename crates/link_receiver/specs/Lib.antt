@@ -1,8 +1,10 @@
 pub mod ByPlace
 pub mod Change
 pub mod Checks
+pub mod Ends
 pub mod Kept
 pub mod Link
 pub mod Offer
-pub mod Register
+pub mod Outlet
 pub mod Seen
+pub mod Unread

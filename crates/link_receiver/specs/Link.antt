@@ -1,5 +1,5 @@
 -- A link's state, as callers see it.
-use Rattle.std.specs.Prelude.{ℕ, Bool, List, [], ◌∷◌, ◌++◌, reverse, Option, None, if◌then◌else◌}
+use Rattle.std.specs.Prelude.{◌≡◌, ℕ, Bool, List, [], ◌∷◌, ◌++◌, reverse, Option, None, if◌then◌else◌}
 use Rattle.es_base.specs.declared.place.PortNo.{PortNo}
 use Rattle.es_base.specs.declared.verdict.Verdict.{Verdict}
 use Rattle.es_base.specs.declared.verdict.Decision.{Decision}
@@ -11,12 +11,15 @@ use Rattle.es_base.specs.Port.{samples_at}
 use Rattle.es_base.specs.Past.{event_of, origin_of}
 use Rattle.es_base.specs.Outcome.{Outcome, outcome}
 use Rattle.es_base.specs.Deliveries.{deliveries, newest_of}
-use Rattle.es_base.specs.Run.{decision_of, verdict_of}
+use Rattle.es_base.specs.Run.{MayAnswer, decision_of, room_unread, verdict_of}
+use Rattle.queuing_port.specs.Queue.{QueueId}
 
--- its settings, and its events in the order in which their frames came
+-- its settings, its events in the order in which their frames came, and for each port which queue it
+-- has, if any
 pub record Link : Type 0 where
   pub settings : Settings
   pub history : List Event
+  pub queues : List (Option QueueId)
 
 -- the latest event first
 abbrev pub past_of : Link → List Event
@@ -49,3 +52,15 @@ verdict_after link a room = verdict_of (origin_of link.settings) (past_of link) 
 -- the link with its event
 abbrev pub with_event : Link → Arrival → Bool → Verdict → Link
 with_event link a room verdict = record link { history = link.history ++ event_of a room verdict ∷ [] }
+
+-- the answer of a queue of which no message is ever taken
+abbrev pub room_after : Link → Arrival → Bool
+room_after link a = room_unread (origin_of link.settings) (past_of link) a
+
+-- the link took the frame: it has one event more, with what becomes of the frame after the events before
+-- it, where the queue gave this answer
+pub record Takes (old : Link) (a : Arrival) (verdict : Verdict) (new : Link) : Type 0 where
+  pub room : Bool
+  pub may : MayAnswer (origin_of old.settings) (past_of old) a room
+  pub becomes : verdict ≡ verdict_after old a room
+  pub event : new ≡ with_event old a room verdict

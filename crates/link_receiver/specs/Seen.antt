@@ -1,6 +1,8 @@
 -- What a frame comes to, as the code has it: without the octets of its payload.
-use Rattle.std.specs.Prelude.{◌≡◌, ℕ, ◌<◌, Bool, true, false, List, length, Result, Ok, Err}
+use Rattle.std.specs.Prelude.{◌≡◌, Bool, true, false, List, ℕ, length, nat_lt, slice_get, Some, Result, Ok, Err, if◌then◌else◌}
+use Rattle.es_base.specs.declared.place.PortNo.{PortNo}
 use Rattle.es_base.specs.declared.verdict.Verdict.{Verdict}
+use Rattle.es_base.specs.declared.verdict.Verdict.TheVariants as verdicts
 use Rattle.es_base.specs.Returns.{◌>>=◌}
 use Rattle.es_base.specs.Port.{Port}
 use Rattle.es_base.specs.Outcome as way
@@ -33,12 +35,21 @@ payload_after ports read = do
   datagram ← read
   way.payload_in ports datagram
 
--- a payload is for one of this number of ports
-abbrev pub HasPort : Outcome → ℕ → Type 0
+-- a payload for the port that stands at this place, unless it is too long
+abbrev pub fitting_payload : PortNo → Port → Bool → List ℕ → Result way.Payload Verdict
+fitting_payload place port joined octets =
+    if nat_lt port.max (length octets) then Err (verdicts.TooLong place)
+    else Ok (record { port = place; kind = port.kind; joined = joined; octets = octets })
+
+-- a payload is for one of these ports, and of its kind
+abbrev pub IsForOneOf : List Port → Payload → Type 0
+IsForOneOf ports payload = (port : Port) × (slice_get ports payload.port.0 ≡ Some port) × (port.kind ≡ payload.kind)
+
+abbrev pub HasPort : Outcome → List Port → Type 0
 HasPort OutOfSequence ports = Unit {0}
 HasPort Redundant ports = Unit {0}
 HasPort (Refused verdict) ports = Unit {0}
-HasPort (Brings payload) ports = payload.port.0 < ports
+HasPort (Brings payload) ports = IsForOneOf ports payload
 
 -- whether a frame with this outcome is forwarded
 abbrev pub counts_as_forwarded : Outcome → Bool

@@ -2,7 +2,7 @@
 ghost use Rattle.std.specs.Prelude.{◌≡◌, ◌≤◌, []};
 ghost use Rattle.std.specs.Vec.{vec_capacity};
 
-use es_base::{Message, PortNo, Verdict};
+use es_base::{Decision, Message, PortNo};
 use frame_reader::Packet;
 
 /// What an arrival changes, beside the history.
@@ -14,7 +14,8 @@ pub(crate) struct Change<'a> {
     pub forwarded: bool,
     /// The packet that reassembly is offered.
     pub packet: Option<Packet<'a>>,
-    pub verdict: Verdict,
+    /// What becomes of the frame, but for its queue's answer.
+    pub decision: Decision,
     /// Room for the message that the frame delivers.
     pub room: Option<Room>,
 }

@@ -5,13 +5,18 @@
 
 mod change;
 mod checks;
+mod ends;
 pub mod laws;
 mod link;
 mod offer;
 mod outcome;
+mod outlet;
 mod register;
+mod unread;
 mod verdict;
 mod way;
 
+pub use ends::PortEnd;
 pub use es_base::{Arrival, Decision, Event, LinkSettings, Memory, Message, Net, PortNo, Verdict};
 pub use link::LinkState;
+pub use unread::UnreadLink;

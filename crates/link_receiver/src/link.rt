@@ -1,70 +1,103 @@
 //! One link's state.
-ghost use Rattle.std.specs.Prelude.{◌≡◌, ◌<◌, [], IfOk, OnOk, OnErr, length, true};
+ghost use Rattle.std.specs.Prelude.{◌≡◌, IfOk, OnErr, Some, length, slice_get, true};
 ghost use Rattle.std.specs.Option.{option_map};
 ghost use Rattle.es_base.specs.Frame.{IsFrame, link_number_of};
-ghost use Rattle.es_base.specs.Port.{samples_at};
 ghost use Rattle.es_base.specs.Past.{AreFramesOf, arrived, origin_of};
-ghost use Rattle.es_base.specs.Deliveries.{delivered, newest_of};
-ghost use Rattle.es_base.specs.Run.{IsRun, decided};
+ghost use Rattle.es_base.specs.Run.{IsRun, decided, decided_at};
+ghost use Rattle.es_base.specs.Tally.{HasCounts};
 ghost use Rattle.es_base.specs.Reassembly.{groups_in, offered};
+ghost use Rattle.es_base.specs.Deliveries.{takes_one_more};
 ghost use Rattle.es_base.specs.Outcome.{Outcome as OutcomeValue, brought_by};
 ghost use Rattle.frame_reader.specs.Parts.{packet_parts};
-ghost use Rattle.link_receiver.specs.Change.{HasMessageNumber, IsChange, RoomFor};
-ghost use Rattle.link_receiver.specs.Seen.{HasPort, Sees, counts_as_forwarded};
-ghost use Rattle.link_receiver.specs.Link.{past_of, deliveries_of, newest_at};
-ghost use Rattle.link_receiver.specs.Link.{outcome_after, decision_after, verdict_after, with_event};
+ghost use Rattle.queuing_port.specs.Queue.{Holds};
+ghost use Rattle.link_receiver.specs.Change.{HasPlace, IsChange, RoomFor};
+ghost use Rattle.link_receiver.specs.Seen.{HasPort, IsForOneOf, Sees, counts_as_forwarded};
+ghost use Rattle.link_receiver.specs.Ends.{AreEndsOf, AreTakersOf, IsNewLink, IsWithinDepth};
+ghost use Rattle.link_receiver.specs.Link.{Takes, past_of, deliveries_of, newest_at};
+ghost use Rattle.link_receiver.specs.Link.{outcome_after, decision_after};
 
 use crate::change::{Change, Room};
 use crate::checks::Checks;
+use crate::ends::{PortEnd, ends_of};
 use crate::offer::offer;
-use crate::outcome::Outcome;
-use crate::register::{MOST_SAMPLES, Register, deliver, empty_registers};
+use crate::outcome::{Outcome, Payload};
+use crate::outlet::{Outlet, deliver, open_outlets};
+use crate::register::MOST_SAMPLES;
 use crate::verdict::{sampled, settled};
 use crate::way::{brought, counts_as_forwarded, payload_by};
 use es_base::{
-    Arrival, Decision, Event, LinkSettings, Memory, Message, Net, Octets, PortKind, PortNo, Verdict,
+    Arrival, Decision, Event, LinkSettings, Memory, Message, Net, Octets, PortNo, Tally, Verdict,
 };
 use frame_reader::{Frame, Packet, frame_in, read_packet};
 use ip_reassembly::Reassembly;
+use link_deliveries::deliveries;
+use queuing_port::Taker;
 use std::alloc::Global;
 use std::marker::Model;
+use std::sync::Wait;
 
 /// The state of one link: its settings and its history. What it keeps beside them follows from these
 /// two: for each network a sequence number, what redundancy management compares with, the pieces of
-/// datagrams that aren't complete, and the newest message of each sampling port.
+/// datagrams that aren't complete, and for each port the newest message or the end of its queue into
+/// which messages are put.
 #[derive(Drop)]
 pub struct LinkState {
     settings: LinkSettings,
     history: Vec<Event>,
     checks: Checks,
     reassembly: Reassembly,
-    registers: Vec<Register>,
+    outlets: Vec<Outlet>,
+    tally: Tally,
 }
 
 impl Model for LinkState {
+    ghost use Rattle.std.specs.Prelude.{map};
     ghost use Rattle.link_receiver.specs.Link.{Link};
 
     ghost Value = { Link };
 
     ghost use Rattle.link_receiver.specs.Kept.{IsKept};
+    ghost use Rattle.link_receiver.specs.Outlet.{queue_of};
 
-    ghost view = { λ s. record { settings = s.settings; history = s.history.items } };
+    ghost view = { λ s. record {
+      settings = s.settings;
+      history = s.history.items;
+      queues = map queue_of s.outlets.items;
+    } };
 
-    ghost invariant = { λ s. IsKept s.settings s.history.items s.checks s.reassembly s.registers.items };
+    ghost invariant = { λ s. IsKept s.settings s.history.items s.checks s.reassembly s.outlets.items s.tally };
 }
 
 impl LinkState {
-    /// The state of a link with these settings and no history.
-    pub fn new(alloc: Global, settings: &LinkSettings) -> Result<LinkState, Memory>
-        ensures { IfOk result (λ state. state ≡ record { settings = settings.now; history = [] }) }
+    /// The state of a link with these settings and no history; and the ends of its queuing ports, in the
+    /// order of the settings.
+    pub fn new(alloc: Global, settings: &LinkSettings) -> Result<(LinkState, Vec<PortEnd>), Memory>
+        ensures link { IfOk result (λ opened. IsNewLink settings.now opened.0) }
+        ensures ends { IfOk result (λ opened. AreEndsOf settings.now.ports opened.0.queues opened.1.items) }
     {
-        Ok(LinkState {
+        let (state, takers) = LinkState::open(alloc, settings)?;
+        let ends = ends_of(alloc, settings.ports(), takers)?;
+        Ok((state, ends))
+    }
+
+    /// The same with a taker, or none, at the place of each port.
+    pub(crate) fn open(
+        alloc: Global,
+        settings: &LinkSettings,
+    ) -> Result<(LinkState, Vec<Option<Taker>>), Memory>
+        ensures link { IfOk result (λ opened. IsNewLink settings.now opened.0) }
+        ensures takers { IfOk result (λ opened. AreTakersOf settings.now.ports opened.0.queues opened.1.items) }
+    {
+        let (outlets, takers) = open_outlets(alloc, settings.ports())?;
+        let state = LinkState {
             settings: settings.copy(alloc)?,
             history: Vec::new(alloc),
             checks: Checks::opening(settings.skew_max()),
             reassembly: Reassembly::new(alloc, settings.reassembly())?,
-            registers: empty_registers(alloc, settings.ports().len())?,
-        })
+            outlets,
+            tally: Tally::opening(),
+        };
+        Ok((state, takers))
     }
 
     /// The link's settings.
@@ -88,11 +121,38 @@ impl LinkState {
     pub fn newest(&self, port: PortNo) -> Option<(u64, &Message)>
         ensures { option_map (λ newest. (newest.0, newest.1.now)) result ≡ newest_at self.now port }
     {
-        if self.samples_at(port) {
-            self.newest_delivered(port)
-        } else {
-            None
+        match self.outlets.get(port.0 as usize) {
+            Some(outlet) => outlet.newest(),
+            None => None,
         }
+    }
+
+    /// How many events came on each network with each kind of verdict.
+    pub fn tally(&self) -> &Tally
+        ensures { HasCounts result.now (past_of self.now) }
+    {
+        &self.tally
+    }
+
+    /// The messages that were delivered to a port, in order, worked out from the history. This walks
+    /// through the history, up to the last event that delivered one.
+    pub fn deliveries(&self, alloc: Global, port: PortNo) -> Result<Vec<Message>, Memory>
+        ensures { IfOk result (λ messages. messages.items ≡ deliveries_of self.now port) }
+    {
+        deliveries(alloc, self.settings(), self.history(), port)
+    }
+
+    /// A queuing port of this link and the end that takes of it meet: the taker then knows all that was
+    /// delivered to the port. Returns how many of these messages it hasn't taken: at most the depth of
+    /// the queue. Nothing else changes.
+    pub fn meet<R: Wait>(&mut self, rt: &R, port: PortNo, taker: &mut Taker) -> usize
+        requires { slice_get self.old.queues port.0 ≡ Some (Some taker.old.queue) }
+        ensures link { self.new ≡ self.old }
+        ensures taker { taker.new ≡ record taker.old { put = deliveries_of self.old port } }
+        ensures held { Holds taker.new result }
+        ensures depth { IsWithinDepth (slice_get self.old.settings.ports port.0) result }
+    {
+        self.outlets[port.0 as usize].meet(rt, taker)
     }
 
     /// What would become of a frame that came now, at `now` microseconds. Nothing changes.
@@ -105,19 +165,18 @@ impl LinkState {
     }
 
     /// Takes a frame that came at `now` microseconds: the history gains one event, and the frame's
-    /// verdict is returned. Where memory runs out nothing has changed.
-    pub fn take(
+    /// verdict is returned. A message for a queuing port is put into its queue, after all memory was
+    /// taken. Where memory runs out nothing has changed.
+    pub fn take<R: Wait>(
         &mut self,
+        rt: &R,
         alloc: Global,
         net: Net,
         now: u64,
         frame: &Frame<'_>,
     ) -> Result<Verdict, Memory>
         requires { frame.now.vl ≡ self.old.settings.vl }
-        ensures event { IfOk result (λ verdict.
-            self.new ≡ with_event self.old (arrived net now frame.now.whole.now) true verdict) }
-        ensures verdict { IfOk result (λ verdict.
-            verdict ≡ verdict_after self.old (arrived net now frame.now.whole.now) true) }
+        ensures ok { IfOk result (λ verdict. Takes self.old (arrived net now frame.now.whole.now) verdict self.new) }
         ensures err { OnErr result (self.new ≡ self.old) }
     {
         let arrival = Arrival {
@@ -125,16 +184,20 @@ impl LinkState {
             time: now,
             frame: Octets::copy_of(alloc, frame.whole)?,
         };
-        self.take_arrival(alloc, arrival)
+        self.take_arrival(rt, alloc, arrival)
     }
 
     /// Takes a frame as `take` does, and keeps its octets themselves in place of a copy. They are those
     /// of a frame of this link, as `read_frame` returned it. Where memory runs out they are given up.
-    pub fn take_arrival(&mut self, alloc: Global, arrival: Arrival) -> Result<Verdict, Memory>
+    pub fn take_arrival<R: Wait>(
+        &mut self,
+        rt: &R,
+        alloc: Global,
+        arrival: Arrival,
+    ) -> Result<Verdict, Memory>
         requires frame { IsFrame arrival.frame }
         requires link { link_number_of arrival.frame ≡ self.old.settings.vl.0 }
-        ensures event { IfOk result (λ verdict. self.new ≡ with_event self.old arrival true verdict) }
-        ensures verdict { IfOk result (λ verdict. verdict ≡ verdict_after self.old arrival true) }
+        ensures ok { IfOk result (λ verdict. Takes self.old arrival verdict self.new) }
         ensures err { OnErr result (self.new ≡ self.old) }
     {
         let change = self.change_by(alloc, &arrival)?;
@@ -143,15 +206,17 @@ impl LinkState {
             sequence_number,
             forwarded,
             packet,
-            verdict,
+            decision,
             room,
         } = change;
         let (net, time) = (arrival.net, arrival.time);
         self.checks.note(net, sequence_number, time, forwarded);
         let delivery = offer(&mut self.reassembly, packet, time, room);
-        deliver(&mut self.registers, delivery);
+        let had_room = deliver(rt, &mut self.outlets, delivery);
+        let verdict = settled(decision, had_room);
+        self.tally.add(net, verdict.kind());
         self.history
-            .push_reserved(Event::of(arrival, true, verdict));
+            .push_reserved(Event::of(arrival, had_room, verdict));
         Ok(verdict)
     }
 
@@ -166,7 +231,7 @@ impl LinkState {
             sequence_number: frame.number,
             forwarded: counts_as_forwarded(&outcome),
             packet,
-            verdict: settled(self.decision(&outcome), true),
+            decision: self.decision(&outcome),
             room: self.room_for(alloc, &outcome)?,
         })
     }
@@ -177,7 +242,7 @@ impl LinkState {
     fn outcome<'a>(&self, net: Net, now: u64, frame: &Frame<'a>) -> (Outcome, Option<Packet<'a>>)
         ensures value { Sees result.0 (outcome_after self.now (arrived net now frame.now.whole.now)) }
         ensures packet { option_map packet_parts result.1 ≡ offered (counts_as_forwarded result.0) frame.now.whole.now }
-        ensures port { HasPort result.0 (length self.now.settings.ports) }
+        ensures port { HasPort result.0 self.now.settings.ports }
     {
         if !self.checks.passes(net, frame.number) {
             return (Outcome::OutOfSequence, None);
@@ -199,7 +264,7 @@ impl LinkState {
         ensures value { Sees result.0 (brought_by self.now.settings (groups_in (origin_of self.now.settings) (past_of self.now)) (arrived net now frame.now.whole.now)) }
         ensures packet { option_map packet_parts result.1 ≡ offered true frame.now.whole.now }
         ensures forwarded { counts_as_forwarded result.0 ≡ true }
-        ensures port { HasPort result.0 (length self.now.settings.ports) }
+        ensures port { HasPort result.0 self.now.settings.ports }
     {
         let packet = match read_packet(frame) {
             Ok(packet) => packet,
@@ -211,29 +276,40 @@ impl LinkState {
 
     /// What becomes of a frame with this outcome, but for the queue's answer.
     fn decision(&self, outcome: &Outcome) -> Decision
-        requires { HasPort outcome.now (length self.now.settings.ports) }
+        requires { HasPort outcome.now self.now.settings.ports }
         ensures { (is : OutcomeValue) → Sees outcome.now is → result ≡ decided is (λ port. length (deliveries_of self.now port)) }
     {
         match outcome {
             Outcome::OutOfSequence => Decision::Final(Verdict::OutOfSequence),
             Outcome::Redundant => Decision::Final(Verdict::Redundant),
             Outcome::Refused(verdict) => Decision::Final(*verdict),
-            Outcome::Brings(payload) => {
-                Decision::Final(sampled(payload.port, self.published(payload.port)))
-            }
+            Outcome::Brings(payload) => self.decision_at(payload),
         }
     }
 
-    /// Room for the message that a frame with this outcome delivers.
+    /// What becomes of a payload at its port, but for the queue's answer.
+    fn decision_at(&self, payload: &Payload) -> Decision
+        requires { IsForOneOf self.now.settings.ports payload.now }
+        ensures { result ≡ decided_at payload.now.kind payload.now.port (length (deliveries_of self.now payload.now.port)) }
+    {
+        match &self.outlets[payload.port.0 as usize] {
+            Outlet::Sampling(register) => {
+                Decision::Final(sampled(payload.port, register.published))
+            }
+            Outlet::Queuing(_) => Decision::ByQueue(payload.port),
+        }
+    }
+
+    /// Room for the message that a frame with this outcome delivers, where its queue has room.
     fn room_for(&self, alloc: Global, outcome: &Outcome) -> Result<Option<Room>, Memory>
-        requires { HasPort outcome.now (length self.now.settings.ports) }
+        requires { HasPort outcome.now self.now.settings.ports }
         ensures room { IfOk result (λ room. (is : OutcomeValue) → Sees outcome.now is → RoomFor is self.now room) }
-        ensures number { IfOk result (λ room. HasMessageNumber self.now room) }
+        ensures place { IfOk result (λ room. HasPlace self.now room) }
     {
         let Outcome::Brings(payload) = outcome else {
             return Ok(None);
         };
-        if self.published(payload.port) >= MOST_SAMPLES {
+        if !self.takes_one_more(payload) {
             return Ok(None);
         }
         Ok(Some(Room {
@@ -243,32 +319,14 @@ impl LinkState {
         }))
     }
 
-    /// Whether the port is one of the link's sampling ports.
-    fn samples_at(&self, port: PortNo) -> bool
-        ensures { result ≡ samples_at port self.now.settings.ports }
+    /// Whether a payload's port takes one message more, where its queue has room.
+    fn takes_one_more(&self, payload: &Payload) -> bool
+        requires { IsForOneOf self.now.settings.ports payload.now }
+        ensures { result ≡ takes_one_more payload.now.kind true (length (deliveries_of self.now payload.now.port)) }
     {
-        match self.settings.ports().get(port.0 as usize) {
-            Some(port) => matches!(port.kind(), PortKind::Sampling { refresh: _ }),
-            None => false,
+        match &self.outlets[payload.port.0 as usize] {
+            Outlet::Sampling(register) => register.published < MOST_SAMPLES,
+            Outlet::Queuing(_) => true,
         }
-    }
-
-    /// The newest message that was delivered to a port, and its message number.
-    fn newest_delivered(&self, port: PortNo) -> Option<(u64, &Message)>
-        ensures { option_map (λ newest. (newest.0, newest.1.now)) result
-            ≡ newest_of (deliveries_of self.now port) }
-    {
-        match self.registers.get(port.0 as usize) {
-            Some(register) => register.newest(),
-            None => None,
-        }
-    }
-
-    /// How many messages were delivered to a port.
-    fn published(&self, port: PortNo) -> u64
-        requires { port.0 < length self.now.settings.ports }
-        ensures { result ≡ length (deliveries_of self.now port) }
-    {
-        self.registers[port.0 as usize].published
     }
 }

@@ -1,12 +1,13 @@
 //! The way of a forwarded frame to a port, after its packet was read.
-ghost use Rattle.std.specs.Prelude.{◌≡◌, ◌<◌, ℕ, List, IfOk, Result, Some, length, true};
+ghost use Rattle.std.specs.Prelude.{◌≡◌, ℕ, List, IfOk, Result, Some, length, true};
 ghost use Rattle.es_base.specs.Udp.{head_of};
+ghost use Rattle.es_base.specs.Port.{Port};
 ghost use Rattle.es_base.specs.Groups.{Group, fate};
 ghost use Rattle.es_base.specs.declared.verdict.Verdict.{Verdict as VerdictValue};
 ghost use Rattle.es_base.specs.Outcome.{Payload as PayloadValue, brought, datagram_by, payload_for, payload_in};
 ghost use Rattle.frame_reader.specs.Parts.{packet_parts};
 ghost use Rattle.ip_reassembly.specs.Kept.{StandsFor};
-ghost use Rattle.link_receiver.specs.Seen.{HasPort, Sees, SeesPayload, counts_as_forwarded, payload_after};
+ghost use Rattle.link_receiver.specs.Seen.{HasPort, IsForOneOf, Sees, SeesPayload, counts_as_forwarded, fitting_payload, payload_after};
 
 use crate::outcome::{Outcome, Payload};
 use es_base::{LinkSettings, PortKind, PortNo, PortSettings, Verdict};
@@ -24,7 +25,7 @@ pub(crate) fn counts_as_forwarded(outcome: &Outcome) -> bool
 pub(crate) fn brought(payload: Result<Payload, Verdict>) -> Outcome
     ensures value { (read : Result PayloadValue VerdictValue) → SeesPayload payload read → Sees result (brought read) }
     ensures forwarded { counts_as_forwarded result ≡ true }
-    ensures port { (ports : ℕ) → IfOk payload (λ payload. payload.port.0 < ports) → HasPort result ports }
+    ensures port { (ports : List Port) → IfOk payload (IsForOneOf ports) → HasPort result ports }
 {
     match payload {
         Ok(payload) => Outcome::Brings(payload),
@@ -41,7 +42,7 @@ pub(crate) fn payload_by(
 ) -> Result<Payload, Verdict>
     ensures value { (limit : ℕ) (groups : List Group) → StandsFor reassembly.now limit groups →
         SeesPayload result (payload_after settings.now.ports (datagram_by packet.now.destination (fate limit groups (packet_parts packet.now) now))) }
-    ensures port { IfOk result (λ payload. payload.port.0 < length settings.now.ports) }
+    ensures port { IfOk result (IsForOneOf settings.now.ports) }
 {
     match reassembly.preview(packet, now) {
         Preview::Bad => Err(Verdict::BadFragment),
@@ -64,7 +65,7 @@ fn payload_in(
 ) -> Result<Payload, Verdict>
     ensures value { (octets : List ℕ) → head.now ≡ head_of octets → length octets ≡ len →
         SeesPayload result (payload_in settings.now.ports (record { destination = destination; joined = joined; octets = octets })) }
-    ensures port { IfOk result (λ payload. payload.port.0 < length settings.now.ports) }
+    ensures port { IfOk result (IsForOneOf settings.now.ports) }
 {
     let Ok(udp) = read_udp_head(head, len) else {
         return Err(Verdict::BadUdp);
@@ -75,7 +76,7 @@ fn payload_in(
     }
 }
 
-/// A payload of `len` octets for the port at this place. Queuing ports take none yet.
+/// A payload of `len` octets for the port at this place.
 fn payload_for(
     place: PortNo,
     port: &PortSettings,
@@ -84,23 +85,34 @@ fn payload_for(
 ) -> Result<Payload, Verdict>
     ensures value { (octets : List ℕ) → length octets ≡ len → SeesPayload result (payload_for place (Some port.now) joined octets) }
     ensures port { IfOk result (λ payload. payload.port ≡ place) }
+    ensures kind { IfOk result (λ payload. payload.kind ≡ port.now.kind) }
 {
-    let kind = port.kind();
-    match kind {
-        PortKind::Queuing { depth: _ } => Err(Verdict::NoPort),
-        PortKind::Sampling { refresh: _ } => {
-            if joined {
-                Err(Verdict::FragmentedSample(place))
-            } else if len > port.max() as usize {
-                Err(Verdict::TooLong(place))
-            } else {
-                Ok(Payload {
-                    port: place,
-                    kind,
-                    joined,
-                    len,
-                })
-            }
+    match port.kind() {
+        PortKind::Sampling { refresh: _ } if joined => Err(Verdict::FragmentedSample(place)),
+        PortKind::Sampling { refresh: _ } | PortKind::Queuing { depth: _ } => {
+            fitting_payload(place, port, joined, len)
         }
     }
+}
+
+/// The same where a port of its kind takes it, whether joined or not.
+fn fitting_payload(
+    place: PortNo,
+    port: &PortSettings,
+    joined: bool,
+    len: usize,
+) -> Result<Payload, Verdict>
+    ensures value { (octets : List ℕ) → length octets ≡ len → SeesPayload result (fitting_payload place port.now joined octets) }
+    ensures port { IfOk result (λ payload. payload.port ≡ place) }
+    ensures kind { IfOk result (λ payload. payload.kind ≡ port.now.kind) }
+{
+    if len > port.max() as usize {
+        return Err(Verdict::TooLong(place));
+    }
+    Ok(Payload {
+        port: place,
+        kind: port.kind(),
+        joined,
+        len,
+    })
 }

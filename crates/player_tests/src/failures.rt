@@ -2,13 +2,20 @@
 use es_base::Net;
 use std::alloc::Global;
 use std::process::Abort;
+use std::sync::Wait;
 use std::test::Fail;
 use test_inputs::{ReadCall, ScriptedReader, ScriptedWriter, WriteCall, first};
 use trace_player::{Device, PlayFault, TraceCause, play};
 use vl_config::Config;
 
-/// The output for the trace `5 00`, 23 bytes.
-const OUTPUT: &[u8] = b"5 A filtered too-short\n";
+/// The output for the trace `5 00`.
+const OUTPUT: &[u8] = b"5 A filtered too-short\n\
+    port pos sampling empty\n\
+    port nav queuing 0\n\
+    count 17 A 0 0 0 0 0 0 0 0 0 0 0 0 0\n\
+    count 17 B 0 0 0 0 0 0 0 0 0 0 0 0 0\n\
+    filtered A 1 0 0 0 0\n\
+    filtered B 0 0 0 0 0\n";
 
 /// A reader that fails after these bytes.
 fn broken_after(bytes: &'static [u8]) -> ScriptedReader<'static> {
@@ -23,7 +30,7 @@ type Reads = (
     (bool, bool),
 );
 
-fn reads() -> [Reads; 6] {
+fn reads() -> [Reads; 7] {
     let empty = ScriptedReader::of(b"");
     let of_a = PlayFault::Read { net: Net::A };
     let of_b = PlayFault::Read { net: Net::B };
@@ -35,15 +42,21 @@ fn reads() -> [Reads; 6] {
         ReadCall::Gives(b"5 00"),
         ReadCall::Interrupted,
     ];
+    let twice = [
+        ReadCall::Interrupted,
+        ReadCall::Interrupted,
+        ReadCall::Gives(b"5 00"),
+    ];
     [
         (good, empty, Ok(()), (false, false)),
-        // An interrupted call is made again.
+        // An interrupted call is made again, however often.
         (
             ScriptedReader::new(interrupted),
             empty,
             Ok(()),
             (false, false),
         ),
+        (ScriptedReader::new(twice), empty, Ok(()), (false, false)),
         (broken_after(b"5 00"), empty, Err(of_a), (true, false)),
         // A failed read comes before the fault of the text.
         (broken_after(b"5 0"), empty, Err(of_a), (true, false)),
@@ -58,12 +71,12 @@ fn reads() -> [Reads; 6] {
     ]
 }
 
-fn check_reads(rt: &impl Abort, alloc: Global, config: &Config, row: Reads) {
+fn check_reads(rt: &(impl Abort + Wait), alloc: Global, config: &Config, row: Reads) {
     let (a, b, wanted, (failed_a, failed_b)) = row;
     let mut a = Device::new(a);
     let mut b = Device::new(b);
     let mut out = Device::new(Vec::new(alloc));
-    let answer = play(alloc, config, &mut a, &mut b, &mut out);
+    let answer = play(rt, alloc, config, &mut a, &mut b, &mut out, None);
     assert_eq!(rt; answer, wanted);
     assert_eq!(rt; (a.failed, b.failed), (failed_a, failed_b));
     assert_eq!(rt; out.inner.is_empty(), wanted.is_err());
@@ -81,18 +94,23 @@ fn failed_reads_are_returned_and_interrupted_ones_made_again(rt: HostRuntime) ->
 /// What a sink does, how many bytes of the output it has then, and what the player returns.
 type Writes = (&'static [WriteCall], usize, Result<(), PlayFault>);
 
-fn writes() -> [Writes; 6] {
+fn writes() -> [Writes; 7] {
     let fault = Err(PlayFault::Write);
     [
-        (&[], 23, Ok(())),
-        (&[WriteCall::Interrupted, WriteCall::Takes(1)], 23, Ok(())),
+        (&[], OUTPUT.len(), Ok(())),
+        (
+            &[WriteCall::Interrupted, WriteCall::Takes(1)],
+            OUTPUT.len(),
+            Ok(()),
+        ),
+        (&[WriteCall::Interrupted; 1000], OUTPUT.len(), Ok(())),
         (
             &[
                 WriteCall::Takes(5),
                 WriteCall::Interrupted,
                 WriteCall::Takes(17),
             ],
-            23,
+            OUTPUT.len(),
             Ok(()),
         ),
         (&[WriteCall::Takes(0)], 0, fault),
@@ -101,7 +119,7 @@ fn writes() -> [Writes; 6] {
     ]
 }
 
-fn check_writes(rt: &impl Abort, alloc: Global, config: &Config, row: Writes) {
+fn check_writes(rt: &(impl Abort + Wait), alloc: Global, config: &Config, row: Writes) {
     let (calls, count, wanted) = row;
     let mut a = Device::new(b"5 00".as_slice());
     let mut b = Device::new(b"".as_slice());
@@ -109,7 +127,7 @@ fn check_writes(rt: &impl Abort, alloc: Global, config: &Config, row: Writes) {
         calls,
         written: Vec::new(alloc),
     });
-    let answer = play(alloc, config, &mut a, &mut b, &mut out);
+    let answer = play(rt, alloc, config, &mut a, &mut b, &mut out, None);
     assert_eq!(rt; answer, wanted);
     assert_eq!(rt; out.failed, wanted.is_err());
     assert_eq!(rt; OUTPUT.get(..count), Some(out.inner.written.as_slice()));
@@ -124,7 +142,7 @@ fn failed_writes_are_returned_and_interrupted_ones_made_again(rt: HostRuntime) -
     Ok(())
 }
 
-fn check_room(rt: &impl Abort, alloc: Global, config: &Config, room: usize) {
+fn check_room(rt: &(impl Abort + Wait), alloc: Global, config: &Config, room: usize) {
     let calls = [WriteCall::Takes(room), WriteCall::Takes(0)];
     let mut a = Device::new(b"5 00".as_slice());
     let mut b = Device::new(b"".as_slice());
@@ -132,7 +150,7 @@ fn check_room(rt: &impl Abort, alloc: Global, config: &Config, room: usize) {
         calls: &calls,
         written: Vec::new(alloc),
     });
-    let answer = play(alloc, config, &mut a, &mut b, &mut out);
+    let answer = play(rt, alloc, config, &mut a, &mut b, &mut out, None);
     assert_eq!(rt; answer, Err(PlayFault::Write), "room for {room}");
     assert_eq!(rt; OUTPUT.get(..room), Some(out.inner.written.as_slice()));
 }

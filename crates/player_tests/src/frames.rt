@@ -3,6 +3,7 @@ use crate::played::{check_output, trace_line};
 use es_base::Memory;
 use std::alloc::Global;
 use std::process::Abort;
+use std::sync::Wait;
 use std::test::Fail;
 use test_inputs::{
     ETHERNET, IP, LONGEST_IP, LONGEST_UDP, PAYLOAD, UDP, changed, first, fives, frame_of, longest,
@@ -26,7 +27,12 @@ fn causes() -> [Filtered; 6] {
     ]
 }
 
-fn check_cause(rt: &impl Abort, alloc: Global, config: &Config, row: Filtered) -> Result<(), Fail> {
+fn check_cause(
+    rt: &(impl Abort + Wait),
+    alloc: Global,
+    config: &Config,
+    row: Filtered,
+) -> Result<(), Fail> {
     let (ethernet, payload, cause) = row;
     let frame = frame_of(alloc, &[ethernet, IP, UDP, payload], 0)?;
     let trace = trace_line(alloc, 1000, &frame)?;

@@ -9,8 +9,14 @@ mod frames;
 #[cfg(test)]
 mod links;
 #[cfg(test)]
+mod long;
+#[cfg(test)]
 mod networks;
 #[cfg(test)]
 mod played;
+#[cfg(test)]
+mod queues;
+#[cfg(test)]
+mod reports;
 #[cfg(test)]
 mod traces;

@@ -5,6 +5,7 @@ use es_base::{Memory, PortNo};
 use hex::FromHexError;
 use std::alloc::Global;
 use std::process::Abort;
+use std::sync::Wait;
 use std::test::Fail;
 use test_inputs::{PAYLOAD, UDP, both_links, frame_of, smallest};
 use trace_player::{Device, replay};
@@ -92,7 +93,7 @@ fn frames_of_a_replay() -> [Step; 3] {
 
 /// A replay of these traces leaves three events and the message 2 at link 17, and nothing at link 18.
 fn check_replay(
-    rt: &impl Abort,
+    rt: &(impl Abort + Wait),
     alloc: Global,
     config: &Config,
     a: &str,
@@ -101,7 +102,7 @@ fn check_replay(
     let mut a = Device::new(a.as_bytes());
     let mut b = Device::new(b.as_bytes());
     let mut out = Device::new(Vec::new(alloc));
-    let states = replay(alloc, config, &mut a, &mut b, &mut out);
+    let states = replay(rt, alloc, config, &mut a, &mut b, &mut out, None);
     let states = states.ok().ok_or("states")?;
     assert!(rt; out.inner.starts_with(b"1000 A vl 17 0 sampled pos 1\n"));
     let [link_17, link_18] = states.as_slice() else {
@@ -136,40 +137,42 @@ fn most_links(alloc: Global) -> Result<String, Memory> {
     Ok(document)
 }
 
-/// A trace of one frame of each of the links 1 to 64.
-fn trace_of_most_links(alloc: Global) -> Result<String, Fail> {
-    let mut frame = smallest(alloc, 0)?;
+/// A trace of one frame of each of the links 1 to 64, with this sequence number, all at `time`
+/// microseconds.
+fn trace_of_most_links(alloc: Global, time: u64, sequence_number: u8) -> Result<String, Fail> {
+    let mut frame = smallest(alloc, sequence_number)?;
     let mut trace = String::new(alloc);
     for vl in 1..65 {
         if let Some(octet) = frame.get_mut(5) {
             *octet = vl;
         }
-        trace.push_str(trace_line(alloc, 7, &frame)?.as_str())?;
+        trace.push_str(trace_line(alloc, time, &frame)?.as_str())?;
     }
     Ok(trace)
 }
 
-fn output_of_most_links(alloc: Global) -> Result<String, Memory> {
+/// The output for that trace, where this many frames of each link came before.
+fn output_of_most_links(alloc: Global, time: u64, place: usize) -> Result<String, Memory> {
     let mut output = String::new(alloc);
     for vl in 1..65 {
-        writeln!(output, "7 A vl {vl} 0 no-port")?;
+        writeln!(output, "{time} A vl {vl} {place} no-port")?;
     }
     Ok(output)
 }
 
+/// The traces of two frames of each link come to their output.
+fn check_most_links(rt: &(impl Abort + Wait), alloc: Global) -> Result<(), Fail> {
+    let document = most_links(alloc)?;
+    let config = read_config(alloc, document.as_str())?;
+    let mut trace = trace_of_most_links(alloc, 7, 0)?;
+    trace.push_str(trace_of_most_links(alloc, 8, 1)?.as_str())?;
+    let mut output = output_of_most_links(alloc, 7, 0)?;
+    output.push_str(output_of_most_links(alloc, 8, 1)?.as_str())?;
+    check_output(rt, alloc, &config, trace.as_str(), "", output.as_str());
+    Ok(())
+}
+
 #[test]
 fn sixty_four_links_have_a_history_each(rt: HostRuntime) -> Result<(), Fail> {
-    let document = most_links(rt.alloc())?;
-    let config = read_config(rt.alloc(), document.as_str())?;
-    let trace = trace_of_most_links(rt.alloc())?;
-    let output = output_of_most_links(rt.alloc())?;
-    check_output(
-        &rt,
-        rt.alloc(),
-        &config,
-        trace.as_str(),
-        "",
-        output.as_str(),
-    );
-    Ok(())
+    check_most_links(&rt, rt.alloc())
 }

@@ -2,37 +2,46 @@
 use es_base::{Memory, Net};
 use std::alloc::Global;
 use std::process::Abort;
+use std::sync::Wait;
 use std::test::Fail;
 use test_inputs::{first, smallest};
 use trace_player::{Device, PlayFault, play};
 use vl_config::Config;
 
-/// What the player returns for two traces, and what it wrote.
+/// What the player returns for two traces with a report at this time in microseconds, and what it wrote.
 pub(crate) fn played(
+    rt: &impl Wait,
     alloc: Global,
     config: &Config,
     a: &str,
     b: &str,
+    at: Option<u64>,
 ) -> (Result<(), PlayFault>, Vec<u8>) {
     let mut a = Device::new(a.as_bytes());
     let mut b = Device::new(b.as_bytes());
     let mut out = Device::new(Vec::new(alloc));
-    let answer = play(alloc, config, &mut a, &mut b, &mut out);
+    let answer = play(rt, alloc, config, &mut a, &mut b, &mut out, at);
     (answer, out.inner)
 }
 
-/// The player accepts these traces and writes this output.
+/// A report begins with the lines of a port, or where there are none with counts.
+fn begins_a_report(text: &[u8]) -> bool {
+    text.starts_with(b"port ") || text.starts_with(b"count ")
+}
+
+/// The player accepts these traces, and writes these lines and then a report.
 pub(crate) fn check_output(
-    rt: &impl Abort,
+    rt: &(impl Abort + Wait),
     alloc: Global,
     config: &Config,
     a: &str,
     b: &str,
-    output: &str,
+    lines: &str,
 ) {
-    let (answer, written) = played(alloc, config, a, b);
+    let (answer, written) = played(rt, alloc, config, a, b, None);
     assert_eq!(rt; answer, Ok(()));
-    assert!(rt; written.as_slice() == output.as_bytes(), "{output}");
+    let report = written.strip_prefix(lines.as_bytes());
+    assert!(rt; report.is_some_and(begins_a_report), "{lines}");
 }
 
 /// The line of a trace for a frame that came at `time` microseconds.
@@ -68,7 +77,11 @@ pub(crate) fn output_of(alloc: Global, steps: &[Step]) -> Result<String, Memory>
 
 /// Smallest frames of link 17, in the order in which they are played, come to these verdicts with the
 /// built-in configuration.
-pub(crate) fn check_steps(rt: &impl Abort, alloc: Global, steps: &[Step]) -> Result<(), Fail> {
+pub(crate) fn check_steps(
+    rt: &(impl Abort + Wait),
+    alloc: Global,
+    steps: &[Step],
+) -> Result<(), Fail> {
     let config = first(alloc)?;
     let a = trace_of(alloc, Net::A, steps)?;
     let b = trace_of(alloc, Net::B, steps)?;

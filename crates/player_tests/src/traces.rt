@@ -3,6 +3,7 @@ use crate::played::{check_output, played};
 use es_base::Net;
 use std::alloc::{AllocError, Global};
 use std::process::Abort;
+use std::sync::Wait;
 use std::test::Fail;
 use test_inputs::first;
 use trace_player::{PlayFault, TraceCause, play_texts};
@@ -38,10 +39,10 @@ fn empty_lines_and_comments_are_skipped(rt: HostRuntime) -> Result<(), Fail> {
     Ok(())
 }
 
-fn check_texts(rt: &impl Abort, alloc: Global, config: &Config) {
-    let output = play_texts(alloc, config, b"5 00\n", b"4 0000").ok();
-    let wanted: &[u8] = b"4 B filtered too-short\n5 A filtered too-short\n";
-    assert!(rt; output.is_some_and(|output| output.as_slice() == wanted));
+fn check_texts(rt: &(impl Abort + Wait), alloc: Global, config: &Config) {
+    let output = play_texts(rt, alloc, config, b"5 00\n", b"4 0000", None).ok();
+    let wanted: &[u8] = b"4 B filtered too-short\n5 A filtered too-short\nport pos ";
+    assert!(rt; output.is_some_and(|output| output.starts_with(wanted)));
 }
 
 #[test]
@@ -75,18 +76,18 @@ fn refused() -> [Refused<'static>; 14] {
 
 /// The player refuses these traces for this fault, and writes nothing.
 fn check_refusal(
-    rt: &impl Abort,
+    rt: &(impl Abort + Wait),
     alloc: Global,
     config: &Config,
     (a, b): (&str, &str),
     fault: PlayFault,
 ) {
-    let (answer, written) = played(alloc, config, a, b);
+    let (answer, written) = played(rt, alloc, config, a, b, None);
     assert_eq!(rt; answer, Err(fault), "{a}, {b}");
     assert!(rt; written.is_empty(), "{a}, {b}");
 }
 
-fn check_refused(rt: &impl Abort, alloc: Global, config: &Config, row: Refused<'_>) {
+fn check_refused(rt: &(impl Abort + Wait), alloc: Global, config: &Config, row: Refused<'_>) {
     let (trace, line, cause) = row;
     let net = Net::A;
     let fault = PlayFault::Trace { net, line, cause };

@@ -1,9 +1,8 @@
 -- What a run of the program does, from its words to its exit status: what it asks of its files, in which
 -- order, and what comes of each answer.
-use Rattle.std.specs.Prelude.{◌≡◌, ℕ, Bool, List, [], ◌∷◌, Option, Some, Result, Ok, Err, OnOk, IfSome, String, string_bytes}
+use Rattle.std.specs.Prelude.{◌≡◌, ℕ, Bool, List, [], ◌∷◌, Option, None, Some, Result, Ok, Err, OnOk, IfSome, String, string_bytes}
 use Rattle.std.specs.Io.KnownBytes.{Appends}
 use Rattle.std.specs.declared.alloc.Global.{Global}
-use Rattle.std.specs.declared.io.Error.{Error}
 use Rattle.std.specs.declared.io.ErrorKind.{ErrorKind}
 use Rattle.es_base.specs.declared.place.Net.TheVariants as nets
 use Rattle.es_base.specs.Config.{Configuration}
@@ -43,15 +42,16 @@ Stops w wanted result = (w.files_after ≡ w.files) × (w.output_after ≡ w.out
 
 -- ---- the player
 
--- two traces are played, and this is what came of it at the output
-abbrev pub Plays : {S X : Type 0} → (S → Option (List ℕ)) → (S → Bool) → S → S → Configuration → Given → Given → Result X RunFault → Type 0
-Plays contents has_failed old new c a b (Ok x) = Played c a b contents has_failed old new (Ok x)
-Plays contents has_failed old new c a b (Err (faults.Play fault)) = Played {X = Unit {0}} c a b contents has_failed old new (Err fault)
-Plays contents has_failed old new c a b (Err _) = ⊥
+-- two traces are played, with a report at the time that is asked for, and this is what came of it at the
+-- output
+abbrev pub Plays : {S X : Type 0} → (S → Option (List ℕ)) → (S → Bool) → S → S → Configuration → Option ℕ → Given → Given → Result X RunFault → Type 0
+Plays contents has_failed old new c at a b (Ok x) = Played c at a b contents has_failed old new (Ok x)
+Plays contents has_failed old new c at a b (Err (faults.Play fault)) = Played {X = Unit {0}} c at a b contents has_failed old new (Err fault)
+Plays contents has_failed old new c at a b (Err _) = ⊥
 
 -- the same between the outputs of a world
-abbrev pub PlaysIn : {F T S X : Type 0} → World F T S → Configuration → Given → Given → Result X RunFault → Type 0
-PlaysIn w c a b result = Plays w.contents w.has_failed w.output w.output_after c a b result
+abbrev pub PlaysIn : {F T S X : Type 0} → World F T S → Configuration → Option ℕ → Given → Given → Result X RunFault → Type 0
+PlaysIn w c at a b result = Plays w.contents w.has_failed w.output w.output_after c at a b result
 
 -- a file was opened, or this fault is returned for its answer
 abbrev pub opened_or : {T : Type 0} → (ErrorKind → RunFault) → Result T ErrorKind → Result T RunFault
@@ -65,13 +65,13 @@ IsOpened opens fault before path after result = (answer : Result _ ErrorKind) ×
 abbrev pub given_by : {F T S : Type 0} → World F T S → T → Bool → Given
 given_by w trace failed = record { bytes = w.remaining trace; failed = failed }
 
-abbrev pub AfterB : {F T S X : Type 0} → World F T S → Configuration → T → Result T ErrorKind → Result X RunFault → Type 0
-AfterB w c a (Err kind) result = (w.output_after ≡ w.output) × (result ≡ Err (open_fault nets.B kind))
-AfterB w c a (Ok b) result = (failed_a : Bool) × ((failed_b : Bool) × PlaysIn w c (given_by w a failed_a) (given_by w b failed_b) result)
+abbrev pub AfterB : {F T S X : Type 0} → World F T S → Configuration → Option ℕ → T → Result T ErrorKind → Result X RunFault → Type 0
+AfterB w c at a (Err kind) result = (w.output_after ≡ w.output) × (result ≡ Err (open_fault nets.B kind))
+AfterB w c at a (Ok b) result = (failed_a : Bool) × ((failed_b : Bool) × PlaysIn w c at (given_by w a failed_a) (given_by w b failed_b) result)
 
 abbrev pub AfterA : {F T S X : Type 0} → World F T S → Configuration → Line → Result T ErrorKind → Result X RunFault → Type 0
 AfterA w c line (Err kind) result = Stops w (Err (open_fault nets.A kind)) result
-AfterA w c line (Ok a) result = (b : Result _ ErrorKind) × w.opens w.files (string_bytes line.b) w.files_after b × AfterB w c a b result
+AfterA w c line (Ok a) result = (b : Result _ ErrorKind) × w.opens w.files (string_bytes line.b) w.files_after b × AfterB w c line.at a b result
 
 -- the files of both traces are opened, A first, and played
 abbrev pub PlaysFiles : {F T S X : Type 0} → World F T S → Configuration → Line → Result X RunFault → Type 0
@@ -93,7 +93,7 @@ PlaysLine {F = F} w line result =
 abbrev pub AfterBuiltIn : {S X : Type 0} → (S → Option (List ℕ)) → (S → Bool) → S → S → Given → Result Configuration ConfigFault → Result X RunFault → Type 0
 AfterBuiltIn contents has_failed old new input (Err fault) result = (new ≡ old) × (result ≡ Err (faults.Config fault))
 AfterBuiltIn contents has_failed old new input (Ok c) result =
-    (failed : Bool) × Plays contents has_failed old new c input (record { bytes = Some []; failed = failed }) result
+    (failed : Bool) × Plays contents has_failed old new c None input (record { bytes = Some []; failed = failed }) result
 
 abbrev pub PlaysBuiltIn : {S X : Type 0} → (S → Option (List ℕ)) → (S → Bool) → S → S → Given → Result X RunFault → Type 0
 PlaysBuiltIn contents has_failed old new input result =

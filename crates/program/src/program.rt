@@ -1,5 +1,5 @@
 //! A whole run of the program.
-ghost use Rattle.std.specs.Prelude.{◌≡◌, false};
+ghost use Rattle.std.specs.Prelude.{◌≡◌, Ok, false};
 ghost use Rattle.std.specs.IoError.{error_kind};
 ghost use Rattle.program.specs.Files.{answered};
 ghost use Rattle.program.specs.Outside.{words_fault};
@@ -12,6 +12,7 @@ use crate::{Files, RunFault, status_of};
 use command_line::{Line, LineFault, line_of};
 use std::alloc::Global;
 use std::io::{self, ErrorKind, Write};
+use std::sync::Wait;
 use trace_player::{Device, Sink, Source};
 use vl_config::{BUILT_IN, read_config};
 
@@ -34,7 +35,8 @@ pub struct Ending {
 /// trace B is empty. With the words of a command line it reads the file of the configuration, opens the
 /// file of trace A and then that of trace B, and plays them. The output goes to `output`; the first fault
 /// ends the run, and its line goes to `errors`.
-pub fn run<F: Files, I: Source, O: Sink, E: Write>(
+pub fn run<R: Wait, F: Files, I: Source, O: Sink, E: Write>(
+    rt: &R,
     alloc: Global,
     words: io::Result<Vec<String>>,
     files: &mut F,
@@ -49,7 +51,7 @@ pub fn run<F: Files, I: Source, O: Sink, E: Write>(
         (record { bytes = I.remaining input.old; failed = I.has_failed input.new })
         (answered (λ words. words.items) words) E.contents errors.old errors.new result }
 {
-    match run_words(alloc, words, files, input, output) {
+    match run_words(rt, alloc, words, files, input, output) {
         Ok(()) => Ending {
             status: 0,
             told: Ok(()),
@@ -62,7 +64,8 @@ pub fn run<F: Files, I: Source, O: Sink, E: Write>(
 }
 
 /// What the words ask for.
-fn run_words<F: Files, I: Source, O: Sink>(
+fn run_words<R: Wait, F: Files, I: Source, O: Sink>(
+    rt: &R,
     alloc: Global,
     words: io::Result<Vec<String>>,
     files: &mut F,
@@ -76,15 +79,37 @@ fn run_words<F: Files, I: Source, O: Sink>(
         (record { bytes = I.remaining input.old; failed = I.has_failed input.new })
         (answered (λ words. words.items) words) result }
 {
-    let words = words.map_err(words_fault)?;
-    if words.is_empty() {
-        return play_input(alloc, input, output);
+    match words {
+        Ok(words) => run_given(rt, alloc, &words, files, input, output),
+        Err(error) => Err(words_fault(error)),
     }
-    play_words(alloc, &words, files, output)
+}
+
+/// What these words ask for.
+fn run_given<R: Wait, F: Files, I: Source, O: Sink>(
+    rt: &R,
+    alloc: Global,
+    words: &[String],
+    files: &mut F,
+    input: &mut I,
+    output: &mut O,
+) -> Result<(), RunFault>
+    requires input { I.has_failed input.old ≡ false }
+    requires output { O.has_failed output.old ≡ false }
+    ensures { RunsWords
+        (record { reads = F.reads; opens = F.opens; remaining = F.Trace.remaining; contents = O.contents; has_failed = O.has_failed; files = files.old; files_after = files.new; output = output.old; output_after = output.new })
+        (record { bytes = I.remaining input.old; failed = I.has_failed input.new })
+        (Ok words.now) result }
+{
+    if words.is_empty() {
+        return play_input(rt, alloc, input, output);
+    }
+    play_words(rt, alloc, words, files, output)
 }
 
 /// Plays the files of a command line, or shows the help that its words ask for.
-fn play_words<F: Files, O: Sink>(
+fn play_words<R: Wait, F: Files, O: Sink>(
+    rt: &R,
     alloc: Global,
     words: &[String],
     files: &mut F,
@@ -94,7 +119,7 @@ fn play_words<F: Files, O: Sink>(
     ensures { PlaysWords (record { reads = F.reads; opens = F.opens; remaining = F.Trace.remaining; contents = O.contents; has_failed = O.has_failed; files = files.old; files_after = files.new; output = output.old; output_after = output.new }) words.now result }
 {
     match line_of(alloc, words) {
-        Ok(line) => play_line(alloc, &line, files, output),
+        Ok(line) => play_line(rt, alloc, &line, files, output),
         Err(LineFault::Help(text)) => show(alloc, output, &text),
         Err(fault) => Err(RunFault::Line(fault)),
     }
@@ -111,7 +136,8 @@ fn words_fault(error: io::Error) -> RunFault
 }
 
 /// Plays the standard input as the trace of network A, with the built-in configuration.
-fn play_input<I: Source, O: Sink>(
+fn play_input<R: Wait, I: Source, O: Sink>(
+    rt: &R,
     alloc: Global,
     input: &mut I,
     output: &mut O,
@@ -123,11 +149,12 @@ fn play_input<I: Source, O: Sink>(
 {
     let config = read_config(alloc, BUILT_IN)?;
     let mut b = Device::new(NOTHING);
-    play_all(alloc, &config, input, &mut b, output)
+    play_all(rt, alloc, &config, input, &mut b, output, None)
 }
 
 /// Plays the files of a command line.
-fn play_line<F: Files, O: Sink>(
+fn play_line<R: Wait, F: Files, O: Sink>(
+    rt: &R,
     alloc: Global,
     line: &Line,
     files: &mut F,
@@ -137,5 +164,5 @@ fn play_line<F: Files, O: Sink>(
     ensures { PlaysLine (record { reads = F.reads; opens = F.opens; remaining = F.Trace.remaining; contents = O.contents; has_failed = O.has_failed; files = files.old; files_after = files.new; output = output.old; output_after = output.new }) line.now result }
 {
     let config = config_at(alloc, files, &line.config)?;
-    play_files(alloc, &config, line, files, output)
+    play_files(rt, alloc, &config, line, files, output)
 }

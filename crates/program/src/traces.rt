@@ -10,10 +10,12 @@ use es_base::{Config, Net};
 use std::alloc::Global;
 use std::io::{self, ErrorKind};
 use std::mem;
+use std::sync::Wait;
 use trace_player::{PlayFault, Sink, Source, replay};
 
 /// Opens the files of both traces, A first, and plays them.
-pub(crate) fn play_files<F: Files, O: Sink>(
+pub(crate) fn play_files<R: Wait, F: Files, O: Sink>(
+    rt: &R,
     alloc: Global,
     config: &Config,
     line: &Line,
@@ -25,7 +27,7 @@ pub(crate) fn play_files<F: Files, O: Sink>(
 {
     let mut a = open_trace(files, Net::A, &line.a)?;
     let mut b = open_trace(files, Net::B, &line.b)?;
-    play_all(alloc, config, &mut a, &mut b, output)
+    play_all(rt, alloc, config, &mut a, &mut b, output, line.at)
 }
 
 /// The file of a network's trace.
@@ -49,22 +51,24 @@ fn open_fault(net: Net, error: io::Error) -> RunFault
     }
 }
 
-/// Plays two traces.
-pub(crate) fn play_all<A: Source, B: Source, O: Sink>(
+/// Plays two traces, with a report at the time `at`, in microseconds, or by default.
+pub(crate) fn play_all<R: Wait, A: Source, B: Source, O: Sink>(
+    rt: &R,
     alloc: Global,
     config: &Config,
     a: &mut A,
     b: &mut B,
     output: &mut O,
+    at: Option<u64>,
 ) -> Result<(), RunFault>
     requires source_a { A.has_failed a.old ≡ false }
     requires source_b { B.has_failed b.old ≡ false }
     requires sink { O.has_failed output.old ≡ false }
-    ensures { Plays O.contents O.has_failed output.old output.new config.now
+    ensures { Plays O.contents O.has_failed output.old output.new config.now at
         (record { bytes = A.remaining a.old; failed = A.has_failed a.new })
         (record { bytes = B.remaining b.old; failed = B.has_failed b.new }) result }
 {
-    let links = replay(alloc, config, a, b, output)?;
+    let links = replay(rt, alloc, config, a, b, output, at)?;
     // The program ends here, and with it the system takes the events' memory back at once: to give it
     // back event by event takes a tenth of a long run.
     mem::forget(links);

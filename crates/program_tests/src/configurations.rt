@@ -3,6 +3,7 @@ use crate::shelf::{Wanted, check_files};
 use std::alloc::Global;
 use std::io::ErrorKind;
 use std::process::Abort;
+use std::sync::Wait;
 use std::test::Fail;
 use test_inputs::ScriptedReader;
 use vl_config::BUILT_IN;
@@ -17,7 +18,12 @@ fn refused<'a>(errors: &'a str) -> Wanted<'a> {
     }
 }
 
-fn check_refused(rt: &impl Abort, alloc: Global, octets: &[u8], errors: &str) -> Result<(), Fail> {
+fn check_refused(
+    rt: &(impl Abort + Wait),
+    alloc: Global,
+    octets: &[u8],
+    errors: &str,
+) -> Result<(), Fail> {
     let missing = Err(ErrorKind::NotFound);
     let files = (Ok(ScriptedReader::of(octets)), missing, missing);
     check_files(rt, alloc, files, refused(errors))
@@ -83,7 +89,11 @@ fn changes() -> [Changed; 20] {
     ]
 }
 
-fn check_change(rt: &impl Abort, alloc: Global, (old, new, words): Changed) -> Result<(), Fail> {
+fn check_change(
+    rt: &(impl Abort + Wait),
+    alloc: Global,
+    (old, new, words): Changed,
+) -> Result<(), Fail> {
     let config = BUILT_IN.replace(alloc, old, new)?;
     let errors = format!(in alloc; "afdx_play: config: {words}\n")?;
     check_refused(rt, alloc, config.as_bytes(), errors.as_str())
@@ -97,7 +107,7 @@ fn each_fault_of_a_configuration_has_its_words(rt: HostRuntime) -> Result<(), Fa
     Ok(())
 }
 
-fn check_too_many(rt: &impl Abort, alloc: Global) -> Result<(), Fail> {
+fn check_too_many(rt: &(impl Abort + Wait), alloc: Global) -> Result<(), Fail> {
     let config = "[[link]]\n".repeat(alloc, 65)?;
     let errors = "afdx_play: config: too many links or ports\n";
     check_refused(rt, alloc, config.as_bytes(), errors)

@@ -2,6 +2,7 @@
 use crate::shelf::{Wanted, check_files};
 use std::alloc::Global;
 use std::process::Abort;
+use std::sync::Wait;
 use std::test::Fail;
 use test_inputs::{ScriptedReader, both_links};
 
@@ -17,6 +18,15 @@ const OUTPUT: &str = "1000 A vl 17 0 sampled pos 1
 9000 A vl 17 7 bad-header checksum
 9200 B vl 17 8 out-of-sequence
 9500 A filtered unknown-link
+port pos sampling 4 7000 17 fresh 0102030405060708090a0b0c0d0e0f1011
+port nav queuing 0
+port alt sampling 1 5100 17 fresh 0102030405060708090a0b0c0d0e0f1011
+count 17 A 0 0 1 0 0 0 0 0 0 3 0 0 0
+count 17 B 1 3 0 0 0 0 0 0 0 1 0 0 0
+count 18 A 0 0 0 0 0 0 0 0 0 0 0 0 0
+count 18 B 0 0 0 0 0 0 0 0 0 1 0 0 0
+filtered A 0 0 0 0 1
+filtered B 0 0 0 0 0
 ";
 
 const NETWORK_A: &str =
@@ -47,6 +57,15 @@ const OUTPUT_OF_FRAGMENTS: &str = "1000 A vl 17 0 fragment-held
 1150 B vl 17 2 fragmented-sample pos
 1200 A vl 17 3 redundant
 3000 A vl 17 4 bad-fragment
+port pos sampling empty
+port nav queuing 0
+port alt sampling empty
+count 17 A 0 1 0 1 1 0 0 0 0 0 0 0 0
+count 17 B 0 1 0 0 0 0 0 0 1 0 0 0 0
+count 18 A 0 0 0 0 0 0 0 0 0 0 0 0 0
+count 18 B 0 0 0 0 0 0 0 0 0 0 0 0 0
+filtered A 0 0 0 0 0
+filtered B 0 0 0 0 0
 ";
 
 const FRAGMENTS_A: &str = "# Network A: the last fragment of a datagram comes first.
@@ -63,7 +82,7 @@ const FRAGMENTS_B: &str = "# Network B has the first fragment before A has it.
 
 /// Two links play these traces to this output.
 fn check_example(
-    rt: &impl Abort,
+    rt: &(impl Abort + Wait),
     alloc: Global,
     a: &str,
     b: &str,

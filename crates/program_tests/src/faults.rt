@@ -4,6 +4,7 @@ use crate::shelf::{Stored, Wanted, check_files};
 use std::alloc::Global;
 use std::io::ErrorKind;
 use std::process::Abort;
+use std::sync::Wait;
 use std::test::Fail;
 use test_inputs::{ReadCall, ScriptedReader};
 use vl_config::BUILT_IN;
@@ -56,7 +57,7 @@ fn stored<'a>(error: Option<ErrorKind>, text: &'a str) -> Stored<'a> {
     }
 }
 
-fn check_unread(rt: &impl Abort, alloc: Global, row: Unread) -> Result<(), Fail> {
+fn check_unread(rt: &(impl Abort + Wait), alloc: Global, row: Unread) -> Result<(), Fail> {
     let (c, x, y, wanted) = row;
     let files = (stored(c, BUILT_IN), stored(x, ""), stored(y, ""));
     check_files(rt, alloc, files, wanted)
@@ -111,7 +112,7 @@ fn faulty_traces() -> [Traces; 8] {
     ]
 }
 
-fn check_traces(rt: &impl Abort, alloc: Global, row: Traces) -> Result<(), Fail> {
+fn check_traces(rt: &(impl Abort + Wait), alloc: Global, row: Traces) -> Result<(), Fail> {
     let (a, b, errors, status) = row;
     let config = ScriptedReader::of(BUILT_IN.as_bytes());
     let wanted = wanted(status, errors, ALL);
@@ -126,7 +127,7 @@ fn a_trace_that_is_refused_has_its_words_and_status(rt: HostRuntime) -> Result<(
     Ok(())
 }
 
-fn check_long_line(rt: &impl Abort, alloc: Global) -> Result<(), Fail> {
+fn check_long_line(rt: &(impl Abort + Wait), alloc: Global) -> Result<(), Fail> {
     let comment = "#".repeat(alloc, 8193)?;
     let files = (
         Ok(ScriptedReader::of(BUILT_IN.as_bytes())),

@@ -3,6 +3,7 @@ use program::{Ending, Files, run};
 use std::alloc::Global;
 use std::io::{self, Error, ErrorKind, Read};
 use std::process::Abort;
+use std::sync::Wait;
 use std::test::Fail;
 use test_inputs::{ScriptedReader, words_of};
 use trace_player::Device;
@@ -72,7 +73,7 @@ pub(crate) struct Wanted<'a> {
 }
 
 fn check_ending(
-    rt: &impl Abort,
+    rt: &(impl Abort + Wait),
     ending: &Ending,
     output: &[u8],
     errors: &[u8],
@@ -88,7 +89,7 @@ fn check_ending(
 
 /// A run with these words, this standard input and these files comes to this.
 pub(crate) fn check_run(
-    rt: &impl Abort,
+    rt: &(impl Abort + Wait),
     alloc: Global,
     words: io::Result<Vec<String>>,
     input: &str,
@@ -100,6 +101,7 @@ pub(crate) fn check_run(
     let mut output = Device::new(Vec::new(alloc));
     let mut errors = Vec::new(alloc);
     let ending = run(
+        rt,
         alloc,
         words,
         &mut shelf,
@@ -114,7 +116,7 @@ pub(crate) fn check_run(
 /// A run with the words of a whole command line over the files `c`, `x` and `y` comes to this. The
 /// standard input has a frame, which is not read.
 pub(crate) fn check_files(
-    rt: &impl Abort,
+    rt: &(impl Abort + Wait),
     alloc: Global,
     (c, x, y): (Stored<'_>, Stored<'_>, Stored<'_>),
     wanted: Wanted<'_>,

@@ -3,6 +3,7 @@ use crate::shelf::empty_shelf;
 use program::run;
 use std::alloc::Global;
 use std::process::Abort;
+use std::sync::Wait;
 use std::test::Fail;
 use test_inputs::{ReadCall, ScriptedReader, ScriptedWriter, WriteCall, words_of};
 use trace_player::Device;
@@ -32,7 +33,7 @@ fn failing_streams() -> [Row; 4] {
     ]
 }
 
-fn check_streams(rt: &impl Abort, alloc: Global, row: Row) -> Result<(), Fail> {
+fn check_streams(rt: &(impl Abort + Wait), alloc: Global, row: Row) -> Result<(), Fail> {
     let (words, input, output, status, written, told) = row;
     let mut shelf = empty_shelf(alloc);
     let mut input = Device::new(input);
@@ -43,6 +44,7 @@ fn check_streams(rt: &impl Abort, alloc: Global, row: Row) -> Result<(), Fail> {
     let mut errors = Vec::new(alloc);
     let words = words_of(alloc, words)?;
     let ending = run(
+        rt,
         alloc,
         Ok(words),
         &mut shelf,
@@ -65,7 +67,7 @@ fn a_stream_that_fails_has_its_words_and_status(rt: HostRuntime) -> Result<(), F
 }
 
 /// The status is that of the fault also where its line can't be written.
-fn check_untold(rt: &impl Abort, alloc: Global) {
+fn check_untold(rt: &(impl Abort + Wait), alloc: Global) {
     let mut shelf = empty_shelf(alloc);
     let mut input = Device::new(b"x".as_slice());
     let mut output = Device::new(Vec::new(alloc));
@@ -75,6 +77,7 @@ fn check_untold(rt: &impl Abort, alloc: Global) {
     };
     let words = Ok(Vec::new(alloc));
     let ending = run(
+        rt,
         alloc,
         words,
         &mut shelf,

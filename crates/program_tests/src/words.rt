@@ -3,19 +3,21 @@ use crate::shelf::{Wanted, check_files, check_run, empty_shelf};
 use std::alloc::Global;
 use std::io::{Error, ErrorKind};
 use std::process::Abort;
+use std::sync::Wait;
 use std::test::Fail;
 use test_inputs::{ScriptedReader, words_of};
 use vl_config::BUILT_IN;
 
 const HELP: &str = "Plays the hex traces of two redundant networks through a receiver
 
-Usage: afdx_play --config <FILE> --a <FILE> --b <FILE>
+Usage: afdx_play [OPTIONS] --config <FILE> --a <FILE> --b <FILE>
 
 Options:
-      --config <FILE>  the configuration, a TOML document
-      --a <FILE>       the hex trace of network A
-      --b <FILE>       the hex trace of network B
-  -h, --help           Print help
+      --config <FILE>      the configuration, a TOML file
+      --a <FILE>           the trace of network A
+      --b <FILE>           the trace of network B
+      --at <MICROSECONDS>  the time of the report, in microseconds; by default the greatest arrival time
+  -h, --help               Print help
 ";
 
 const REFUSAL: &str = "error: the following required arguments were not provided:
@@ -42,10 +44,28 @@ fn wanted(status: u8, output: &'static str, errors: &'static str) -> Wanted<'sta
 const FRAME: &str =
     "1000 03000000001102000000012008004500002d000100000111cdcc0a010101e0e0001113891388001900000102030405060708090a0b0c0d0e0f101100\n";
 
+/// The output for that frame, with its report.
+const ONE_FRAME: &str = "1000 A vl 17 0 sampled pos 1
+port pos sampling 1 1000 17 fresh 0102030405060708090a0b0c0d0e0f1011
+port nav queuing 0
+count 17 A 0 0 0 0 0 0 0 0 0 1 0 0 0
+count 17 B 0 0 0 0 0 0 0 0 0 0 0 0 0
+filtered A 0 0 0 0 0
+filtered B 0 0 0 0 0
+";
+
+const NO_FRAMES: &str = "port pos sampling empty
+port nav queuing 0
+count 17 A 0 0 0 0 0 0 0 0 0 0 0 0 0
+count 17 B 0 0 0 0 0 0 0 0 0 0 0 0 0
+filtered A 0 0 0 0 0
+filtered B 0 0 0 0 0
+";
+
 fn runs_without_files() -> [Row<'static>; 5] {
     [
-        (&[], FRAME, wanted(0, "1000 A vl 17 0 sampled pos 1\n", "")),
-        (&[], "", wanted(0, "", "")),
+        (&[], FRAME, wanted(0, ONE_FRAME, "")),
+        (&[], "", wanted(0, NO_FRAMES, "")),
         (
             &[],
             "\n7",
@@ -60,7 +80,7 @@ fn runs_without_files() -> [Row<'static>; 5] {
     ]
 }
 
-fn check_row(rt: &impl Abort, alloc: Global, row: Row<'_>) -> Result<(), Fail> {
+fn check_row(rt: &(impl Abort + Wait), alloc: Global, row: Row<'_>) -> Result<(), Fail> {
     let (words, input, wanted) = row;
     let words = words_of(alloc, words)?;
     check_run(rt, alloc, Ok(words), input, empty_shelf(alloc), wanted);
@@ -89,7 +109,7 @@ fn unread_words() -> [(ErrorKind, Wanted<'static>); 2] {
     ]
 }
 
-fn check_unread(rt: &impl Abort, alloc: Global, kind: ErrorKind, wanted: Wanted<'_>) {
+fn check_unread(rt: &(impl Abort + Wait), alloc: Global, kind: ErrorKind, wanted: Wanted<'_>) {
     let words = Err(Error::from(kind));
     check_run(rt, alloc, words, FRAME, empty_shelf(alloc), wanted);
 }
@@ -101,8 +121,18 @@ fn words_that_are_no_text_are_refused(rt: HostRuntime) {
     }
 }
 
+const TWO_FRAMES: &str = "900 B filtered too-short
+1000 A vl 17 0 sampled height 1
+port height sampling 1 1000 17 fresh 0102030405060708090a0b0c0d0e0f1011
+port nav queuing 0
+count 17 A 0 0 0 0 0 0 0 0 0 1 0 0 0
+count 17 B 0 0 0 0 0 0 0 0 0 0 0 0 0
+filtered A 0 0 0 0 0
+filtered B 1 0 0 0 0
+";
+
 /// A frame on each network, one for the port and one for a link that isn't configured.
-fn check_line(rt: &impl Abort, alloc: Global) -> Result<(), Fail> {
+fn check_line(rt: &(impl Abort + Wait), alloc: Global) -> Result<(), Fail> {
     let config = BUILT_IN.replace(alloc, "\"pos\"", "\"height\"")?;
     let files = (
         Ok(ScriptedReader::of(config.as_bytes())),
@@ -111,7 +141,7 @@ fn check_line(rt: &impl Abort, alloc: Global) -> Result<(), Fail> {
     );
     let wanted = Wanted {
         status: 0,
-        output: "900 B filtered too-short\n1000 A vl 17 0 sampled height 1\n",
+        output: TWO_FRAMES,
         errors: "",
         asked: "read c. open x. open y. ",
     };

@@ -1,155 +1,113 @@
 //! Which datagram some pieces make.
 use crate::steps::Fate::{Alone, Held, Joined};
-use crate::steps::{
-    BOTH, FIRST, FIRST_OCTETS, LAST, LAST_OCTETS, LONGER_LAST, LONGER_OCTETS, Step, check,
-};
+use crate::steps::{Step, check};
 use std::test::Fail;
+use test_inputs::fragments::{
+    END_AT_16, END_AT_40, FIRST, FIRST_ANEW, FIRST_FOR_POS, FIRST_OF_21, JOINED, LAST,
+    LAST_FROM_24, LAST_TO_19, LAST_TO_20, LONGER_LAST,
+};
 
 fn in_order() -> [Step; 2] {
-    [
-        (FIRST, FIRST_OCTETS, 1000, Held),
-        (LAST, LAST_OCTETS, 1100, Joined(BOTH)),
-    ]
+    [(FIRST, 1000, Held), (LAST, 1100, Joined(JOINED))]
 }
 
 fn last_first() -> [Step; 2] {
-    [
-        (LAST, LAST_OCTETS, 1000, Held),
-        (FIRST, FIRST_OCTETS, 1100, Joined(BOTH)),
-    ]
+    [(LAST, 1000, Held), (FIRST, 1100, Joined(JOINED))]
+}
+
+/// The head of a joined datagram says its port.
+fn for_a_sampling_port() -> [Step; 2] {
+    let joined = "1389138800200000a0a1a2a3a4a5a6a7b0b1b2b3b4b5b6b7b8b9babbbcbdbebf";
+    [(FIRST_FOR_POS, 1000, Held), (LAST, 1100, Joined(joined))]
 }
 
 /// The first fragment comes twice, with other octets the second time.
 fn first_twice() -> [Step; 3] {
+    let joined = "1389138a00200000c0c1c2c3c4c5c6c7b0b1b2b3b4b5b6b7b8b9babbbcbdbebf";
     [
-        (FIRST, FIRST_OCTETS, 1000, Held),
-        (FIRST, "1389138a00200000c0c1c2c3c4c5c6c7", 1100, Held),
-        (
-            LAST,
-            LAST_OCTETS,
-            1200,
-            Joined("1389138a00200000c0c1c2c3c4c5c6c7b0b1b2b3b4b5b6b7b8b9babbbcbdbebf"),
-        ),
+        (FIRST, 1000, Held),
+        (FIRST_ANEW, 1100, Held),
+        (LAST, 1200, Joined(joined)),
     ]
 }
 
 /// A last fragment that ends earlier follows one that ends later.
 fn end_moves_down() -> [Step; 3] {
     [
-        (LONGER_LAST, LONGER_OCTETS, 1000, Held),
-        (LAST, LAST_OCTETS, 1100, Held),
-        (FIRST, FIRST_OCTETS, 1200, Joined(BOTH)),
+        (LONGER_LAST, 1000, Held),
+        (LAST, 1100, Held),
+        (FIRST, 1200, Joined(JOINED)),
     ]
 }
 
 fn end_moves_up() -> [Step; 3] {
+    let joined = "1389138a00200000a0a1a2a3a4a5a6a7d0d1d2d3d4d5d6d7d8d9dadbdcdddedfe0e1e2e3e4e5e6e7";
     [
-        (LAST, LAST_OCTETS, 1000, Held),
-        (LONGER_LAST, LONGER_OCTETS, 1100, Held),
-        (
-            FIRST,
-            FIRST_OCTETS,
-            1200,
-            Joined(
-                "1389138a00200000a0a1a2a3a4a5a6a7d0d1d2d3d4d5d6d7d8d9dadbdcdddedfe0e1e2e3e4e5e6e7",
-            ),
-        ),
+        (LAST, 1000, Held),
+        (LONGER_LAST, 1100, Held),
+        (FIRST, 1200, Joined(joined)),
     ]
 }
 
 /// The end moves down and up again, by a last fragment of no octets at offset 40.
 fn end_moves_to_and_fro() -> [Step; 4] {
+    let joined = "1389138a00200000a0a1a2a3a4a5a6a7b0b1b2b3b4b5b6b7b8b9babbbcbdbebfe0e1e2e3e4e5e6e7";
     [
-        (LONGER_LAST, LONGER_OCTETS, 1000, Held),
-        (LAST, LAST_OCTETS, 1100, Held),
-        ("45000014000200050111cddf0a010101e0e00011", "", 1200, Held),
-        (
-            FIRST,
-            FIRST_OCTETS,
-            1300,
-            Joined(
-                "1389138a00200000a0a1a2a3a4a5a6a7b0b1b2b3b4b5b6b7b8b9babbbcbdbebfe0e1e2e3e4e5e6e7",
-            ),
-        ),
+        (LONGER_LAST, 1000, Held),
+        (LAST, 1100, Held),
+        (END_AT_40, 1200, Held),
+        (FIRST, 1300, Joined(joined)),
     ]
 }
 
 /// A last fragment of no octets at offset 16: the datagram is what came before it.
 fn empty_end() -> [Step; 2] {
-    [
-        (FIRST, FIRST_OCTETS, 1000, Held),
-        (
-            "45000014000200020111cde20a010101e0e00011",
-            "",
-            1100,
-            Joined(FIRST_OCTETS),
-        ),
-    ]
+    let joined = "1389138a00200000a0a1a2a3a4a5a6a7";
+    [(FIRST, 1000, Held), (END_AT_16, 1100, Joined(joined))]
 }
 
 /// A last fragment of 5 octets.
 fn end_within_a_block() -> [Step; 2] {
+    let joined = "1389138a00150000a0a1a2a3a4a5a6a7b0b1b2b3b4";
     [
-        (FIRST, "1389138a00150000a0a1a2a3a4a5a6a7", 1000, Held),
-        (
-            "45000019000200020111cddd0a010101e0e00011",
-            "b0b1b2b3b4",
-            1100,
-            Joined("1389138a00150000a0a1a2a3a4a5a6a7b0b1b2b3b4"),
-        ),
+        (FIRST_OF_21, 1000, Held),
+        (LAST_TO_20, 1100, Joined(joined)),
     ]
 }
 
 /// Octets 16 to 19 and 24 to 31, each as a last fragment: 20 to 23 never come.
 fn gap_within_a_block() -> [Step; 3] {
     [
-        (
-            "45000018000200020111cdde0a010101e0e00011",
-            "b0b1b2b3",
-            1000,
-            Held,
-        ),
-        (
-            "4500001c000200030111cdd90a010101e0e00011",
-            "b8b9babbbcbdbebf",
-            1100,
-            Held,
-        ),
-        (FIRST, FIRST_OCTETS, 1200, Held),
+        (LAST_TO_19, 1000, Held),
+        (LAST_FROM_24, 1100, Held),
+        (FIRST, 1200, Held),
     ]
 }
 
 /// The last fragment comes once more.
 fn last_once_more() -> [Step; 3] {
     [
-        (FIRST, FIRST_OCTETS, 1000, Held),
-        (LAST, LAST_OCTETS, 1100, Joined(BOTH)),
-        (LAST, LAST_OCTETS, 1200, Held),
+        (FIRST, 1000, Held),
+        (LAST, 1100, Joined(JOINED)),
+        (LAST, 1200, Held),
     ]
 }
 
 /// A datagram of 7 octets in one packet, and one of none.
 fn short_datagrams() -> [Step; 2] {
+    let seven = ("4500001b000100000111cdde0a010101e0e00011", "13891388000800");
+    let none = ("45000014000100000111cde50a010101e0e00011", "");
     [
-        (
-            "4500001b000100000111cdde0a010101e0e00011",
-            "13891388000800",
-            1000,
-            Alone("13891388000800"),
-        ),
-        (
-            "45000014000100000111cde50a010101e0e00011",
-            "",
-            1100,
-            Alone(""),
-        ),
+        (seven, 1000, Alone("13891388000800")),
+        (none, 1100, Alone("")),
     ]
 }
 
 #[test]
 fn pieces_are_joined_in_either_order(rt: HostRuntime) -> Result<(), Fail> {
     check(&rt, rt.alloc(), &in_order())?;
-    check(&rt, rt.alloc(), &last_first())
+    check(&rt, rt.alloc(), &last_first())?;
+    check(&rt, rt.alloc(), &for_a_sampling_port())
 }
 
 #[test]

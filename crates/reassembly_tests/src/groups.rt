@@ -1,121 +1,91 @@
 //! Which pieces belong together, and which are given up.
 use crate::steps::Fate::{Alone, Held, Joined};
-use crate::steps::{BOTH, FIRST, FIRST_OCTETS, LAST, LAST_OCTETS, Step, check};
+use crate::steps::{Step, check};
 use std::test::Fail;
-
-/// `FIRST` with the identifications 3 to 6.
-const FIRST_3: &str = "45000024000320000111add30a010101e0e00011";
-
-const FIRST_4: &str = "45000024000420000111add20a010101e0e00011";
-
-const FIRST_5: &str = "45000024000520000111add10a010101e0e00011";
-
-const FIRST_6: &str = "45000024000620000111add00a010101e0e00011";
+use test_inputs::fragments::{
+    FIRST, FIRST_3, FIRST_4, FIRST_5, FIRST_6, JOINED, LAST, LAST_FROM_ANOTHER, LAST_TO_ANOTHER,
+    WHOLE,
+};
 
 fn five_begin() -> [Step; 6] {
     [
-        (FIRST, FIRST_OCTETS, 1000, Held),
-        (FIRST_3, FIRST_OCTETS, 1100, Held),
-        (FIRST_4, FIRST_OCTETS, 1200, Held),
-        (FIRST_5, FIRST_OCTETS, 1300, Held),
-        (FIRST_6, FIRST_OCTETS, 1400, Held),
-        (LAST, LAST_OCTETS, 1500, Held),
+        (FIRST, 1000, Held),
+        (FIRST_3, 1100, Held),
+        (FIRST_4, 1200, Held),
+        (FIRST_5, 1300, Held),
+        (FIRST_6, 1400, Held),
+        (LAST, 1500, Held),
     ]
 }
 
 fn four_begin() -> [Step; 5] {
     [
-        (FIRST, FIRST_OCTETS, 1000, Held),
-        (FIRST_3, FIRST_OCTETS, 1100, Held),
-        (FIRST_4, FIRST_OCTETS, 1200, Held),
-        (FIRST_5, FIRST_OCTETS, 1300, Held),
-        (LAST, LAST_OCTETS, 1500, Joined(BOTH)),
+        (FIRST, 1000, Held),
+        (FIRST_3, 1100, Held),
+        (FIRST_4, 1200, Held),
+        (FIRST_5, 1300, Held),
+        (LAST, 1500, Joined(JOINED)),
     ]
 }
 
 /// The one that began first was touched last.
 fn first_touched_last() -> [Step; 7] {
     [
-        (FIRST, FIRST_OCTETS, 1000, Held),
-        (FIRST_3, FIRST_OCTETS, 1100, Held),
-        (FIRST_4, FIRST_OCTETS, 1200, Held),
-        (FIRST_5, FIRST_OCTETS, 1300, Held),
-        (FIRST, FIRST_OCTETS, 1400, Held),
-        (FIRST_6, FIRST_OCTETS, 1500, Held),
-        (LAST, LAST_OCTETS, 1600, Held),
+        (FIRST, 1000, Held),
+        (FIRST_3, 1100, Held),
+        (FIRST_4, 1200, Held),
+        (FIRST_5, 1300, Held),
+        (FIRST, 1400, Held),
+        (FIRST_6, 1500, Held),
+        (LAST, 1600, Held),
     ]
 }
 
 fn at_the_limit() -> [Step; 2] {
-    [
-        (FIRST, FIRST_OCTETS, 1000, Held),
-        (LAST, LAST_OCTETS, 51_000, Joined(BOTH)),
-    ]
+    [(FIRST, 1000, Held), (LAST, 51_000, Joined(JOINED))]
 }
 
 /// The last fragment begins a group anew, which the first completes.
 fn after_the_limit() -> [Step; 3] {
     [
-        (FIRST, FIRST_OCTETS, 1000, Held),
-        (LAST, LAST_OCTETS, 51_001, Held),
-        (FIRST, FIRST_OCTETS, 51_002, Joined(BOTH)),
+        (FIRST, 1000, Held),
+        (LAST, 51_001, Held),
+        (FIRST, 51_002, Joined(JOINED)),
     ]
 }
 
 fn touched_between() -> [Step; 3] {
     [
-        (FIRST, FIRST_OCTETS, 1000, Held),
-        (FIRST, FIRST_OCTETS, 41_000, Held),
-        (LAST, LAST_OCTETS, 51_001, Held),
+        (FIRST, 1000, Held),
+        (FIRST, 41_000, Held),
+        (LAST, 51_001, Held),
     ]
 }
 
 /// A fragment of another key after the limit; the last piece comes with an earlier time.
 fn another_key_between() -> [Step; 3] {
     [
-        (FIRST, FIRST_OCTETS, 1000, Held),
-        (FIRST_3, FIRST_OCTETS, 60_000, Held),
-        (LAST, LAST_OCTETS, 51_000, Joined(BOTH)),
+        (FIRST, 1000, Held),
+        (FIRST_3, 60_000, Held),
+        (LAST, 51_000, Joined(JOINED)),
     ]
 }
 
-/// From 10.1.1.2.
 fn another_source() -> [Step; 2] {
-    [
-        (FIRST, FIRST_OCTETS, 1000, Held),
-        (
-            "45000024000200020111cdd10a010102e0e00011",
-            LAST_OCTETS,
-            1100,
-            Held,
-        ),
-    ]
+    [(FIRST, 1000, Held), (LAST_FROM_ANOTHER, 1100, Held)]
 }
 
-/// To 224.224.0.18.
 fn another_destination() -> [Step; 2] {
-    [
-        (FIRST, FIRST_OCTETS, 1000, Held),
-        (
-            "45000024000200020111cdd10a010101e0e00012",
-            LAST_OCTETS,
-            1100,
-            Held,
-        ),
-    ]
+    [(FIRST, 1000, Held), (LAST_TO_ANOTHER, 1100, Held)]
 }
 
 /// A datagram that is whole has the same identification.
 fn whole_between() -> [Step; 3] {
+    let alone = "1389138a001900000102030405060708090a0b0c0d0e0f1011";
     [
-        (FIRST, FIRST_OCTETS, 1000, Held),
-        (
-            "4500002d000200000111cdcb0a010101e0e00011",
-            "1389138a001900000102030405060708090a0b0c0d0e0f1011",
-            1100,
-            Alone("1389138a001900000102030405060708090a0b0c0d0e0f1011"),
-        ),
-        (LAST, LAST_OCTETS, 1200, Held),
+        (FIRST, 1000, Held),
+        (WHOLE, 1100, Alone(alone)),
+        (LAST, 1200, Held),
     ]
 }
 

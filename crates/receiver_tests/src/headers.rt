@@ -1,10 +1,11 @@
 //! What the headers of IPv4 and UDP decide about a frame.
-use crate::receive::{POS, receive_all};
+use crate::receive::{FOR_NAV, POS, receive_all};
 use es_base::PacketFault::{Checksum, HeaderLength, Protocol, TotalLength, Version};
 use es_base::Verdict::{BadHeader, BadUdp, NoPort, Sampled};
 use es_base::{Net, Verdict};
 use std::alloc::Global;
 use std::process::Abort;
+use std::sync::Wait;
 use std::test::Fail;
 use test_inputs::{IP, PAYLOAD, UDP, first};
 
@@ -82,18 +83,17 @@ fn lengths_of_udp_datagrams() -> [Row; 3] {
     ]
 }
 
-/// No port has these destinations, and queuing ports take nothing yet.
-fn other_destinations() -> [Row; 4] {
+/// UDP port 5001, and other destination addresses.
+fn other_destinations() -> [Row; 3] {
     [
         (IP, "1389138900190000", NoPort),
-        (IP, "1389138a00190000", NoPort),
         ("4500002d000100000111cdcb0a010101e0e00012", UDP, NoPort),
         ("4500002d000100000111f7dbe0e00011e0e00012", UDP, NoPort),
     ]
 }
 
 /// First frames of the built-in configuration's link, with the payload of the smallest frame.
-fn check_frames(rt: &impl Abort, alloc: Global, rows: &[Row]) -> Result<(), Fail> {
+fn check_frames(rt: &(impl Abort + Wait), alloc: Global, rows: &[Row]) -> Result<(), Fail> {
     let config = first(alloc)?;
     let settings = &config.links()[0];
     for (ip, udp, verdict) in rows {
@@ -131,4 +131,9 @@ fn seven_octets_are_no_udp_datagram(rt: HostRuntime) -> Result<(), Fail> {
 #[test]
 fn other_destinations_have_no_port(rt: HostRuntime) -> Result<(), Fail> {
     check_frames(&rt, rt.alloc(), &other_destinations())
+}
+
+#[test]
+fn datagrams_for_a_queuing_port(rt: HostRuntime) -> Result<(), Fail> {
+    check_frames(&rt, rt.alloc(), &[(IP, "1389138a00190000", FOR_NAV)])
 }

@@ -3,7 +3,11 @@
 #![tactic(auto)]
 
 #[cfg(test)]
-mod fragments;
+mod bad_fragments;
+#[cfg(test)]
+mod datagrams;
+#[cfg(test)]
+mod groups;
 #[cfg(test)]
 mod headers;
 #[cfg(test)]
@@ -12,6 +16,12 @@ mod integrity;
 mod many;
 #[cfg(test)]
 mod messages;
+#[cfg(test)]
+mod packets;
+#[cfg(test)]
+mod queued;
+#[cfg(test)]
+mod queues;
 #[cfg(test)]
 mod receive;
 #[cfg(test)]

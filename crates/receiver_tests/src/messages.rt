@@ -6,6 +6,7 @@ use es_base::{LinkSettings, Message, PortKind, PortName, PortNo, PortSettings, V
 use link_receiver::LinkState;
 use std::alloc::Global;
 use std::process::Abort;
+use std::sync::Wait;
 use std::test::Fail;
 use test_inputs::{IP, LONGEST_IP, LONGEST_UDP, PAYLOAD, UDP, changed, first, fives};
 
@@ -32,7 +33,7 @@ fn check_newest(
 
 /// No port of a new receiver with these settings has a message.
 fn check_none(rt: &impl Abort, alloc: Global, settings: &LinkSettings) -> Result<(), Fail> {
-    let state = LinkState::new(alloc, settings)?;
+    let (state, _) = LinkState::new(alloc, settings)?;
     assert!(rt; state.newest(POS).is_none());
     assert!(rt; state.newest(NAV).is_none());
     Ok(())
@@ -47,7 +48,7 @@ fn a_port_has_no_newest_message_before_the_first(rt: HostRuntime) -> Result<(), 
 /// A first frame becomes message 1 of `pos`, with this payload, and comes to no other port. The frame
 /// has these headers, and `padded`: the payload and what follows it.
 fn check_delivered(
-    rt: &impl Abort,
+    rt: &(impl Abort + Wait),
     alloc: Global,
     (ip, udp): (&str, &str),
     padded: &str,
@@ -108,7 +109,7 @@ fn frames_for_two_ports() -> [FrameRow<'static>; 3] {
 /// After these frames the newest message of `pos` has this message number and time, and that of `aux`
 /// is its first.
 fn check_two_ports(
-    rt: &impl Abort,
+    rt: &(impl Abort + Wait),
     alloc: Global,
     frames: &[FrameRow<'_>],
     message_number: u64,
@@ -145,7 +146,11 @@ fn largest_payloads() -> [Row; 4] {
     ]
 }
 
-fn check_largest(rt: &impl Abort, alloc: Global, (keys, udp, verdict): Row) -> Result<(), Fail> {
+fn check_largest(
+    rt: &(impl Abort + Wait),
+    alloc: Global,
+    (keys, udp, verdict): Row,
+) -> Result<(), Fail> {
     let config = changed(alloc, "udp = 5000\n", keys)?;
     let frame = (A, 1000, 0, IP, udp, PAYLOAD, verdict);
     receive_all(rt, alloc, &config.links()[0], &[frame])?;

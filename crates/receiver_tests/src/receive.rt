@@ -4,6 +4,7 @@ use frame_reader::read_frame;
 use link_receiver::LinkState;
 use std::alloc::Global;
 use std::process::Abort;
+use std::sync::Wait;
 use std::test::Fail;
 use test_inputs::{CONSTANT, ETHERNET, first, frame_of, smallest};
 
@@ -11,18 +12,33 @@ use test_inputs::{CONSTANT, ETHERNET, first, frame_of, smallest};
 pub(crate) const POS: PortNo = PortNo(0);
 /// Its queuing port `nav`.
 pub(crate) const NAV: PortNo = PortNo(1);
+/// The verdict of a good datagram for `nav`, whose queue has room.
+pub(crate) const FOR_NAV: Verdict = Verdict::Queued(NAV);
 
-/// The event has this network, time in microseconds and frame, and there was room for it.
+/// The event has this network, time in microseconds and frame.
 fn check_event(rt: &impl Abort, event: &Event, net: Net, time: u64, octets: &[u8]) {
     assert_eq!(rt; event.net, net);
     assert_eq!(rt; event.time, time);
-    assert!(rt; event.room);
     assert!(rt; event.frame.as_slice() == octets);
+}
+
+/// The event's verdict and room are as it was decided: what was final, or an answer of the port's queue.
+fn check_decision(rt: &impl Abort, decision: Decision, event: &Event) {
+    match decision {
+        Decision::Final(verdict) => {
+            assert_eq!(rt; event.verdict, verdict);
+            assert!(rt; event.room);
+        }
+        Decision::ByQueue(port) if event.room => {
+            assert_eq!(rt; event.verdict, Verdict::Queued(port));
+        }
+        Decision::ByQueue(port) => assert_eq!(rt; event.verdict, Verdict::Overflow(port)),
+    }
 }
 
 /// The verdict of a frame of this link that came at `now` microseconds.
 pub(crate) fn receive(
-    rt: &impl Abort,
+    rt: &(impl Abort + Wait),
     alloc: Global,
     state: &mut LinkState,
     net: Net,
@@ -33,11 +49,11 @@ pub(crate) fn receive(
     assert!(rt; frame.vl == state.settings().vl());
     let place = state.history().len();
     let decision = state.decide(net, now, &frame);
-    let verdict = state.take(alloc, net, now, &frame).expect(rt, "memory");
-    assert_eq!(rt; decision, Decision::Final(verdict));
+    let verdict = state.take(rt, alloc, net, now, &frame).expect(rt, "memory");
     assert_eq!(rt; state.history().len(), place + 1);
     let event = state.history().last().expect(rt, "an event");
     assert_eq!(rt; event.verdict, verdict);
+    check_decision(rt, decision, event);
     check_event(rt, event, net, now, octets);
     verdict
 }
@@ -48,18 +64,29 @@ pub(crate) type FrameRow<'a> = (Net, u64, u8, &'a str, &'a str, &'a str, Verdict
 
 /// A new receiver gives these frames these verdicts. Returns the receiver after them.
 pub(crate) fn receive_all(
-    rt: &impl Abort,
+    rt: &(impl Abort + Wait),
     alloc: Global,
     settings: &LinkSettings,
     rows: &[FrameRow<'_>],
 ) -> Result<LinkState, Fail> {
-    let mut state = LinkState::new(alloc, settings)?;
+    let (mut state, _) = LinkState::new(alloc, settings)?;
+    receive_rows(rt, alloc, &mut state, rows)?;
+    Ok(state)
+}
+
+/// The receiver gives these frames these verdicts.
+pub(crate) fn receive_rows(
+    rt: &(impl Abort + Wait),
+    alloc: Global,
+    state: &mut LinkState,
+    rows: &[FrameRow<'_>],
+) -> Result<(), Fail> {
     for (net, now, sequence_number, ip, udp, payload, verdict) in rows {
         let frame = frame_of(alloc, &[ETHERNET, ip, udp, payload], *sequence_number)?;
-        let answer = receive(rt, alloc, &mut state, *net, *now, &frame);
+        let answer = receive(rt, alloc, state, *net, *now, &frame);
         assert_eq!(rt; answer, *verdict, "{sequence_number} at {now}, {ip} {udp}");
     }
-    Ok(state)
+    Ok(())
 }
 
 /// The network, arrival time in microseconds and sequence number of a smallest frame, and its verdict.
@@ -67,12 +94,12 @@ pub(crate) type Step = (Net, u64, u8, Verdict);
 
 /// A new receiver with these settings gives smallest frames these verdicts.
 pub(crate) fn check_steps_with(
-    rt: &impl Abort,
+    rt: &(impl Abort + Wait),
     alloc: Global,
     settings: &LinkSettings,
     steps: &[Step],
 ) -> Result<(), Fail> {
-    let mut state = LinkState::new(alloc, settings)?;
+    let (mut state, _) = LinkState::new(alloc, settings)?;
     for (net, now, sequence_number, verdict) in steps {
         let frame = smallest(alloc, *sequence_number)?;
         let answer = receive(rt, alloc, &mut state, *net, *now, &frame);
@@ -82,14 +109,22 @@ pub(crate) fn check_steps_with(
 }
 
 /// The same for the built-in configuration's link.
-pub(crate) fn check_steps(rt: &impl Abort, alloc: Global, steps: &[Step]) -> Result<(), Fail> {
+pub(crate) fn check_steps(
+    rt: &(impl Abort + Wait),
+    alloc: Global,
+    steps: &[Step],
+) -> Result<(), Fail> {
     let config = first(alloc)?;
     check_steps_with(rt, alloc, &config.links()[0], steps)
 }
 
 /// A new receiver with these settings keeps the octets of a frame that it is given.
-fn check_kept(rt: &impl Abort, alloc: Global, settings: &LinkSettings) -> Result<(), Fail> {
-    let mut state = LinkState::new(alloc, settings)?;
+fn check_kept(
+    rt: &(impl Abort + Wait),
+    alloc: Global,
+    settings: &LinkSettings,
+) -> Result<(), Fail> {
+    let (mut state, _) = LinkState::new(alloc, settings)?;
     let octets = Octets::from(smallest(alloc, 0)?);
     let frame = read_frame(CONSTANT, octets.as_slice()).expect(rt, "a frame");
     assert!(rt; frame.vl == state.settings().vl());
@@ -98,7 +133,7 @@ fn check_kept(rt: &impl Abort, alloc: Global, settings: &LinkSettings) -> Result
         time: 1000,
         frame: octets,
     };
-    let verdict = state.take_arrival(alloc, arrival)?;
+    let verdict = state.take_arrival(rt, alloc, arrival)?;
     assert_eq!(rt; verdict, Verdict::Sampled(POS, 1));
     let event = state.history().last().ok_or("an event")?;
     assert!(rt; event.frame.as_slice() == smallest(alloc, 0)?.as_slice());

@@ -41,6 +41,16 @@ pub fn smallest(alloc: Global, sequence_number: u8) -> Result<Vec<u8>, FromHexEr
     frame_of(alloc, &[ETHERNET, IP, UDP, PAYLOAD], sequence_number)
 }
 
+/// The sequence number of the frame at this place, of frames that follow one another: 0, then 1 to 255
+/// again and again.
+pub fn sequence_number_at(place: u32) -> u8 {
+    if place == 0 {
+        0
+    } else {
+        ((place - 1) % 255) as u8 + 1
+    }
+}
+
 /// The longest frame, 1514 octets, for `pos`, with a payload of 1471 octets 5a.
 pub fn longest(alloc: Global, sequence_number: u8) -> Result<Vec<u8>, FromHexError> {
     let Ok(payload) = fives(alloc, 1471) else {

@@ -4,6 +4,7 @@
 
 mod configurations;
 mod devices;
+pub mod fragments;
 mod frames;
 mod words;
 
@@ -11,6 +12,6 @@ pub use configurations::{SECOND_LINK, both_links, changed, first, with_first_lin
 pub use devices::{ReadCall, ScriptedReader, ScriptedWriter, WriteCall};
 pub use frames::{
     CONSTANT, ETHERNET, IP, LONGEST_IP, LONGEST_UDP, PAYLOAD, UDP, fives, frame_of, longest,
-    smallest,
+    sequence_number_at, smallest,
 };
 pub use words::words_of;

@@ -13,10 +13,11 @@ use Rattle.es_base.specs.Frame.{FrameParts, frame_of, link_number_of, parts_of}
 use Rattle.es_base.specs.Settings.{Settings}
 use Rattle.es_base.specs.Config.{Configuration, link_number, has_link_number}
 use Rattle.es_base.specs.Addressing.{ComesToPlace, comes_if, comes_to, addressed_if, addressed_link, or_unknown}
-use Rattle.es_base.specs.Past.{event_of}
+use Rattle.es_base.specs.Past.{origin_of}
+use Rattle.es_base.specs.Run.{room_unread}
 use Rattle.es_base.proofs.Firsts.{IsOnly, first_at, found_at, passes_found, nothing_found, map_none, map_one}
-use Rattle.link_receiver.specs.Link.{Link, past_of, with_event, verdict_after}
-use Rattle.trace_player.specs.Histories.{past_after, state_after, states_after, verdict_at}
+use Rattle.link_receiver.specs.Link.{Link, past_of, room_after, verdict_after, with_event}
+use Rattle.trace_player.specs.Histories.{event_at, past_after, state_after, states_after, verdict_at}
 use Rattle.trace_player.specs.Output.{line_after, line_if, line_of}
 
 pub on_ok_always : {T E P : Type 0} (r : Result T E) → P → OnOk r P
@@ -31,19 +32,19 @@ unmoved : (constant : List ℕ) (earlier : List Arrival) (a : Arrival) (link : S
 unmoved constant earlier a link other = rw other refl
 
 abbrev turned : Settings → List Event → Link
-turned link past = record { settings = link; history = reverse past }
+turned link past = record { settings = link; history = reverse past; queues = [] }
 
 abbrev with_frame : Link → Arrival → Link
-with_frame state a = with_event state a true (verdict_after state a true)
+with_frame state a = with_event state a (room_after state a) (verdict_after state a (room_after state a))
 
 turned_event : (link : Settings) (past : List Event) (a : Arrival)
-    → turned link (event_of a true (verdict_at link past a true) ∷ past) ≡ with_frame (turned link past) a
+    → turned link (event_at link past a ∷ past) ≡ with_frame (turned link past) a
 turned_event link past a =
-    let e : Event = event_of a true (verdict_at link past a true) in
+    let e : Event = event_at link past a in
     let back : reverse (e ∷ past) ≡ reverse past ++ e ∷ [] = reverse-append (e ∷ []) past in
     let same : reverse (reverse past) ≡ past = reverse-reverse past in
-    let first : turned link (e ∷ past) ≡ record { settings = link; history = reverse past ++ e ∷ [] } = ap (λ (h : List Event). let l : Link = record { settings = link; history = h } in l) back in
-    let second = ap (λ (p : List Event). with_event (turned link past) a true (verdict_at link p a true)) (sym same) in
+    let first : turned link (e ∷ past) ≡ record { settings = link; history = reverse past ++ e ∷ []; queues = [] } = ap (λ (h : List Event). let l : Link = record { settings = link; history = h; queues = [] } in l) back in
+    let second = ap (λ (p : List Event). with_event (turned link past) a (room_unread (origin_of link) p a) (verdict_at link p a)) (sym same) in
     first ∙ second
 
 -- a frame that comes to the link

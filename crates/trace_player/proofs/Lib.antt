@@ -1,3 +1,4 @@
 pub mod Histories
+pub mod Reports
 pub mod Runs
 pub mod Turns

@@ -3,5 +3,6 @@ pub mod Histories
 pub mod Merge
 pub mod Output
 pub mod Play
+pub mod Report
 pub mod Sink
 pub mod Text

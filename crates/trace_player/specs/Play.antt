@@ -54,28 +54,28 @@ IsFaultOfTrace net Memory = ⊥
 abbrev pub PlaysTraces : Given → Given → (List TimedFrame → List TimedFrame → Type 0) → Type 0
 PlaysTraces a b Holds = (frames_a : List TimedFrame) × ((frames_b : List TimedFrame) × ReadsTrace a (Ok frames_a) × ReadsTrace b (Ok frames_b) × Holds frames_a frames_b)
 
--- what a run over two traces did; `contents` and `has_failed` are what the sink says, from `old` to `new`
-abbrev pub Played : {S X : Type 0} → Configuration → Given → Given → (S → Option (List ℕ)) → (S → Bool) → S → S → Result X PlayFault → Type 0
-Played c a b contents has_failed old new (Ok x) =
-    (has_failed new ≡ false) × PlaysTraces a b (λ frames_a frames_b. Appends (contents old) (contents new) (output_of c frames_a frames_b))
-Played c a b contents has_failed old new (Err (Trace net line cause)) = FirstFault a b net (of_trace.Line line cause) × (new ≡ old)
-Played c a b contents has_failed old new (Err (Read net)) = FirstFault a b net of_trace.Read × (new ≡ old)
-Played c a b contents has_failed old new (Err Write) =
-    (has_failed new ≡ true) × PlaysTraces a b (λ frames_a frames_b. (count : ℕ) × Appends (contents old) (contents new) (take count (output_of c frames_a frames_b)))
-Played c a b contents has_failed old new (Err Memory) = (a.failed ≡ false) × (b.failed ≡ false) × (new ≡ old)
+-- what a run over two traces did, whose report is asked for at a time; `contents` and `has_failed` are what the sink says, from `old` to `new`
+abbrev pub Played : {S X : Type 0} → Configuration → Option ℕ → Given → Given → (S → Option (List ℕ)) → (S → Bool) → S → S → Result X PlayFault → Type 0
+Played c at a b contents has_failed old new (Ok x) =
+    (has_failed new ≡ false) × PlaysTraces a b (λ frames_a frames_b. Appends (contents old) (contents new) (output_of c frames_a frames_b at))
+Played c at a b contents has_failed old new (Err (Trace net line cause)) = FirstFault a b net (of_trace.Line line cause) × (new ≡ old)
+Played c at a b contents has_failed old new (Err (Read net)) = FirstFault a b net of_trace.Read × (new ≡ old)
+Played c at a b contents has_failed old new (Err Write) =
+    (has_failed new ≡ true) × PlaysTraces a b (λ frames_a frames_b. (count : ℕ) × Appends (contents old) (contents new) (take count (output_of c frames_a frames_b at)))
+Played c at a b contents has_failed old new (Err Memory) = (a.failed ≡ false) × (b.failed ≡ false) × (new ≡ old)
 
 -- the links' states are those after the frames of both traces
 abbrev pub AreAfter : Configuration → List TimedFrame → List TimedFrame → List Link → Type 0
 AreAfter c frames_a frames_b states = states ≡ states_after c (reverse (merged frames_a frames_b))
 
 -- both texts are traces, and this is their output
-abbrev pub IsOutputOf : Configuration → List ℕ → List ℕ → List ℕ → Type 0
-IsOutputOf c a b output =
-    (frames_a : List TimedFrame) × ((frames_b : List TimedFrame) × (frames_in a ≡ Ok frames_a) × (frames_in b ≡ Ok frames_b) × (output ≡ output_of c frames_a frames_b))
+abbrev pub IsOutputOf : Configuration → Option ℕ → List ℕ → List ℕ → List ℕ → Type 0
+IsOutputOf c at a b output =
+    (frames_a : List TimedFrame) × ((frames_b : List TimedFrame) × (frames_in a ≡ Ok frames_a) × (frames_in b ≡ Ok frames_b) × (output ≡ output_of c frames_a frames_b at))
 
 -- the same where a run returns the links' states, seen through `view`
-abbrev pub Replayed : {S X : Type 0} → (X → List Link) → Configuration → Given → Given → (S → Option (List ℕ)) → (S → Bool) → S → S → Result X PlayFault → Type 0
-Replayed view c a b contents has_failed old new (Ok x) =
+abbrev pub Replayed : {S X : Type 0} → (X → List Link) → Configuration → Option ℕ → Given → Given → (S → Option (List ℕ)) → (S → Bool) → S → S → Result X PlayFault → Type 0
+Replayed view c at a b contents has_failed old new (Ok x) =
     (has_failed new ≡ false)
-    × PlaysTraces a b (λ frames_a frames_b. Appends (contents old) (contents new) (output_of c frames_a frames_b) × AreAfter c frames_a frames_b (view x))
-Replayed view c a b contents has_failed old new (Err fault) = Played {X = Unit {0}} c a b contents has_failed old new (Err fault)
+    × PlaysTraces a b (λ frames_a frames_b. Appends (contents old) (contents new) (output_of c frames_a frames_b at) × AreAfter c frames_a frames_b (view x))
+Replayed view c at a b contents has_failed old new (Err fault) = Played {X = Unit {0}} c at a b contents has_failed old new (Err fault)

@@ -6,6 +6,7 @@ mod fault;
 pub mod laws;
 mod merge;
 mod player;
+mod report;
 mod run;
 mod sink;
 mod text;

@@ -7,59 +7,72 @@ use crate::run::{new_states, output_of};
 use crate::{PlayFault, Sink};
 use es_base::{Config, Net};
 use hex_trace::{Device, Frames, Source, TraceFault, read_trace};
-use link_receiver::LinkState;
+use link_receiver::UnreadLink;
 use std::alloc::Global;
+use std::sync::Wait;
 
 /// Plays the traces of both networks: reads trace A whole and checks it, then trace B; gives their
 /// frames one after another, by their times and those of A first, each to the configuration's link
-/// with its link number; and writes what each came to.
+/// with its link number; and writes what each came to, and then a report at the time `at`, in
+/// microseconds: by default the greatest arrival time.
 ///
 /// The text is made first and written last: after every fault but Write the sink wasn't touched. After
 /// a fault of trace A the source of trace B wasn't touched.
-pub fn play<A: Source, B: Source, W: Sink>(
+pub fn play<R: Wait, A: Source, B: Source, W: Sink>(
+    rt: &R,
     alloc: Global,
     config: &Config,
     a: &mut A,
     b: &mut B,
     out: &mut W,
+    at: Option<u64>,
 ) -> Result<(), PlayFault>
     requires source_a { A.has_failed a.old ≡ false }
     requires source_b { B.has_failed b.old ≡ false }
     requires sink { W.has_failed out.old ≡ false }
-    ensures played { Played config.now
+    ensures played { Played config.now at
         (record { bytes = A.remaining a.old; failed = A.has_failed a.new })
         (record { bytes = B.remaining b.old; failed = B.has_failed b.new })
         W.contents W.has_failed out.old out.new result }
     ensures b_untouched { IfErr result (λ fault. IsFaultOfTrace net_a fault → b.new ≡ b.old) }
 {
-    replay(alloc, config, a, b, out)?;
+    replay(rt, alloc, config, a, b, out, at)?;
     Ok(())
 }
 
 /// Plays two texts that are in memory, and returns the output.
-pub fn play_texts(alloc: Global, config: &Config, a: &[u8], b: &[u8]) -> Result<Vec<u8>, PlayFault>
-    ensures { IfOk result (λ output. IsOutputOf config.now a.now b.now output.items) }
+pub fn play_texts<R: Wait>(
+    rt: &R,
+    alloc: Global,
+    config: &Config,
+    a: &[u8],
+    b: &[u8],
+    at: Option<u64>,
+) -> Result<Vec<u8>, PlayFault>
+    ensures { IfOk result (λ output. IsOutputOf config.now at a.now b.now output.items) }
 {
     let mut a = Device::new(a);
     let mut b = Device::new(b);
     let mut out = Device::new(Vec::new(alloc));
-    play(alloc, config, &mut a, &mut b, &mut out)?;
+    play(rt, alloc, config, &mut a, &mut b, &mut out, at)?;
     Ok(out.inner)
 }
 
 /// Plays as `play` does, and returns the links' states, in the order of the configuration: each has the
 /// history that the frames left.
-pub fn replay<A: Source, B: Source, W: Sink>(
+pub fn replay<R: Wait, A: Source, B: Source, W: Sink>(
+    rt: &R,
     alloc: Global,
     config: &Config,
     a: &mut A,
     b: &mut B,
     out: &mut W,
-) -> Result<Vec<LinkState>, PlayFault>
+    at: Option<u64>,
+) -> Result<Vec<UnreadLink>, PlayFault>
     requires source_a { A.has_failed a.old ≡ false }
     requires source_b { B.has_failed b.old ≡ false }
     requires sink { W.has_failed out.old ≡ false }
-    ensures replayed { Replayed (λ states. states.items) config.now
+    ensures replayed { Replayed (λ states. states.items) config.now at
         (record { bytes = A.remaining a.old; failed = A.has_failed a.new })
         (record { bytes = B.remaining b.old; failed = B.has_failed b.new })
         W.contents W.has_failed out.old out.new result }
@@ -70,7 +83,7 @@ pub fn replay<A: Source, B: Source, W: Sink>(
     let frames_b = trace_of(alloc, Net::B, b, &mut text)?;
     drop(text);
     let mut states = new_states(alloc, config)?;
-    let output = output_of(alloc, config, &mut states, frames_a, frames_b)?;
+    let output = output_of(rt, alloc, config, &mut states, frames_a, frames_b, at)?;
     write_whole(out, output.as_bytes())?;
     Ok(states)
 }

@@ -1,10 +1,10 @@
 use Rattle.std.proofs.Common.{◌∙◌, sym, ap, subst}
 use Rattle.clap.specs.Words.{App, HasKind, fault_of, is_simple_and_free, takes}
 use Rattle.clap.specs.declared.error.kind.ErrorKind.{ErrorKind}
-use Rattle.command_line.specs.Command.{IsFaultOf, texts_of, fault_from}
+use Rattle.command_line.specs.Command.{IsFaultOf, IsTaken, texts_of, fault_from}
 use Rattle.command_line.specs.declared.fault.LineFault.{LineFault}
 use Rattle.command_line.proofs.Faults.{fault_says, fault_of_words, free}
-use Rattle.command_line.proofs.Options.{config_given, a_given, b_given}
+use Rattle.command_line.proofs.Options.{config_given, a_given, b_given, time_read, time_in_range}
 use Rattle.command_line.proofs.line.line_of.Goals as goal
 
 pub line_from-requires-clause-config : goal.line_from-requires-clause-config
@@ -16,7 +16,14 @@ line_from-requires-clause-a c = a_given c.in_ok-play_command.field-0 c.in_ok-pla
 pub line_from-requires-clause-b : goal.line_from-requires-clause-b
 line_from-requires-clause-b c = b_given c.in_ok-play_command.field-0 c.in_ok-play_command.ensures c.in-Ok.matches c.in-Ok.ensures.parsed
 
+pub line_from-requires-clause-read : goal.line_from-requires-clause-read
+line_from-requires-clause-read c = time_read c.in_ok-play_command.field-0 c.in_ok-play_command.ensures c.in-Ok.matches c.in-Ok.ensures.parsed
+
+pub line_from-requires-clause-at : goal.line_from-requires-clause-at
+line_from-requires-clause-at c = time_in_range c.in_ok-play_command.field-0 c.in_ok-play_command.ensures c.in-Ok.matches c.in-Ok.ensures.parsed
+
 pub returns-in_ok-line_from-in-Ok-clause-taken : goal.returns-in_ok-line_from-in-Ok-clause-taken
+unfolding IsTaken
 returns-in_ok-line_from-in-Ok-clause-taken c =
     let is = c.in_ok-play_command.ensures in
     let none = c.in-Ok.ensures.kinds (ap is_simple_and_free is ∙ free) in
@@ -31,6 +38,7 @@ returns-in-Err-clause-fault c =
     subst (λ (f : LineFault). IsFaultOf c.args.words.now f) (sym c.fault_from.ensures) read
 
 pub returns-in-Err-clause-memory : goal.returns-in-Err-clause-memory
+unfolding IsTaken
 returns-in-Err-clause-memory c taken =
     let is = c.in_ok-play_command.ensures in
     let none = c.in-Err.ensures.passes (ap (λ (a : App). takes a (texts_of c.args.words.now)) is ∙ taken) in

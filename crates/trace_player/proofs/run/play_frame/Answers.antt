@@ -5,13 +5,13 @@ use Rattle.trace_player.proofs.Histories.{on_ok_always, filtered_states, taken_s
 use Rattle.trace_player.proofs.run.play_frame.Goals as goal
 
 pub returns-in-Err-clause-states : goal.returns-in-Err-clause-states
-returns-in-Err-clause-states c =
+returns-in-Err-clause-states g c =
     let config = c.args.config.now in
     let filtered = ap (addressed_link config) (sym c.as_slice.ensures) ∙ c.in-Err.ensures.filtered in
     on_ok_always c.writeln.result (λ earlier same. same ∙ sym (filtered_states config earlier c.args.arrival c.in-Err.cause filtered))
 
 pub returns-in-Ok-clause-states : goal.returns-in-Ok-clause-states
-returns-in-Ok-clause-states c =
+returns-in-Ok-clause-states g c =
     let config = c.args.config.now in
     let a = c.args.arrival in
     let place = c.in-Ok.place in
@@ -21,7 +21,7 @@ returns-in-Ok-clause-states c =
     c.take_frame.ensures.state
 
 pub returns-in-Ok-clause-line : goal.returns-in-Ok-clause-line
-returns-in-Ok-clause-line c =
+returns-in-Ok-clause-line g c =
     let config = c.args.config.now in
     let a = c.args.arrival in
     let place = c.in-Ok.place in

@@ -1,9 +1,7 @@
-use Rattle.std.proofs.Common.{◌≡◌, ◌∙◌, ap, length, true}
+use Rattle.std.proofs.Common.{◌≡◌, ◌∙◌, ap}
 use Rattle.es_base.specs.Frame.{sequence_number_of}
 use Rattle.es_base.specs.Past.{origin_of}
 use Rattle.es_base.specs.Redundancy.{is_forwarded}
-use Rattle.es_base.specs.Reassembly.{offered}
-use Rattle.es_base.specs.Run.{settled}
 use Rattle.link_receiver.specs.Link.{outcome_after, past_of}
 use Rattle.link_receiver.specs.Seen.{Sees, counts_as_forwarded}
 use Rattle.link_receiver.proofs.Forwarded.{counts_forwarded}
@@ -21,7 +19,7 @@ returns c =
       numbered = c.frame_in-frame.result.number_is ∙ ap sequence_number_of whole;
       forwarded = c.counts_as_forwarded.ensures ∙ forwarded;
       packet = rw (whole, forwarded) at c.outcome-outcome.ensures.packet;
-      verdict = c.settled.ensures ∙ ap (λ d. settled d true) (c.decision.ensures (outcome_after link a) sees);
+      decision = c.decision.ensures (outcome_after link a) sees;
       room = c.in_ok-room_for.ensures.room (outcome_after link a) sees;
-      has_message_number = c.in_ok-room_for.ensures.number;
+      has_place = c.in_ok-room_for.ensures.place;
     }

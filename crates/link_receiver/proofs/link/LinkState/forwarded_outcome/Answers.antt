@@ -1,4 +1,4 @@
-use Rattle.std.proofs.Common.{◌≡◌, ◌∙◌, ap, sym, Ok, Err, refl, reverse}
+use Rattle.std.proofs.Common.{◌≡◌, ◌∙◌, ap, sym, Ok, Err, reverse}
 use Rattle.es_base.specs.Packet.{packet_of}
 use Rattle.es_base.specs.Past.{arrived, origin_of}
 use Rattle.es_base.specs.Reassembly.{groups_in, packet_in}

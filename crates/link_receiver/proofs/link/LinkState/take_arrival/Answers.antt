@@ -1,47 +1,54 @@
-use Rattle.std.proofs.Common.{◌≡◌, ◌<◌, ℕ, length, Some, true, refl, reverse, sym, rules}
+use Rattle.std.proofs.Common.{◌≡◌, ◌<◌, ◌-◌, ◌^◌, ◌∙◌, arith, length, Some, refl, reverse, sym, ap, map, rules}
 use Rattle.std.specs.List.{slice_get}
+use Rattle.std.proofs.lemmas.List.{length-reverse}
 use Rattle.es_base.specs.declared.event.Event.{Event}
-use Rattle.es_base.specs.Limits.{most_samples}
 use Rattle.es_base.specs.Past.{event_of, origin_of}
 use Rattle.es_base.specs.Reassembly.{groups_in}
-use Rattle.link_receiver.specs.declared.register.Register.{Register}
-use Rattle.link_receiver.specs.Link.{Link}
-use Rattle.link_receiver.proofs.Kept.{has_number, has_register, kept_more}
-use Rattle.link_receiver.proofs.Offers.{delivers_it, holds_at_port, is_room_in}
+use Rattle.es_base.specs.Run.{settled}
+use Rattle.es_base.proofs.Counted.{room_for_one}
+use Rattle.link_receiver.specs.declared.outlet.Outlet.{Outlet}
+use Rattle.link_receiver.specs.Link.{Link, Takes}
+use Rattle.link_receiver.specs.Outlet.{HasNumberLeft, queue_of}
+use Rattle.link_receiver.proofs.Kept.{kept_more}
+use Rattle.link_receiver.proofs.Offers.{holds_at_port, is_room_in}
+use Rattle.link_receiver.proofs.Outlets.{queues_stay}
+use Rattle.link_receiver.proofs.Refusals.{delivers_if, has_number, has_outlet, may_answer}
+use Rattle.link_receiver.proofs.Taken.{one_more}
 use Rattle.link_receiver.proofs.link.LinkState.take_arrival.Goals as goal
 
 pub offer-delivery-requires : goal.offer-delivery-requires
-offer-delivery-requires c =
-    let link : Link = record { settings = c.self.inside.settings; history = c.self.inside.history.items } in
+offer-delivery-requires g c =
+    let link : Link = record { settings = c.self.inside.settings; history = c.self.inside.history.items; queues = map queue_of c.self.inside.outlets.items } in
     let change = rw (← c.self.view_is) at c.in_ok-change.ensures in
     rw change.packet (is_room_in link c.args.arrival c.self.inside.reassembly c.in_ok-change.change.room c.self.invariant.waiting change.room)
 
-pub deliver-requires-clause-exists : goal.deliver-requires-clause-exists
-deliver-requires-clause-exists c =
-    let registers = c.self.inside.registers.items in
-    let link : Link = record { settings = c.self.inside.settings; history = c.self.inside.history.items } in
+pub deliver-had_room-requires-clause-exists : goal.deliver-had_room-requires-clause-exists
+deliver-had_room-requires-clause-exists g c =
+    let outlets = c.self.inside.outlets.items in
+    let link : Link = record { settings = c.self.inside.settings; history = c.self.inside.history.items; queues = map queue_of outlets } in
     let change = rw (← c.self.view_is) at c.in_ok-change.ensures in
     let room = c.in_ok-change.change.room in
     let fills = rw change.packet at (c.offer-delivery.ensures.fills link.settings.reassembly (groups_in (origin_of link.settings) (reverse link.history)) c.self.invariant.waiting) in
-    holds_at_port link c.args.arrival room c.offer-delivery.result (λ port. port.0 < length registers) change.room fills (has_register link room registers change.has_message_number c.self.invariant.as_many)
+    holds_at_port link c.args.arrival room c.offer-delivery.result (λ port. port.0 < length outlets) change.room fills (has_outlet link room outlets change.has_place c.self.invariant.as_many)
 
-pub deliver-requires-clause-numbered : goal.deliver-requires-clause-numbered
-deliver-requires-clause-numbered c =
-    let registers = c.self.inside.registers.items in
-    let link : Link = record { settings = c.self.inside.settings; history = c.self.inside.history.items } in
+pub deliver-had_room-requires-clause-numbered : goal.deliver-had_room-requires-clause-numbered
+deliver-had_room-requires-clause-numbered g c =
+    let outlets = c.self.inside.outlets.items in
+    let link : Link = record { settings = c.self.inside.settings; history = c.self.inside.history.items; queues = map queue_of outlets } in
     let change = rw (← c.self.view_is) at c.in_ok-change.ensures in
     let room = c.in_ok-change.change.room in
     let fills = rw change.packet at (c.offer-delivery.ensures.fills link.settings.reassembly (groups_in (origin_of link.settings) (reverse link.history)) c.self.invariant.waiting) in
-    holds_at_port link c.args.arrival room c.offer-delivery.result (λ port. (register : Register) → slice_get registers port.0 ≡ Some register → register.published < most_samples)
-    change.room fills (has_number link room registers change.has_message_number c.self.invariant.shown)
+    holds_at_port link c.args.arrival room c.offer-delivery.result (λ port. (outlet : Outlet) → slice_get outlets port.0 ≡ Some outlet → HasNumberLeft outlet)
+    change.room fills (has_number link room outlets change.has_place c.self.invariant.kinds c.self.invariant.shown)
 
 pub invariant_of-self-2 : goal.invariant_of-self-2
-invariant_of-self-2 c =
+invariant_of-self-2 g c =
     let settings = c.self.inside.settings in
     let history = c.self.inside.history.items in
-    let registers = c.self.inside.registers.items in
-    let e : Event = event_of c.args.arrival true c.in_ok-change.change.verdict in
-    let link : Link = record { settings = settings; history = history } in
+    let outlets = c.self.inside.outlets.items in
+    let had = c.deliver-had_room.result in
+    let e : Event = event_of c.args.arrival had c.settled-verdict.result in
+    let link : Link = record { settings = settings; history = history; queues = map queue_of outlets } in
     let change = rw (← c.self.view_is) at c.in_ok-change.ensures in
     let room = c.in_ok-change.change.room in
     let delivery = c.offer-delivery.result in
@@ -49,8 +56,37 @@ invariant_of-self-2 c =
     let fills = rw change.packet at (c.offer-delivery.ensures.fills settings.reassembly groups c.self.invariant.waiting) in
     let stand = c.note.ensures (origin_of settings) (reverse history) e c.self.invariant.checked refl (sym change.numbered) refl (sym change.forwarded) in
     let waits = rw change.packet at (c.offer-delivery.ensures.stands settings.reassembly groups c.self.invariant.waiting) in
-    kept_more settings history c.push_reserved.new.self.items c.self.inside.checks c.note.new.self c.self.inside.reassembly c.offer-delivery.new.reassembly registers c.deliver.new.registers.items e delivery
-    (search rules) c.self.invariant change.verdict refl stand waits c.deliver.ensures
-    (holds_at_port link c.args.arrival room delivery (λ port. port.0 < length registers) change.room fills (has_register link room registers change.has_message_number c.self.invariant.as_many))
-    (delivers_it link c.args.arrival room delivery change.room fills)
-    c.requires.frame (rw (← c.self.view_is) at c.requires.link)
+    let within = holds_at_port link c.args.arrival room delivery (λ port. port.0 < length outlets) change.room fills (has_outlet link room outlets change.has_place c.self.invariant.as_many) in
+    let may = may_answer link c.args.arrival room delivery outlets c.deliver-had_room.new.outlets.items had change.room fills c.deliver-had_room.ensures within c.self.invariant.kinds c.self.invariant.shown in
+    kept_more settings history c.push_reserved.new.self.items c.self.inside.checks c.note.new.self c.self.inside.reassembly c.offer-delivery.new.reassembly outlets c.deliver-had_room.new.outlets.items c.self.inside.tally c.add.new.self e delivery
+    (search rules) c.self.invariant (c.settled-verdict.ensures ∙ ap (λ d. settled d had) change.decision) may stand waits c.deliver-had_room.ensures within
+    (delivers_if link c.args.arrival room delivery had change.room fills may)
+    (c.add.ensures.past (reverse history) e c.self.invariant.counted refl (search rules)) c.requires.frame (rw (← c.self.view_is) at c.requires.link)
+
+pub returns-clause-ok : goal.returns-clause-ok
+returns-clause-ok g c =
+    let settings = c.self.inside.settings in
+    let history = c.self.inside.history.items in
+    let outlets = c.self.inside.outlets.items in
+    let had = c.deliver-had_room.result in
+    let link : Link = record { settings = settings; history = history; queues = map queue_of outlets } in
+    let change = rw (← c.self.view_is) at c.in_ok-change.ensures in
+    let room = c.in_ok-change.change.room in
+    let delivery = c.offer-delivery.result in
+    let fills = rw change.packet at (c.offer-delivery.ensures.fills settings.reassembly (groups_in (origin_of settings) (reverse history)) c.self.invariant.waiting) in
+    let within = holds_at_port link c.args.arrival room delivery (λ port. port.0 < length outlets) change.room fills (has_outlet link room outlets change.has_place c.self.invariant.as_many) in
+    let may = may_answer link c.args.arrival room delivery outlets c.deliver-had_room.new.outlets.items had change.room fills c.deliver-had_room.ensures within c.self.invariant.kinds c.self.invariant.shown in
+    let taken : Takes link c.args.arrival c.settled-verdict.result (record { settings = settings; history = c.push_reserved.new.self.items; queues = map queue_of c.deliver-had_room.new.outlets.items }) = record {
+      room = had;
+      may = may;
+      becomes = c.settled-verdict.ensures ∙ ap (λ d. settled d had) change.decision;
+      event = one_more link c.args.arrival had c.settled-verdict.result c.push_reserved.new.self.items (map queue_of c.deliver-had_room.new.outlets.items) (search rules)
+          (queues_stay delivery had outlets c.deliver-had_room.new.outlets.items c.deliver-had_room.ensures within);
+    } in
+    rw (← c.self.view_is) taken
+
+pub add-requires-clause-room : goal.add-requires-clause-room
+add-requires-clause-room g c =
+    let history = c.self.inside.history in
+    let short : length (reverse history.items) < 2 ^ 64 - 1 = omega (arith, length-reverse history.items, history.ok.0, history.ok.1, history.small) in
+    room_for_one c.self.inside.tally (reverse history.items) c.args.arrival.net c.kind.result c.self.invariant.counted (record { low = c.kind.ensures.low; high = c.kind.ensures.high }) short

@@ -1,0 +1,2 @@
+pub mod BlockList
+pub mod Kept

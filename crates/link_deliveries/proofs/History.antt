@@ -1,0 +1,51 @@
+-- A history from its beginning, and its past.
+use Rattle.std.proofs.Common.{◌≡◌, ◌∙◌, ap, sym, ℕ, zero, suc, List, [], ◌∷◌, ◌++◌, reverse, take, drop, Some, refl}
+use Rattle.std.specs.List.{All, slice_get}
+use Rattle.std.proofs.lemmas.List.Elements.{All-head, All-push, All-tail}
+use Rattle.std.proofs.lemmas.List.{reverse-append, take-append-drop}
+use Rattle.std.proofs.lemmas.Option.{same_Some}
+use Rattle.es_base.specs.declared.event.Event.{Event}
+use Rattle.es_base.specs.Frame.{IsFrame}
+use Rattle.es_base.specs.Settings.{Settings}
+use Rattle.es_base.specs.Past.{AreFramesOf, Origin}
+use Rattle.es_base.specs.Run.{IsRun}
+use Rattle.link_deliveries.specs.Message.{IsLawfulAfter}
+
+take_more : {X : Type 0} (xs : List X) (i : ℕ) (x : X) → slice_get xs i ≡ Some x → take (suc i) xs ≡ take i xs ++ x ∷ []
+take_more [] i x there = cc
+take_more (y ∷ ys) zero x there = rw (same_Some y x there) refl
+take_more (y ∷ ys) (suc i) x there = rw (take_more ys i x there) refl
+
+-- the past of one event more
+pub past_more : (history : List Event) (i : ℕ) (e : Event) → slice_get history i ≡ Some e → reverse (take (suc i) history) ≡ e ∷ reverse (take i history)
+past_more history i e there = ap reverse (take_more history i e there) ∙ reverse-append (take i history) (e ∷ [])
+
+-- the latest events, and those before them
+pub past_parts : (history : List Event) (n : ℕ) → reverse history ≡ reverse (drop n history) ++ reverse (take n history)
+past_parts history n = ap reverse (sym (take-append-drop n history)) ∙ reverse-append (take n history) (drop n history)
+
+earlier_run : (o : Origin) (later past : List Event) → IsRun o (later ++ past) → IsRun o past
+earlier_run o [] past run = run
+earlier_run o (e ∷ later) past run = earlier_run o later past run.2
+
+earlier_frames : (settings : Settings) (later past : List Event) → AreFramesOf settings (later ++ past) → AreFramesOf settings past
+earlier_frames settings [] past frames = frames
+earlier_frames settings (e ∷ later) past frames = earlier_frames settings later past frames.2
+
+pub run_before : (o : Origin) (history : List Event) (n : ℕ) → IsRun o (reverse history) → IsRun o (reverse (take n history))
+run_before o history n run = earlier_run o (reverse (drop n history)) (reverse (take n history)) (rw (past_parts history n) at run)
+
+pub frames_before : (settings : Settings) (history : List Event) (n : ℕ) → AreFramesOf settings (reverse history) → AreFramesOf settings (reverse (take n history))
+frames_before settings history n frames = earlier_frames settings (reverse (drop n history)) (reverse (take n history)) (rw (past_parts history n) at frames)
+
+pub lawful_at : (o : Origin) (history : List Event) (i : ℕ) (e : Event) → IsRun o (reverse history) → slice_get history i ≡ Some e → IsLawfulAfter o (reverse (take i history)) e
+lawful_at o history i e run there = (rw (past_more history i e there) at (run_before o history (suc i) run)).0
+
+pub frame_at : (settings : Settings) (history : List Event) (i : ℕ) (e : Event) → AreFramesOf settings (reverse history) → slice_get history i ≡ Some e → IsFrame e.frame
+frame_at settings history i e frames there = (rw (past_more history i e there) at (frames_before settings history (suc i) frames)).0
+
+-- what holds of each element holds of each of the list in reverse
+pub all_reverse : {X : Type 0} (P : X → Type 0) (xs : List X) → All P xs → All P (reverse xs)
+all_reverse P [] all = all
+all_reverse P (x ∷ xs) all =
+    rw (reverse-append (x ∷ []) xs) (All-push P (reverse xs) x (all_reverse P xs (All-tail P x xs all)) (All-head P x xs all))

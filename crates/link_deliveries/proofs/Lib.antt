@@ -1,0 +1,4 @@
+pub mod Brought
+pub mod Offers
+pub mod Verdicts
+pub mod History

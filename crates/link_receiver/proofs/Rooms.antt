@@ -1,0 +1,228 @@
+-- The rooms of queues that nobody reads.
+use Rattle.std.proofs.Common.{◌≡◌, ◌∙◌, ap, subst, ℕ, ◌≤◌, Bool, true, false, List, [], ◌∷◌, ◌++◌, length, Option, None, Some, Result, Ok, Err, if◌then◌else◌, zero, suc, refl, arith, length-append, append-nil, ⊎_elim}
+use Rattle.std.specs.List.{slice_get}
+use Rattle.std.proofs.lemmas.Bool.{cases_Bool, eq-eqb, eqb-true, lt-leb}
+use Rattle.es_base.specs.declared.place.PortNo.{PortNo}
+use Rattle.es_base.specs.declared.port.PortKind.{PortKind}
+use Rattle.es_base.specs.declared.port.PortKind.TheVariants.{Sampling, Queuing}
+use Rattle.es_base.specs.declared.verdict.Verdict.{Verdict}
+use Rattle.es_base.specs.declared.verdict.Verdict.TheVariants as verdicts
+use Rattle.es_base.specs.declared.event.Arrival.{Arrival}
+use Rattle.es_base.specs.declared.event.Message.{Message}
+use Rattle.es_base.specs.Returns.{◌>>=◌}
+use Rattle.es_base.specs.Udp.{udp_of}
+use Rattle.es_base.specs.Port.{Port, port_of}
+use Rattle.es_base.specs.Settings.{Settings}
+use Rattle.es_base.specs.Past.{event_of, origin_of}
+use Rattle.es_base.specs.Integrity.{passes}
+use Rattle.es_base.specs.Redundancy.{forwarded, is_redundant}
+use Rattle.es_base.specs.Groups.{Group}
+use Rattle.es_base.specs.Reassembly.{groups_in}
+use Rattle.es_base.specs.Outcome as way
+use Rattle.es_base.specs.Deliveries.{delivered, is_same_port}
+use Rattle.es_base.specs.Run.{MayAnswer, decided, may_refuse_with, settled}
+use Rattle.queuing_port.specs.Queue.{Known, QueueId, opened}
+use Rattle.link_receiver.specs.Ends.{AreTakersOf, IsNewLink, IsTakerOf, IsWithin, IsWithinDepth}
+use Rattle.link_receiver.specs.Link.{Link, Takes, deliveries_of, outcome_after, past_of, room_after, verdict_after, with_event}
+use Rattle.link_receiver.specs.Unread.{AreUnreadTakers, IsTakerAt, IsUnread, IsUnreadTaker, IsWithinAt}
+use Rattle.link_receiver.proofs.Places.{reverse-push}
+
+-- ---- a payload is of the kind of its port
+
+abbrev IsOfPort : List Port → way.Payload → Type 0
+IsOfPort ports payload = (port : Port) × (slice_get ports payload.port.0 ≡ Some port) × (port.kind ≡ payload.kind)
+
+abbrev IfPayload : List Port → Result way.Payload Verdict → Type 0
+IfPayload ports (Ok payload) = IsOfPort ports payload
+IfPayload ports (Err verdict) = Unit {0}
+
+after : {A : Type 0} (ports : List Port) (first : Result A Verdict) (next : A → Result way.Payload Verdict) → ((x : A) → IfPayload ports (next x)) → IfPayload ports (first >>= next)
+after ports (Ok x) next each = each x
+after ports (Err verdict) next each = tt
+
+if_taken : (ports : List Port) (payload : way.Payload) (joined long : Bool) (v w : Verdict) → IsOfPort ports payload → IfPayload ports (if joined then Err v else if long then Err w else Ok payload)
+if_taken ports payload true long v w is = tt
+if_taken ports payload false true v w is = tt
+if_taken ports payload false false v w is = is
+
+if_short : (ports : List Port) (payload : way.Payload) (long : Bool) (w : Verdict) → IsOfPort ports payload → IfPayload ports (if long then Err w else Ok payload)
+if_short ports payload true w is = tt
+if_short ports payload false w is = is
+
+if_kind : (ports : List Port) (kind : PortKind) (max : ℕ) (payload : way.Payload) → IsOfPort ports payload → IfPayload ports (way.payload_if kind max payload)
+if_kind ports (Queuing depth) max payload is = if_short ports payload _ _ is
+if_kind ports (Sampling refresh) max payload is = if_taken ports payload payload.joined _ _ _ is
+
+for_port : (ports : List Port) (place : PortNo) (port : Option Port) (joined : Bool) (octets : List ℕ) → slice_get ports place.0 ≡ port → IfPayload ports (way.payload_for place port joined octets)
+for_port ports place None joined octets is = tt
+for_port ports place (Some port) joined octets is = if_kind ports port.kind port.max (record { port = place; kind = port.kind; joined = joined; octets = octets }) (port, is, refl)
+
+at_port : (ports : List Port) (place : Option PortNo) (joined : Bool) (octets : List ℕ) → IfPayload ports (way.payload_at ports place joined octets)
+at_port ports None joined octets = tt
+at_port ports (Some place) joined octets = for_port ports place (slice_get ports place.0) joined octets refl
+
+in_datagram : (ports : List Port) (datagram : way.Datagram) → IfPayload ports (way.payload_in ports datagram)
+unfolding way.payload_in
+in_datagram ports datagram =
+    after ports (way.judged (λ fault. verdicts.BadUdp) (udp_of datagram.octets)) _ (λ udp. at_port ports (port_of ports datagram.destination udp.destination_port) datagram.joined udp.payload)
+
+abbrev pub IfBrings : List Port → way.Outcome → Type 0
+IfBrings ports (way.brings payload) = IsOfPort ports payload
+IfBrings ports way.out_of_sequence = Unit {0}
+IfBrings ports way.redundant = Unit {0}
+IfBrings ports (way.refused verdict) = Unit {0}
+
+if_brought : (ports : List Port) (payload : Result way.Payload Verdict) → IfPayload ports payload → IfBrings ports (way.brought payload)
+if_brought ports (Ok payload) is = is
+if_brought ports (Err verdict) is = tt
+
+if_outcome : (passing is_copy : Bool) (settings : Settings) (groups : List Group) (a : Arrival) → IfBrings settings.ports (way.outcome_if passing is_copy settings groups a)
+unfolding way.outcome_if
+if_outcome false is_copy settings groups a = tt
+if_outcome true true settings groups a = tt
+if_outcome true false settings groups a = if_brought settings.ports (way.payload_of settings groups a) (after settings.ports (way.datagram_in settings.reassembly groups a) _ (in_datagram settings.ports))
+
+pub brings_of_port : (link : Link) (a : Arrival) → IfBrings link.settings.ports (outcome_after link a)
+brings_of_port link a =
+    let o = origin_of link.settings in
+    let past = past_of link in
+    if_outcome (passes o past a) (is_redundant o (forwarded o past) a) link.settings (groups_in o past) a
+
+-- ---- one event more
+
+deliveries_more : (link : Link) (a : Arrival) (room : Bool) (verdict : Verdict) (port : PortNo)
+    → deliveries_of (with_event link a room verdict) port ≡ deliveries_of link port ++ delivered (outcome_after link a) room a.time port (length (deliveries_of link port))
+deliveries_more link a room verdict port = rw (reverse-push link.history (event_of a room verdict)) refl
+
+same_port : (a b : PortNo) → is_same_port a b ≡ true → a ≡ b
+same_port a b same = let port : ℕ → PortNo = λ n. record { 0 = n } in ap port (eqb-true a.0 b.0 same)
+
+-- ---- a message that was queued
+
+abbrev pub IfQueued : Verdict → (PortNo → Type 0) → Type 0
+IfQueued verdict Holds = (port : PortNo) → verdict ≡ verdicts.Queued port → Holds port
+
+-- a queue that had room, and holds no more than it may, didn't hold as many before
+not_full : (link : Link) (a : Arrival) (outcome : way.Outcome) (verdict : Verdict) → outcome_after link a ≡ outcome → IfBrings link.settings.ports outcome
+    → verdict ≡ settled (decided outcome (λ port. length (deliveries_of link port))) true
+    → IfQueued verdict (IsWithinAt (with_event link a true verdict))
+    → may_refuse_with outcome (λ port. length (deliveries_of link port)) ≡ false
+not_full link a way.out_of_sequence verdict is of_port becomes queued = refl
+not_full link a way.redundant verdict is of_port becomes queued = refl
+not_full link a (way.refused v) verdict is of_port becomes queued = refl
+not_full link a (way.brings payload) verdict is of_port becomes queued = go payload.kind refl
+  where
+    port : PortNo
+    port = payload.port
+
+    before : List Message
+    before = deliveries_of link port
+
+    go : (kind : PortKind) → payload.kind ≡ kind → may_refuse_with (way.brings payload) (λ p. length (deliveries_of link p)) ≡ false
+    go (Sampling refresh) kind = rw kind refl
+    go (Queuing depth) kind =
+        let within = queued port (becomes ∙ rw kind refl) in
+        let held : IsWithinDepth (Some of_port.0) (length (deliveries_of (with_event link a true verdict) port)) = rw of_port.1 at within in
+        let bound : length (deliveries_of (with_event link a true verdict) port) ≤ depth = rw (of_port.2 ∙ kind) at held in
+        let message : Message = record { time = a.time; octets = payload.octets } in
+        let one : delivered (outcome_after link a) true a.time port (length before) ≡ message ∷ [] = rw (is, eq-eqb port.0 port.0 refl, kind) refl in
+        let more : deliveries_of (with_event link a true verdict) port ≡ before ++ message ∷ [] = deliveries_more link a true verdict port ∙ ap (λ ms. before ++ ms) one in
+        rw kind (lt-leb depth (length before) (omega (arith, bound, ap length more, length-append before (message ∷ []))))
+
+room_of : (link : Link) (a : Arrival) (verdict : Verdict) (new : Link) (room : Bool) → MayAnswer (origin_of link.settings) (past_of link) a room → verdict ≡ verdict_after link a room
+    → new ≡ with_event link a room verdict → IfQueued verdict (IsWithinAt new) → room ≡ room_after link a
+room_of link a verdict new false may becomes is queued = rw may refl
+room_of link a verdict new true may becomes is queued =
+    rw (not_full link a (outcome_after link a) verdict refl (brings_of_port link a) becomes (rw is at queued)) refl
+
+-- the queue's answer is that of one that nobody reads
+pub room_is : (link : Link) (a : Arrival) (verdict : Verdict) (new : Link) → (takes : Takes link a verdict new) → IfQueued verdict (IsWithinAt new) → takes.room ≡ room_after link a
+room_is link a verdict new takes queued = room_of link a verdict new takes.room takes.may takes.becomes takes.event queued
+
+pub unread_verdict : (link : Link) (a : Arrival) (verdict : Verdict) (new : Link) → Takes link a verdict new → IfQueued verdict (IsWithinAt new) → verdict ≡ verdict_after link a (room_after link a)
+unread_verdict link a verdict new takes queued = takes.becomes ∙ ap (verdict_after link a) (room_is link a verdict new takes queued)
+
+pub unread_event : (link : Link) (a : Arrival) (verdict : Verdict) (new : Link) → Takes link a verdict new → IfQueued verdict (IsWithinAt new) → new ≡ with_event link a (room_after link a) verdict
+unread_event link a verdict new takes queued = takes.event ∙ ap (λ room. with_event link a room verdict) (room_is link a verdict new takes queued)
+
+abbrev queued_port : PortNo → Verdict → PortNo
+queued_port other (verdicts.Queued port) = port
+queued_port other verdict = other
+
+pub queued_at : (port : PortNo) (Holds : PortNo → Type 0) → Holds port → IfQueued (verdicts.Queued port) Holds
+queued_at port Holds holds = λ other same. subst Holds (ap (queued_port port) same) holds
+
+-- ---- no port has more messages than its queue holds
+
+nothing_more : (link : Link) (a : Arrival) (room : Bool) (verdict : Verdict) (port : PortNo) → delivered (outcome_after link a) room a.time port (length (deliveries_of link port)) ≡ []
+    → IsWithinAt link port → IsWithinAt (with_event link a room verdict) port
+nothing_more link a room verdict port none within = rw (deliveries_more link a room verdict port, none, append-nil) within
+
+any_number : (port : Port) (refresh : ℕ) (held : ℕ) → port.kind ≡ Sampling refresh → IsWithinDepth (Some port) held
+any_number port refresh held is = rw is tt
+
+within_one : (link : Link) (a : Arrival) (outcome : way.Outcome) (room : Bool) (verdict : Verdict) (port : PortNo) → outcome_after link a ≡ outcome → IfBrings link.settings.ports outcome
+    → verdict ≡ settled (decided outcome (λ p. length (deliveries_of link p))) room
+    → IsWithinAt link port → IfQueued verdict (IsWithinAt (with_event link a room verdict)) → IsWithinAt (with_event link a room verdict) port
+within_one link a way.out_of_sequence room verdict port is of_port becomes within queued = nothing_more link a room verdict port (rw is refl) within
+within_one link a way.redundant room verdict port is of_port becomes within queued = nothing_more link a room verdict port (rw is refl) within
+within_one link a (way.refused v) room verdict port is of_port becomes within queued = nothing_more link a room verdict port (rw is refl) within
+within_one link a (way.brings payload) room verdict port is of_port becomes within queued =
+    ⊎_elim
+    (λ (same : is_same_port payload.port port ≡ true). at_same payload.kind room refl refl same)
+    (λ (other : is_same_port payload.port port ≡ false). nothing_more link a room verdict port (rw (is, other) refl) within)
+    (cases_Bool (is_same_port payload.port port))
+  where
+    at_same : (kind : PortKind) (had : Bool) → payload.kind ≡ kind → room ≡ had → is_same_port payload.port port ≡ true → IsWithinAt (with_event link a room verdict) port
+    at_same (Sampling refresh) had kind room_is same =
+        let there : slice_get link.settings.ports port.0 ≡ Some of_port.0 = rw (← same_port payload.port port same) of_port.1 in
+        rw there (any_number of_port.0 refresh (length (deliveries_of (with_event link a room verdict) port)) (of_port.2 ∙ kind))
+    at_same (Queuing depth) true kind room_is same = queued port (becomes ∙ rw (kind, room_is, same_port payload.port port same) refl)
+    at_same (Queuing depth) false kind room_is same = nothing_more link a room verdict port (rw (is, same, kind, room_is) refl) within
+
+pub within_more : (link : Link) (a : Arrival) (verdict : Verdict) (new : Link) → Takes link a verdict new → ((place : ℕ) → IsWithinAt link (record { 0 = place }))
+    → IfQueued verdict (IsWithinAt new) → (place : ℕ) → IsWithinAt new (record { 0 = place })
+within_more link a verdict new takes within queued place =
+    rw takes.event (within_one link a (outcome_after link a) takes.room verdict (record { 0 = place }) refl (brings_of_port link a) takes.becomes (within place) (rw takes.event at queued))
+
+-- ---- the takers
+
+pub takers_stay : (link : Link) (a : Arrival) (verdict : Verdict) (new : Link) (takers : List (Option Known)) → Takes link a verdict new → AreUnreadTakers link takers → AreUnreadTakers new takers
+takers_stay link a verdict new takers takes are = λ place. rw takes.event (are place)
+
+-- ---- before any event
+
+unread_taker : (kind : PortKind) (queue : Option QueueId) (taker : Option Known) → IsTakerOf kind queue taker → IsUnreadTaker kind (Some queue) taker
+unread_taker (Sampling refresh) queue taker is = is.1
+unread_taker (Queuing depth) queue taker is = (opened is.0 depth, is.2, ap Some is.1, refl)
+
+takers_at : (ports : List Port) (queues : List (Option QueueId)) (takers : List (Option Known)) → AreTakersOf ports queues takers → (place : ℕ) → IsTakerAt (slice_get ports place) (slice_get queues place) (slice_get takers place)
+takers_at [] [] [] are place = tt
+takers_at (port ∷ ports) (queue ∷ queues) (taker ∷ takers) are zero = unread_taker port.kind queue taker are.0
+takers_at (port ∷ ports) (queue ∷ queues) (taker ∷ takers) are (suc place) = takers_at ports queues takers are.1 place
+takers_at (port ∷ ports) (queue ∷ queues) [] are place = absurd are
+takers_at (port ∷ ports) [] takers are place = absurd are
+takers_at [] (queue ∷ queues) takers are place = absurd are
+takers_at [] [] (taker ∷ takers) are place = absurd are
+
+none_within : (port : Option Port) → IsWithinDepth port 0
+none_within None = tt
+none_within (Some port) = go port.kind
+  where
+    go : (kind : PortKind) → IsWithin kind 0
+    go (Sampling refresh) = tt
+    go (Queuing depth) = omega arith
+
+pub unread_new : (settings : Settings) (link : Link) (takers : List (Option Known)) → IsNewLink settings link → AreTakersOf settings.ports link.queues takers → IsUnread link takers
+unread_new settings link takers new are = record {
+  takers_are = rw new.0 (takers_at settings.ports link.queues takers are);
+  within = λ place. rw new.1 (none_within (slice_get link.settings.ports place));
+}
+
+-- ---- after one
+
+pub unread_more : (link : Link) (a : Arrival) (verdict : Verdict) (new : Link) (takers : List (Option Known)) → Takes link a verdict new → IsUnread link takers → IfQueued verdict (IsWithinAt new) → IsUnread new takers
+unread_more link a verdict new takers takes unread queued = record {
+  takers_are = takers_stay link a verdict new takers takes unread.takers_are;
+  within = within_more link a verdict new takes unread.within queued;
+}

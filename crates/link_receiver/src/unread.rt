@@ -1,0 +1,132 @@
+//! A link whose queuing ports nobody reads.
+ghost use Rattle.std.specs.Prelude.{◌≡◌, IfOk, OnErr, Some, slice_get};
+ghost use Rattle.std.specs.Option.{option_map};
+ghost use Rattle.es_base.specs.Frame.{IsFrame, link_number_of};
+ghost use Rattle.es_base.specs.Past.{AreFramesOf, origin_of};
+ghost use Rattle.es_base.specs.Tally.{HasCounts};
+ghost use Rattle.es_base.specs.Run.{IsRun};
+ghost use Rattle.link_receiver.specs.Ends.{IsNewLink};
+ghost use Rattle.link_receiver.specs.Link.{deliveries_of, newest_at, past_of, room_after, verdict_after, with_event};
+ghost use Rattle.link_receiver.specs.Unread.{AreUnreadTakers, IsTakerAt, IsWithinAt};
+
+use crate::link::LinkState;
+use es_base::{Arrival, Event, LinkSettings, Memory, Message, PortNo, Tally, Verdict};
+use queuing_port::Taker;
+use std::alloc::Global;
+use std::marker::Model;
+use std::sync::Wait;
+
+/// A link that keeps the takers of its queuing ports itself, and takes nothing. So each queue has room
+/// until as many messages were delivered to its port as it holds, and has none after that: what becomes
+/// of a frame follows from the settings and the frames before it.
+#[derive(Drop)]
+pub struct UnreadLink {
+    state: LinkState,
+    takers: Vec<Option<Taker>>,
+}
+
+impl Model for UnreadLink {
+    ghost use Rattle.std.specs.Prelude.{[]};
+    ghost use Rattle.link_receiver.specs.Link.{Link};
+
+    ghost Value = { Link };
+
+    ghost use Rattle.link_receiver.specs.Unread.{IsUnread};
+
+    ghost view = { λ u. record { settings = u.state.settings; history = u.state.history; queues = [] } };
+
+    ghost invariant = { λ u. IsUnread u.state u.takers.items };
+}
+
+impl UnreadLink {
+    /// The link with these settings and no history.
+    pub fn new(alloc: Global, settings: &LinkSettings) -> Result<UnreadLink, Memory>
+        ensures { IfOk result (IsNewLink settings.now) }
+    {
+        let (state, takers) = LinkState::open(alloc, settings)?;
+        Ok(UnreadLink { state, takers })
+    }
+
+    /// The link's settings.
+    pub fn settings(&self) -> &LinkSettings
+        ensures { result.now ≡ self.now.settings }
+    {
+        self.state.settings()
+    }
+
+    /// The link's events in the order in which their frames came. Each has a frame of this link.
+    pub fn history(&self) -> &[Event]
+        ensures events { result.now ≡ self.now.history }
+        ensures run { IsRun (origin_of self.now.settings) (past_of self.now) }
+        ensures frames { AreFramesOf self.now.settings (past_of self.now) }
+    {
+        self.state.history()
+    }
+
+    /// The newest message of a sampling port, and its message number, from 1, as `LinkState::newest`
+    /// returns it.
+    pub fn newest(&self, port: PortNo) -> Option<(u64, &Message)>
+        ensures { option_map (λ newest. (newest.0, newest.1.now)) result ≡ newest_at self.now port }
+    {
+        self.state.newest(port)
+    }
+
+    /// How many events came on each network with each kind of verdict.
+    pub fn tally(&self) -> &Tally
+        ensures { HasCounts result.now (past_of self.now) }
+    {
+        self.state.tally()
+    }
+
+    /// The messages that were delivered to a port, as `LinkState::deliveries` returns them.
+    pub fn deliveries(&self, alloc: Global, port: PortNo) -> Result<Vec<Message>, Memory>
+        ensures { IfOk result (λ messages. messages.items ≡ deliveries_of self.now port) }
+    {
+        self.state.deliveries(alloc, port)
+    }
+
+    /// Takes a frame as `LinkState::take_arrival` does.
+    pub fn take_arrival<R: Wait>(
+        &mut self,
+        rt: &R,
+        alloc: Global,
+        arrival: Arrival,
+    ) -> Result<Verdict, Memory>
+        requires frame { IsFrame arrival.frame }
+        requires link { link_number_of arrival.frame ≡ self.old.settings.vl.0 }
+        ensures event { IfOk result (λ verdict. self.new ≡ with_event self.old arrival (room_after self.old arrival) verdict) }
+        ensures verdict { IfOk result (λ verdict. verdict ≡ verdict_after self.old arrival (room_after self.old arrival)) }
+        ensures err { OnErr result (self.new ≡ self.old) }
+    {
+        let verdict = self.state.take_arrival(rt, alloc, arrival)?;
+        if let Verdict::Queued(port) = verdict {
+            meet_at(rt, &mut self.state, port, &mut self.takers);
+        }
+        Ok(verdict)
+    }
+}
+
+/// The ends of the queue of the port at this place meet, if it has one. So it is seen that no more
+/// messages were delivered to the port than its queue holds.
+fn meet_at<R: Wait>(rt: &R, state: &mut LinkState, port: PortNo, takers: &mut Vec<Option<Taker>>)
+    requires { AreUnreadTakers state.old takers.old.items }
+    ensures state { state.new ≡ state.old }
+    ensures takers { AreUnreadTakers state.old takers.new.items }
+    ensures within { IsWithinAt state.old port }
+{
+    if let Some(taker) = takers.get_mut(port.0 as usize) {
+        meet_if(rt, state, port, taker);
+    }
+}
+
+/// The same with the taker at that place, if there is one.
+fn meet_if<R: Wait>(rt: &R, state: &mut LinkState, port: PortNo, taker: &mut Option<Taker>)
+    requires { IsTakerAt (slice_get state.old.settings.ports port.0) (slice_get state.old.queues port.0) (Some taker.old) }
+    ensures state { state.new ≡ state.old }
+    ensures taker { IsTakerAt (slice_get state.old.settings.ports port.0) (slice_get state.old.queues port.0) (Some taker.new) }
+    ensures within { IsWithinAt state.old port }
+{
+    if let Some(taker) = taker {
+        state.meet(rt, port, taker);
+    }
+}

@@ -1,0 +1,125 @@
+//! The blocks of the report. Each function adds its lines to a text.
+ghost use Rattle.std.specs.Prelude.{◌≡◌, ◌++◌, OnOk, length, string_bytes};
+ghost use Rattle.std.specs.Option.{option_map};
+ghost use Rattle.es_base.specs.FilterTally.{filtered_in};
+ghost use Rattle.es_base.specs.Deliveries.{newest_of};
+ghost use Rattle.es_base.specs.Tally.{count_in};
+ghost use Rattle.output_lines.specs.Line.{queue_text};
+ghost use Rattle.output_lines.specs.Report.{line, newest_lines, message_lines, port_lines, count_lines, filtered_lines};
+
+use crate::counts::{CountLine, FilteredCountLine};
+use crate::port::{EmptyLine, MessageLine, QueueLine, SampleLine};
+use es_base::{FilterTally, LinkSettings, Memory, Message, Net, PortKind, PortSettings, Tally};
+use sampling_port::freshness;
+use std::fmt::Write;
+
+/// The lines of a port to which these messages were delivered, at a time in microseconds.
+pub fn write_port(
+    text: &mut String,
+    at: u64,
+    port: &PortSettings,
+    messages: &[Message],
+) -> Result<(), Memory>
+    ensures { OnOk result (string_bytes text.new ≡ string_bytes text.old ++ port_lines at port.now messages.now) }
+{
+    let name = port.name().as_str();
+    match port.kind() {
+        PortKind::Sampling { refresh } => {
+            write_newest(text, at, name, refresh, newest_of(messages))
+        }
+        PortKind::Queuing { depth: _ } => write_queue(text, name, messages),
+    }
+}
+
+/// The line of a sampling port, with its newest message and that message's number. Times are in
+/// microseconds.
+pub fn write_newest(
+    text: &mut String,
+    at: u64,
+    name: &str,
+    refresh: u64,
+    newest: Option<(u64, &Message)>,
+) -> Result<(), Memory>
+    ensures { OnOk result (string_bytes text.new ≡ string_bytes text.old
+        ++ newest_lines at name.now refresh (option_map (λ newest. (newest.0, newest.1.now)) newest.entry)) }
+{
+    let Some((message_number, message)) = newest else {
+        let line = EmptyLine { name };
+        return writeln!(text, "{line}");
+    };
+    let line = SampleLine {
+        name,
+        message_number,
+        time: message.time,
+        state: freshness(at, message.time, refresh),
+        octets: message.octets.as_slice(),
+    };
+    writeln!(text, "{line}")
+}
+
+/// The lines of a queuing port, with all its messages.
+pub fn write_queue(text: &mut String, name: &str, messages: &[Message]) -> Result<(), Memory>
+    ensures { OnOk result (string_bytes text.new ≡ string_bytes text.old
+        ++ (line (queue_text name.now (length messages.now)) ++ message_lines name.now messages.now)) }
+{
+    let line = QueueLine {
+        name,
+        count: messages.len(),
+    };
+    writeln!(text, "{line}")?;
+    write_messages(text, name, messages)
+}
+
+/// The lines of the messages of a queuing port.
+fn write_messages(text: &mut String, name: &str, messages: &[Message]) -> Result<(), Memory>
+    ensures { OnOk result (string_bytes text.new ≡ string_bytes text.old ++ message_lines name.now messages.now) }
+{
+    'messages: for message in messages {
+        let line = MessageLine {
+            name,
+            time: message.time,
+            octets: message.octets.as_slice(),
+        };
+        writeln!(text, "{line}")?;
+    }
+    Ok(())
+}
+
+/// The newest of a sampling port's messages, and its message number.
+fn newest_of(messages: &[Message]) -> Option<(u64, &Message)>
+    ensures { option_map (λ newest. (newest.0, newest.1.now)) result ≡ newest_of messages.now }
+{
+    match messages.last() {
+        Some(message) => Some((messages.len() as u64, message)),
+        None => None,
+    }
+}
+
+/// The counts of a link's events, on A and then on B.
+pub fn write_counts(text: &mut String, link: &LinkSettings, tally: &Tally) -> Result<(), Memory>
+    ensures { OnOk result (string_bytes text.new ≡ string_bytes text.old ++ count_lines link.now.vl (count_in tally.now)) }
+{
+    let vl = link.vl();
+    let a = CountLine {
+        vl,
+        net: Net::A,
+        tally,
+    };
+    let b = CountLine {
+        vl,
+        net: Net::B,
+        tally,
+    };
+    writeln!(text, "{a}")?;
+    writeln!(text, "{b}")
+}
+
+/// The counts of filtered frames, on A and then on B.
+pub fn write_filtered(text: &mut String, tally: &FilterTally) -> Result<(), Memory>
+    ensures { OnOk result (string_bytes text.new ≡ string_bytes text.old ++ filtered_lines (filtered_in tally.now)) }
+{
+    let a = FilteredCountLine { net: Net::A, tally };
+    let b = FilteredCountLine { net: Net::B, tally };
+    writeln!(text, "{a}")?;
+    writeln!(text, "{b}")
+}

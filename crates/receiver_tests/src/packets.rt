@@ -1,0 +1,47 @@
+//! Fragments and other packets given to the receiver of a link, each in a frame of 60 octets.
+use crate::receive::receive_all;
+use es_base::{LinkSettings, Net, Verdict};
+use std::alloc::Global;
+use std::process::Abort;
+use std::sync::Wait;
+use std::test::Fail;
+use test_inputs::first;
+use test_inputs::fragments::{PacketText, padding_after};
+
+/// The network, arrival time in microseconds and sequence number of a frame of link 17, its packet, and
+/// its verdict.
+pub(crate) type PacketRow = (Net, u64, u8, PacketText, Verdict);
+
+/// A new receiver with these settings gives these verdicts.
+pub(crate) fn check_with(
+    rt: &(impl Abort + Wait),
+    alloc: Global,
+    settings: &LinkSettings,
+    rows: &[PacketRow],
+) -> Result<(), Fail> {
+    let mut frames = Vec::new(alloc);
+    for (net, now, sequence_number, (ip, octets), verdict) in rows {
+        let padding = padding_after(octets);
+        frames.push((
+            *net,
+            *now,
+            *sequence_number,
+            *ip,
+            *octets,
+            padding,
+            *verdict,
+        ))?;
+    }
+    receive_all(rt, alloc, settings, &frames)?;
+    Ok(())
+}
+
+/// The same for the built-in configuration's link.
+pub(crate) fn check(
+    rt: &(impl Abort + Wait),
+    alloc: Global,
+    rows: &[PacketRow],
+) -> Result<(), Fail> {
+    let config = first(alloc)?;
+    check_with(rt, alloc, &config.links()[0], rows)
+}

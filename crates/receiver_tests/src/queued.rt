@@ -1,0 +1,147 @@
+//! The octets of messages that are queued.
+use crate::packets::PacketRow;
+use crate::queues::taker_of;
+use crate::receive::{FOR_NAV, FrameRow, receive_rows};
+use es_base::Net::A;
+use es_base::Verdict::FragmentHeld;
+use link_receiver::LinkState;
+use std::alloc::Global;
+use std::process::Abort;
+use std::sync::Wait;
+use std::test::Fail;
+use test_inputs::fragments::{FIRST, FIRST_ANEW, LAST, LONGER_LAST, padding_after};
+use test_inputs::{IP, PAYLOAD, first, fives};
+
+/// A new receiver gives these frames these verdicts, and then the taker of `nav` takes one message, of
+/// this time in microseconds and with this payload.
+fn check_taken(
+    rt: &(impl Abort + Wait),
+    alloc: Global,
+    rows: &[FrameRow<'_>],
+    time: u64,
+    payload: &str,
+) -> Result<(), Fail> {
+    let config = first(alloc)?;
+    let (mut state, ends) = LinkState::new(alloc, &config.links()[0])?;
+    receive_rows(rt, alloc, &mut state, rows)?;
+    let mut taker = taker_of(rt, ends);
+    let message = taker.take(rt).expect(rt, "a message");
+    assert_eq!(rt; message.time, time);
+    let octets = hex::decode(alloc, payload)?;
+    assert!(rt; message.octets.as_slice() == octets.as_slice());
+    assert!(rt; taker.take(rt).is_none());
+    Ok(())
+}
+
+/// The same for packets, each in a frame of 60 octets.
+fn check_joined(
+    rt: &(impl Abort + Wait),
+    alloc: Global,
+    packets: &[PacketRow],
+    time: u64,
+    payload: &str,
+) -> Result<(), Fail> {
+    let mut rows = Vec::new(alloc);
+    for (net, now, number, (ip, octets), verdict) in packets {
+        let padding = padding_after(octets);
+        rows.push((*net, *now, *number, *ip, *octets, padding, *verdict))?;
+    }
+    check_taken(rt, alloc, &rows, time, payload)
+}
+
+/// Three fragments of a datagram, the third of which completes it.
+fn three(first: PacketRow, second: PacketRow, third: PacketRow) -> [PacketRow; 3] {
+    [first, second, third]
+}
+
+#[test]
+fn a_joined_datagram_is_queued_whole(rt: HostRuntime) -> Result<(), Fail> {
+    let payload = "a0a1a2a3a4a5a6a7b0b1b2b3b4b5b6b7b8b9babbbcbdbebf";
+    let in_order = [
+        (A, 1000, 1, FIRST, FragmentHeld),
+        (A, 1100, 2, LAST, FOR_NAV),
+    ];
+    check_joined(&rt, rt.alloc(), &in_order, 1100, payload)?;
+    let last_first = [
+        (A, 1000, 1, LAST, FragmentHeld),
+        (A, 1100, 2, FIRST, FOR_NAV),
+    ];
+    check_joined(&rt, rt.alloc(), &last_first, 1100, payload)
+}
+
+#[test]
+fn a_queued_message_has_the_latest_octets(rt: HostRuntime) -> Result<(), Fail> {
+    let rows = three(
+        (A, 1000, 1, FIRST, FragmentHeld),
+        (A, 1100, 2, FIRST_ANEW, FragmentHeld),
+        (A, 1200, 3, LAST, FOR_NAV),
+    );
+    let payload = "c0c1c2c3c4c5c6c7b0b1b2b3b4b5b6b7b8b9babbbcbdbebf";
+    check_joined(&rt, rt.alloc(), &rows, 1200, payload)
+}
+
+/// The last fragment that ends earlier comes later, and the end is its end; and the other way round the
+/// UDP header cuts what was joined.
+#[test]
+fn a_queued_message_is_as_long_as_its_udp_header_says(rt: HostRuntime) -> Result<(), Fail> {
+    let down = three(
+        (A, 1000, 1, LONGER_LAST, FragmentHeld),
+        (A, 1100, 2, LAST, FragmentHeld),
+        (A, 1200, 3, FIRST, FOR_NAV),
+    );
+    let payload = "a0a1a2a3a4a5a6a7b0b1b2b3b4b5b6b7b8b9babbbcbdbebf";
+    check_joined(&rt, rt.alloc(), &down, 1200, payload)?;
+    let up = three(
+        (A, 1000, 1, LAST, FragmentHeld),
+        (A, 1100, 2, LONGER_LAST, FragmentHeld),
+        (A, 1200, 3, FIRST, FOR_NAV),
+    );
+    let payload = "a0a1a2a3a4a5a6a7d0d1d2d3d4d5d6d7d8d9dadbdcdddedf";
+    check_joined(&rt, rt.alloc(), &up, 1200, payload)
+}
+
+#[test]
+fn an_empty_message_is_queued(rt: HostRuntime) -> Result<(), Fail> {
+    let row = (A, 1000, 1, IP, "1389138a00080000", PAYLOAD, FOR_NAV);
+    check_taken(&rt, rt.alloc(), &[row], 1000, "")
+}
+
+/// The headers of the six fragments of a datagram of 8200 octets: 1472 octets in each, and 840 in the
+/// last.
+const LONGEST: [&str; 6] = [
+    "450005d4000220000111a8240a010101e0e00011",
+    "450005d4000220b80111a76c0a010101e0e00011",
+    "450005d4000221700111a6b40a010101e0e00011",
+    "450005d4000222280111a5fc0a010101e0e00011",
+    "450005d4000222e00111a5440a010101e0e00011",
+    "4500035c000203980111c7040a010101e0e00011",
+];
+
+/// A message of 8192 octets is the longest.
+fn check_longest(rt: &(impl Abort + Wait), alloc: Global) -> Result<(), Fail> {
+    let payload = fives(alloc, 8192)?;
+    let (begin, middle, end) = (fives(alloc, 1464)?, fives(alloc, 1472)?, fives(alloc, 840)?);
+    let [one, two, three, four, five, six] = LONGEST;
+    let rows = [
+        (
+            A,
+            1,
+            1,
+            one,
+            "1389138a20080000",
+            begin.as_str(),
+            FragmentHeld,
+        ),
+        (A, 2, 2, two, "", middle.as_str(), FragmentHeld),
+        (A, 3, 3, three, "", middle.as_str(), FragmentHeld),
+        (A, 4, 4, four, "", middle.as_str(), FragmentHeld),
+        (A, 5, 5, five, "", middle.as_str(), FragmentHeld),
+        (A, 6, 6, six, "", end.as_str(), FOR_NAV),
+    ];
+    check_taken(rt, alloc, &rows, 6, payload.as_str())
+}
+
+#[test]
+fn the_longest_message_is_queued_whole(rt: HostRuntime) -> Result<(), Fail> {
+    check_longest(&rt, rt.alloc())
+}

@@ -1,0 +1,183 @@
+//! Messages at a queuing port: which are queued, and which its taker takes.
+use crate::receive::{NAV, POS, receive};
+use es_base::Net::A;
+use es_base::Verdict;
+use es_base::Verdict::{Overflow, Queued, Sampled};
+use link_receiver::{LinkState, PortEnd};
+use queuing_port::Taker;
+use std::alloc::Global;
+use std::process::Abort;
+use std::sync::Wait;
+use std::test::Fail;
+use test_inputs::{ETHERNET, IP, PAYLOAD, UDP, changed, first, frame_of};
+
+/// The UDP header of the smallest frame, for `nav`.
+const NAV_UDP: &str = "1389138a00190000";
+
+/// The taker of `nav`, the one queuing port of its link.
+pub(crate) fn taker_of(rt: &impl Abort, ends: Vec<PortEnd>) -> Taker {
+    assert_eq!(rt; ends.len(), 1);
+    let PortEnd::Queuing { port, name, taker } = ends.into_iter().next().expect(rt, "an end");
+    assert_eq!(rt; port, NAV);
+    assert_eq!(rt; name.as_str(), "nav");
+    taker
+}
+
+/// What happens at a link, in order.
+#[derive(Clone, Copy)]
+enum Step {
+    /// The next frame brings 17 octets to `nav`.
+    Nav(Verdict),
+    /// The next frame brings 17 octets to `pos`.
+    Pos(Verdict),
+    /// The taker takes the message of the frame with this place, or none.
+    Take(Option<u64>),
+}
+
+use Step::{Nav, Pos, Take};
+
+/// The frame at this place, from 0, brings its payload to the port with this UDP header, and has this
+/// verdict.
+fn check_frame(
+    rt: &(impl Abort + Wait),
+    alloc: Global,
+    state: &mut LinkState,
+    place: u8,
+    udp: &str,
+    verdict: Verdict,
+) -> Result<(), Fail> {
+    let frame = frame_of(alloc, &[ETHERNET, IP, udp, PAYLOAD], place)?;
+    let answer = receive(rt, alloc, state, A, u64::from(place), &frame);
+    assert_eq!(rt; answer, verdict, "frame {place}");
+    Ok(())
+}
+
+/// The taker takes the message of this time, or none.
+fn check_take(rt: &(impl Abort + Wait), taker: &mut Taker, wanted: Option<u64>) {
+    let time = taker.take(rt).map(|message| message.time);
+    assert_eq!(rt; time, wanted);
+}
+
+/// A new receiver, with these keys of `nav` from its depth on, goes these steps.
+fn check_steps(
+    rt: &(impl Abort + Wait),
+    alloc: Global,
+    depth: &str,
+    steps: &[Step],
+) -> Result<(), Fail> {
+    let config = changed(alloc, "depth = 4\n", depth)?;
+    let (mut state, ends) = LinkState::new(alloc, &config.links()[0])?;
+    let mut taker = taker_of(rt, ends);
+    let mut place = 0u8;
+    for step in steps {
+        match step {
+            Nav(verdict) => check_frame(rt, alloc, &mut state, place, NAV_UDP, *verdict)?,
+            Pos(verdict) => check_frame(rt, alloc, &mut state, place, UDP, *verdict)?,
+            Take(wanted) => check_take(rt, &mut taker, *wanted),
+        }
+        if !matches!(step, Take(_)) {
+            place = place.wrapping_add(1);
+        }
+    }
+    Ok(())
+}
+
+fn one_place() -> [Step; 8] {
+    [
+        Nav(Queued(NAV)),
+        Nav(Overflow(NAV)),
+        Take(Some(0)),
+        Take(None),
+        Nav(Queued(NAV)),
+        Nav(Overflow(NAV)),
+        Take(Some(2)),
+        Take(None),
+    ]
+}
+
+fn three_places() -> [Step; 9] {
+    [
+        Nav(Queued(NAV)),
+        Nav(Queued(NAV)),
+        Nav(Queued(NAV)),
+        Nav(Overflow(NAV)),
+        Nav(Overflow(NAV)),
+        Take(Some(0)),
+        Nav(Queued(NAV)),
+        Nav(Overflow(NAV)),
+        Take(Some(1)),
+    ]
+}
+
+/// The taker comes late, and takes the oldest first.
+fn late_taker() -> [Step; 10] {
+    [
+        Nav(Queued(NAV)),
+        Nav(Queued(NAV)),
+        Nav(Queued(NAV)),
+        Nav(Queued(NAV)),
+        Nav(Overflow(NAV)),
+        Take(Some(0)),
+        Take(Some(1)),
+        Take(Some(2)),
+        Take(Some(3)),
+        Take(None),
+    ]
+}
+
+/// Nobody takes, and the messages of the other port are shown all the same.
+fn no_taker() -> [Step; 6] {
+    [
+        Pos(Sampled(POS, 1)),
+        Nav(Queued(NAV)),
+        Nav(Overflow(NAV)),
+        Pos(Sampled(POS, 2)),
+        Nav(Overflow(NAV)),
+        Pos(Sampled(POS, 3)),
+    ]
+}
+
+#[test]
+fn a_queue_holds_as_many_messages_as_its_depth(rt: HostRuntime) -> Result<(), Fail> {
+    check_steps(&rt, rt.alloc(), "depth = 1\n", &one_place())?;
+    check_steps(&rt, rt.alloc(), "depth = 3\n", &three_places())
+}
+
+#[test]
+fn a_taker_that_comes_late_takes_the_oldest_first(rt: HostRuntime) -> Result<(), Fail> {
+    check_steps(&rt, rt.alloc(), "depth = 4\n", &late_taker())
+}
+
+#[test]
+fn a_queue_that_nobody_reads_loses_its_newest_messages_alone(rt: HostRuntime) -> Result<(), Fail> {
+    check_steps(&rt, rt.alloc(), "depth = 1\n", &no_taker())
+}
+
+/// What is too long for the port doesn't come to its queue.
+#[test]
+fn a_queuing_port_has_a_largest_payload(rt: HostRuntime) -> Result<(), Fail> {
+    let too_long = [Nav(Verdict::TooLong(NAV)), Take(None)];
+    check_steps(&rt, rt.alloc(), "depth = 4\nmax = 16\n", &too_long)?;
+    let fits = [Nav(Queued(NAV)), Take(Some(0))];
+    check_steps(&rt, rt.alloc(), "depth = 4\nmax = 17\n", &fits)
+}
+
+fn check_dropped(rt: &(impl Abort + Wait), alloc: Global) -> Result<(), Fail> {
+    let config = first(alloc)?;
+    let (mut state, ends) = LinkState::new(alloc, &config.links()[0])?;
+    drop(ends);
+    for place in 0..6 {
+        let verdict = if place < 4 {
+            Queued(NAV)
+        } else {
+            Overflow(NAV)
+        };
+        check_frame(rt, alloc, &mut state, place, NAV_UDP, verdict)?;
+    }
+    Ok(())
+}
+
+#[test]
+fn a_dropped_taker_stops_nobody(rt: HostRuntime) -> Result<(), Fail> {
+    check_dropped(&rt, rt.alloc())
+}

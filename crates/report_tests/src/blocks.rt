@@ -1,0 +1,89 @@
+//! Blocks of the report, each from what a link knows.
+use es_base::{FilterTally, Memory, Message, Octets, PortKind, PortName, PortSettings, Tally};
+use output_lines::{write_counts, write_filtered, write_port};
+use std::alloc::Global;
+use std::process::Abort;
+use std::test::Fail;
+use test_inputs::first;
+
+/// A message of these octets, that came at `time` microseconds.
+fn message(alloc: Global, time: u64, octets: &[u8]) -> Result<Message, Memory> {
+    let octets = Octets::copy_of(alloc, octets)?;
+    Ok(Message { time, octets })
+}
+
+/// Three messages, the second of them empty.
+fn messages(alloc: Global) -> Result<Vec<Message>, Memory> {
+    let mut messages = Vec::new(alloc);
+    messages.push(message(alloc, 1000, &[1, 2])?)?;
+    messages.push(message(alloc, 1100, &[])?)?;
+    messages.push(message(alloc, 1300, &[0xa0])?)?;
+    Ok(messages)
+}
+
+/// A port of this kind for three octets at most.
+fn port_of(name: &str, kind: PortKind) -> Option<PortSettings> {
+    PortSettings::new(PortName::new(name)?, 0xe0e0_0011, 5000, 3, kind)
+}
+
+/// The lines of a port at `at` microseconds are these, after this number of messages.
+fn check_port(
+    rt: &impl Abort,
+    alloc: Global,
+    (name, kind): (&str, PortKind),
+    at: u64,
+    count: usize,
+    lines: &str,
+) -> Result<(), Fail> {
+    let port = port_of(name, kind).ok_or("a port")?;
+    let messages = messages(alloc)?;
+    let mut text = String::new(alloc);
+    write_port(&mut text, at, &port, &messages[..count.min(messages.len())])?;
+    assert!(rt; text.as_str() == lines, "{text}");
+    Ok(())
+}
+
+/// A sampling port that refreshes after 200 microseconds.
+const POS: (&str, PortKind) = ("pos", PortKind::Sampling { refresh: 200 });
+
+const NAV: (&str, PortKind) = ("nav", PortKind::Queuing { depth: 4 });
+
+#[test]
+fn a_sampling_port_shows_its_newest_message(rt: HostRuntime) -> Result<(), Fail> {
+    let alloc = rt.alloc();
+    check_port(&rt, alloc, POS, 0, 0, "port pos sampling empty\n")?;
+    let fresh = "port pos sampling 2 1100 0 fresh\n";
+    check_port(&rt, alloc, POS, 1300, 2, fresh)?;
+    let stale = "port pos sampling 3 1300 1 stale a0\n";
+    check_port(&rt, alloc, POS, 1501, 3, stale)
+}
+
+#[test]
+fn a_queuing_port_shows_all_its_messages_in_order(rt: HostRuntime) -> Result<(), Fail> {
+    let alloc = rt.alloc();
+    check_port(&rt, alloc, NAV, 0, 0, "port nav queuing 0\n")?;
+    let lines =
+        "port nav queuing 3\nmessage nav 1000 2 0102\nmessage nav 1100 0\nmessage nav 1300 1 a0\n";
+    check_port(&rt, alloc, NAV, 0, 3, lines)
+}
+
+/// The counts of link 17 and the filtered frames, where there were none, are these four lines.
+fn check_zeros(rt: &impl Abort, alloc: Global) -> Result<(), Fail> {
+    let config = first(alloc)?;
+    let mut text = String::new(alloc);
+    write_counts(&mut text, &config.links()[0], &Tally::opening())?;
+    write_filtered(&mut text, &FilterTally::opening())?;
+    assert!(rt; text.as_str() == ZEROS, "{text}");
+    Ok(())
+}
+
+const ZEROS: &str = "count 17 A 0 0 0 0 0 0 0 0 0 0 0 0 0
+count 17 B 0 0 0 0 0 0 0 0 0 0 0 0 0
+filtered A 0 0 0 0 0
+filtered B 0 0 0 0 0
+";
+
+#[test]
+fn counts_stand_by_network(rt: HostRuntime) -> Result<(), Fail> {
+    check_zeros(&rt, rt.alloc())
+}

@@ -1,0 +1,15 @@
+-- Whether a message of a sampling port is fresh (ARINC 664 Part 7, sampling service; the limit is own).
+use Rattle.std.specs.Prelude.{ℕ, List, nat_le, codes, if◌then◌else◌}
+use Rattle.es_base.specs.Redundancy.{elapsed}
+use Rattle.sampling_port.specs.declared.state.Freshness.{Freshness}
+use Rattle.sampling_port.specs.declared.state.Freshness.TheVariants.{Fresh, Stale}
+
+-- fresh as long as its age is at most the refresh period; the age is 0 where now is earlier; all are in
+-- microseconds
+abbrev pub freshness : ℕ → ℕ → ℕ → Freshness
+freshness now time refresh = if nat_le (elapsed now time) refresh then Fresh else Stale
+
+-- the word by which it is printed (own)
+abbrev pub freshness_word : Freshness → List ℕ
+freshness_word Fresh = codes "fresh"
+freshness_word Stale = codes "stale"

@@ -1,0 +1,41 @@
+-- The report on the states of all links is that of their pasts.
+use Rattle.std.proofs.Common.{◌≡◌, ◌∙◌, ap, refl, ℕ, List, [], ◌∷◌, ◌++◌, map, append_assoc}
+use Rattle.std.proofs.lemmas.List.{reverse-reverse}
+use Rattle.es_base.specs.declared.event.Arrival.{Arrival}
+use Rattle.es_base.specs.declared.event.Event.{Event}
+use Rattle.es_base.specs.Settings.{Settings}
+use Rattle.es_base.specs.Config.{Configuration}
+use Rattle.es_base.specs.FilterTally.{FilterCounts, HasFiltered, filtered_count, filtered_in}
+use Rattle.es_base.specs.Tally.{count_of}
+use Rattle.link_receiver.specs.Link.{Link}
+use Rattle.output_lines.specs.Report.{all_count_lines, all_link_lines, count_lines, filtered_lines, link_lines}
+use Rattle.output_lines.proofs.SameCounts.{counts_of_frames}
+use Rattle.trace_player.specs.Histories.{past_after, state_after, states_after}
+use Rattle.trace_player.specs.Output.{report_after}
+use Rattle.trace_player.specs.Report.{lines_of_counts, lines_of_ports}
+
+same_ports : (constant : List ℕ) (frames : List Arrival) (at : ℕ) (links : List Settings)
+    → lines_of_ports at (map (state_after constant frames) links) ≡ all_link_lines at (λ link. past_after constant link frames) links
+same_ports constant frames at [] = refl
+same_ports constant frames at (link ∷ links) =
+    let past = past_after constant link frames in
+    rw (same_ports constant frames at links) (ap (λ (p : List Event). link_lines at link p ++ all_link_lines at (λ l. past_after constant l frames) links) (reverse-reverse past))
+
+same_counts : (constant : List ℕ) (frames : List Arrival) (links : List Settings)
+    → lines_of_counts (map (state_after constant frames) links) ≡ all_count_lines (λ link. past_after constant link frames) links
+same_counts constant frames [] = refl
+same_counts constant frames (link ∷ links) =
+    let past = past_after constant link frames in
+    rw (same_counts constant frames links) (ap (λ (p : List Event). count_lines link.vl (count_of p) ++ all_count_lines (λ l. past_after constant l frames) links) (reverse-reverse past))
+
+pub report_is : (c : Configuration) (frames : List Arrival) (at : ℕ) (states : List Link) (filtered : FilterCounts) (text one two more : List ℕ)
+    → states ≡ states_after c frames → HasFiltered filtered c frames
+    → one ≡ text ++ lines_of_ports at states → two ≡ one ++ lines_of_counts states → more ≡ two ++ filtered_lines (filtered_in filtered)
+    → more ≡ text ++ report_after c frames at
+report_is c frames at states filtered text one two more same has first second third =
+    let ports : lines_of_ports at states ≡ all_link_lines at (λ link. past_after c.constant link frames) c.links = ap (lines_of_ports at) same ∙ same_ports c.constant frames at c.links in
+    let counts : lines_of_counts states ≡ all_count_lines (λ link. past_after c.constant link frames) c.links = ap lines_of_counts same ∙ same_counts c.constant frames c.links in
+    let all = all_link_lines at (λ link. past_after c.constant link frames) c.links in
+    let numbers = all_count_lines (λ link. past_after c.constant link frames) c.links in
+    let last = filtered_lines (filtered_count c frames) in
+    rw (third, second, first, ports, counts, counts_of_frames filtered c frames has, append_assoc text all numbers, append_assoc text (all ++ numbers) last) refl
