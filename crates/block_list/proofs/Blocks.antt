@@ -1,5 +1,5 @@
 -- Full blocks one after another, and then the last block.
-use Rattle.std.proofs.Common.{◌≡◌, ◌∙◌, ℕ, zero, suc, ◌+◌, ◌*◌, ◌/◌, ◌%◌, ◌<◌, ◌≤◌, List, [], ◌∷◌, ◌++◌, Option, Some, None, length, take, drop, get_or, slice_get, append_assoc, nat_lt, is_some, IfSome, Bor, refl, sym, ap, arith}
+use Rattle.std.proofs.Common.{◌≡◌, ◌∙◌, ℕ, zero, suc, ◌+◌, ◌*◌, ◌/◌, ◌%◌, ◌<◌, ◌≤◌, List, [], ◌∷◌, ◌++◌, Option, Some, None, Result, Ok, Err, OnOk, length, take, drop, get_or, slice_get, append_assoc, append-nil, nat_lt, is_some, IfSome, Bor, refl, sym, ap, arith}
 use Rattle.std.specs.List.{All, AllByRecursion, flat_map}
 use Rattle.std.specs.Option.{option_map}
 use Rattle.std.proofs.lemmas.List.{length-append, take_all}
@@ -23,6 +23,19 @@ module _ {B T : Type 0} (f : B → List T) where
   -- how long a list is
   pub whole_length : (bs : List B) (last : List T) → All (λ b. length (f b) ≡ block_size) bs → length (flat_map f bs ++ last) ≡ length bs * block_size + length last
   whole_length bs last all = length-append (flat_map f bs) last ∙ ap (λ n. n + length last) (joined_length bs (recursion_from_All _ bs all))
+
+  -- the last block becomes full, and an empty one follows
+  pub one_more_block : (bs : List B) (b : B) → flat_map f (bs ++ b ∷ []) ++ [] ≡ flat_map f bs ++ f b
+  one_more_block [] b = append-nil (f b ++ []) ∙ append-nil (f b)
+  one_more_block (c ∷ bs) b =
+      append_assoc (f c) (flat_map f (bs ++ b ∷ [])) [] ∙ ap (λ xs. f c ++ xs) (one_more_block bs b) ∙ sym (append_assoc (f c) (flat_map f bs) (f b))
+
+  -- no memory has room for more entries than these
+  pub few_entries : (bs : List B) (last : List T) → All (λ b. length (f b) ≡ block_size) bs → length bs ≤ 9007199254740991 → length last < block_size → length (flat_map f bs ++ last) < 9223372036854775808
+  few_entries bs last all few short = let whole = whole_length bs last all in omega (arith, whole, few, short)
+
+  pub few_before : (bs : List B) (last : List T) → All (λ b. length (f b) ≡ block_size) bs → length bs < 9007199254740991 → length last ≤ block_size → length (flat_map f bs ++ last) < 9223372036854775808
+  few_before bs last all few short = let whole = whole_length bs last all in omega (arith, whole, few, short)
 
   -- what follows the full blocks
   after_full : (bs : List B) (last : List T) (i : ℕ) → All (λ b. length (f b) ≡ block_size) bs → drop (length bs * block_size + i) (flat_map f bs ++ last) ≡ drop i last
@@ -80,3 +93,7 @@ in_block xs place =
 pub got : {T : Type 0} (xs : List T) (i : ℕ) (r : Option (Bor T)) → is_some r ≡ nat_lt i (length xs) → IfSome r (λ x. x.now ≡ get_or xs i x.now) → option_map (λ x. x.now) r ≡ slice_get xs i
 got xs i None is value = sym (slice_get_past xs i (ltb-false i (length xs) (sym is)))
 got xs i (Some x) is value = sym (slice_get-get_or xs i x.now (ltb-true i (length xs) (sym is)) ∙ ap Some (sym value))
+
+pub on_ok : {A E P : Type 0} (r : Result A E) → P → OnOk r P
+on_ok (Ok x) p = p
+on_ok (Err e) p = tt

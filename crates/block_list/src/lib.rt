@@ -5,7 +5,7 @@
 //! for each.
 #![tactic(auto)]
 
-ghost use Rattle.std.specs.Prelude.{◌≡◌, ◌<◌, ◌≤◌, ◌==◌, ◌*◌, ◌-◌, ◌++◌, ◌∷◌, [], length, slice_get, OnOk, OnErr, true, false};
+ghost use Rattle.std.specs.Prelude.{◌≡◌, ◌<◌, ◌≤◌, ◌==◌, ◌*◌, ◌-◌, ◌^◌, ◌++◌, ◌∷◌, [], length, slice_get, OnOk, OnErr, true, false};
 ghost use Rattle.std.specs.Option.{option_map};
 ghost use Rattle.block_list.specs.BlockList.{block_at, block_size};
 
@@ -62,10 +62,11 @@ impl<T> BlockList<T> {
     }
 
     /// Takes the memory for one more entry, where there is none. No entry is moved. Where memory runs
-    /// out nothing has changed.
+    /// out nothing has changed. No memory has room for 2^63 entries.
     pub fn reserve_one(&mut self, alloc: Global) -> Result<(), AllocError>
         ensures items { self.new.items ≡ self.old.items }
         ensures room { OnOk result (self.new.has_room ≡ true) }
+        ensures few { OnOk result (length self.new.items < 2 ^ 63) }
         ensures err { OnErr result (self.new ≡ self.old) }
     {
         let len = self.last.len();

@@ -1,7 +1,7 @@
 -- A history from its beginning, and its past.
-use Rattle.std.proofs.Common.{◌≡◌, ◌∙◌, ap, sym, ℕ, zero, suc, List, [], ◌∷◌, ◌++◌, reverse, take, drop, Some, refl}
+use Rattle.std.proofs.Common.{◌≡◌, ◌∙◌, ap, sym, ℕ, zero, suc, ◌+◌, ◌<◌, List, [], ◌∷◌, ◌++◌, length, reverse, take, drop, Option, None, Some, refl, arith}
 use Rattle.std.specs.List.{All, slice_get}
-use Rattle.std.proofs.lemmas.List.Elements.{All-head, All-push, All-tail}
+use Rattle.std.proofs.lemmas.List.Elements.{All-cons, All-head, All-push, All-tail}
 use Rattle.std.proofs.lemmas.List.{reverse-append, take-append-drop}
 use Rattle.std.proofs.lemmas.Option.{same_Some}
 use Rattle.es_base.specs.declared.event.Event.{Event}
@@ -49,3 +49,22 @@ pub all_reverse : {X : Type 0} (P : X → Type 0) (xs : List X) → All P xs →
 all_reverse P [] all = all
 all_reverse P (x ∷ xs) all =
     rw (reverse-append (x ∷ []) xs) (All-push P (reverse xs) x (all_reverse P xs (All-tail P x xs all)) (All-head P x xs all))
+
+-- ---- by places
+
+pub there_is : {X : Type 0} (xs : List X) (i : ℕ) → i < length xs → (x : X) × (slice_get xs i ≡ Some x)
+there_is [] i within = absurd (omega arith)
+there_is (x ∷ xs) zero within = (x, refl)
+there_is (x ∷ xs) (suc i) within = there_is xs i (omega arith)
+
+drop_there : {X : Type 0} (xs : List X) (i : ℕ) (x : X) → slice_get xs i ≡ Some x → drop i xs ≡ x ∷ drop (suc i) xs
+drop_there [] i x there = cc
+drop_there (y ∷ ys) zero x there = rw (same_Some y x there) refl
+drop_there (y ∷ ys) (suc i) x there = drop_there ys i x there
+
+-- what holds of an element and of all after it holds from it on
+pub none_from : {X : Type 0} (P : X → Type 0) (xs : List X) (i : ℕ) (x : X) → slice_get xs i ≡ Some x → P x → All P (drop (suc i) xs) → All P (drop i xs)
+none_from P xs i x there holds later = rw (drop_there xs i x there) (All-cons P x (drop (suc i) xs) holds later)
+
+pub never_both : {X : Type 0} (found : Option X) (x : X) → None ≡ found → found ≡ Some x → ⊥
+never_both found x none some = cc

@@ -1,5 +1,5 @@
 //! A walk through a link's history.
-ghost use Rattle.std.specs.Prelude.{◌≡◌, ◌≤◌, ◌∷◌, ◌++◌, List, IfOk, OnOk, All, drop, false, length, reverse};
+ghost use Rattle.std.specs.Prelude.{◌≡◌, ◌<◌, ◌≤◌, ◌∷◌, ◌++◌, List, IfOk, OnOk, All, Some, drop, false, length, reverse, slice_get, take};
 ghost use Rattle.std.specs.Option.{option_to_list};
 ghost use Rattle.es_base.specs.declared.event.Event.{Event};
 ghost use Rattle.es_base.specs.Frame.{IsFrame};
@@ -14,6 +14,7 @@ ghost use Rattle.link_deliveries.specs.Told.{tells_delivered};
 
 use crate::offer::{offer, packet_of};
 use crate::told::tells_delivered;
+use block_list::BlockList;
 use es_base::{Event, LinkSettings, Memory, Message, PortNo};
 use ip_reassembly::Reassembly;
 use std::alloc::Global;
@@ -23,50 +24,63 @@ use std::alloc::Global;
 pub fn deliveries(
     alloc: Global,
     settings: &LinkSettings,
-    history: &[Event],
+    history: &BlockList<Event>,
     port: PortNo,
 ) -> Result<Vec<Message>, Memory>
-    requires run { IsRun (origin_of settings.now) (reverse history.now) }
-    requires frames { AreFramesOf settings.now (reverse history.now) }
-    ensures { IfOk result (λ messages. messages.items ≡ deliveries (origin_of settings.now) (reverse history.now) port) }
+    requires run { IsRun (origin_of settings.now) (reverse history.now.items) }
+    requires frames { AreFramesOf settings.now (reverse history.now.items) }
+    ensures { IfOk result (λ messages. messages.items ≡ deliveries (origin_of settings.now) (reverse history.now.items) port) }
 {
     let end = end_of(history, port);
     if end == 0 {
         return Ok(Vec::new(alloc));
     }
-    all_deliveries(alloc, settings, &history[..end], port)
+    deliveries_before(alloc, settings, history, end, port)
 }
 
 /// How many events there are up to the last one that delivered a message to the port.
-fn end_of(history: &[Event], port: PortNo) -> usize
-    ensures within { result ≤ length history.now }
-    ensures last { All (λ e. tells_delivered e.verdict port ≡ false) (drop result history.now) }
+fn end_of(history: &BlockList<Event>, port: PortNo) -> usize
+    ensures within { result ≤ length history.now.items }
+    ensures last { All (λ e. tells_delivered e.verdict port ≡ false) (drop result history.now.items) }
 {
-    let last = history
-        .iter()
-        .rposition(|event| tells_delivered(event.verdict, port));
-    match last {
-        Some(last) => last + 1,
-        None => 0,
+    let mut end = history.len();
+    'events: while end > 0 && !delivers_at(history, end - 1, port) {
+        end -= 1;
+    }
+    end
+}
+
+/// Whether the event at this place delivered a message to the port.
+fn delivers_at(history: &BlockList<Event>, place: usize, port: PortNo) -> bool
+    requires { place < length history.now.items }
+    ensures { (e : Event) → slice_get history.now.items place ≡ Some e → result ≡ tells_delivered e.verdict port }
+{
+    match history.get(place) {
+        Some(event) => tells_delivered(event.verdict, port),
+        None => false,
     }
 }
 
-/// The same, by a walk through all events.
-fn all_deliveries(
+/// The messages that the events before this place delivered.
+fn deliveries_before(
     alloc: Global,
     settings: &LinkSettings,
-    history: &[Event],
+    history: &BlockList<Event>,
+    end: usize,
     port: PortNo,
 ) -> Result<Vec<Message>, Memory>
-    requires run { IsRun (origin_of settings.now) (reverse history.now) }
-    requires frames { AreFramesOf settings.now (reverse history.now) }
-    ensures { IfOk result (λ messages. messages.items ≡ deliveries (origin_of settings.now) (reverse history.now) port) }
+    requires run { IsRun (origin_of settings.now) (reverse history.now.items) }
+    requires frames { AreFramesOf settings.now (reverse history.now.items) }
+    requires within { end ≤ length history.now.items }
+    ensures { IfOk result (λ messages. messages.items ≡ deliveries (origin_of settings.now) (reverse (take end history.now.items)) port) }
 {
     let mut reassembly = Reassembly::new(alloc, settings.reassembly())?;
     let mut messages = Vec::new(alloc);
-    'events: for event in history {
-        let message = message_of(alloc, &mut reassembly, event, port)?;
-        add(&mut messages, message)?;
+    'events: for place in 0..end {
+        if let Some(event) = history.get(place) {
+            let message = message_of(alloc, &mut reassembly, event, port)?;
+            add(&mut messages, message)?;
+        }
     }
     Ok(messages)
 }

@@ -25,6 +25,7 @@ use crate::outlet::{Outlet, deliver, open_outlets};
 use crate::register::MOST_SAMPLES;
 use crate::verdict::{sampled, settled};
 use crate::way::{brought, counts_as_forwarded, payload_by};
+use block_list::BlockList;
 use es_base::{
     Arrival, Decision, Event, LinkSettings, Memory, Message, Net, Octets, PortNo, Tally, Verdict,
 };
@@ -43,7 +44,7 @@ use std::sync::Wait;
 #[derive(Drop)]
 pub struct LinkState {
     settings: LinkSettings,
-    history: Vec<Event>,
+    history: BlockList<Event>,
     checks: Checks,
     reassembly: Reassembly,
     outlets: Vec<Outlet>,
@@ -91,7 +92,7 @@ impl LinkState {
         let (outlets, takers) = open_outlets(alloc, settings.ports())?;
         let state = LinkState {
             settings: settings.copy(alloc)?,
-            history: Vec::new(alloc),
+            history: BlockList::new(alloc),
             checks: Checks::opening(settings.skew_max()),
             reassembly: Reassembly::new(alloc, settings.reassembly())?,
             outlets,
@@ -108,12 +109,12 @@ impl LinkState {
     }
 
     /// The link's events in the order in which their frames came. Each has a frame of this link.
-    pub fn history(&self) -> &[Event]
-        ensures events { result.now ≡ self.now.history }
+    pub fn history(&self) -> &BlockList<Event>
+        ensures events { result.now.items ≡ self.now.history }
         ensures run { IsRun (origin_of self.now.settings) (past_of self.now) }
         ensures frames { AreFramesOf self.now.settings (past_of self.now) }
     {
-        self.history.as_slice()
+        &self.history
     }
 
     /// The newest message of a sampling port, and its message number, from 1. None where none was delivered, and where
@@ -201,7 +202,7 @@ impl LinkState {
         ensures err { OnErr result (self.new ≡ self.old) }
     {
         let change = self.change_by(alloc, &arrival)?;
-        self.history.reserve(1)?;
+        self.history.reserve_one(alloc)?;
         let Change {
             sequence_number,
             forwarded,

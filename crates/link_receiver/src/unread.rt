@@ -10,6 +10,7 @@ ghost use Rattle.link_receiver.specs.Link.{deliveries_of, newest_at, past_of, ro
 ghost use Rattle.link_receiver.specs.Unread.{AreUnreadTakers, IsTakerAt, IsWithinAt};
 
 use crate::link::LinkState;
+use block_list::BlockList;
 use es_base::{Arrival, Event, LinkSettings, Memory, Message, PortNo, Tally, Verdict};
 use queuing_port::Taker;
 use std::alloc::Global;
@@ -55,8 +56,8 @@ impl UnreadLink {
     }
 
     /// The link's events in the order in which their frames came. Each has a frame of this link.
-    pub fn history(&self) -> &[Event]
-        ensures events { result.now ≡ self.now.history }
+    pub fn history(&self) -> &BlockList<Event>
+        ensures events { result.now.items ≡ self.now.history }
         ensures run { IsRun (origin_of self.now.settings) (past_of self.now) }
         ensures frames { AreFramesOf self.now.settings (past_of self.now) }
     {

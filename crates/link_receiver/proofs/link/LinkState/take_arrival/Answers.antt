@@ -87,6 +87,7 @@ returns-clause-ok g c =
 
 pub add-requires-clause-room : goal.add-requires-clause-room
 add-requires-clause-room g c =
-    let history = c.self.inside.history in
-    let short : length (reverse history.items) < 2 ^ 64 - 1 = omega (arith, length-reverse history.items, history.ok.0, history.ok.1, history.small) in
-    room_for_one c.self.inside.tally (reverse history.items) c.args.arrival.net c.kind.result c.self.invariant.counted (record { low = c.kind.ensures.low; high = c.kind.ensures.high }) short
+    let past = reverse c.self.inside.history.items in
+    let few = rw c.in_ok-reserve_one.ensures.items at c.in_ok-reserve_one.ensures.few in
+    let short : length past < 2 ^ 64 - 1 = omega (arith, length-reverse c.self.inside.history.items, few) in
+    room_for_one c.self.inside.tally past c.args.arrival.net c.kind.result c.self.invariant.counted (record { low = c.kind.ensures.low; high = c.kind.ensures.high }) short
