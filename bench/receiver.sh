@@ -54,6 +54,7 @@ use link_receiver::LinkState;
 use std::alloc::Global;
 use std::fs::{self, File};
 use std::io::{self, ErrorKind};
+use std::sync::Wait;
 use std::time::Instant;
 use vl_config::read_config;
 
@@ -132,7 +133,7 @@ fn new_states(alloc: Global, config: &Config) -> Result<Vec<LinkState>, Memory> 
 }
 
 fn take_one(
-    rt: &HostRuntime,
+    wait: &impl Wait,
     alloc: Global,
     config: &Config,
     states: &mut [LinkState],
@@ -141,7 +142,7 @@ fn take_one(
     if let Ok((place, frame)) = read_addressed(config, arrival.frame.as_slice()) {
         if let Some(state) = states.get_mut(place) {
             if state.settings().vl().0 == frame.vl.0 {
-                let _verdict = state.take(rt, alloc, arrival.net, arrival.time, &frame)?;
+                let _verdict = state.take(wait, alloc, arrival.net, arrival.time, &frame)?;
             }
         }
     }
@@ -149,11 +150,16 @@ fn take_one(
 }
 
 /// Nanoseconds for all frames.
-fn one_pass(rt: &HostRuntime, config: &Config, arrivals: &[Arrival]) -> io::Result<u128> {
+fn one_pass(
+    rt: &HostRuntime,
+    wait: &impl Wait,
+    config: &Config,
+    arrivals: &[Arrival],
+) -> io::Result<u128> {
     let mut states = new_states(rt.alloc(), config)?;
     let start = Instant::now(rt)?;
     for arrival in arrivals {
-        take_one(rt, rt.alloc(), config, &mut states, arrival)?;
+        take_one(wait, rt.alloc(), config, &mut states, arrival)?;
     }
     Ok(start.elapsed(rt)?.as_nanos())
 }
@@ -161,6 +167,7 @@ fn one_pass(rt: &HostRuntime, config: &Config, arrivals: &[Arrival]) -> io::Resu
 /// Nanoseconds of each call in one pass, where that is less than in the passes before.
 fn time_calls(
     rt: &HostRuntime,
+    wait: &impl Wait,
     config: &Config,
     arrivals: &[Arrival],
     times: &mut [u128],
@@ -168,7 +175,7 @@ fn time_calls(
     let mut states = new_states(rt.alloc(), config)?;
     for (arrival, time) in arrivals.iter().zip(times.iter_mut()) {
         let start = Instant::now(rt)?;
-        take_one(rt, rt.alloc(), config, &mut states, arrival)?;
+        take_one(wait, rt.alloc(), config, &mut states, arrival)?;
         *time = (*time).min(start.elapsed(rt)?.as_nanos());
     }
     Ok(())
@@ -178,12 +185,13 @@ fn time_calls(
 /// at each call, so the least of its times is counted, and what other programs took from it is not.
 fn longest_calls(
     rt: &HostRuntime,
+    wait: &impl Wait,
     config: &Config,
     arrivals: &[Arrival],
 ) -> io::Result<(u128, usize)> {
     let mut times = vec![in rt.alloc(); u128::MAX; arrivals.len()]?;
     for _ in 0..PASSES {
-        time_calls(rt, config, arrivals, &mut times)?;
+        time_calls(rt, wait, config, arrivals, &mut times)?;
     }
     let longest = times.iter().copied().max().unwrap_or(0);
     Ok((longest, times.iter().filter(|time| **time > LONG).count()))
@@ -224,16 +232,21 @@ fn time_hex(rt: &HostRuntime, texts: &[String]) -> io::Result<u128> {
     if octets == 0 { Err(refused()) } else { Ok(time) }
 }
 
-fn show_receiver(rt: &HostRuntime, config: &Config, arrivals: &[Arrival]) -> io::Result<()> {
+fn show_receiver(
+    rt: &HostRuntime,
+    wait: &impl Wait,
+    config: &Config,
+    arrivals: &[Arrival],
+) -> io::Result<()> {
     let mut times = Vec::new(rt.alloc());
     for _ in 0..PASSES {
-        times.push(one_pass(rt, config, arrivals)?)?;
+        times.push(one_pass(rt, wait, config, arrivals)?)?;
     }
     times.sort()?;
     let frames = (arrivals.len() as u128).max(1);
     let least = times.first().copied().unwrap_or(0) / frames;
     let median = times.get(4).copied().unwrap_or(0) / frames;
-    let (longest, long) = longest_calls(rt, config, arrivals)?;
+    let (longest, long) = longest_calls(rt, wait, config, arrivals)?;
     let tenths = WIRE * 10 / least.max(1);
     let (whole, tenth) = (tenths / 10, tenths % 10);
     println!(rt; "  {least} ns a frame, median {median}: {whole}.{tenth} times what two networks bring")?;
@@ -258,7 +271,7 @@ fn main(rt: HostRuntime) -> io::Result<()> {
     let a = frames_at(&rt, "a.trace")?;
     let b = frames_at(&rt, "b.trace")?;
     let arrivals = merged(rt.alloc(), a, b)?;
-    show_receiver(&rt, &config, &arrivals)?;
+    show_receiver(&rt, &rt, &config, &arrivals)?;
     show_decoder(&rt, &arrivals)
 }
 END
