@@ -1,6 +1,6 @@
 #!/usr/bin/env python3
-"""Tries the program that was built, for what its `main` alone decides: which words, which files and which
-streams `program::run` is given. `rt run` in crates/afdx_play builds it.
+"""Tries the program that was built, for what no contract says: which words, which files and which streams
+`program::run` is given, and that its status is the exit status. `rt run` in crates/afdx_play builds it.
 
 Runs it with files that are there and files that aren't, with words that are refused, and with an output
 that is full. Looks at the exit status, the whole standard error, and the beginning of the standard output.

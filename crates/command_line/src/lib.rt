@@ -7,6 +7,3 @@ mod line;
 
 pub use fault::LineFault;
 pub use line::{Line, line_of};
-
-#[cfg(test)]
-mod tests;

@@ -1,8 +1,9 @@
 //! Checks of what a document comes to.
+use crate::configurations::config_of;
 use std::alloc::Global;
 use std::process::Abort;
 use std::test::Fail;
-use vl_config::{BUILT_IN, ConfigFault, read_config};
+use vl_config::{BUILT_IN, ConfigFault};
 
 /// The document has this fault, or none.
 pub(crate) fn check_fault(
@@ -11,7 +12,7 @@ pub(crate) fn check_fault(
     document: &str,
     fault: Option<ConfigFault>,
 ) {
-    let answer = read_config(alloc, document).err();
+    let answer = config_of(alloc, document).err();
     assert_eq!(rt; answer, fault, "{document}");
 }
 

@@ -1,11 +1,12 @@
 //! How many links and ports there may be.
 use crate::checks::check_fault;
+use crate::configurations::config_of;
 use es_base::{LinkNo, PortNo};
 use std::alloc::{AllocError, Global};
 use std::process::Abort;
 use std::test::Fail;
+use vl_config::Config;
 use vl_config::ConfigFault::TooMany;
-use vl_config::{Config, read_config};
 
 /// A document of `count` links with the link numbers from 0. Where `numbered` is false the first has none.
 fn links(alloc: Global, count: u16, numbered: bool) -> Result<String, AllocError> {
@@ -39,7 +40,7 @@ fn check_64_links(rt: &impl Abort, config: &Config) {
 #[test]
 fn there_are_64_links_at_most(rt: HostRuntime) -> Result<(), Fail> {
     let most = links(rt.alloc(), 64, true)?;
-    check_64_links(&rt, &read_config(rt.alloc(), most.as_str())?);
+    check_64_links(&rt, &config_of(rt.alloc(), most.as_str())?);
     let more = links(rt.alloc(), 65, true)?;
     check_fault(&rt, rt.alloc(), more.as_str(), Some(TooMany));
     Ok(())
@@ -61,7 +62,7 @@ fn check_32_ports(rt: &impl Abort, config: &Config) {
 #[test]
 fn there_are_32_ports_of_a_link_at_most(rt: HostRuntime) -> Result<(), Fail> {
     let most = ports(rt.alloc(), 32)?;
-    check_32_ports(&rt, &read_config(rt.alloc(), most.as_str())?);
+    check_32_ports(&rt, &config_of(rt.alloc(), most.as_str())?);
     let more = ports(rt.alloc(), 33)?;
     check_fault(&rt, rt.alloc(), more.as_str(), Some(TooMany));
     Ok(())

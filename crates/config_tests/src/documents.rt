@@ -1,11 +1,11 @@
 //! The order in which a document is tested, and documents that are refused as a whole.
 use crate::checks::{Refused, check_fault, check_refused};
+use crate::configurations::{config_of, with_first_line};
 use std::alloc::Global;
 use std::process::Abort;
 use std::test::Fail;
-use test_inputs::with_first_line;
 use vl_config::ConfigFault::{DoubleLink, Kind, Missing, Range, Text};
-use vl_config::{BUILT_IN, Config, ConfigFault, Key, read_config};
+use vl_config::{BUILT_IN, Config, ConfigFault, Key};
 
 /// A text, and the fault of the document that is made with it.
 type Row = (&'static str, ConfigFault);
@@ -88,7 +88,7 @@ fn check_no_ports(rt: &impl Abort, config: &Config) {
 #[test]
 fn a_link_may_have_no_ports(rt: HostRuntime) -> Result<(), Fail> {
     let document = "link = [{ vl = 1, skew_max_us = 0, reassembly_us = 0 }]";
-    check_no_ports(&rt, &read_config(rt.alloc(), document)?);
+    check_no_ports(&rt, &config_of(rt.alloc(), document)?);
     Ok(())
 }
 

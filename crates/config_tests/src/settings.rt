@@ -1,9 +1,9 @@
 //! The settings that a document gives, and the look-ups in them.
+use crate::configurations::{both_links, changed, first, with_first_line};
 use es_base::{LinkNo, PortKind, PortNo, PortSettings};
 use std::process::Abort;
 use std::test::Fail;
-use test_inputs::{both_links, changed, first, with_first_line};
-use vl_config::{Config, read_config};
+use vl_config::Config;
 
 fn check_link(rt: &impl Abort, config: &Config) {
     assert_eq!(rt; config.constant(), [3, 0, 0, 0]);
@@ -96,15 +96,13 @@ fn check_links_found(rt: &impl Abort, config: &Config) {
 
 #[test]
 fn links_are_found_by_their_numbers(rt: HostRuntime) -> Result<(), Fail> {
-    let document = both_links(rt.alloc())?;
-    check_links_found(&rt, &read_config(rt.alloc(), document.as_str())?);
+    check_links_found(&rt, &both_links(rt.alloc())?);
     Ok(())
 }
 
 #[test]
 fn a_copy_finds_the_same_links(rt: HostRuntime) -> Result<(), Fail> {
-    let document = both_links(rt.alloc())?;
-    let config = read_config(rt.alloc(), document.as_str())?;
+    let config = both_links(rt.alloc())?;
     check_links_found(&rt, &config.copy(rt.alloc())?);
     Ok(())
 }
@@ -130,8 +128,7 @@ fn check_look_up(rt: &impl Abort, config: &Config, row: LookUp) {
 
 #[test]
 fn ports_are_found_by_their_addresses_and_udp_ports(rt: HostRuntime) -> Result<(), Fail> {
-    let document = both_links(rt.alloc())?;
-    let config = read_config(rt.alloc(), document.as_str())?;
+    let config = both_links(rt.alloc())?;
     for row in look_ups() {
         check_look_up(&rt, &config, row);
     }

@@ -1,5 +1,5 @@
 //! One line of a trace: a frame's time, a space and its octets; or a line that is skipped.
-ghost use Rattle.std.specs.Prelude.{◌≡◌, ◌≤◌, IfOk, IfErr, Ok, Err, length, true};
+ghost use Rattle.std.specs.Prelude.{◌≡◌, ◌≤◌, ◌<◌, ◌+◌, ◌-◌, ◌*◌, ◌^◌, SomeIff, IfOk, IfErr, Ok, Err, length, true};
 ghost use Rattle.std.specs.Char.{is_ascii_digit};
 ghost use Rattle.std.specs.List.{prefix_len};
 ghost use Rattle.std.specs.Str.{all_ascii_digits};
@@ -10,7 +10,6 @@ use crate::{TimedFrame, TraceCause, decode_digits};
 use es_base::Octets;
 use hex::FromHexError;
 use std::alloc::Global;
-use std::str;
 
 /// The longest line of a trace, in bytes, without its end (own).
 pub const LONGEST_LINE: usize = 8192;
@@ -91,13 +90,26 @@ fn time_from(digits: &[u8]) -> Result<u64, TraceCause>
     requires { all_ascii_digits digits.now ≡ true }
     ensures { result ≡ time_from digits.now }
 {
-    let Ok(text) = str::from_utf8(digits) else {
+    if digits.is_empty() {
         return Err(TraceCause::Time);
-    };
-    match text.parse::<u64>() {
-        Ok(time) => Ok(time),
-        Err(_) => Err(TraceCause::Time),
     }
+    let mut time = 0;
+    'digits: for digit in digits {
+        match with_digit(time, *digit) {
+            Some(longer) => time = longer,
+            None => return Err(TraceCause::Time),
+        }
+    }
+    Ok(time)
+}
+
+/// The number with one more digit after its last. None where it doesn't fit 64 bits.
+fn with_digit(number: u64, digit: u8) -> Option<u64>
+    requires low { 48 ≤ digit }
+    ensures { SomeIff result (number * 10 + (digit - 48) < 2 ^ 64) (number * 10 + (digit - 48)) }
+{
+    let value = digit - b'0';
+    number.checked_mul(10)?.checked_add(value as u64)
 }
 
 /// What stands after the space that follows a line's time.

@@ -6,4 +6,4 @@ mod told;
 mod walk;
 
 pub use es_base::{Event, LinkSettings, Memory, Message, PortNo};
-pub use walk::deliveries;
+pub use walk::{deliveries, deliveries_up_to};

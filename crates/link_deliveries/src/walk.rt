@@ -1,5 +1,5 @@
 //! A walk through a link's history.
-ghost use Rattle.std.specs.Prelude.{◌≡◌, ◌<◌, ◌≤◌, ◌∷◌, ◌++◌, List, IfOk, OnOk, All, Some, drop, false, length, reverse, slice_get, take};
+ghost use Rattle.std.specs.Prelude.{◌≡◌, ◌<◌, ◌≤◌, ◌∷◌, ◌++◌, List, IfOk, OnOk, Some, length, reverse, slice_get, take};
 ghost use Rattle.std.specs.Option.{option_to_list};
 ghost use Rattle.es_base.specs.declared.event.Event.{Event};
 ghost use Rattle.es_base.specs.Frame.{IsFrame};
@@ -10,7 +10,7 @@ ghost use Rattle.es_base.specs.Deliveries.{delivered, deliveries};
 ghost use Rattle.es_base.specs.Run.{IsRun};
 ghost use Rattle.ip_reassembly.specs.Kept.{StandsFor};
 ghost use Rattle.link_deliveries.specs.Message.{IsLawfulAfter};
-ghost use Rattle.link_deliveries.specs.Told.{tells_delivered};
+ghost use Rattle.link_deliveries.specs.Told.{AreDeliveredBefore, tells_delivered};
 
 use crate::offer::{offer, packet_of};
 use crate::told::tells_delivered;
@@ -32,6 +32,22 @@ pub fn deliveries(
     ensures { IfOk result (λ messages. messages.items ≡ deliveries (origin_of settings.now) (reverse history.now.items) port) }
 {
     let end = end_of(history, port);
+    deliveries_up_to(alloc, settings, history, end, port)
+}
+
+/// The same where it is known that no event from this place on delivered a message to the port.
+pub fn deliveries_up_to(
+    alloc: Global,
+    settings: &LinkSettings,
+    history: &BlockList<Event>,
+    end: usize,
+    port: PortNo,
+) -> Result<Vec<Message>, Memory>
+    requires run { IsRun (origin_of settings.now) (reverse history.now.items) }
+    requires frames { AreFramesOf settings.now (reverse history.now.items) }
+    requires end { AreDeliveredBefore end port history.now.items }
+    ensures { IfOk result (λ messages. messages.items ≡ deliveries (origin_of settings.now) (reverse history.now.items) port) }
+{
     if end == 0 {
         return Ok(Vec::new(alloc));
     }
@@ -40,8 +56,7 @@ pub fn deliveries(
 
 /// How many events there are up to the last one that delivered a message to the port.
 fn end_of(history: &BlockList<Event>, port: PortNo) -> usize
-    ensures within { result ≤ length history.now.items }
-    ensures last { All (λ e. tells_delivered e.verdict port ≡ false) (drop result history.now.items) }
+    ensures { AreDeliveredBefore result port history.now.items }
 {
     let mut end = history.len();
     'events: while end > 0 && !delivers_at(history, end - 1, port) {

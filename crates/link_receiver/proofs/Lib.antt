@@ -11,3 +11,4 @@ pub mod Refusals
 pub mod Rooms
 pub mod Taken
 pub mod Ways
+pub mod LastDeliveries

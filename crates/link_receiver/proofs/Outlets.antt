@@ -2,11 +2,14 @@
 use Rattle.std.proofs.Common.{◌≡◌, ◌∙◌, ap, sym, refl, ℕ, zero, suc, ◌<◌, ◌≤◌, Bool, true, false, List, [], ◌∷◌, ◌++◌, length, map, Option, None, Some, IfSome, if◌then◌else◌, arith, length-append, append-nil}
 use Rattle.std.specs.List.{slice_get}
 use Rattle.std.proofs.lemmas.Bool.{ltb-true}
+use Rattle.es_base.specs.declared.place.PortNo.{PortNo}
 use Rattle.es_base.specs.declared.port.PortKind.{PortKind}
 use Rattle.es_base.specs.declared.port.PortKind.TheVariants.{Sampling, Queuing}
+use Rattle.es_base.specs.declared.verdict.Decision.TheVariants.{ByQueue}
 use Rattle.es_base.specs.declared.event.Message.{Message}
 use Rattle.es_base.specs.Deliveries.{newest_of, takes_one_more}
 use Rattle.es_base.specs.Port.{Port, samples_if}
+use Rattle.es_base.specs.Run.{decided_at}
 use Rattle.queuing_port.specs.Queue.{Known, WasFull}
 use Rattle.link_receiver.specs.declared.change.Delivery.{Delivery}
 use Rattle.link_receiver.specs.declared.outlet.Outlet.{Outlet}
@@ -150,3 +153,10 @@ has_number_left port found outlet messages is fits shows takes = number_left por
 -- as many messages were put as a full queue holds
 pub full_after : (queue : Known) → WasFull queue → queue.depth ≤ length queue.put
 full_after queue full = omega (arith, full.1, ap length full.2.1, length-append full.2.0 full.0)
+
+-- ---- what becomes of a message at a queue
+
+-- its queue is asked
+pub queue_is_asked : (kind : PortKind) (port : PortNo) (before : ℕ) (queue : Known) → IsOfKind kind (outlets.Queuing queue) → ByQueue port ≡ decided_at kind port before
+queue_is_asked (Queuing depth) port before queue of_kind = refl
+queue_is_asked (Sampling refresh) port before queue of_kind = absurd of_kind

@@ -4,6 +4,8 @@ use Rattle.es_base.specs.declared.place.PortNo.{PortNo}
 use Rattle.es_base.specs.declared.port.PortKind.{PortKind}
 use Rattle.es_base.specs.declared.port.PortKind.TheVariants.{Sampling, Queuing}
 use Rattle.es_base.specs.Port.{Port}
+use Rattle.es_base.specs.declared.event.Event.{Event}
+use Rattle.link_deliveries.specs.Told.{AreDeliveredBefore}
 use Rattle.queuing_port.specs.Queue.{Known, QueueId}
 use Rattle.link_receiver.specs.Ends.{IsWithinDepth}
 use Rattle.link_receiver.specs.Link.{Link, deliveries_of}
@@ -31,3 +33,7 @@ IsWithinAt link port = IsWithinDepth (slice_get link.settings.ports port.0) (len
 pub record IsUnread (link : Link) (takers : List (Option Known)) : Type 0 where
   pub takers_are : AreUnreadTakers link takers
   pub within : (place : ℕ) → IsWithinAt link (record { 0 = place })
+
+-- no event from its end on delivered a message to a port
+abbrev pub AreEnds : List Event → List ℕ → Type 0
+AreEnds history ends = (port end : ℕ) → slice_get ends port ≡ Some end → AreDeliveredBefore end (record { 0 = port }) history

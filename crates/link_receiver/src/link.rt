@@ -9,6 +9,7 @@ ghost use Rattle.es_base.specs.Reassembly.{groups_in, offered};
 ghost use Rattle.es_base.specs.Deliveries.{takes_one_more};
 ghost use Rattle.es_base.specs.Outcome.{Outcome as OutcomeValue, brought_by};
 ghost use Rattle.frame_reader.specs.Parts.{packet_parts};
+ghost use Rattle.link_deliveries.specs.Told.{AreDeliveredBefore};
 ghost use Rattle.queuing_port.specs.Queue.{Holds};
 ghost use Rattle.link_receiver.specs.Change.{HasPlace, IsChange, RoomFor};
 ghost use Rattle.link_receiver.specs.Seen.{HasPort, IsForOneOf, Sees, counts_as_forwarded};
@@ -31,7 +32,7 @@ use es_base::{
 };
 use frame_reader::{Frame, Packet, frame_in, read_packet};
 use ip_reassembly::Reassembly;
-use link_deliveries::deliveries;
+use link_deliveries::{deliveries, deliveries_up_to};
 use queuing_port::Taker;
 use std::alloc::Global;
 use std::marker::Model;
@@ -141,6 +142,19 @@ impl LinkState {
         ensures { IfOk result (λ messages. messages.items ≡ deliveries_of self.now port) }
     {
         deliveries(alloc, self.settings(), self.history(), port)
+    }
+
+    /// The same where it is known that no event from this place on delivered a message to the port.
+    pub(crate) fn deliveries_up_to(
+        &self,
+        alloc: Global,
+        end: usize,
+        port: PortNo,
+    ) -> Result<Vec<Message>, Memory>
+        requires { AreDeliveredBefore end port self.now.history }
+        ensures { IfOk result (λ messages. messages.items ≡ deliveries_of self.now port) }
+    {
+        deliveries_up_to(alloc, self.settings(), self.history(), end, port)
     }
 
     /// A queuing port of this link and the end that takes of it meet: the taker then knows all that was

@@ -1,13 +1,17 @@
 //! A link whose queuing ports nobody reads.
-ghost use Rattle.std.specs.Prelude.{◌≡◌, IfOk, OnErr, Some, slice_get};
+ghost use Rattle.std.specs.Prelude.{◌≡◌, ◌+◌, ◌++◌, ◌∷◌, [], List, IfOk, OnErr, IfSome, IfNone, false, Some, length, slice_get};
 ghost use Rattle.std.specs.Option.{option_map};
+ghost use Rattle.es_base.specs.declared.event.Event.{Event};
 ghost use Rattle.es_base.specs.Frame.{IsFrame, link_number_of};
 ghost use Rattle.es_base.specs.Past.{AreFramesOf, origin_of};
 ghost use Rattle.es_base.specs.Tally.{HasCounts};
 ghost use Rattle.es_base.specs.Run.{IsRun};
+ghost use Rattle.es_base.specs.declared.place.PortNo.{PortNo};
+ghost use Rattle.es_base.specs.Deliveries.{is_same_port};
+ghost use Rattle.link_deliveries.specs.Told.{tells_delivered};
 ghost use Rattle.link_receiver.specs.Ends.{IsNewLink};
 ghost use Rattle.link_receiver.specs.Link.{deliveries_of, newest_at, past_of, room_after, verdict_after, with_event};
-ghost use Rattle.link_receiver.specs.Unread.{AreUnreadTakers, IsTakerAt, IsWithinAt};
+ghost use Rattle.link_receiver.specs.Unread.{AreEnds, AreUnreadTakers, IsTakerAt, IsWithinAt};
 
 use crate::link::LinkState;
 use block_list::BlockList;
@@ -24,6 +28,8 @@ use std::sync::Wait;
 pub struct UnreadLink {
     state: LinkState,
     takers: Vec<Option<Taker>>,
+    /// For each port how many events there are up to the last one that delivered a message to it.
+    ends: Vec<usize>,
 }
 
 impl Model for UnreadLink {
@@ -32,11 +38,11 @@ impl Model for UnreadLink {
 
     ghost Value = { Link };
 
-    ghost use Rattle.link_receiver.specs.Unread.{IsUnread};
+    ghost use Rattle.link_receiver.specs.Unread.{AreEnds, IsUnread};
 
     ghost view = { λ u. record { settings = u.state.settings; history = u.state.history; queues = [] } };
 
-    ghost invariant = { λ u. IsUnread u.state u.takers.items };
+    ghost invariant = { λ u. IsUnread u.state u.takers.items × AreEnds u.state.history u.ends.items };
 }
 
 impl UnreadLink {
@@ -45,7 +51,12 @@ impl UnreadLink {
         ensures { IfOk result (IsNewLink settings.now) }
     {
         let (state, takers) = LinkState::open(alloc, settings)?;
-        Ok(UnreadLink { state, takers })
+        let ends = vec![in alloc; 0; settings.ports().len()]?;
+        Ok(UnreadLink {
+            state,
+            takers,
+            ends,
+        })
     }
 
     /// The link's settings.
@@ -83,7 +94,10 @@ impl UnreadLink {
     pub fn deliveries(&self, alloc: Global, port: PortNo) -> Result<Vec<Message>, Memory>
         ensures { IfOk result (λ messages. messages.items ≡ deliveries_of self.now port) }
     {
-        self.state.deliveries(alloc, port)
+        match self.ends.get(port.0 as usize) {
+            Some(end) => self.state.deliveries_up_to(alloc, *end, port),
+            None => self.state.deliveries(alloc, port),
+        }
     }
 
     /// Takes a frame as `LinkState::take_arrival` does.
@@ -100,10 +114,35 @@ impl UnreadLink {
         ensures err { OnErr result (self.new ≡ self.old) }
     {
         let verdict = self.state.take_arrival(rt, alloc, arrival)?;
+        note_end(&mut self.ends, verdict, self.state.history().len());
         if let Verdict::Queued(port) = verdict {
             meet_at(rt, &mut self.state, port, &mut self.takers);
         }
         Ok(verdict)
+    }
+}
+
+/// Notes where a history ends whose last event has this verdict, if it delivered a message.
+fn note_end(ends: &mut Vec<usize>, verdict: Verdict, end: usize)
+    ensures { (history : List Event) (e : Event) → e.verdict ≡ verdict → length history + 1 ≡ end →
+        AreEnds history ends.old.items → AreEnds (history ++ e ∷ []) ends.new.items }
+{
+    let Some(port) = delivered_at(verdict) else {
+        return;
+    };
+    if let Some(place) = ends.get_mut(port.0 as usize) {
+        *place = end;
+    }
+}
+
+/// The port to which an event with this verdict delivered a message.
+fn delivered_at(verdict: Verdict) -> Option<PortNo>
+    ensures some { IfSome result (λ at. (port : PortNo) → tells_delivered verdict port ≡ is_same_port at port) }
+    ensures none { IfNone result ((port : PortNo) → tells_delivered verdict port ≡ false) }
+{
+    match verdict {
+        Verdict::Sampled(port, _) | Verdict::Queued(port) => Some(port),
+        _ => None,
     }
 }
 

@@ -1,11 +1,13 @@
 //! Devices that are interrupted or fail, and what the player returns then.
+use crate::configurations::first;
+use crate::played::{Run, run_over};
 use es_base::Net;
 use std::alloc::Global;
 use std::process::Abort;
 use std::sync::Wait;
 use std::test::Fail;
-use test_inputs::{ReadCall, ScriptedReader, ScriptedWriter, WriteCall, first};
-use trace_player::{Device, PlayFault, TraceCause, play};
+use test_inputs::{ReadCall, ScriptedReader, ScriptedWriter, WriteCall};
+use trace_player::{PlayFault, TraceCause};
 use vl_config::Config;
 
 /// The output for the trace `5 00`.
@@ -73,13 +75,10 @@ fn reads() -> [Reads; 7] {
 
 fn check_reads(rt: &(impl Abort + Wait), alloc: Global, config: &Config, row: Reads) {
     let (a, b, wanted, (failed_a, failed_b)) = row;
-    let mut a = Device::new(a);
-    let mut b = Device::new(b);
-    let mut out = Device::new(Vec::new(alloc));
-    let answer = play(rt, alloc, config, &mut a, &mut b, &mut out, None);
-    assert_eq!(rt; answer, wanted);
-    assert_eq!(rt; (a.failed, b.failed), (failed_a, failed_b));
-    assert_eq!(rt; out.inner.is_empty(), wanted.is_err());
+    let run = run_over(rt, alloc, config, (a, b, Vec::new(alloc)), None);
+    assert_eq!(rt; run.answer, wanted);
+    assert_eq!(rt; (run.a.failed, run.b.failed), (failed_a, failed_b));
+    assert_eq!(rt; run.out.inner.is_empty(), wanted.is_err());
 }
 
 #[test]
@@ -119,18 +118,25 @@ fn writes() -> [Writes; 7] {
     ]
 }
 
+/// A run over the trace `5 00` of network A, with a sink that does this.
+fn run_into<'a>(
+    rt: &impl Wait,
+    alloc: Global,
+    config: &Config,
+    calls: &'a [WriteCall],
+) -> Run<&'static [u8], &'static [u8], ScriptedWriter<'a>> {
+    let written = Vec::new(alloc);
+    let out = ScriptedWriter { calls, written };
+    let devices = (b"5 00".as_slice(), b"".as_slice(), out);
+    run_over(rt, alloc, config, devices, None)
+}
+
 fn check_writes(rt: &(impl Abort + Wait), alloc: Global, config: &Config, row: Writes) {
     let (calls, count, wanted) = row;
-    let mut a = Device::new(b"5 00".as_slice());
-    let mut b = Device::new(b"".as_slice());
-    let mut out = Device::new(ScriptedWriter {
-        calls,
-        written: Vec::new(alloc),
-    });
-    let answer = play(rt, alloc, config, &mut a, &mut b, &mut out, None);
-    assert_eq!(rt; answer, wanted);
-    assert_eq!(rt; out.failed, wanted.is_err());
-    assert_eq!(rt; OUTPUT.get(..count), Some(out.inner.written.as_slice()));
+    let run = run_into(rt, alloc, config, calls);
+    assert_eq!(rt; run.answer, wanted);
+    assert_eq!(rt; run.out.failed, wanted.is_err());
+    assert_eq!(rt; OUTPUT.get(..count), Some(run.out.inner.written.as_slice()));
 }
 
 #[test]
@@ -144,15 +150,9 @@ fn failed_writes_are_returned_and_interrupted_ones_made_again(rt: HostRuntime) -
 
 fn check_room(rt: &(impl Abort + Wait), alloc: Global, config: &Config, room: usize) {
     let calls = [WriteCall::Takes(room), WriteCall::Takes(0)];
-    let mut a = Device::new(b"5 00".as_slice());
-    let mut b = Device::new(b"".as_slice());
-    let mut out = Device::new(ScriptedWriter {
-        calls: &calls,
-        written: Vec::new(alloc),
-    });
-    let answer = play(rt, alloc, config, &mut a, &mut b, &mut out, None);
-    assert_eq!(rt; answer, Err(PlayFault::Write), "room for {room}");
-    assert_eq!(rt; OUTPUT.get(..room), Some(out.inner.written.as_slice()));
+    let run = run_into(rt, alloc, config, &calls);
+    assert_eq!(rt; run.answer, Err(PlayFault::Write), "room for {room}");
+    assert_eq!(rt; OUTPUT.get(..room), Some(run.out.inner.written.as_slice()));
 }
 
 #[test]

@@ -1,4 +1,5 @@
 //! Frames of network A, and the words of the cause or the verdict of each.
+use crate::configurations::{changed, first};
 use crate::played::{check_output, trace_line};
 use es_base::Memory;
 use std::alloc::Global;
@@ -6,8 +7,7 @@ use std::process::Abort;
 use std::sync::Wait;
 use std::test::Fail;
 use test_inputs::{
-    ETHERNET, IP, LONGEST_IP, LONGEST_UDP, PAYLOAD, UDP, changed, first, fives, frame_of, longest,
-    smallest, with_first_line,
+    ETHERNET, IP, LONGEST_IP, LONGEST_UDP, PAYLOAD, UDP, fives, frame_of, longest, smallest,
 };
 use vl_config::Config;
 
@@ -179,7 +179,7 @@ fn trace_of_two_constants(alloc: Global) -> Result<String, Fail> {
 
 #[test]
 fn frames_need_the_constant_of_the_configuration(rt: HostRuntime) -> Result<(), Fail> {
-    let config = with_first_line(rt.alloc(), "constant = \"0300000A\"")?;
+    let config = changed(rt.alloc(), "[[link]]", "constant = \"0300000A\"\n[[link]]")?;
     let trace = trace_of_two_constants(rt.alloc())?;
     let output = "1000 A filtered foreign-constant\n1000 A vl 17 0 sampled pos 1\n";
     check_output(&rt, rt.alloc(), &config, trace.as_str(), "", output);

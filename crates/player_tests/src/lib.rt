@@ -3,6 +3,8 @@
 #![tactic(auto)]
 
 #[cfg(test)]
+mod configurations;
+#[cfg(test)]
 mod failures;
 #[cfg(test)]
 mod frames;

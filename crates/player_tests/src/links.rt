@@ -1,4 +1,5 @@
 //! Frames of two links, each with its own history.
+use crate::configurations::{both_links, config_of};
 use crate::played::{Step, check_output, trace_line, trace_of};
 use es_base::Net::{A, B};
 use es_base::{Memory, PortNo};
@@ -7,9 +8,9 @@ use std::alloc::Global;
 use std::process::Abort;
 use std::sync::Wait;
 use std::test::Fail;
-use test_inputs::{PAYLOAD, UDP, both_links, frame_of, smallest};
+use test_inputs::{PAYLOAD, UDP, frame_of, smallest};
 use trace_player::{Device, replay};
-use vl_config::{Config, read_config};
+use vl_config::Config;
 
 /// A smallest frame of link 18, with this sequence number.
 fn of_link_18(alloc: Global, sequence_number: u8) -> Result<Vec<u8>, FromHexError> {
@@ -42,8 +43,7 @@ fn frame_of_link_17() -> [Step; 1] {
 
 #[test]
 fn each_link_has_a_history_of_its_own(rt: HostRuntime) -> Result<(), Fail> {
-    let document = both_links(rt.alloc())?;
-    let config = read_config(rt.alloc(), document.as_str())?;
+    let config = both_links(rt.alloc())?;
     let a = trace_of(rt.alloc(), A, &frame_of_link_17())?;
     let b = trace_of_link_18(rt.alloc(), 1000, &[0])?;
     let output = "1000 A vl 17 0 sampled pos 1\n1000 B vl 18 0 sampled alt 1\n";
@@ -75,8 +75,7 @@ const MIXED: &str = "1000 A vl 17 0 sampled pos 1\n\
 
 #[test]
 fn sequence_numbers_places_and_redundancy_are_of_a_link(rt: HostRuntime) -> Result<(), Fail> {
-    let document = both_links(rt.alloc())?;
-    let config = read_config(rt.alloc(), document.as_str())?;
+    let config = both_links(rt.alloc())?;
     let a = mixed_trace_a(rt.alloc())?;
     let b = mixed_trace_b(rt.alloc())?;
     check_output(&rt, rt.alloc(), &config, a.as_str(), b.as_str(), MIXED);
@@ -118,8 +117,7 @@ fn check_replay(
 
 #[test]
 fn a_replay_returns_the_links_as_the_frames_left_them(rt: HostRuntime) -> Result<(), Fail> {
-    let document = both_links(rt.alloc())?;
-    let config = read_config(rt.alloc(), document.as_str())?;
+    let config = both_links(rt.alloc())?;
     let a = trace_of(rt.alloc(), A, &frames_of_a_replay())?;
     let b = trace_of(rt.alloc(), B, &frames_of_a_replay())?;
     check_replay(&rt, rt.alloc(), &config, a.as_str(), b.as_str())
@@ -163,7 +161,7 @@ fn output_of_most_links(alloc: Global, time: u64, place: usize) -> Result<String
 /// The traces of two frames of each link come to their output.
 fn check_most_links(rt: &(impl Abort + Wait), alloc: Global) -> Result<(), Fail> {
     let document = most_links(alloc)?;
-    let config = read_config(alloc, document.as_str())?;
+    let config = config_of(alloc, document.as_str())?;
     let mut trace = trace_of_most_links(alloc, 7, 0)?;
     trace.push_str(trace_of_most_links(alloc, 8, 1)?.as_str())?;
     let mut output = output_of_most_links(alloc, 7, 0)?;

@@ -1,11 +1,12 @@
 //! A run of many frames: its traces are longer than one read of them, and its output is written whole.
+use crate::configurations::first;
 use crate::played::{check_output, trace_line};
 use es_base::Memory;
 use std::alloc::Global;
 use std::process::Abort;
 use std::sync::Wait;
 use std::test::Fail;
-use test_inputs::{first, sequence_number_at, smallest};
+use test_inputs::{sequence_number_at, smallest};
 
 /// The trace of this many smallest frames that follow one another, one a microsecond.
 fn long_trace(alloc: Global, count: u32) -> Result<String, Fail> {

@@ -1,12 +1,39 @@
 //! Traces given to the player, and the output that they have to come to.
+use crate::configurations::first;
 use es_base::{Memory, Net};
 use std::alloc::Global;
+use std::io::{Read, Write};
 use std::process::Abort;
 use std::sync::Wait;
 use std::test::Fail;
-use test_inputs::{first, smallest};
+use test_inputs::smallest;
 use trace_player::{Device, PlayFault, play};
 use vl_config::Config;
+
+/// What the player returned, and its devices after that.
+#[derive(Drop)]
+pub(crate) struct Run<A, B, W> {
+    pub answer: Result<(), PlayFault>,
+    pub a: Device<A>,
+    pub b: Device<B>,
+    pub out: Device<W>,
+}
+
+/// A run over these readers and this writer, with a report at this time in microseconds. It has no
+/// clause: a test doesn't need what the player promises.
+pub(crate) fn run_over<A: Read, B: Read, W: Write>(
+    rt: &impl Wait,
+    alloc: Global,
+    config: &Config,
+    (a, b, out): (A, B, W),
+    at: Option<u64>,
+) -> Run<A, B, W> {
+    let mut a = Device::new(a);
+    let mut b = Device::new(b);
+    let mut out = Device::new(out);
+    let answer = play(rt, alloc, config, &mut a, &mut b, &mut out, at);
+    Run { answer, a, b, out }
+}
 
 /// What the player returns for two traces with a report at this time in microseconds, and what it wrote.
 pub(crate) fn played(
@@ -17,10 +44,8 @@ pub(crate) fn played(
     b: &str,
     at: Option<u64>,
 ) -> (Result<(), PlayFault>, Vec<u8>) {
-    let mut a = Device::new(a.as_bytes());
-    let mut b = Device::new(b.as_bytes());
-    let mut out = Device::new(Vec::new(alloc));
-    let answer = play(rt, alloc, config, &mut a, &mut b, &mut out, at);
+    let devices = (a.as_bytes(), b.as_bytes(), Vec::new(alloc));
+    let Run { answer, out, .. } = run_over(rt, alloc, config, devices, at);
     (answer, out.inner)
 }
 

@@ -1,11 +1,13 @@
 //! Frames for a queuing port, through the player: it takes no message, so a port's queue fills.
+use crate::configurations::{changed, first};
 use crate::played::{check_output, trace_line};
 use std::alloc::Global;
 use std::process::Abort;
 use std::sync::Wait;
 use std::test::Fail;
-use test_inputs::fragments::{FIRST, LAST, PacketText, padding_after};
-use test_inputs::{ETHERNET, IP, PAYLOAD, changed, first, frame_of};
+use test_inputs::fragments::PacketName::{First, Last};
+use test_inputs::fragments::{PacketName, padding_after};
+use test_inputs::{ETHERNET, IP, PAYLOAD, frame_of};
 
 /// The UDP header of the smallest frame, for `nav`.
 const NAV_UDP: &str = "1389138a00190000";
@@ -38,8 +40,9 @@ pub(crate) fn packet_line(
     alloc: Global,
     time: u64,
     sequence_number: u8,
-    (ip, octets): PacketText,
+    packet: PacketName,
 ) -> Result<String, Fail> {
+    let (ip, octets) = packet.texts();
     let texts = [ETHERNET, ip, octets, padding_after(octets)];
     let frame = frame_of(alloc, &texts, sequence_number)?;
     Ok(trace_line(alloc, time, &frame)?)
@@ -47,8 +50,8 @@ pub(crate) fn packet_line(
 
 fn check_fragments(rt: &(impl Abort + Wait), alloc: Global) -> Result<(), Fail> {
     let config = first(alloc)?;
-    let mut trace = packet_line(alloc, 1000, 1, FIRST)?;
-    trace.push_str(packet_line(alloc, 1100, 2, LAST)?.as_str())?;
+    let mut trace = packet_line(alloc, 1000, 1, First)?;
+    trace.push_str(packet_line(alloc, 1100, 2, Last)?.as_str())?;
     let output = "1000 A vl 17 0 fragment-held\n1100 A vl 17 1 queued nav\n";
     check_output(rt, alloc, &config, trace.as_str(), "", output);
     Ok(())

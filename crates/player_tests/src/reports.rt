@@ -1,12 +1,13 @@
 //! Whole outputs, with their reports. The values are worked out by hand from the formats.
+use crate::configurations::{changed, first};
 use crate::played::{played, trace_line};
 use crate::queues::packet_line;
 use std::alloc::Global;
 use std::process::Abort;
 use std::sync::Wait;
 use std::test::Fail;
-use test_inputs::fragments::{FIRST, LAST};
-use test_inputs::{ETHERNET, IP, PAYLOAD, changed, first, frame_of, smallest};
+use test_inputs::fragments::PacketName::{First, Last};
+use test_inputs::{ETHERNET, IP, PAYLOAD, frame_of, smallest};
 use vl_config::Config;
 
 /// The player writes this whole output for two traces, with a report at this time in microseconds.
@@ -120,8 +121,8 @@ const JOINED: &str = "1000 A vl 17 0 fragment-held\n\
 
 fn check_joined(rt: &(impl Abort + Wait), alloc: Global) -> Result<(), Fail> {
     let config = first(alloc)?;
-    let mut trace = packet_line(alloc, 1000, 1, FIRST)?;
-    trace.push_str(packet_line(alloc, 1100, 2, LAST)?.as_str())?;
+    let mut trace = packet_line(alloc, 1000, 1, First)?;
+    trace.push_str(packet_line(alloc, 1100, 2, Last)?.as_str())?;
     check_whole(rt, alloc, &config, (trace.as_str(), ""), None, JOINED);
     Ok(())
 }

@@ -1,11 +1,11 @@
 //! Traces that are read and traces that are refused.
+use crate::configurations::first;
 use crate::played::{check_output, played};
 use es_base::Net;
 use std::alloc::{AllocError, Global};
 use std::process::Abort;
 use std::sync::Wait;
 use std::test::Fail;
-use test_inputs::first;
 use trace_player::{PlayFault, TraceCause, play_texts};
 use vl_config::Config;
 

@@ -7,9 +7,11 @@ mod files;
 mod program;
 mod status;
 mod streams;
+mod system;
 mod traces;
 
 pub use fault::RunFault;
 pub use files::Files;
 pub use program::{Ending, run};
 pub use status::status_of;
+pub use system::run_on;

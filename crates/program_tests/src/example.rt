@@ -4,7 +4,8 @@ use std::alloc::Global;
 use std::process::Abort;
 use std::sync::Wait;
 use std::test::Fail;
-use test_inputs::{ScriptedReader, both_links};
+use test_inputs::{SECOND_LINK, ScriptedReader};
+use vl_config::BUILT_IN;
 
 /// What the README shows.
 const OUTPUT: &str = "1000 A vl 17 0 sampled pos 1
@@ -88,7 +89,7 @@ fn check_example(
     b: &str,
     output: &str,
 ) -> Result<(), Fail> {
-    let config = both_links(alloc)?;
+    let config = format!(in alloc; "{BUILT_IN}{SECOND_LINK}")?;
     let files = (
         Ok(ScriptedReader::of(config.as_bytes())),
         Ok(ScriptedReader::of(a.as_bytes())),

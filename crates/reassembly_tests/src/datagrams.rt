@@ -2,50 +2,51 @@
 use crate::steps::Fate::{Alone, Held, Joined};
 use crate::steps::{Step, check};
 use std::test::Fail;
-use test_inputs::fragments::{
-    END_AT_16, END_AT_40, FIRST, FIRST_ANEW, FIRST_FOR_POS, FIRST_OF_21, JOINED, LAST,
-    LAST_FROM_24, LAST_TO_19, LAST_TO_20, LONGER_LAST,
+use test_inputs::fragments::JOINED;
+use test_inputs::fragments::PacketName::{
+    EndAt16, EndAt40, First, FirstAnew, FirstForPos, FirstOf21, Last, LastFrom24, LastTo19,
+    LastTo20, LongerLast, NoOctets, SevenOctets,
 };
 
 fn in_order() -> [Step; 2] {
-    [(FIRST, 1000, Held), (LAST, 1100, Joined(JOINED))]
+    [(First, 1000, Held), (Last, 1100, Joined(JOINED))]
 }
 
 fn last_first() -> [Step; 2] {
-    [(LAST, 1000, Held), (FIRST, 1100, Joined(JOINED))]
+    [(Last, 1000, Held), (First, 1100, Joined(JOINED))]
 }
 
 /// The head of a joined datagram says its port.
 fn for_a_sampling_port() -> [Step; 2] {
     let joined = "1389138800200000a0a1a2a3a4a5a6a7b0b1b2b3b4b5b6b7b8b9babbbcbdbebf";
-    [(FIRST_FOR_POS, 1000, Held), (LAST, 1100, Joined(joined))]
+    [(FirstForPos, 1000, Held), (Last, 1100, Joined(joined))]
 }
 
 /// The first fragment comes twice, with other octets the second time.
 fn first_twice() -> [Step; 3] {
     let joined = "1389138a00200000c0c1c2c3c4c5c6c7b0b1b2b3b4b5b6b7b8b9babbbcbdbebf";
     [
-        (FIRST, 1000, Held),
-        (FIRST_ANEW, 1100, Held),
-        (LAST, 1200, Joined(joined)),
+        (First, 1000, Held),
+        (FirstAnew, 1100, Held),
+        (Last, 1200, Joined(joined)),
     ]
 }
 
 /// A last fragment that ends earlier follows one that ends later.
 fn end_moves_down() -> [Step; 3] {
     [
-        (LONGER_LAST, 1000, Held),
-        (LAST, 1100, Held),
-        (FIRST, 1200, Joined(JOINED)),
+        (LongerLast, 1000, Held),
+        (Last, 1100, Held),
+        (First, 1200, Joined(JOINED)),
     ]
 }
 
 fn end_moves_up() -> [Step; 3] {
     let joined = "1389138a00200000a0a1a2a3a4a5a6a7d0d1d2d3d4d5d6d7d8d9dadbdcdddedfe0e1e2e3e4e5e6e7";
     [
-        (LAST, 1000, Held),
-        (LONGER_LAST, 1100, Held),
-        (FIRST, 1200, Joined(joined)),
+        (Last, 1000, Held),
+        (LongerLast, 1100, Held),
+        (First, 1200, Joined(joined)),
     ]
 }
 
@@ -53,53 +54,48 @@ fn end_moves_up() -> [Step; 3] {
 fn end_moves_to_and_fro() -> [Step; 4] {
     let joined = "1389138a00200000a0a1a2a3a4a5a6a7b0b1b2b3b4b5b6b7b8b9babbbcbdbebfe0e1e2e3e4e5e6e7";
     [
-        (LONGER_LAST, 1000, Held),
-        (LAST, 1100, Held),
-        (END_AT_40, 1200, Held),
-        (FIRST, 1300, Joined(joined)),
+        (LongerLast, 1000, Held),
+        (Last, 1100, Held),
+        (EndAt40, 1200, Held),
+        (First, 1300, Joined(joined)),
     ]
 }
 
 /// A last fragment of no octets at offset 16: the datagram is what came before it.
 fn empty_end() -> [Step; 2] {
     let joined = "1389138a00200000a0a1a2a3a4a5a6a7";
-    [(FIRST, 1000, Held), (END_AT_16, 1100, Joined(joined))]
+    [(First, 1000, Held), (EndAt16, 1100, Joined(joined))]
 }
 
 /// A last fragment of 5 octets.
 fn end_within_a_block() -> [Step; 2] {
     let joined = "1389138a00150000a0a1a2a3a4a5a6a7b0b1b2b3b4";
-    [
-        (FIRST_OF_21, 1000, Held),
-        (LAST_TO_20, 1100, Joined(joined)),
-    ]
+    [(FirstOf21, 1000, Held), (LastTo20, 1100, Joined(joined))]
 }
 
 /// Octets 16 to 19 and 24 to 31, each as a last fragment: 20 to 23 never come.
 fn gap_within_a_block() -> [Step; 3] {
     [
-        (LAST_TO_19, 1000, Held),
-        (LAST_FROM_24, 1100, Held),
-        (FIRST, 1200, Held),
+        (LastTo19, 1000, Held),
+        (LastFrom24, 1100, Held),
+        (First, 1200, Held),
     ]
 }
 
 /// The last fragment comes once more.
 fn last_once_more() -> [Step; 3] {
     [
-        (FIRST, 1000, Held),
-        (LAST, 1100, Joined(JOINED)),
-        (LAST, 1200, Held),
+        (First, 1000, Held),
+        (Last, 1100, Joined(JOINED)),
+        (Last, 1200, Held),
     ]
 }
 
 /// A datagram of 7 octets in one packet, and one of none.
 fn short_datagrams() -> [Step; 2] {
-    let seven = ("4500001b000100000111cdde0a010101e0e00011", "13891388000800");
-    let none = ("45000014000100000111cde50a010101e0e00011", "");
     [
-        (seven, 1000, Alone("13891388000800")),
-        (none, 1100, Alone("")),
+        (SevenOctets, 1000, Alone("13891388000800")),
+        (NoOctets, 1100, Alone("")),
     ]
 }
 

@@ -5,7 +5,7 @@ use ip_reassembly::{Offered, Preview, Reassembly};
 use std::alloc::Global;
 use std::process::Abort;
 use std::test::Fail;
-use test_inputs::fragments::{PacketText, padding_after};
+use test_inputs::fragments::{PacketName, padding_after};
 use test_inputs::{CONSTANT, ETHERNET, frame_of};
 
 /// How long pieces are waited for, in microseconds.
@@ -23,13 +23,14 @@ pub(crate) enum Fate {
 }
 
 /// A packet, its time in microseconds, and what becomes of it.
-pub(crate) type Step = (PacketText, u64, Fate);
+pub(crate) type Step = (PacketName, u64, Fate);
 
 /// A new Reassembly does this with these packets.
 pub(crate) fn check(rt: &impl Abort, alloc: Global, steps: &[Step]) -> Result<(), Fail> {
     let mut reassembly = Reassembly::new(alloc, LIMIT)?;
     assert_eq!(rt; reassembly.limit(), LIMIT);
-    for ((ip, octets), time, fate) in steps {
+    for (packet, time, fate) in steps {
+        let (ip, octets) = packet.texts();
         let frame = frame_of(alloc, &[ETHERNET, ip, octets, padding_after(octets)], 0)?;
         let frame = read_frame(CONSTANT, &frame).expect(rt, "a frame");
         let packet = read_packet(&frame).expect(rt, "a packet");

@@ -4,51 +4,47 @@ use crate::receive::FOR_NAV;
 use es_base::Net::A;
 use es_base::Verdict::{BadFragment, FragmentHeld};
 use std::test::Fail;
-use test_inputs::fragments::{
-    EMPTY_FIRST, FIRST, FIRST_TO_11, LAST, LAST_FROM_32784, LAST_TO_8199, LAST_TO_8200,
-    NEXT_FROM_65528, NEXT_TO_20,
+use test_inputs::fragments::PacketName::{
+    EmptyFirst, First, FirstTo11, Last, LastFrom32784, LastTo8199, LastTo8200, NextFrom65528,
+    NextTo20,
 };
 
 fn bad_between() -> [PacketRow; 3] {
     [
-        (A, 1000, 1, FIRST, FragmentHeld),
-        (A, 1100, 2, LAST_FROM_32784, BadFragment),
-        (A, 1200, 3, LAST, FOR_NAV),
+        (A, 1000, 1, First, FragmentHeld),
+        (A, 1100, 2, LastFrom32784, BadFragment),
+        (A, 1200, 3, Last, FOR_NAV),
     ]
 }
 
 fn uneven_between() -> [PacketRow; 3] {
     [
-        (A, 1000, 1, FIRST, FragmentHeld),
-        (A, 1100, 2, NEXT_TO_20, BadFragment),
-        (A, 1200, 3, LAST, FOR_NAV),
+        (A, 1000, 1, First, FragmentHeld),
+        (A, 1100, 2, NextTo20, BadFragment),
+        (A, 1200, 3, Last, FOR_NAV),
     ]
 }
 
 /// The bad one comes after the limit of time, and the last piece with an earlier time.
 fn uneven_after_the_limit() -> [PacketRow; 3] {
     [
-        (A, 1000, 1, FIRST, FragmentHeld),
-        (A, 51_001, 2, NEXT_TO_20, BadFragment),
-        (A, 51_000, 3, LAST, FOR_NAV),
+        (A, 1000, 1, First, FragmentHeld),
+        (A, 51_001, 2, NextTo20, BadFragment),
+        (A, 51_000, 3, Last, FOR_NAV),
     ]
 }
 
 #[test]
 fn a_length_between_blocks_is_bad(rt: HostRuntime) -> Result<(), Fail> {
-    check(&rt, rt.alloc(), &[(A, 1000, 1, FIRST_TO_11, BadFragment)])?;
-    check(&rt, rt.alloc(), &[(A, 1000, 1, EMPTY_FIRST, BadFragment)])
+    check(&rt, rt.alloc(), &[(A, 1000, 1, FirstTo11, BadFragment)])?;
+    check(&rt, rt.alloc(), &[(A, 1000, 1, EmptyFirst, BadFragment)])
 }
 
 #[test]
 fn an_end_past_the_longest_datagram_is_bad(rt: HostRuntime) -> Result<(), Fail> {
-    check(&rt, rt.alloc(), &[(A, 1000, 1, LAST_TO_8199, FragmentHeld)])?;
-    check(&rt, rt.alloc(), &[(A, 1000, 1, LAST_TO_8200, BadFragment)])?;
-    check(
-        &rt,
-        rt.alloc(),
-        &[(A, 1000, 1, NEXT_FROM_65528, BadFragment)],
-    )
+    check(&rt, rt.alloc(), &[(A, 1000, 1, LastTo8199, FragmentHeld)])?;
+    check(&rt, rt.alloc(), &[(A, 1000, 1, LastTo8200, BadFragment)])?;
+    check(&rt, rt.alloc(), &[(A, 1000, 1, NextFrom65528, BadFragment)])
 }
 
 #[test]

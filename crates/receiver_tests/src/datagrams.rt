@@ -4,110 +4,110 @@ use crate::receive::{FOR_NAV, POS};
 use es_base::Net::{A, B};
 use es_base::Verdict::{BadUdp, FragmentHeld, FragmentedSample, Redundant};
 use std::test::Fail;
-use test_inputs::changed;
-use test_inputs::fragments::{
-    END_AT_16, END_AT_40, FIRST, FIRST_ANEW, FIRST_FOR_POS, FIRST_OF_21, LAST, LAST_FROM_24,
-    LAST_TO_19, LAST_TO_20, LONGER_LAST,
+use test_inputs::fragments::PacketName::{
+    EndAt16, EndAt40, First, FirstAnew, FirstForPos, FirstOf21, Last, LastFrom24, LastTo19,
+    LastTo20, LongerLast,
 };
+use test_inputs::{LINK, Link};
 
 fn in_order() -> [PacketRow; 2] {
     [
-        (A, 1000, 1, FIRST, FragmentHeld),
-        (A, 1100, 2, LAST, FOR_NAV),
+        (A, 1000, 1, First, FragmentHeld),
+        (A, 1100, 2, Last, FOR_NAV),
     ]
 }
 
 fn last_first() -> [PacketRow; 2] {
     [
-        (A, 1000, 1, LAST, FragmentHeld),
-        (A, 1100, 2, FIRST, FOR_NAV),
+        (A, 1000, 1, Last, FragmentHeld),
+        (A, 1100, 2, First, FOR_NAV),
     ]
 }
 
 /// Copies of both fragments on the other network are redundant, and joined with nothing.
 fn on_both_networks() -> [PacketRow; 4] {
     [
-        (A, 1000, 1, FIRST, FragmentHeld),
-        (B, 1050, 1, FIRST, Redundant),
-        (B, 1100, 2, LAST, FOR_NAV),
-        (A, 1150, 2, LAST, Redundant),
+        (A, 1000, 1, First, FragmentHeld),
+        (B, 1050, 1, First, Redundant),
+        (B, 1100, 2, Last, FOR_NAV),
+        (A, 1150, 2, Last, Redundant),
     ]
 }
 
 /// The first fragment comes twice, with other octets the second time.
 fn first_twice() -> [PacketRow; 3] {
     [
-        (A, 1000, 1, FIRST, FragmentHeld),
-        (A, 1100, 2, FIRST_ANEW, FragmentHeld),
-        (A, 1200, 3, LAST, FOR_NAV),
+        (A, 1000, 1, First, FragmentHeld),
+        (A, 1100, 2, FirstAnew, FragmentHeld),
+        (A, 1200, 3, Last, FOR_NAV),
     ]
 }
 
 /// A last fragment that ends earlier follows one that ends later.
 fn end_moves_down() -> [PacketRow; 3] {
     [
-        (A, 1000, 1, LONGER_LAST, FragmentHeld),
-        (A, 1100, 2, LAST, FragmentHeld),
-        (A, 1200, 3, FIRST, FOR_NAV),
+        (A, 1000, 1, LongerLast, FragmentHeld),
+        (A, 1100, 2, Last, FragmentHeld),
+        (A, 1200, 3, First, FOR_NAV),
     ]
 }
 
 fn end_moves_up() -> [PacketRow; 3] {
     [
-        (A, 1000, 1, LAST, FragmentHeld),
-        (A, 1100, 2, LONGER_LAST, FragmentHeld),
-        (A, 1200, 3, FIRST, FOR_NAV),
+        (A, 1000, 1, Last, FragmentHeld),
+        (A, 1100, 2, LongerLast, FragmentHeld),
+        (A, 1200, 3, First, FOR_NAV),
     ]
 }
 
 /// The end moves down and up again, by a last fragment of no octets at offset 40.
 fn end_moves_to_and_fro() -> [PacketRow; 4] {
     [
-        (A, 1000, 1, LONGER_LAST, FragmentHeld),
-        (A, 1100, 2, LAST, FragmentHeld),
-        (A, 1200, 3, END_AT_40, FragmentHeld),
-        (A, 1300, 4, FIRST, FOR_NAV),
+        (A, 1000, 1, LongerLast, FragmentHeld),
+        (A, 1100, 2, Last, FragmentHeld),
+        (A, 1200, 3, EndAt40, FragmentHeld),
+        (A, 1300, 4, First, FOR_NAV),
     ]
 }
 
 /// A last fragment of 5 octets.
 fn end_within_a_block() -> [PacketRow; 2] {
     [
-        (A, 1000, 1, FIRST_OF_21, FragmentHeld),
-        (A, 1100, 2, LAST_TO_20, FOR_NAV),
+        (A, 1000, 1, FirstOf21, FragmentHeld),
+        (A, 1100, 2, LastTo20, FOR_NAV),
     ]
 }
 
 /// Octets 16 to 19 and 24 to 31, each as a last fragment: 20 to 23 never come.
 fn gap_within_a_block() -> [PacketRow; 3] {
     [
-        (A, 1000, 1, LAST_TO_19, FragmentHeld),
-        (A, 1100, 2, LAST_FROM_24, FragmentHeld),
-        (A, 1200, 3, FIRST, FragmentHeld),
+        (A, 1000, 1, LastTo19, FragmentHeld),
+        (A, 1100, 2, LastFrom24, FragmentHeld),
+        (A, 1200, 3, First, FragmentHeld),
     ]
 }
 
 /// The last fragment comes once more.
 fn last_once_more() -> [PacketRow; 3] {
     [
-        (A, 1000, 1, FIRST, FragmentHeld),
-        (A, 1100, 2, LAST, FOR_NAV),
-        (A, 1200, 3, LAST, FragmentHeld),
+        (A, 1000, 1, First, FragmentHeld),
+        (A, 1100, 2, Last, FOR_NAV),
+        (A, 1200, 3, Last, FragmentHeld),
     ]
 }
 
 fn joined_for_a_sampling_port() -> [PacketRow; 2] {
     [
-        (A, 1000, 1, FIRST_FOR_POS, FragmentHeld),
-        (A, 1100, 2, LAST, FragmentedSample(POS)),
+        (A, 1000, 1, FirstForPos, FragmentHeld),
+        (A, 1100, 2, Last, FragmentedSample(POS)),
     ]
 }
 
 /// A last fragment without octets ends the datagram at octet 16; its UDP header says 32.
 fn shorter_than_its_header() -> [PacketRow; 2] {
     [
-        (A, 1000, 1, FIRST, FragmentHeld),
-        (A, 1100, 2, END_AT_16, BadUdp),
+        (A, 1000, 1, First, FragmentHeld),
+        (A, 1100, 2, EndAt16, BadUdp),
     ]
 }
 
@@ -157,13 +157,12 @@ fn a_sampling_port_refuses_what_was_joined(rt: HostRuntime) -> Result<(), Fail> 
 /// The payload has 24 octets, and the largest of the port is 16: that it was joined decides.
 #[test]
 fn what_was_joined_is_refused_before_what_is_too_long(rt: HostRuntime) -> Result<(), Fail> {
-    let config = changed(rt.alloc(), "udp = 5000\n", "udp = 5000\nmax = 16\n")?;
-    check_with(
-        &rt,
-        rt.alloc(),
-        &config.links()[0],
-        &joined_for_a_sampling_port(),
-    )
+    let link = Link {
+        pos_max: 16,
+        ..LINK
+    };
+    let settings = link.settings(rt.alloc())?;
+    check_with(&rt, rt.alloc(), &settings, &joined_for_a_sampling_port())
 }
 
 #[test]

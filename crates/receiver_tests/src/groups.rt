@@ -4,98 +4,98 @@ use crate::receive::FOR_NAV;
 use es_base::Net::A;
 use es_base::Verdict::FragmentHeld;
 use std::test::Fail;
-use test_inputs::fragments::{
-    FIRST, FIRST_3, FIRST_4, FIRST_5, FIRST_6, LAST, LAST_FROM_ANOTHER, LAST_TO_ANOTHER, WHOLE,
+use test_inputs::fragments::PacketName::{
+    First, First3, First4, First5, First6, Last, LastFromAnother, LastToAnother, Whole,
 };
 
 fn five_begin() -> [PacketRow; 6] {
     [
-        (A, 1000, 1, FIRST, FragmentHeld),
-        (A, 1100, 2, FIRST_3, FragmentHeld),
-        (A, 1200, 3, FIRST_4, FragmentHeld),
-        (A, 1300, 4, FIRST_5, FragmentHeld),
-        (A, 1400, 5, FIRST_6, FragmentHeld),
-        (A, 1500, 6, LAST, FragmentHeld),
+        (A, 1000, 1, First, FragmentHeld),
+        (A, 1100, 2, First3, FragmentHeld),
+        (A, 1200, 3, First4, FragmentHeld),
+        (A, 1300, 4, First5, FragmentHeld),
+        (A, 1400, 5, First6, FragmentHeld),
+        (A, 1500, 6, Last, FragmentHeld),
     ]
 }
 
 fn four_begin() -> [PacketRow; 5] {
     [
-        (A, 1000, 1, FIRST, FragmentHeld),
-        (A, 1100, 2, FIRST_3, FragmentHeld),
-        (A, 1200, 3, FIRST_4, FragmentHeld),
-        (A, 1300, 4, FIRST_5, FragmentHeld),
-        (A, 1500, 5, LAST, FOR_NAV),
+        (A, 1000, 1, First, FragmentHeld),
+        (A, 1100, 2, First3, FragmentHeld),
+        (A, 1200, 3, First4, FragmentHeld),
+        (A, 1300, 4, First5, FragmentHeld),
+        (A, 1500, 5, Last, FOR_NAV),
     ]
 }
 
 /// The one that began first was touched last.
 fn first_touched_last() -> [PacketRow; 7] {
     [
-        (A, 1000, 1, FIRST, FragmentHeld),
-        (A, 1100, 2, FIRST_3, FragmentHeld),
-        (A, 1200, 3, FIRST_4, FragmentHeld),
-        (A, 1300, 4, FIRST_5, FragmentHeld),
-        (A, 1400, 5, FIRST, FragmentHeld),
-        (A, 1500, 6, FIRST_6, FragmentHeld),
-        (A, 1600, 7, LAST, FragmentHeld),
+        (A, 1000, 1, First, FragmentHeld),
+        (A, 1100, 2, First3, FragmentHeld),
+        (A, 1200, 3, First4, FragmentHeld),
+        (A, 1300, 4, First5, FragmentHeld),
+        (A, 1400, 5, First, FragmentHeld),
+        (A, 1500, 6, First6, FragmentHeld),
+        (A, 1600, 7, Last, FragmentHeld),
     ]
 }
 
 /// The first piece is 50,000 microseconds old.
 fn at_the_limit() -> [PacketRow; 2] {
     [
-        (A, 1000, 1, FIRST, FragmentHeld),
-        (A, 51_000, 2, LAST, FOR_NAV),
+        (A, 1000, 1, First, FragmentHeld),
+        (A, 51_000, 2, Last, FOR_NAV),
     ]
 }
 
 /// The last fragment begins a group anew, which the first completes.
 fn after_the_limit() -> [PacketRow; 3] {
     [
-        (A, 1000, 1, FIRST, FragmentHeld),
-        (A, 51_001, 2, LAST, FragmentHeld),
-        (A, 51_002, 3, FIRST, FOR_NAV),
+        (A, 1000, 1, First, FragmentHeld),
+        (A, 51_001, 2, Last, FragmentHeld),
+        (A, 51_002, 3, First, FOR_NAV),
     ]
 }
 
 fn touched_between() -> [PacketRow; 3] {
     [
-        (A, 1000, 1, FIRST, FragmentHeld),
-        (A, 41_000, 2, FIRST, FragmentHeld),
-        (A, 51_001, 3, LAST, FragmentHeld),
+        (A, 1000, 1, First, FragmentHeld),
+        (A, 41_000, 2, First, FragmentHeld),
+        (A, 51_001, 3, Last, FragmentHeld),
     ]
 }
 
 /// A fragment of another key after the limit; the last piece comes with an earlier time.
 fn another_key_between() -> [PacketRow; 3] {
     [
-        (A, 1000, 1, FIRST, FragmentHeld),
-        (A, 60_000, 2, FIRST_3, FragmentHeld),
-        (A, 51_000, 3, LAST, FOR_NAV),
+        (A, 1000, 1, First, FragmentHeld),
+        (A, 60_000, 2, First3, FragmentHeld),
+        (A, 51_000, 3, Last, FOR_NAV),
     ]
 }
 
 fn another_source() -> [PacketRow; 2] {
     [
-        (A, 1000, 1, FIRST, FragmentHeld),
-        (A, 1100, 2, LAST_FROM_ANOTHER, FragmentHeld),
+        (A, 1000, 1, First, FragmentHeld),
+        (A, 1100, 2, LastFromAnother, FragmentHeld),
     ]
 }
 
 fn another_destination() -> [PacketRow; 2] {
     [
-        (A, 1000, 1, FIRST, FragmentHeld),
-        (A, 1100, 2, LAST_TO_ANOTHER, FragmentHeld),
+        (A, 1000, 1, First, FragmentHeld),
+        (A, 1100, 2, LastToAnother, FragmentHeld),
     ]
 }
 
 /// A datagram that is whole has the same identification.
 fn whole_between() -> [PacketRow; 3] {
     [
-        (A, 1000, 1, FIRST, FragmentHeld),
-        (A, 1100, 2, WHOLE, FOR_NAV),
-        (A, 1200, 3, LAST, FragmentHeld),
+        (A, 1000, 1, First, FragmentHeld),
+        (A, 1100, 2, Whole, FOR_NAV),
+        (A, 1200, 3, Last, FragmentHeld),
     ]
 }
 

@@ -1,5 +1,5 @@
 //! What the headers of IPv4 and UDP decide about a frame.
-use crate::receive::{FOR_NAV, POS, receive_all};
+use crate::receive::{FOR_NAV, POS, check_rows};
 use es_base::PacketFault::{Checksum, HeaderLength, Protocol, TotalLength, Version};
 use es_base::Verdict::{BadHeader, BadUdp, NoPort, Sampled};
 use es_base::{Net, Verdict};
@@ -7,7 +7,7 @@ use std::alloc::Global;
 use std::process::Abort;
 use std::sync::Wait;
 use std::test::Fail;
-use test_inputs::{IP, PAYLOAD, UDP, first};
+use test_inputs::{IP, LINK, PAYLOAD, UDP};
 
 /// An IPv4 header, a UDP header, and the verdict of their frame.
 type Row = (&'static str, &'static str, Verdict);
@@ -94,11 +94,10 @@ fn other_destinations() -> [Row; 3] {
 
 /// First frames of the built-in configuration's link, with the payload of the smallest frame.
 fn check_frames(rt: &(impl Abort + Wait), alloc: Global, rows: &[Row]) -> Result<(), Fail> {
-    let config = first(alloc)?;
-    let settings = &config.links()[0];
+    let settings = LINK.settings(alloc)?;
     for (ip, udp, verdict) in rows {
         let frame = (Net::A, 1000, 0, *ip, *udp, PAYLOAD, *verdict);
-        receive_all(rt, alloc, settings, &[frame])?;
+        check_rows(rt, alloc, &settings, &[frame])?;
     }
     Ok(())
 }
@@ -120,12 +119,11 @@ fn the_length_of_a_udp_datagram_has_bounds(rt: HostRuntime) -> Result<(), Fail> 
 
 #[test]
 fn seven_octets_are_no_udp_datagram(rt: HostRuntime) -> Result<(), Fail> {
-    let config = first(rt.alloc())?;
+    let settings = LINK.settings(rt.alloc())?;
     let ip = "4500001b000100000111cdde0a010101e0e00011";
     let zeros = "000000000000000000000000000000000000";
     let frame = (Net::A, 1000, 0, ip, "13891388000800", zeros, BadUdp);
-    receive_all(&rt, rt.alloc(), &config.links()[0], &[frame])?;
-    Ok(())
+    check_rows(&rt, rt.alloc(), &settings, &[frame])
 }
 
 #[test]

@@ -1,5 +1,5 @@
-//! Tests of the receiver of one link, from the octets of a frame to its verdict and the newest
-//! messages: worked frames, with values worked out by hand from the rules.
+//! Tests of the receiver of one link, from the octets of a frame to its verdict, the newest messages and
+//! what its history delivered: worked frames, with values worked out by hand from the rules.
 #![tactic(auto)]
 
 #[cfg(test)]
@@ -10,6 +10,8 @@ mod datagrams;
 mod groups;
 #[cfg(test)]
 mod headers;
+#[cfg(test)]
+mod histories;
 #[cfg(test)]
 mod integrity;
 #[cfg(test)]

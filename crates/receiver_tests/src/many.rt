@@ -1,5 +1,5 @@
 //! Many frames of one link.
-use crate::receive::POS;
+use crate::receive::{POS, opened};
 use es_base::{LinkSettings, Net, Verdict};
 use frame_reader::read_frame;
 use link_receiver::LinkState;
@@ -7,7 +7,22 @@ use std::alloc::Global;
 use std::process::Abort;
 use std::sync::Wait;
 use std::test::Fail;
-use test_inputs::{CONSTANT, first, sequence_number_at, smallest};
+use test_inputs::{CONSTANT, LINK, sequence_number_at, smallest};
+
+/// The receiver takes the frame at this place, from 0, and it becomes a message.
+fn take_one(
+    rt: &(impl Abort + Wait),
+    alloc: Global,
+    state: &mut LinkState,
+    place: u32,
+) -> Result<(), Fail> {
+    let octets = smallest(alloc, sequence_number_at(place))?;
+    let frame = read_frame(CONSTANT, &octets).expect(rt, "a frame");
+    assert!(rt; frame.vl == state.settings().vl());
+    let verdict = state.take(rt, alloc, Net::A, u64::from(place), &frame)?;
+    assert_eq!(rt; verdict, Verdict::Sampled(POS, u64::from(place) + 1));
+    Ok(())
+}
 
 /// A new receiver takes this many frames, one after another, and each becomes a message.
 fn check_many(
@@ -16,13 +31,9 @@ fn check_many(
     settings: &LinkSettings,
     count: u32,
 ) -> Result<(), Fail> {
-    let (mut state, _) = LinkState::new(alloc, settings)?;
+    let (mut state, _) = opened(alloc, settings)?;
     for place in 0..count {
-        let octets = smallest(alloc, sequence_number_at(place))?;
-        let frame = read_frame(CONSTANT, &octets).expect(rt, "a frame");
-        assert!(rt; frame.vl == state.settings().vl());
-        let verdict = state.take(rt, alloc, Net::A, u64::from(place), &frame)?;
-        assert_eq!(rt; verdict, Verdict::Sampled(POS, u64::from(place) + 1));
+        take_one(rt, alloc, &mut state, place)?;
     }
     assert_eq!(rt; state.history().len(), count as usize);
     Ok(())
@@ -30,6 +41,6 @@ fn check_many(
 
 #[test]
 fn a_link_takes_a_hundred_thousand_frames(rt: HostRuntime) -> Result<(), Fail> {
-    let config = first(rt.alloc())?;
-    check_many(&rt, rt.alloc(), &config.links()[0], 100_000)
+    let settings = LINK.settings(rt.alloc())?;
+    check_many(&rt, rt.alloc(), &settings, 100_000)
 }

@@ -1,14 +1,13 @@
 //! Messages at the ports: which are taken, and the newest of each port.
-use crate::receive::{FrameRow, NAV, POS, receive_all};
+use crate::receive::{FrameRow, NAV, POS, check_rows, opened, receive_all};
 use es_base::Net::A;
 use es_base::Verdict::{Sampled, TooLong};
-use es_base::{LinkSettings, Message, PortKind, PortName, PortNo, PortSettings, Verdict};
-use link_receiver::LinkState;
+use es_base::{LinkSettings, Message, PortNo, Verdict};
 use std::alloc::Global;
 use std::process::Abort;
 use std::sync::Wait;
 use std::test::Fail;
-use test_inputs::{IP, LONGEST_IP, LONGEST_UDP, PAYLOAD, UDP, changed, first, fives};
+use test_inputs::{IP, LINK, LONGEST_IP, LONGEST_UDP, Link, PAYLOAD, UDP, fives, sampling_port};
 
 fn check_message(rt: &impl Abort, message: &Message, time: u64, octets: &[u8]) {
     assert_eq!(rt; message.time, time);
@@ -33,7 +32,7 @@ fn check_newest(
 
 /// No port of a new receiver with these settings has a message.
 fn check_none(rt: &impl Abort, alloc: Global, settings: &LinkSettings) -> Result<(), Fail> {
-    let (state, _) = LinkState::new(alloc, settings)?;
+    let (state, _) = opened(alloc, settings)?;
     assert!(rt; state.newest(POS).is_none());
     assert!(rt; state.newest(NAV).is_none());
     Ok(())
@@ -41,8 +40,7 @@ fn check_none(rt: &impl Abort, alloc: Global, settings: &LinkSettings) -> Result
 
 #[test]
 fn a_port_has_no_newest_message_before_the_first(rt: HostRuntime) -> Result<(), Fail> {
-    let config = first(rt.alloc())?;
-    check_none(&rt, rt.alloc(), &config.links()[0])
+    check_none(&rt, rt.alloc(), &LINK.settings(rt.alloc())?)
 }
 
 /// A first frame becomes message 1 of `pos`, with this payload, and comes to no other port. The frame
@@ -54,9 +52,8 @@ fn check_delivered(
     padded: &str,
     payload: &str,
 ) -> Result<(), Fail> {
-    let config = first(alloc)?;
     let frame = (A, 1000, 0, ip, udp, padded, Sampled(POS, 1));
-    let state = receive_all(rt, alloc, &config.links()[0], &[frame])?;
+    let state = receive_all(rt, alloc, &LINK.settings(alloc)?, &[frame])?;
     check_newest(rt, alloc, state.newest(POS), 1, 1000, payload)?;
     assert!(rt; state.newest(NAV).is_none());
     assert!(rt; state.newest(PortNo(2)).is_none());
@@ -81,17 +78,7 @@ fn a_udp_datagram_of_eight_octets_has_an_empty_payload(rt: HostRuntime) -> Resul
     check_delivered(&rt, rt.alloc(), headers, PAYLOAD, "")
 }
 
-/// A third port of link 17, sampling, to follow `nav`.
-const AUX_PORT: &str = r#"depth = 4
-
-[[link.port]]
-name = "aux"
-kind = "sampling"
-address = "224.224.0.17"
-udp = 5004
-refresh_us = 20000
-"#;
-
+/// A third port of link 17, the sampling port `aux`, follows `nav`.
 const AUX: PortNo = PortNo(2);
 /// The UDP header of a datagram for `aux`, and a payload of 17 octets.
 const AUX_UDP: &str = "1389138c00190000";
@@ -115,8 +102,9 @@ fn check_two_ports(
     message_number: u64,
     time: u64,
 ) -> Result<(), Fail> {
-    let config = changed(alloc, "depth = 4\n", AUX_PORT)?;
-    let state = receive_all(rt, alloc, &config.links()[0], frames)?;
+    let mut ports = LINK.ports(alloc)?;
+    ports.push(sampling_port("aux", 5004, 1471).ok_or("aux")?)?;
+    let state = receive_all(rt, alloc, &LINK.with_ports(ports)?, frames)?;
     check_newest(rt, alloc, state.newest(POS), message_number, time, PAYLOAD)?;
     check_newest(rt, alloc, state.newest(AUX), 1, 2000, AUX_PAYLOAD)
 }
@@ -128,33 +116,28 @@ fn the_messages_of_each_port_are_numbered_apart(rt: HostRuntime) -> Result<(), F
     check_two_ports(&rt, rt.alloc(), &frames, 2, 3000)
 }
 
-/// The keys of `pos` from its UDP port to its largest payload, a UDP header before a payload of 17
-/// octets, and the verdict of their frame.
-type Row = (&'static str, &'static str, Verdict);
+/// The largest payload of `pos`, a UDP header before a payload of 17 octets, and the verdict of their
+/// frame.
+type Row = (u16, &'static str, Verdict);
 
 fn largest_payloads() -> [Row; 4] {
     [
-        ("udp = 5000\nmax = 16\n", UDP, TooLong(POS)),
-        ("udp = 5000\nmax = 17\n", UDP, Sampled(POS, 1)),
+        (16, UDP, TooLong(POS)),
+        (17, UDP, Sampled(POS, 1)),
         // The payload is cut to 16 octets first, and then compared.
-        (
-            "udp = 5000\nmax = 16\n",
-            "1389138800180000",
-            Sampled(POS, 1),
-        ),
-        ("udp = 5000\nmax = 0\n", UDP, TooLong(POS)),
+        (16, "1389138800180000", Sampled(POS, 1)),
+        (0, UDP, TooLong(POS)),
     ]
 }
 
 fn check_largest(
     rt: &(impl Abort + Wait),
     alloc: Global,
-    (keys, udp, verdict): Row,
+    (pos_max, udp, verdict): Row,
 ) -> Result<(), Fail> {
-    let config = changed(alloc, "udp = 5000\n", keys)?;
+    let settings = Link { pos_max, ..LINK }.settings(alloc)?;
     let frame = (A, 1000, 0, IP, udp, PAYLOAD, verdict);
-    receive_all(rt, alloc, &config.links()[0], &[frame])?;
-    Ok(())
+    check_rows(rt, alloc, &settings, &[frame])
 }
 
 #[test]
@@ -165,14 +148,8 @@ fn payloads_are_compared_with_the_largest(rt: HostRuntime) -> Result<(), Fail> {
     Ok(())
 }
 
-/// A sampling port with this largest payload, where there is such a port.
-fn sampling_port(max: u16) -> Option<PortSettings> {
-    let kind = PortKind::Sampling { refresh: 20_000 };
-    PortSettings::new(PortName::new("pos")?, 0xe0e0_0011, 5000, max, kind)
-}
-
 #[test]
 fn the_largest_payload_of_a_sampling_port_is_1471_octets(rt: HostRuntime) {
-    assert!(rt; sampling_port(1471).is_some());
-    assert!(rt; sampling_port(1472).is_none());
+    assert!(rt; sampling_port("pos", 5000, 1471).is_some());
+    assert!(rt; sampling_port("pos", 5000, 1472).is_none());
 }

@@ -1,16 +1,28 @@
 //! The octets of messages that are queued.
 use crate::packets::PacketRow;
 use crate::queues::taker_of;
-use crate::receive::{FOR_NAV, FrameRow, receive_rows};
+use crate::receive::{FOR_NAV, FrameRow, opened, receive_rows};
 use es_base::Net::A;
 use es_base::Verdict::FragmentHeld;
-use link_receiver::LinkState;
+use queuing_port::Taker;
 use std::alloc::Global;
 use std::process::Abort;
 use std::sync::Wait;
 use std::test::Fail;
-use test_inputs::fragments::{FIRST, FIRST_ANEW, LAST, LONGER_LAST, padding_after};
-use test_inputs::{IP, PAYLOAD, first, fives};
+use test_inputs::fragments::PacketName::{First, FirstAnew, Last, LongerLast};
+use test_inputs::fragments::padding_after;
+use test_inputs::{IP, LINK, PAYLOAD, fives};
+
+/// A new receiver gives these frames these verdicts. Returns the taker of `nav`.
+fn taker_after(
+    rt: &(impl Abort + Wait),
+    alloc: Global,
+    rows: &[FrameRow<'_>],
+) -> Result<Taker, Fail> {
+    let (mut state, ends) = opened(alloc, &LINK.settings(alloc)?)?;
+    receive_rows(rt, alloc, &mut state, rows)?;
+    Ok(taker_of(rt, ends))
+}
 
 /// A new receiver gives these frames these verdicts, and then the taker of `nav` takes one message, of
 /// this time in microseconds and with this payload.
@@ -21,10 +33,7 @@ fn check_taken(
     time: u64,
     payload: &str,
 ) -> Result<(), Fail> {
-    let config = first(alloc)?;
-    let (mut state, ends) = LinkState::new(alloc, &config.links()[0])?;
-    receive_rows(rt, alloc, &mut state, rows)?;
-    let mut taker = taker_of(rt, ends);
+    let mut taker = taker_after(rt, alloc, rows)?;
     let message = taker.take(rt).expect(rt, "a message");
     assert_eq!(rt; message.time, time);
     let octets = hex::decode(alloc, payload)?;
@@ -42,9 +51,10 @@ fn check_joined(
     payload: &str,
 ) -> Result<(), Fail> {
     let mut rows = Vec::new(alloc);
-    for (net, now, number, (ip, octets), verdict) in packets {
+    for (net, now, number, packet, verdict) in packets {
+        let (ip, octets) = packet.texts();
         let padding = padding_after(octets);
-        rows.push((*net, *now, *number, *ip, *octets, padding, *verdict))?;
+        rows.push((*net, *now, *number, ip, octets, padding, *verdict))?;
     }
     check_taken(rt, alloc, &rows, time, payload)
 }
@@ -58,13 +68,13 @@ fn three(first: PacketRow, second: PacketRow, third: PacketRow) -> [PacketRow; 3
 fn a_joined_datagram_is_queued_whole(rt: HostRuntime) -> Result<(), Fail> {
     let payload = "a0a1a2a3a4a5a6a7b0b1b2b3b4b5b6b7b8b9babbbcbdbebf";
     let in_order = [
-        (A, 1000, 1, FIRST, FragmentHeld),
-        (A, 1100, 2, LAST, FOR_NAV),
+        (A, 1000, 1, First, FragmentHeld),
+        (A, 1100, 2, Last, FOR_NAV),
     ];
     check_joined(&rt, rt.alloc(), &in_order, 1100, payload)?;
     let last_first = [
-        (A, 1000, 1, LAST, FragmentHeld),
-        (A, 1100, 2, FIRST, FOR_NAV),
+        (A, 1000, 1, Last, FragmentHeld),
+        (A, 1100, 2, First, FOR_NAV),
     ];
     check_joined(&rt, rt.alloc(), &last_first, 1100, payload)
 }
@@ -72,9 +82,9 @@ fn a_joined_datagram_is_queued_whole(rt: HostRuntime) -> Result<(), Fail> {
 #[test]
 fn a_queued_message_has_the_latest_octets(rt: HostRuntime) -> Result<(), Fail> {
     let rows = three(
-        (A, 1000, 1, FIRST, FragmentHeld),
-        (A, 1100, 2, FIRST_ANEW, FragmentHeld),
-        (A, 1200, 3, LAST, FOR_NAV),
+        (A, 1000, 1, First, FragmentHeld),
+        (A, 1100, 2, FirstAnew, FragmentHeld),
+        (A, 1200, 3, Last, FOR_NAV),
     );
     let payload = "c0c1c2c3c4c5c6c7b0b1b2b3b4b5b6b7b8b9babbbcbdbebf";
     check_joined(&rt, rt.alloc(), &rows, 1200, payload)
@@ -85,16 +95,16 @@ fn a_queued_message_has_the_latest_octets(rt: HostRuntime) -> Result<(), Fail> {
 #[test]
 fn a_queued_message_is_as_long_as_its_udp_header_says(rt: HostRuntime) -> Result<(), Fail> {
     let down = three(
-        (A, 1000, 1, LONGER_LAST, FragmentHeld),
-        (A, 1100, 2, LAST, FragmentHeld),
-        (A, 1200, 3, FIRST, FOR_NAV),
+        (A, 1000, 1, LongerLast, FragmentHeld),
+        (A, 1100, 2, Last, FragmentHeld),
+        (A, 1200, 3, First, FOR_NAV),
     );
     let payload = "a0a1a2a3a4a5a6a7b0b1b2b3b4b5b6b7b8b9babbbcbdbebf";
     check_joined(&rt, rt.alloc(), &down, 1200, payload)?;
     let up = three(
-        (A, 1000, 1, LAST, FragmentHeld),
-        (A, 1100, 2, LONGER_LAST, FragmentHeld),
-        (A, 1200, 3, FIRST, FOR_NAV),
+        (A, 1000, 1, Last, FragmentHeld),
+        (A, 1100, 2, LongerLast, FragmentHeld),
+        (A, 1200, 3, First, FOR_NAV),
     );
     let payload = "a0a1a2a3a4a5a6a7d0d1d2d3d4d5d6d7d8d9dadbdcdddedf";
     check_joined(&rt, rt.alloc(), &up, 1200, payload)

@@ -1,5 +1,5 @@
 //! Messages at a queuing port: which are queued, and which its taker takes.
-use crate::receive::{NAV, POS, receive};
+use crate::receive::{NAV, POS, opened, receive};
 use es_base::Net::A;
 use es_base::Verdict;
 use es_base::Verdict::{Overflow, Queued, Sampled};
@@ -9,7 +9,7 @@ use std::alloc::Global;
 use std::process::Abort;
 use std::sync::Wait;
 use std::test::Fail;
-use test_inputs::{ETHERNET, IP, PAYLOAD, UDP, changed, first, frame_of};
+use test_inputs::{ETHERNET, IP, LINK, Link, PAYLOAD, UDP, frame_of};
 
 /// The UDP header of the smallest frame, for `nav`.
 const NAV_UDP: &str = "1389138a00190000";
@@ -52,34 +52,55 @@ fn check_frame(
     Ok(())
 }
 
+/// The step brings the frame at this place. Returns the place of the next frame.
+fn check_next(
+    rt: &(impl Abort + Wait),
+    alloc: Global,
+    state: &mut LinkState,
+    place: u8,
+    step: Step,
+) -> Result<u8, Fail> {
+    match step {
+        Nav(verdict) => check_frame(rt, alloc, state, place, NAV_UDP, verdict)?,
+        Pos(verdict) => check_frame(rt, alloc, state, place, UDP, verdict)?,
+        Take(_) => return Ok(place),
+    }
+    Ok(place.wrapping_add(1))
+}
+
 /// The taker takes the message of this time, or none.
 fn check_take(rt: &(impl Abort + Wait), taker: &mut Taker, wanted: Option<u64>) {
     let time = taker.take(rt).map(|message| message.time);
     assert_eq!(rt; time, wanted);
 }
 
-/// A new receiver, with these keys of `nav` from its depth on, goes these steps.
+/// A new receiver of this link goes these steps.
 fn check_steps(
     rt: &(impl Abort + Wait),
     alloc: Global,
-    depth: &str,
+    link: Link,
     steps: &[Step],
 ) -> Result<(), Fail> {
-    let config = changed(alloc, "depth = 4\n", depth)?;
-    let (mut state, ends) = LinkState::new(alloc, &config.links()[0])?;
+    let (mut state, ends) = opened(alloc, &link.settings(alloc)?)?;
     let mut taker = taker_of(rt, ends);
-    let mut place = 0u8;
+    let mut place = 0;
     for step in steps {
         match step {
-            Nav(verdict) => check_frame(rt, alloc, &mut state, place, NAV_UDP, *verdict)?,
-            Pos(verdict) => check_frame(rt, alloc, &mut state, place, UDP, *verdict)?,
             Take(wanted) => check_take(rt, &mut taker, *wanted),
-        }
-        if !matches!(step, Take(_)) {
-            place = place.wrapping_add(1);
+            _ => place = check_next(rt, alloc, &mut state, place, *step)?,
         }
     }
     Ok(())
+}
+
+/// The link with this depth of `nav`.
+fn with_depth(nav_depth: u8) -> Link {
+    Link { nav_depth, ..LINK }
+}
+
+/// The link with this largest payload of `nav`.
+fn with_max(nav_max: u16) -> Link {
+    Link { nav_max, ..LINK }
 }
 
 fn one_place() -> [Step; 8] {
@@ -139,32 +160,31 @@ fn no_taker() -> [Step; 6] {
 
 #[test]
 fn a_queue_holds_as_many_messages_as_its_depth(rt: HostRuntime) -> Result<(), Fail> {
-    check_steps(&rt, rt.alloc(), "depth = 1\n", &one_place())?;
-    check_steps(&rt, rt.alloc(), "depth = 3\n", &three_places())
+    check_steps(&rt, rt.alloc(), with_depth(1), &one_place())?;
+    check_steps(&rt, rt.alloc(), with_depth(3), &three_places())
 }
 
 #[test]
 fn a_taker_that_comes_late_takes_the_oldest_first(rt: HostRuntime) -> Result<(), Fail> {
-    check_steps(&rt, rt.alloc(), "depth = 4\n", &late_taker())
+    check_steps(&rt, rt.alloc(), LINK, &late_taker())
 }
 
 #[test]
 fn a_queue_that_nobody_reads_loses_its_newest_messages_alone(rt: HostRuntime) -> Result<(), Fail> {
-    check_steps(&rt, rt.alloc(), "depth = 1\n", &no_taker())
+    check_steps(&rt, rt.alloc(), with_depth(1), &no_taker())
 }
 
 /// What is too long for the port doesn't come to its queue.
 #[test]
 fn a_queuing_port_has_a_largest_payload(rt: HostRuntime) -> Result<(), Fail> {
     let too_long = [Nav(Verdict::TooLong(NAV)), Take(None)];
-    check_steps(&rt, rt.alloc(), "depth = 4\nmax = 16\n", &too_long)?;
+    check_steps(&rt, rt.alloc(), with_max(16), &too_long)?;
     let fits = [Nav(Queued(NAV)), Take(Some(0))];
-    check_steps(&rt, rt.alloc(), "depth = 4\nmax = 17\n", &fits)
+    check_steps(&rt, rt.alloc(), with_max(17), &fits)
 }
 
 fn check_dropped(rt: &(impl Abort + Wait), alloc: Global) -> Result<(), Fail> {
-    let config = first(alloc)?;
-    let (mut state, ends) = LinkState::new(alloc, &config.links()[0])?;
+    let (mut state, ends) = opened(alloc, &LINK.settings(alloc)?)?;
     drop(ends);
     for place in 0..6 {
         let verdict = if place < 4 {

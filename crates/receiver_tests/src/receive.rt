@@ -1,12 +1,12 @@
 //! Frames given to the receiver of a link, `decide` compared with `take` on each.
-use es_base::{Arrival, Decision, Event, LinkSettings, Net, Octets, PortNo, Verdict};
+use es_base::{Arrival, Decision, Event, LinkSettings, Memory, Net, Octets, PortNo, Verdict};
 use frame_reader::read_frame;
-use link_receiver::LinkState;
+use link_receiver::{LinkState, PortEnd};
 use std::alloc::Global;
 use std::process::Abort;
 use std::sync::Wait;
 use std::test::Fail;
-use test_inputs::{CONSTANT, ETHERNET, first, frame_of, smallest};
+use test_inputs::{CONSTANT, ETHERNET, LINK, frame_of, smallest};
 
 /// The sampling port `pos` of the built-in configuration.
 pub(crate) const POS: PortNo = PortNo(0);
@@ -14,6 +14,15 @@ pub(crate) const POS: PortNo = PortNo(0);
 pub(crate) const NAV: PortNo = PortNo(1);
 /// The verdict of a good datagram for `nav`, whose queue has room.
 pub(crate) const FOR_NAV: Verdict = Verdict::Queued(NAV);
+
+/// A new receiver with these settings, and the other ends of its queues. It has no clause: what a caller
+/// doesn't know of a receiver, its proof doesn't carry from step to step.
+pub(crate) fn opened(
+    alloc: Global,
+    settings: &LinkSettings,
+) -> Result<(LinkState, Vec<PortEnd>), Memory> {
+    LinkState::new(alloc, settings)
+}
 
 /// The event has this network, time in microseconds and frame.
 fn check_event(rt: &impl Abort, event: &Event, net: Net, time: u64, octets: &[u8]) {
@@ -69,9 +78,20 @@ pub(crate) fn receive_all(
     settings: &LinkSettings,
     rows: &[FrameRow<'_>],
 ) -> Result<LinkState, Fail> {
-    let (mut state, _) = LinkState::new(alloc, settings)?;
+    let (mut state, _) = opened(alloc, settings)?;
     receive_rows(rt, alloc, &mut state, rows)?;
     Ok(state)
+}
+
+/// The same, where the verdicts are all that is of interest.
+pub(crate) fn check_rows(
+    rt: &(impl Abort + Wait),
+    alloc: Global,
+    settings: &LinkSettings,
+    rows: &[FrameRow<'_>],
+) -> Result<(), Fail> {
+    let (mut state, _) = opened(alloc, settings)?;
+    receive_rows(rt, alloc, &mut state, rows)
 }
 
 /// The receiver gives these frames these verdicts.
@@ -99,7 +119,7 @@ pub(crate) fn check_steps_with(
     settings: &LinkSettings,
     steps: &[Step],
 ) -> Result<(), Fail> {
-    let (mut state, _) = LinkState::new(alloc, settings)?;
+    let (mut state, _) = opened(alloc, settings)?;
     for (net, now, sequence_number, verdict) in steps {
         let frame = smallest(alloc, *sequence_number)?;
         let answer = receive(rt, alloc, &mut state, *net, *now, &frame);
@@ -114,18 +134,16 @@ pub(crate) fn check_steps(
     alloc: Global,
     steps: &[Step],
 ) -> Result<(), Fail> {
-    let config = first(alloc)?;
-    check_steps_with(rt, alloc, &config.links()[0], steps)
+    check_steps_with(rt, alloc, &LINK.settings(alloc)?, steps)
 }
 
-/// A new receiver with these settings keeps the octets of a frame that it is given.
-fn check_kept(
+/// The receiver is given the octets of a frame for `pos`, its first.
+fn give(
     rt: &(impl Abort + Wait),
     alloc: Global,
-    settings: &LinkSettings,
-) -> Result<(), Fail> {
-    let (mut state, _) = LinkState::new(alloc, settings)?;
-    let octets = Octets::from(smallest(alloc, 0)?);
+    state: &mut LinkState,
+    octets: Octets,
+) -> Result<(), Memory> {
     let frame = read_frame(CONSTANT, octets.as_slice()).expect(rt, "a frame");
     assert!(rt; frame.vl == state.settings().vl());
     let arrival = Arrival {
@@ -135,13 +153,27 @@ fn check_kept(
     };
     let verdict = state.take_arrival(rt, alloc, arrival)?;
     assert_eq!(rt; verdict, Verdict::Sampled(POS, 1));
-    let event = state.history().last().ok_or("an event")?;
-    assert!(rt; event.frame.as_slice() == smallest(alloc, 0)?.as_slice());
+    Ok(())
+}
+
+fn check_last(rt: &impl Abort, state: &LinkState, octets: &[u8]) {
+    let event = state.history().last().expect(rt, "an event");
+    assert!(rt; event.frame.as_slice() == octets);
+}
+
+/// A new receiver with these settings keeps the octets of a frame that it is given.
+fn check_kept(
+    rt: &(impl Abort + Wait),
+    alloc: Global,
+    settings: &LinkSettings,
+) -> Result<(), Fail> {
+    let (mut state, _) = opened(alloc, settings)?;
+    give(rt, alloc, &mut state, Octets::from(smallest(alloc, 0)?))?;
+    check_last(rt, &state, &smallest(alloc, 0)?);
     Ok(())
 }
 
 #[test]
 fn an_event_keeps_the_octets_that_it_is_given(rt: HostRuntime) -> Result<(), Fail> {
-    let config = first(rt.alloc())?;
-    check_kept(&rt, rt.alloc(), &config.links()[0])
+    check_kept(&rt, rt.alloc(), &LINK.settings(rt.alloc())?)
 }

@@ -1,10 +1,10 @@
 //! Which frames of both networks are forwarded.
-use crate::receive::{FrameRow, POS, Step, check_steps, check_steps_with, receive_all};
+use crate::receive::{FrameRow, POS, Step, check_rows, check_steps, check_steps_with};
 use es_base::Net::{A, B};
 use es_base::Verdict::{BadHeader, OutOfSequence, Redundant, Sampled};
 use es_base::{PacketFault, Verdict};
 use std::test::Fail;
-use test_inputs::{IP, PAYLOAD, UDP, changed, first};
+use test_inputs::{IP, LINK, Link, PAYLOAD, UDP};
 
 /// A copy at SkewMax, 1000 microseconds.
 fn copy_at_skew_max() -> [Step; 2] {
@@ -134,8 +134,11 @@ fn both_copies() -> [Step; 2] {
 
 #[test]
 fn every_copy_is_forwarded_without_redundancy_management(rt: HostRuntime) -> Result<(), Fail> {
-    let config = changed(rt.alloc(), "vl = 17", "vl = 17\nredundancy = false")?;
-    check_steps_with(&rt, rt.alloc(), &config.links()[0], &both_copies())
+    let link = Link {
+        redundancy: false,
+        ..LINK
+    };
+    check_steps_with(&rt, rt.alloc(), &link.settings(rt.alloc())?, &both_copies())
 }
 
 /// A frame with a wrong checksum, and a good copy of it.
@@ -157,7 +160,6 @@ fn bad_and_good() -> [FrameRow<'static>; 2] {
 
 #[test]
 fn a_frame_with_a_bad_header_counts_as_forwarded(rt: HostRuntime) -> Result<(), Fail> {
-    let config = first(rt.alloc())?;
-    receive_all(&rt, rt.alloc(), &config.links()[0], &bad_and_good())?;
-    Ok(())
+    let settings = LINK.settings(rt.alloc())?;
+    check_rows(&rt, rt.alloc(), &settings, &bad_and_good())
 }

@@ -4,7 +4,7 @@ use output_lines::{write_counts, write_filtered, write_port};
 use std::alloc::Global;
 use std::process::Abort;
 use std::test::Fail;
-use test_inputs::first;
+use test_inputs::LINK;
 
 /// A message of these octets, that came at `time` microseconds.
 fn message(alloc: Global, time: u64, octets: &[u8]) -> Result<Message, Memory> {
@@ -69,9 +69,9 @@ fn a_queuing_port_shows_all_its_messages_in_order(rt: HostRuntime) -> Result<(),
 
 /// The counts of link 17 and the filtered frames, where there were none, are these four lines.
 fn check_zeros(rt: &impl Abort, alloc: Global) -> Result<(), Fail> {
-    let config = first(alloc)?;
+    let link = LINK.settings(alloc)?;
     let mut text = String::new(alloc);
-    write_counts(&mut text, &config.links()[0], &Tally::opening())?;
+    write_counts(&mut text, &link, &Tally::opening())?;
     write_filtered(&mut text, &FilterTally::opening())?;
     assert!(rt; text.as_str() == ZEROS, "{text}");
     Ok(())

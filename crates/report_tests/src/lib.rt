@@ -1,5 +1,5 @@
-//! Tests of the report in its parts: freshness, counts, lines, blocks of lines, and the messages that a
-//! history delivered. The values are worked out by hand from the rules and the formats.
+//! Tests of the report in its parts: freshness, counts, lines and blocks of lines. The values are worked
+//! out by hand from the rules and the formats.
 #![tactic(auto)]
 
 #[cfg(test)]
@@ -8,7 +8,5 @@ mod ages;
 mod blocks;
 #[cfg(test)]
 mod counters;
-#[cfg(test)]
-mod histories;
 #[cfg(test)]
 mod lines;

@@ -63,7 +63,8 @@ impl fmt::Display for EventHead {
 
     fn fmt<W: fmt::Write>(&self, f: &mut fmt::Formatter<W>) -> fmt::Result {
         let EventHead { time, net, vl } = self;
-        write!(f, "{time} {net} vl {vl}")
+        write!(f, "{time} {net}")?;
+        write!(f, " vl {vl}")
     }
 }
 

@@ -1,16 +1,25 @@
-use Rattle.std.proofs.Common.{Err, sym}
-use Rattle.std.proofs.lemmas.Str.{IsUtf8-from_ascii}
-use Rattle.std.proofs.lemmas.Str.Parse.{parse_digits}
-use Rattle.std.proofs.lemmas.Fmt.{IsAscii-from_digits}
-use Rattle.hex_trace.proofs.Digits.{numerals, time_refused}
+use Rattle.std.proofs.Common.{◌+◌, arith, rules, sym}
+use Rattle.hex_trace.proofs.Digits.{all_read, digit_in, one_more, time_refused, value_so_far}
 use Rattle.hex_trace.proofs.line.time_from.Goals as goal
 
-pub returns-in_default : goal.returns-in_default
-returns-in_default c = absurd (c.in_default.ensures.cases.0 (IsUtf8-from_ascii _ (IsAscii-from_digits _ (numerals.to _ c.requires))))
+pub with_digit-requires : goal.with_digit-requires
+with_digit-requires c = record { low = (digit_in c.args.digits.now c.digits.digit-index c.requires c.digits-test.true).0 }
 
-pub returns-in-Err : goal.returns-in-Err
-returns-in-Err c =
-    let text = c.in-Ok.text.now in
-    let same = c.in-Ok.ensures.cases.0 in
-    let parsed = c.in-Err.ensures.value.0 in
-    rw (← same) (sym (time_refused text (parse_digits numerals 64 text (Err c.in-Err.field-0) parsed (rw same c.requires))))
+pub digits-preserved : goal.digits-preserved
+digits-preserved c =
+    let more = one_more c.args.digits.now c.digits.digit-index c.requires c.digits-test.true in
+    record {
+      said = omega (arith, more, c.in-Some.ensures, c.digits.invariant.said);
+      fits = search rules;
+    }
+
+pub returns-in-None : goal.returns-in-None
+returns-in-None c =
+    let digits = c.args.digits.now in
+    let i = c.digits.digit-index in
+    let more = one_more digits i c.requires c.digits-test.true in
+    sym (time_refused digits (λ told. c.in-None.ensures (omega (arith, more, value_so_far digits (i + 1), c.digits.invariant.said, told.1))))
+
+pub returns : goal.returns
+returns c =
+    all_read c.args.digits.now c.digits.digit-index c.digits.time c.digits-test.false (search rules) c.digits.invariant.fits c.digits.invariant.said

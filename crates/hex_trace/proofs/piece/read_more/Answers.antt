@@ -17,3 +17,6 @@ returns-in-Ok-clause-bytes g c =
     let joined : take (filled + count) new ≡ take filled c.args.text.now.items ++ take count (drop filled new) =
     sym (take-add filled count new within) ∙ ap (λ bs. bs ++ take count (drop filled new)) front in
     (search rules, (take count (drop filled new), c.in-Ok.ensures.bytes.0, ap (take (filled + count)) back ∙ joined, λ none. (ap (λ n. take n (drop filled new)) none ∙ refl, c.in-Ok.ensures.bytes.1 none left)))
+
+pub returns-in-Err-clause-bytes : goal.returns-in-Err-clause-bytes
+returns-in-Err-clause-bytes g c = search rules

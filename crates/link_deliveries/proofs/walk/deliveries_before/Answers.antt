@@ -1,4 +1,4 @@
-use Rattle.std.proofs.Common.{◌≡◌, ◌<◌, ◌∙◌, ◌+◌, ◌∷◌, ap, sym, reverse, take, length, Some, add-one, arith, rules}
+use Rattle.std.proofs.Common.{◌≡◌, ◌<◌, ◌+◌, ◌∷◌, sym, reverse, take, length, Some, add-one, arith, rules}
 use Rattle.std.specs.List.{slice_get}
 use Rattle.es_base.specs.Past.{origin_of}
 use Rattle.link_deliveries.proofs.History.{frame_at, lawful_at, never_both, past_more, there_is}
@@ -8,6 +8,9 @@ use Rattle.link_deliveries.proofs.walk.deliveries_before.Goals.{in-Some+in_ok-me
 pub message_of-requires : goal.message_of-requires
 message_of-requires c =
     frame_at c.args.settings.now c.args.history.now.items c.events.place c.in-Some.event.now c.requires.frames (sym c.in-Some.ensures)
+
+pub events-init : goal.events-init
+events-init c = (rw c.reassembly.ensures at c.in_ok-reassembly.ensures, c.new-messages.ensures.items)
 
 pub events-preserved : goal.events-preserved
 events-preserved c =

@@ -1,4 +1,5 @@
-use Rattle.std.proofs.Common.{[], ◌∷◌, rules}
+use Rattle.std.proofs.Common.{[], ◌∷◌, rules, arith}
+use Rattle.std.proofs.lemmas.Grind.{common_steps}
 use Rattle.trace_player.proofs.Histories.{are_of_links}
 use Rattle.trace_player.proofs.Turns.{frames_go_on, lines_go_on}
 use Rattle.trace_player.proofs.run.output_of.Goals as goal
@@ -24,3 +25,6 @@ frames-preserved g c =
       c.in_ok-play_frame.ensures.filtered earlier c.frames.invariant.4,
       search rules,
     )
+
+pub returns-clause-text : goal.returns-clause-text
+returns-clause-text g c = grind (arith, common_steps)

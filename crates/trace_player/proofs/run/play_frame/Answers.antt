@@ -1,4 +1,4 @@
-use Rattle.std.proofs.Common.{◌∙◌, ap, subst, sym, List, ℕ}
+use Rattle.std.proofs.Common.{◌∙◌, ap, refl, subst, sym, List, ℕ}
 use Rattle.std.proofs.lemmas.Result.{on_ok_weaker}
 use Rattle.es_base.specs.Addressing.{ComesToPlace, addressed_link}
 use Rattle.trace_player.proofs.Histories.{on_ok_always, filtered_states, taken_states, taken_line}
@@ -29,3 +29,9 @@ returns-in-Ok-clause-line g c =
     on_ok_weaker c.take_frame.result
     (λ wrote earlier same. taken_line config earlier a _ place _ _ _ comes wrote same)
     c.take_frame.ensures.line
+
+pub returns-in-Err-clause-filtered : goal.returns-in-Err-clause-filtered
+returns-in-Err-clause-filtered g c =
+    let config = c.args.config.now in
+    let filtered = ap (addressed_link config) (sym c.as_slice.ensures) ∙ c.in-Err.ensures.filtered in
+    on_ok_always c.writeln.result (λ earlier has. c.add.ensures.filtered config earlier c.args.arrival has refl filtered)

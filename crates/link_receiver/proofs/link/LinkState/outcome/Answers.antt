@@ -10,6 +10,9 @@ returns-then-not-passes-clause-value c =
     let passing = c.passes.ensures _ _ a c.self.invariant.checked refl (sym c.args.frame.now.number_is) in
     rw (← c.self.view_is, ← passing, c.if-not-passes.true) refl
 
+pub returns-then-not-passes-clause-packet : goal.returns-then-not-passes-clause-packet
+returns-then-not-passes-clause-packet c = refl
+
 pub returns-then-is_redundant-clause-value : goal.returns-then-is_redundant-clause-value
 unfolding outcome_if
 returns-then-is_redundant-clause-value c =
@@ -17,6 +20,9 @@ returns-then-is_redundant-clause-value c =
     let passing = c.passes.ensures _ _ a c.self.invariant.checked refl (sym c.args.frame.now.number_is) in
     let is_copy = c.is_redundant.ensures _ _ a c.self.invariant.checked (sym c.redundancy-managed.ensures) (sym c.args.frame.now.number_is) refl in
     rw (← c.self.view_is, ← passing, c.if-not-passes.false, ← is_copy, c.if-is_redundant.true) refl
+
+pub returns-then-is_redundant-clause-packet : goal.returns-then-is_redundant-clause-packet
+returns-then-is_redundant-clause-packet c = refl
 
 pub returns-clause-value : goal.returns-clause-value
 unfolding outcome_if

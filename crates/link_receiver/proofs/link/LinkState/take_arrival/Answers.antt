@@ -1,5 +1,6 @@
-use Rattle.std.proofs.Common.{◌≡◌, ◌<◌, ◌-◌, ◌^◌, ◌∙◌, arith, length, Some, refl, reverse, sym, ap, map, rules}
+use Rattle.std.proofs.Common.{◌≡◌, ◌<◌, ◌-◌, ◌^◌, ◌∙◌, arith, length, Some, refl, reverse, sym, ap, map, Result, Ok, Err}
 use Rattle.std.specs.List.{slice_get}
+use Rattle.std.specs.Result.{OnErr}
 use Rattle.std.proofs.lemmas.List.{length-reverse}
 use Rattle.es_base.specs.declared.event.Event.{Event}
 use Rattle.es_base.specs.Past.{event_of, origin_of}
@@ -15,6 +16,20 @@ use Rattle.link_receiver.proofs.Outlets.{queues_stay}
 use Rattle.link_receiver.proofs.Refusals.{delivers_if, has_number, has_outlet, may_answer}
 use Rattle.link_receiver.proofs.Taken.{one_more}
 use Rattle.link_receiver.proofs.link.LinkState.take_arrival.Goals as goal
+
+-- no memory for one more event: nothing has changed
+
+unchanged : {T E : Type 0} (result : Result T E) (P : Type 0) → P → OnErr result P
+unchanged (Ok value) P same = tt
+unchanged (Err error) P same = same
+
+pub invariant_of-self : goal.invariant_of-self
+invariant_of-self g c = rw c.in_err-reserve_one.ensures.items c.self.invariant
+
+pub returns-in_err-reserve_one-clause-err : goal.returns-in_err-reserve_one-clause-err
+returns-in_err-reserve_one-clause-err g c = rw c.in_err-reserve_one.ensures.items (unchanged _ _ c.self.view_is)
+
+-- one more event
 
 pub offer-delivery-requires : goal.offer-delivery-requires
 offer-delivery-requires g c =
@@ -48,6 +63,7 @@ invariant_of-self-2 g c =
     let outlets = c.self.inside.outlets.items in
     let had = c.deliver-had_room.result in
     let e : Event = event_of c.args.arrival had c.settled-verdict.result in
+    let more = rw (c.of.ensures, c.in_ok-reserve_one.ensures.items) at c.push_reserved.ensures in
     let link : Link = record { settings = settings; history = history; queues = map queue_of outlets } in
     let change = rw (← c.self.view_is) at c.in_ok-change.ensures in
     let room = c.in_ok-change.change.room in
@@ -59,9 +75,9 @@ invariant_of-self-2 g c =
     let within = holds_at_port link c.args.arrival room delivery (λ port. port.0 < length outlets) change.room fills (has_outlet link room outlets change.has_place c.self.invariant.as_many) in
     let may = may_answer link c.args.arrival room delivery outlets c.deliver-had_room.new.outlets.items had change.room fills c.deliver-had_room.ensures within c.self.invariant.kinds c.self.invariant.shown in
     kept_more settings history c.push_reserved.new.self.items c.self.inside.checks c.note.new.self c.self.inside.reassembly c.offer-delivery.new.reassembly outlets c.deliver-had_room.new.outlets.items c.self.inside.tally c.add.new.self e delivery
-    (search rules) c.self.invariant (c.settled-verdict.ensures ∙ ap (λ d. settled d had) change.decision) may stand waits c.deliver-had_room.ensures within
+    more c.self.invariant (c.settled-verdict.ensures ∙ ap (λ d. settled d had) change.decision) may stand waits c.deliver-had_room.ensures within
     (delivers_if link c.args.arrival room delivery had change.room fills may)
-    (c.add.ensures.past (reverse history) e c.self.invariant.counted refl (search rules)) c.requires.frame (rw (← c.self.view_is) at c.requires.link)
+    (c.add.ensures.past (reverse history) e c.self.invariant.counted refl (sym c.kind.ensures.kind)) c.requires.frame (rw (← c.self.view_is) at c.requires.link)
 
 pub returns-clause-ok : goal.returns-clause-ok
 returns-clause-ok g c =
@@ -76,11 +92,12 @@ returns-clause-ok g c =
     let fills = rw change.packet at (c.offer-delivery.ensures.fills settings.reassembly (groups_in (origin_of settings) (reverse history)) c.self.invariant.waiting) in
     let within = holds_at_port link c.args.arrival room delivery (λ port. port.0 < length outlets) change.room fills (has_outlet link room outlets change.has_place c.self.invariant.as_many) in
     let may = may_answer link c.args.arrival room delivery outlets c.deliver-had_room.new.outlets.items had change.room fills c.deliver-had_room.ensures within c.self.invariant.kinds c.self.invariant.shown in
+    let more = rw (c.of.ensures, c.in_ok-reserve_one.ensures.items) at c.push_reserved.ensures in
     let taken : Takes link c.args.arrival c.settled-verdict.result (record { settings = settings; history = c.push_reserved.new.self.items; queues = map queue_of c.deliver-had_room.new.outlets.items }) = record {
       room = had;
       may = may;
       becomes = c.settled-verdict.ensures ∙ ap (λ d. settled d had) change.decision;
-      event = one_more link c.args.arrival had c.settled-verdict.result c.push_reserved.new.self.items (map queue_of c.deliver-had_room.new.outlets.items) (search rules)
+      event = one_more link c.args.arrival had c.settled-verdict.result c.push_reserved.new.self.items (map queue_of c.deliver-had_room.new.outlets.items) more
           (queues_stay delivery had outlets c.deliver-had_room.new.outlets.items c.deliver-had_room.ensures within);
     } in
     rw (← c.self.view_is) taken

@@ -1,5 +1,10 @@
+use Rattle.std.proofs.Common.{◌≡◌, length, replicate}
+use Rattle.link_receiver.proofs.LastDeliveries.{no_ends}
 use Rattle.link_receiver.proofs.Rooms.{unread_new}
 use Rattle.link_receiver.proofs.unread.UnreadLink.new.Goals as goal
 
 pub invariant_of-result : goal.invariant_of-result
-invariant_of-result c = unread_new c.args.settings.now _ _ c.in_ok-state.ensures.link c.in_ok-state.ensures.takers
+invariant_of-result c =
+    let count = length c.ports.result.now in
+    let zeros : c.in_ok-ends.ends.items ≡ replicate count 0 = c.in_ok-ends.ensures.items_if_clones_equal (λ y same. same) in
+    (unread_new c.args.settings.now _ _ c.in_ok-state.ensures.link c.in_ok-state.ensures.takers, rw (c.in_ok-state.ensures.link.1, zeros) (no_ends count))

@@ -2,6 +2,7 @@ use Rattle.std.proofs.Common.{◌∙◌, [], ap}
 use Rattle.es_base.specs.declared.verdict.Verdict.TheVariants.{Queued}
 use Rattle.link_receiver.specs.Link.{Link, Takes}
 use Rattle.link_receiver.specs.Unread.{IsWithinAt}
+use Rattle.link_receiver.proofs.LastDeliveries.{ends_taken}
 use Rattle.link_receiver.proofs.Rooms.{queued_at, unread_event, unread_more, unread_verdict}
 use Rattle.link_receiver.proofs.unread.UnreadLink.take_arrival.Goals as goal
 
@@ -11,13 +12,19 @@ invariant_of-self-in-Queued g c =
     let new = c.take_arrival.new.self in
     let port = c.in-Queued.port in
     let takes : Takes old c.args.arrival (Queued port) new = rw c.in-Queued.is at c.in_ok-verdict.ensures.ok in
-    let more = unread_more old c.args.arrival (Queued port) new c.self.inside.takers.items takes c.self.invariant (queued_at port (IsWithinAt new) c.meet_at.ensures.within) in
-    rw c.meet_at.ensures.state (record { takers_are = c.meet_at.ensures.takers; within = more.within })
+    let more = unread_more old c.args.arrival (Queued port) new c.self.inside.takers.items takes c.self.invariant.0 (queued_at port (IsWithinAt new) c.meet_at.ensures.within) in
+    let noted = rw (c.len.ensures, c.history.ensures.events) at c.note_end.ensures in
+    let ends = ends_taken old c.args.arrival c.in_ok-verdict.verdict new _ _ c.in_ok-verdict.ensures.ok c.self.invariant.1 noted in
+    (rw c.meet_at.ensures.state (record { takers_are = c.meet_at.ensures.takers; within = more.within }), rw c.meet_at.ensures.state ends)
 
 pub invariant_of-self-in_default : goal.invariant_of-self-in_default
 invariant_of-self-in_default g c =
-    unread_more c.self.inside.state c.args.arrival c.in_ok-verdict.verdict c.take_arrival.new.self c.self.inside.takers.items c.in_ok-verdict.ensures.ok c.self.invariant
-    (λ port is. absurd (c.in_default.not-Queued port is))
+    let noted = rw (c.len.ensures, c.history.ensures.events) at c.note_end.ensures in
+    let ends = ends_taken c.self.inside.state c.args.arrival c.in_ok-verdict.verdict c.take_arrival.new.self _ _ c.in_ok-verdict.ensures.ok c.self.invariant.1 noted in (
+      unread_more c.self.inside.state c.args.arrival c.in_ok-verdict.verdict c.take_arrival.new.self c.self.inside.takers.items c.in_ok-verdict.ensures.ok c.self.invariant.0
+          (λ port is. absurd (c.in_default.not-Queued port is)),
+      ends,
+    )
 
 pub returns-in-Queued-clause-event : goal.returns-in-Queued-clause-event
 returns-in-Queued-clause-event g c =
@@ -36,3 +43,17 @@ returns-in-Queued-clause-verdict g c =
     let port = c.in-Queued.port in
     let takes : Takes old c.args.arrival (Queued port) new = rw c.in-Queued.is at c.in_ok-verdict.ensures.ok in
     rw (← c.self.view_is) (unread_verdict old c.args.arrival (Queued port) new takes (queued_at port (IsWithinAt new) c.meet_at.ensures.within))
+
+pub returns-in_default : goal.returns-in_default
+returns-in_default g c =
+    let old = c.self.inside.state in
+    let new = c.take_arrival.new.self in
+    let verdict = c.in_ok-verdict.verdict in
+    let takes = c.in_ok-verdict.ensures.ok in
+    let event = unread_event old c.args.arrival verdict new takes (λ port is. absurd (c.in_default.not-Queued port is)) in
+    let view : Link → Link = λ link. record { settings = link.settings; history = link.history; queues = [] } in
+    record {
+      event = rw (← c.self.view_is) (ap view event);
+      verdict = rw (← c.self.view_is) (unread_verdict old c.args.arrival verdict new takes (λ port is. absurd (c.in_default.not-Queued port is)));
+      err = tt;
+    }

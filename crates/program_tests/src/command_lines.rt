@@ -1,15 +1,9 @@
-use crate::{LineFault, line_of};
+//! The words of a command line: which are a line, which ask for help, and which are refused.
+use command_line::{LineFault, line_of};
 use std::alloc::{AllocError, Global};
 use std::process::Abort;
 use std::test::Fail;
-
-fn words_of(alloc: Global, words: &[&str]) -> Result<Vec<String>, AllocError> {
-    let mut owned = Vec::new(alloc);
-    for word in words {
-        owned.push(String::from_str(alloc, word)?)?;
-    }
-    Ok(owned)
-}
+use test_inputs::words_of;
 
 /// What `line_of` returns for these words, as a text.
 fn answer(alloc: Global, words: &[&str]) -> Result<String, AllocError> {
@@ -28,23 +22,44 @@ fn answer_to(alloc: Global, words: &[String]) -> Result<String, AllocError> {
     }
 }
 
+/// Words, and the text of their answer, or its beginning.
+type Row = (&'static [&'static str], &'static str);
+
+/// The answer to these words is this text.
+fn check_line(rt: &impl Abort, alloc: Global, (words, expected): Row) -> Result<(), Fail> {
+    let text = answer(alloc, words)?;
+    assert!(rt; text.as_str() == expected, "{text}");
+    Ok(())
+}
+
+/// The answer to these words starts with this text.
+fn check_start(rt: &impl Abort, alloc: Global, (words, start): Row) -> Result<(), Fail> {
+    let text = answer(alloc, words)?;
+    assert!(rt; text.as_str().starts_with(start), "{text}");
+    Ok(())
+}
+
+fn files() -> [Row; 3] {
+    [
+        (
+            &["--config", "c", "--a", "x", "--b", "y"],
+            "line c x y None",
+        ),
+        (&["--config=c", "--a", "x", "--b", "y"], "line c x y None"),
+        (&["--b", "y", "--a=x", "--config", "c"], "line c x y None"),
+    ]
+}
+
 #[test]
 fn reads_the_files(rt: HostRuntime) -> Result<(), Fail> {
-    let lines: [&[&str]; 3] = [
-        &["--config", "c", "--a", "x", "--b", "y"],
-        &["--config=c", "--a", "x", "--b", "y"],
-        &["--b", "y", "--a=x", "--config", "c"],
-    ];
-    for words in lines {
-        let text = answer(rt.alloc(), words)?;
-        assert!(rt; text.as_str() == "line c x y None", "{text}");
+    for row in files() {
+        check_line(&rt, rt.alloc(), row)?;
     }
     Ok(())
 }
 
-#[test]
-fn help_and_refusals_differ(rt: HostRuntime) -> Result<(), Fail> {
-    let lines: [(&[&str], &str); 8] = [
+fn help_and_refusals() -> [Row; 8] {
+    [
         (&["--help"], "help: "),
         (&["--config", "c", "-h"], "help: "),
         (&[], "refused: "),
@@ -62,10 +77,13 @@ fn help_and_refusals_differ(rt: HostRuntime) -> Result<(), Fail> {
             &["afdx_play", "--config", "c", "--a", "x", "--b", "y"],
             "refused: ",
         ),
-    ];
-    for (words, start) in lines {
-        let text = answer(rt.alloc(), words)?;
-        assert!(rt; text.as_str().starts_with(start), "{text}");
+    ]
+}
+
+#[test]
+fn help_and_refusals_differ(rt: HostRuntime) -> Result<(), Fail> {
+    for row in help_and_refusals() {
+        check_start(&rt, rt.alloc(), row)?;
     }
     Ok(())
 }
@@ -98,15 +116,6 @@ Usage: afdx_play --config <FILE> --a <FILE> --b <FILE>
 For more information, try '--help'.
 ";
     let text = answer(rt.alloc(), &["--config", "c", "--a", "x"])?;
-    assert!(rt; text.as_str() == expected, "{text}");
-    Ok(())
-}
-
-/// Words, and the text of their answer.
-type Row = (&'static [&'static str], &'static str);
-
-fn check_line(rt: &impl Abort, alloc: Global, (words, expected): Row) -> Result<(), Fail> {
-    let text = answer(alloc, words)?;
     assert!(rt; text.as_str() == expected, "{text}");
     Ok(())
 }
