@@ -3,9 +3,8 @@
 //! What the program does is `program::run`, and what it does it with is in `program::run_on`.
 #![tactic(auto)]
 
-use program::run_on;
-use std::process::ExitCode;
+use program::{Ended, run_on};
 
-fn main(rt: HostRuntime) -> ExitCode {
+fn main(rt: HostRuntime) -> Ended {
     run_on(&rt, rt.stdin(), rt.stdout(), rt.stderr())
 }

@@ -1,9 +1,8 @@
 //! The same call as in `afdx_play`, for the gate to run to a fault: a program has one stored run.
 #![tactic(auto)]
 
-use program::run_on;
-use std::process::ExitCode;
+use program::{Ended, run_on};
 
-fn main(rt: HostRuntime) -> ExitCode {
+fn main(rt: HostRuntime) -> Ended {
     run_on(&rt, rt.stdin(), rt.stdout(), rt.stderr())
 }

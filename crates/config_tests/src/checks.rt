@@ -1,8 +1,7 @@
 //! Checks of what a document comes to.
-use crate::configurations::config_of;
+use crate::configurations::read;
 use std::alloc::Global;
 use std::process::Abort;
-use std::test::Fail;
 use vl_config::{BUILT_IN, ConfigFault};
 
 /// The document has this fault, or none.
@@ -12,30 +11,32 @@ pub(crate) fn check_fault(
     document: &str,
     fault: Option<ConfigFault>,
 ) {
-    let answer = config_of(alloc, document).err();
-    assert_eq!(rt; answer, fault, "{document}");
+    let answer = read(alloc, document).err();
+    assert!(rt; answer == fault, "{document}");
+}
+
+/// The built-in configuration with `new` in place of each `old` has this fault, or none.
+fn check_change(rt: &impl Abort, alloc: Global, old: &str, new: &str, fault: Option<ConfigFault>) {
+    let document = BUILT_IN.replace(alloc, old, new).expect(rt, "memory");
+    check_fault(rt, alloc, document.as_str(), fault);
 }
 
 /// A text of the built-in configuration, what stands in its place, and the fault of that document.
 pub(crate) type Refused = (&'static str, &'static str, ConfigFault);
 
 /// Each change has its fault.
-pub(crate) fn check_refused(rt: &impl Abort, alloc: Global, rows: &[Refused]) -> Result<(), Fail> {
+pub(crate) fn check_refused(rt: &impl Abort, alloc: Global, rows: &[Refused]) {
     for (old, new, fault) in rows {
-        let document = BUILT_IN.replace(alloc, old, new)?;
-        check_fault(rt, alloc, document.as_str(), Some(*fault));
+        check_change(rt, alloc, old, new, Some(*fault));
     }
-    Ok(())
 }
 
 /// A text of the built-in configuration, and what stands in its place.
 pub(crate) type Taken = (&'static str, &'static str);
 
 /// Each change is taken.
-pub(crate) fn check_taken(rt: &impl Abort, alloc: Global, rows: &[Taken]) -> Result<(), Fail> {
+pub(crate) fn check_taken(rt: &impl Abort, alloc: Global, rows: &[Taken]) {
     for (old, new) in rows {
-        let document = BUILT_IN.replace(alloc, old, new)?;
-        check_fault(rt, alloc, document.as_str(), None);
+        check_change(rt, alloc, old, new, None);
     }
-    Ok(())
 }

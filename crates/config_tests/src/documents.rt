@@ -1,9 +1,8 @@
 //! The order in which a document is tested, and documents that are refused as a whole.
 use crate::checks::{Refused, check_fault, check_refused};
-use crate::configurations::{config_of, with_first_line};
+use crate::configurations::{config_of, with_first_line, with_more};
 use std::alloc::Global;
 use std::process::Abort;
-use std::test::Fail;
 use vl_config::ConfigFault::{DoubleLink, Kind, Missing, Range, Text};
 use vl_config::{BUILT_IN, Config, ConfigFault, Key};
 
@@ -25,8 +24,8 @@ fn first_lines() -> [Row; 9] {
 }
 
 fn check_first_line(rt: &impl Abort, alloc: Global, line: &str, fault: Option<ConfigFault>) {
-    let answer = with_first_line(alloc, line).err();
-    assert_eq!(rt; answer, fault, "{line}");
+    let document = with_first_line(rt, alloc, line);
+    check_fault(rt, alloc, document.as_str(), fault);
 }
 
 #[test]
@@ -67,18 +66,17 @@ fn keys_of_a_link() -> [Row; 4] {
     ]
 }
 
-fn check_keys(rt: &impl Abort, alloc: Global, (keys, fault): Row) -> Result<(), Fail> {
-    let document = format!(in alloc; "link = [{{ vl = 1, skew_max_us = 0, {keys} }}]")?;
+fn check_keys(rt: &impl Abort, alloc: Global, (keys, fault): Row) {
+    let document = format!(in alloc; "link = [{{ vl = 1, skew_max_us = 0, {keys} }}]");
+    let document = document.expect(rt, "memory");
     check_fault(rt, alloc, document.as_str(), Some(fault));
-    Ok(())
 }
 
 #[test]
-fn ports_are_tested_after_the_other_keys_of_their_link(rt: HostRuntime) -> Result<(), Fail> {
+fn ports_are_tested_after_the_other_keys_of_their_link(rt: HostRuntime) {
     for row in keys_of_a_link() {
-        check_keys(&rt, rt.alloc(), row)?;
+        check_keys(&rt, rt.alloc(), row);
     }
-    Ok(())
 }
 
 fn check_no_ports(rt: &impl Abort, config: &Config) {
@@ -86,10 +84,9 @@ fn check_no_ports(rt: &impl Abort, config: &Config) {
 }
 
 #[test]
-fn a_link_may_have_no_ports(rt: HostRuntime) -> Result<(), Fail> {
+fn a_link_may_have_no_ports(rt: HostRuntime) {
     let document = "link = [{ vl = 1, skew_max_us = 0, reassembly_us = 0 }]";
-    check_no_ports(&rt, &config_of(rt.alloc(), document)?);
-    Ok(())
+    check_no_ports(&rt, &config_of(&rt, rt.alloc(), document));
 }
 
 fn changes() -> [Refused; 2] {
@@ -100,13 +97,12 @@ fn changes() -> [Refused; 2] {
 }
 
 #[test]
-fn a_document_is_refused_for_one_wrong_value(rt: HostRuntime) -> Result<(), Fail> {
-    check_refused(&rt, rt.alloc(), &changes())
+fn a_document_is_refused_for_one_wrong_value(rt: HostRuntime) {
+    check_refused(&rt, rt.alloc(), &changes());
 }
 
 #[test]
-fn a_document_that_is_given_twice_is_refused(rt: HostRuntime) -> Result<(), Fail> {
-    let twice = format!(in rt.alloc(); "{BUILT_IN}{BUILT_IN}")?;
+fn a_document_that_is_given_twice_is_refused(rt: HostRuntime) {
+    let twice = with_more(&rt, rt.alloc(), BUILT_IN);
     check_fault(&rt, rt.alloc(), twice.as_str(), Some(DoubleLink));
-    Ok(())
 }

@@ -1,6 +1,5 @@
 //! The keys of a link: the faults of each, and the ends of its range.
 use crate::checks::{Refused, Taken, check_refused, check_taken};
-use std::test::Fail;
 use vl_config::ConfigFault::{Kind, Missing, Range};
 use vl_config::Key;
 
@@ -40,11 +39,11 @@ fn ends() -> [Taken; 10] {
 }
 
 #[test]
-fn each_key_of_a_link_has_its_faults(rt: HostRuntime) -> Result<(), Fail> {
-    check_refused(&rt, rt.alloc(), &faults())
+fn each_key_of_a_link_has_its_faults(rt: HostRuntime) {
+    check_refused(&rt, rt.alloc(), &faults());
 }
 
 #[test]
-fn each_range_of_a_link_is_taken_to_its_ends(rt: HostRuntime) -> Result<(), Fail> {
-    check_taken(&rt, rt.alloc(), &ends())
+fn each_range_of_a_link_is_taken_to_its_ends(rt: HostRuntime) {
+    check_taken(&rt, rt.alloc(), &ends());
 }

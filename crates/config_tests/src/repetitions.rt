@@ -1,8 +1,8 @@
 //! Link numbers, port names and UDP ports that are given twice.
 use crate::checks::{Refused, check_fault, check_refused};
-use std::alloc::{AllocError, Global};
+use crate::configurations::with_more;
+use std::alloc::Global;
 use std::process::Abort;
-use std::test::Fail;
 use test_inputs::SECOND_LINK;
 use vl_config::ConfigFault::{DoubleLink, DoubleName, DoublePort};
 use vl_config::{BUILT_IN, ConfigFault};
@@ -15,17 +15,17 @@ fn repetitions_in_a_link() -> [Refused; 2] {
 }
 
 #[test]
-fn names_and_udp_ports_are_given_once_in_a_link(rt: HostRuntime) -> Result<(), Fail> {
-    check_refused(&rt, rt.alloc(), &repetitions_in_a_link())
+fn names_and_udp_ports_are_given_once_in_a_link(rt: HostRuntime) {
+    check_refused(&rt, rt.alloc(), &repetitions_in_a_link());
 }
 
 #[test]
-fn a_name_is_tested_before_the_address_and_udp_port(rt: HostRuntime) -> Result<(), Fail> {
+fn a_name_is_tested_before_the_address_and_udp_port(rt: HostRuntime) {
     let alloc = rt.alloc();
-    let named = BUILT_IN.replace(alloc, "\"nav\"", "\"pos\"")?;
-    let both = named.replace(alloc, "5002", "5000")?;
+    let named = BUILT_IN.replace(alloc, "\"nav\"", "\"pos\"");
+    let named = named.expect(&rt, "memory");
+    let both = named.replace(alloc, "5002", "5000").expect(&rt, "memory");
     check_fault(&rt, alloc, both.as_str(), Some(DoubleName));
-    Ok(())
 }
 
 /// A text of the second link, what stands in its place, and the fault of the document if it has one.
@@ -41,25 +41,22 @@ fn changes_of_the_second_link() -> [Change; 5] {
     ]
 }
 
-fn check_change(rt: &impl Abort, alloc: Global, change: Change) -> Result<(), AllocError> {
+fn check_change(rt: &impl Abort, alloc: Global, change: Change) {
     let (old, new, fault) = change;
-    let link = SECOND_LINK.replace(alloc, old, new)?;
-    let document = format!(in alloc; "{BUILT_IN}{link}")?;
+    let link = SECOND_LINK.replace(alloc, old, new).expect(rt, "memory");
+    let document = with_more(rt, alloc, link.as_str());
     check_fault(rt, alloc, document.as_str(), fault);
-    Ok(())
 }
 
 #[test]
-fn link_numbers_and_names_are_given_once_over_the_links(rt: HostRuntime) -> Result<(), Fail> {
+fn link_numbers_and_names_are_given_once_over_the_links(rt: HostRuntime) {
     for change in changes_of_the_second_link() {
-        check_change(&rt, rt.alloc(), change)?;
+        check_change(&rt, rt.alloc(), change);
     }
-    Ok(())
 }
 
 #[test]
-fn a_repeated_link_number_is_tested_before_the_other_keys(rt: HostRuntime) -> Result<(), Fail> {
-    let document = format!(in rt.alloc(); "{BUILT_IN}\n[[link]]\nvl = 17\n")?;
+fn a_repeated_link_number_is_tested_before_the_other_keys(rt: HostRuntime) {
+    let document = with_more(&rt, rt.alloc(), "\n[[link]]\nvl = 17\n");
     check_fault(&rt, rt.alloc(), document.as_str(), Some(DoubleLink));
-    Ok(())
 }

@@ -1,9 +1,8 @@
 //! The settings that a document gives, and the look-ups in them.
-use crate::configurations::{both_links, changed, first, with_first_line};
+use crate::configurations::{both_links, config_of, first, with_first_line};
 use es_base::{LinkNo, PortKind, PortNo, PortSettings};
 use std::process::Abort;
-use std::test::Fail;
-use vl_config::Config;
+use vl_config::{BUILT_IN, Config};
 
 fn check_link(rt: &impl Abort, config: &Config) {
     assert_eq!(rt; config.constant(), [3, 0, 0, 0]);
@@ -16,9 +15,8 @@ fn check_link(rt: &impl Abort, config: &Config) {
 }
 
 #[test]
-fn a_link_has_the_settings_of_its_table(rt: HostRuntime) -> Result<(), Fail> {
-    check_link(&rt, &first(rt.alloc())?);
-    Ok(())
+fn a_link_has_the_settings_of_its_table(rt: HostRuntime) {
+    check_link(&rt, &first(&rt, rt.alloc()));
 }
 
 /// A port's name, address, UDP port, largest payload and kind.
@@ -60,9 +58,8 @@ fn check_ports(rt: &impl Abort, config: &Config) {
 }
 
 #[test]
-fn ports_have_the_settings_of_their_tables(rt: HostRuntime) -> Result<(), Fail> {
-    check_ports(&rt, &first(rt.alloc())?);
-    Ok(())
+fn ports_have_the_settings_of_their_tables(rt: HostRuntime) {
+    check_ports(&rt, &first(&rt, rt.alloc()));
 }
 
 fn check_constant(rt: &impl Abort, config: &Config, constant: [u8; 4]) {
@@ -74,17 +71,17 @@ fn check_off(rt: &impl Abort, config: &Config) {
 }
 
 #[test]
-fn the_constant_may_be_given(rt: HostRuntime) -> Result<(), Fail> {
-    let other = with_first_line(rt.alloc(), "constant = \"a1B2c3D4\"")?;
+fn the_constant_may_be_given(rt: HostRuntime) {
+    let other = with_first_line(&rt, rt.alloc(), "constant = \"a1B2c3D4\"");
+    let other = config_of(&rt, rt.alloc(), other.as_str());
     check_constant(&rt, &other, [0xa1, 0xb2, 0xc3, 0xd4]);
-    Ok(())
 }
 
 #[test]
-fn redundancy_management_may_be_switched_off(rt: HostRuntime) -> Result<(), Fail> {
-    let off = changed(rt.alloc(), "vl = 17", "vl = 17\nredundancy = false")?;
-    check_off(&rt, &off);
-    Ok(())
+fn redundancy_management_may_be_switched_off(rt: HostRuntime) {
+    let off = BUILT_IN.replace(rt.alloc(), "vl = 17", "vl = 17\nredundancy = false");
+    let off = off.expect(&rt, "memory");
+    check_off(&rt, &config_of(&rt, rt.alloc(), off.as_str()));
 }
 
 fn check_links_found(rt: &impl Abort, config: &Config) {
@@ -95,16 +92,14 @@ fn check_links_found(rt: &impl Abort, config: &Config) {
 }
 
 #[test]
-fn links_are_found_by_their_numbers(rt: HostRuntime) -> Result<(), Fail> {
-    check_links_found(&rt, &both_links(rt.alloc())?);
-    Ok(())
+fn links_are_found_by_their_numbers(rt: HostRuntime) {
+    check_links_found(&rt, &both_links(&rt, rt.alloc()));
 }
 
 #[test]
-fn a_copy_finds_the_same_links(rt: HostRuntime) -> Result<(), Fail> {
-    let config = both_links(rt.alloc())?;
-    check_links_found(&rt, &config.copy(rt.alloc())?);
-    Ok(())
+fn a_copy_finds_the_same_links(rt: HostRuntime) {
+    let config = both_links(&rt, rt.alloc());
+    check_links_found(&rt, &config.copy(rt.alloc()).expect(&rt, "memory"));
 }
 
 /// A link number, an address and a UDP port, and the port that is found.
@@ -127,10 +122,9 @@ fn check_look_up(rt: &impl Abort, config: &Config, row: LookUp) {
 }
 
 #[test]
-fn ports_are_found_by_their_addresses_and_udp_ports(rt: HostRuntime) -> Result<(), Fail> {
-    let config = both_links(rt.alloc())?;
+fn ports_are_found_by_their_addresses_and_udp_ports(rt: HostRuntime) {
+    let config = both_links(&rt, rt.alloc());
     for row in look_ups() {
         check_look_up(&rt, &config, row);
     }
-    Ok(())
 }

@@ -1,14 +1,14 @@
 //! Devices that are interrupted or fail, and what the player returns then.
-use crate::configurations::first;
-use crate::played::{Run, run_over};
+use crate::configurations::Document::BuiltIn;
+use crate::configurations::config_of;
+use crate::played::run_over;
 use es_base::Net;
 use std::alloc::Global;
 use std::process::Abort;
 use std::sync::Wait;
-use std::test::Fail;
+use test_inputs::ReadCall::{Ends, Fails, Gives, Interrupted};
 use test_inputs::{ReadCall, ScriptedReader, ScriptedWriter, WriteCall};
 use trace_player::{PlayFault, TraceCause};
-use vl_config::Config;
 
 /// The output for the trace `5 00`.
 const OUTPUT: &[u8] = b"5 A filtered too-short\n\
@@ -19,97 +19,107 @@ const OUTPUT: &[u8] = b"5 A filtered too-short\n\
     filtered A 1 0 0 0 0\n\
     filtered B 0 0 0 0 0\n";
 
-/// A reader that fails after these bytes.
-fn broken_after(bytes: &'static [u8]) -> ScriptedReader<'static> {
-    ScriptedReader::new([ReadCall::Gives(bytes), ReadCall::Fails, ReadCall::Ends])
+/// A trace, by what its reader does.
+#[derive(Clone, Copy)]
+enum Trace {
+    /// It has no bytes.
+    Empty,
+    /// It is `5 00`.
+    Whole,
+    /// It is `5 00`, after an interrupted call and before another.
+    Interrupted,
+    /// It is `5 00`, after two interrupted calls.
+    InterruptedTwice,
+    /// It is `5 0`.
+    Odd,
+    /// A read fails at once.
+    Broken,
+    /// A read fails after `5 00`.
+    BrokenWhole,
+    /// A read fails after `5 0`.
+    BrokenOdd,
+}
+
+fn calls_of(trace: Trace) -> [ReadCall<'static>; 3] {
+    match trace {
+        Trace::Empty => [Gives(b""), Ends, Ends],
+        Trace::Whole => [Gives(b"5 00"), Ends, Ends],
+        Trace::Interrupted => [Interrupted, Gives(b"5 00"), Interrupted],
+        Trace::InterruptedTwice => [Interrupted, Interrupted, Gives(b"5 00")],
+        Trace::Odd => [Gives(b"5 0"), Ends, Ends],
+        Trace::Broken => [Gives(b""), Fails, Ends],
+        Trace::BrokenWhole => [Gives(b"5 00"), Fails, Ends],
+        Trace::BrokenOdd => [Gives(b"5 0"), Fails, Ends],
+    }
 }
 
 /// Two traces, what the player returns, and whether a read of each failed.
-type Reads = (
-    ScriptedReader<'static>,
-    ScriptedReader<'static>,
-    Result<(), PlayFault>,
-    (bool, bool),
-);
+type Reads = (Trace, Trace, Result<(), PlayFault>, (bool, bool));
+
+const READ_A: PlayFault = PlayFault::Read { net: Net::A };
+
+const READ_B: PlayFault = PlayFault::Read { net: Net::B };
+
+const HEX: PlayFault = PlayFault::Trace {
+    net: Net::A,
+    line: 1,
+    cause: TraceCause::Hex,
+};
 
 fn reads() -> [Reads; 7] {
-    let empty = ScriptedReader::of(b"");
-    let of_a = PlayFault::Read { net: Net::A };
-    let of_b = PlayFault::Read { net: Net::B };
-    let (net, line, cause) = (Net::A, 1, TraceCause::Hex);
-    let hex = PlayFault::Trace { net, line, cause };
-    let good = ScriptedReader::of(b"5 00");
-    let interrupted = [
-        ReadCall::Interrupted,
-        ReadCall::Gives(b"5 00"),
-        ReadCall::Interrupted,
-    ];
-    let twice = [
-        ReadCall::Interrupted,
-        ReadCall::Interrupted,
-        ReadCall::Gives(b"5 00"),
-    ];
+    use Trace::{BrokenOdd, BrokenWhole, Empty, Whole};
     [
-        (good, empty, Ok(()), (false, false)),
+        (Whole, Empty, Ok(()), (false, false)),
         // An interrupted call is made again, however often.
-        (
-            ScriptedReader::new(interrupted),
-            empty,
-            Ok(()),
-            (false, false),
-        ),
-        (ScriptedReader::new(twice), empty, Ok(()), (false, false)),
-        (broken_after(b"5 00"), empty, Err(of_a), (true, false)),
+        (Trace::Interrupted, Empty, Ok(()), (false, false)),
+        (Trace::InterruptedTwice, Empty, Ok(()), (false, false)),
+        (BrokenWhole, Empty, Err(READ_A), (true, false)),
         // A failed read comes before the fault of the text.
-        (broken_after(b"5 0"), empty, Err(of_a), (true, false)),
-        (good, broken_after(b"5 00"), Err(of_b), (false, true)),
+        (BrokenOdd, Empty, Err(READ_A), (true, false)),
+        (Whole, BrokenWhole, Err(READ_B), (false, true)),
         // Trace A is checked before trace B is read.
-        (
-            ScriptedReader::of(b"5 0"),
-            broken_after(b""),
-            Err(hex),
-            (false, false),
-        ),
+        (Trace::Odd, Trace::Broken, Err(HEX), (false, false)),
     ]
 }
 
-fn check_reads(rt: &(impl Abort + Wait), alloc: Global, config: &Config, row: Reads) {
+fn check_reads(rt: &(impl Abort + Wait), alloc: Global, row: Reads) {
     let (a, b, wanted, (failed_a, failed_b)) = row;
-    let run = run_over(rt, alloc, config, (a, b, Vec::new(alloc)), None);
-    assert_eq!(rt; run.answer, wanted);
-    assert_eq!(rt; (run.a.failed, run.b.failed), (failed_a, failed_b));
-    assert_eq!(rt; run.out.inner.is_empty(), wanted.is_err());
+    let config = config_of(rt, alloc, BuiltIn);
+    let a = ScriptedReader::new(calls_of(a));
+    let b = ScriptedReader::new(calls_of(b));
+    let run = run_over(rt, alloc, &config, (a, b, Vec::new(alloc)), None);
+    assert!(rt; run.answer == wanted, "{wanted:?}");
+    assert!(rt;
+        (run.a.failed, run.b.failed) == (failed_a, failed_b),
+        "{wanted:?}"
+    );
+    assert!(rt; run.out.inner.is_empty() == wanted.is_err(), "{wanted:?}");
 }
 
 #[test]
-fn failed_reads_are_returned_and_interrupted_ones_made_again(rt: HostRuntime) -> Result<(), Fail> {
-    let config = first(rt.alloc())?;
+fn failed_reads_are_returned_and_interrupted_ones_made_again(rt: HostRuntime) {
     for row in reads() {
-        check_reads(&rt, rt.alloc(), &config, row);
+        check_reads(&rt, rt.alloc(), row);
     }
-    Ok(())
 }
 
 /// What a sink does, how many bytes of the output it has then, and what the player returns.
-type Writes = (&'static [WriteCall], usize, Result<(), PlayFault>);
+type Writes<'a> = (&'a [WriteCall], usize, Result<(), PlayFault>);
 
-fn writes() -> [Writes; 7] {
+fn writes() -> [Writes<'static>; 7] {
     let fault = Err(PlayFault::Write);
+    let all = OUTPUT.len();
     [
-        (&[], OUTPUT.len(), Ok(())),
-        (
-            &[WriteCall::Interrupted, WriteCall::Takes(1)],
-            OUTPUT.len(),
-            Ok(()),
-        ),
-        (&[WriteCall::Interrupted; 1000], OUTPUT.len(), Ok(())),
+        (&[], all, Ok(())),
+        (&[WriteCall::Interrupted, WriteCall::Takes(1)], all, Ok(())),
+        (&[WriteCall::Interrupted; 1000], all, Ok(())),
         (
             &[
                 WriteCall::Takes(5),
                 WriteCall::Interrupted,
                 WriteCall::Takes(17),
             ],
-            OUTPUT.len(),
+            all,
             Ok(()),
         ),
         (&[WriteCall::Takes(0)], 0, fault),
@@ -119,47 +129,34 @@ fn writes() -> [Writes; 7] {
 }
 
 /// A run over the trace `5 00` of network A, with a sink that does this.
-fn run_into<'a>(
-    rt: &impl Wait,
-    alloc: Global,
-    config: &Config,
-    calls: &'a [WriteCall],
-) -> Run<&'static [u8], &'static [u8], ScriptedWriter<'a>> {
+fn check_writes(rt: &(impl Abort + Wait), alloc: Global, row: Writes<'_>) {
+    let (calls, count, wanted) = row;
+    let config = config_of(rt, alloc, BuiltIn);
     let written = Vec::new(alloc);
     let out = ScriptedWriter { calls, written };
     let devices = (b"5 00".as_slice(), b"".as_slice(), out);
-    run_over(rt, alloc, config, devices, None)
-}
-
-fn check_writes(rt: &(impl Abort + Wait), alloc: Global, config: &Config, row: Writes) {
-    let (calls, count, wanted) = row;
-    let run = run_into(rt, alloc, config, calls);
-    assert_eq!(rt; run.answer, wanted);
-    assert_eq!(rt; run.out.failed, wanted.is_err());
-    assert_eq!(rt; OUTPUT.get(..count), Some(run.out.inner.written.as_slice()));
+    let run = run_over(rt, alloc, &config, devices, None);
+    assert!(rt; run.answer == wanted, "{count} bytes, {wanted:?}");
+    assert!(rt; run.out.failed == wanted.is_err(), "{count} bytes");
+    let written = run.out.inner.written.as_slice();
+    assert!(rt; OUTPUT.get(..count) == Some(written), "{count} bytes");
 }
 
 #[test]
-fn failed_writes_are_returned_and_interrupted_ones_made_again(rt: HostRuntime) -> Result<(), Fail> {
-    let config = first(rt.alloc())?;
+fn failed_writes_are_returned_and_interrupted_ones_made_again(rt: HostRuntime) {
     for row in writes() {
-        check_writes(&rt, rt.alloc(), &config, row);
+        check_writes(&rt, rt.alloc(), row);
     }
-    Ok(())
 }
 
-fn check_room(rt: &(impl Abort + Wait), alloc: Global, config: &Config, room: usize) {
+fn check_room(rt: &(impl Abort + Wait), alloc: Global, room: usize) {
     let calls = [WriteCall::Takes(room), WriteCall::Takes(0)];
-    let run = run_into(rt, alloc, config, &calls);
-    assert_eq!(rt; run.answer, Err(PlayFault::Write), "room for {room}");
-    assert_eq!(rt; OUTPUT.get(..room), Some(run.out.inner.written.as_slice()));
+    check_writes(rt, alloc, (&calls, room, Err(PlayFault::Write)));
 }
 
 #[test]
-fn a_sink_that_takes_nothing_more_is_a_failed_write(rt: HostRuntime) -> Result<(), Fail> {
-    let config = first(rt.alloc())?;
+fn a_sink_that_takes_nothing_more_is_a_failed_write(rt: HostRuntime) {
     for room in 0..23 {
-        check_room(&rt, rt.alloc(), &config, room);
+        check_room(&rt, rt.alloc(), room);
     }
-    Ok(())
 }

@@ -1,12 +1,12 @@
 //! Traces given to the player, and the output that they have to come to.
-use crate::configurations::first;
-use es_base::{Memory, Net};
+use crate::configurations::{Document, config_of};
+use es_base::Net;
 use std::alloc::Global;
 use std::io::{Read, Write};
 use std::process::Abort;
 use std::sync::Wait;
-use std::test::Fail;
-use test_inputs::smallest;
+use test_inputs::fragments::{PacketName, padding_after};
+use test_inputs::{ETHERNET, IP, PAYLOAD, UDP, frame_of};
 use trace_player::{Device, PlayFault, play};
 use vl_config::Config;
 
@@ -35,82 +35,144 @@ pub(crate) fn run_over<A: Read, B: Read, W: Write>(
     Run { answer, a, b, out }
 }
 
-/// What the player returns for two traces with a report at this time in microseconds, and what it wrote.
-pub(crate) fn played(
-    rt: &impl Wait,
-    alloc: Global,
-    config: &Config,
-    a: &str,
-    b: &str,
-    at: Option<u64>,
-) -> (Result<(), PlayFault>, Vec<u8>) {
-    let devices = (a.as_bytes(), b.as_bytes(), Vec::new(alloc));
-    let Run { answer, out, .. } = run_over(rt, alloc, config, devices, at);
-    (answer, out.inner)
+/// What the player has to do with two traces.
+#[derive(Clone, Copy)]
+pub(crate) enum Wanted<'a> {
+    /// It writes these lines and then a report.
+    Lines(&'a str),
+    /// It writes this, with the report.
+    Whole(&'a str),
+    /// It returns this fault, and writes nothing.
+    Fault(PlayFault),
 }
 
 /// A report begins with the lines of a port, or where there are none with counts.
-fn begins_a_report(text: &[u8]) -> bool {
-    text.starts_with(b"port ") || text.starts_with(b"count ")
+fn is_lines_and_report(output: &[u8], lines: &str) -> bool {
+    match output.strip_prefix(lines.as_bytes()) {
+        Some(report) => report.starts_with(b"port ") || report.starts_with(b"count "),
+        None => false,
+    }
+}
+
+fn is_wanted(answer: Result<(), PlayFault>, output: &[u8], wanted: Wanted<'_>) -> bool {
+    match wanted {
+        Wanted::Lines(lines) => answer == Ok(()) && is_lines_and_report(output, lines),
+        Wanted::Whole(whole) => answer == Ok(()) && output == whole.as_bytes(),
+        Wanted::Fault(fault) => answer == Err(fault) && output.is_empty(),
+    }
+}
+
+/// The player does this with two traces, and with a report at this time in microseconds.
+pub(crate) fn check_played(
+    rt: &(impl Abort + Wait),
+    alloc: Global,
+    document: Document,
+    (a, b): (&str, &str),
+    at: Option<u64>,
+    wanted: Wanted<'_>,
+) {
+    let config = config_of(rt, alloc, document);
+    let devices = (a.as_bytes(), b.as_bytes(), Vec::new(alloc));
+    let run = run_over(rt, alloc, &config, devices, at);
+    let is_wanted = is_wanted(run.answer, run.out.inner.as_slice(), wanted);
+    assert!(rt; is_wanted, "{a}, {b}: {:?}", run.answer);
 }
 
 /// The player accepts these traces, and writes these lines and then a report.
 pub(crate) fn check_output(
     rt: &(impl Abort + Wait),
     alloc: Global,
-    config: &Config,
-    a: &str,
-    b: &str,
+    document: Document,
+    traces: (&str, &str),
     lines: &str,
 ) {
-    let (answer, written) = played(rt, alloc, config, a, b, None);
-    assert_eq!(rt; answer, Ok(()));
-    let report = written.strip_prefix(lines.as_bytes());
-    assert!(rt; report.is_some_and(begins_a_report), "{lines}");
+    check_played(rt, alloc, document, traces, None, Wanted::Lines(lines));
 }
 
-/// The line of a trace for a frame that came at `time` microseconds.
-pub(crate) fn trace_line(alloc: Global, time: u64, frame: &[u8]) -> Result<String, Memory> {
-    let digits = hex::encode(alloc, frame)?;
-    format!(in alloc; "{time} {digits}\n")
+/// A frame of 60 octets, but for its sequence number.
+#[derive(Clone, Copy)]
+pub(crate) enum Frame {
+    /// The smallest frame of link 18.
+    Of18,
+    /// The smallest frame of link 17 with these first 14 octets.
+    Ethernet(&'static str),
+    /// That with this IPv4 header.
+    Ip(&'static str),
+    /// That with this UDP header.
+    Udp(&'static str),
+    /// That with this payload.
+    Payload(&'static str),
+    /// A packet, and what fills its frame.
+    Packet(PacketName),
 }
 
-/// The network, arrival time in microseconds and sequence number of a smallest frame, and the words of
-/// its verdict.
-pub(crate) type Step = (Net, u64, u8, &'static str);
+/// The smallest frame, of link 17, for `pos`.
+pub(crate) const SMALLEST: Frame = Frame::Udp(UDP);
 
-/// The trace of one network's frames.
-pub(crate) fn trace_of(alloc: Global, net: Net, steps: &[Step]) -> Result<String, Fail> {
-    let mut trace = String::new(alloc);
-    for (step_net, time, sequence_number, _) in steps {
-        if *step_net == net {
-            let frame = smallest(alloc, *sequence_number)?;
-            trace.push_str(trace_line(alloc, *time, &frame)?.as_str())?;
+/// The smallest frame, but for `nav`.
+pub(crate) const NAV: Frame = Frame::Udp("1389138a00190000");
+
+/// That with no octets for `nav`.
+pub(crate) const EMPTY_NAV: Frame = Frame::Udp("1389138a00080000");
+
+/// The parts of a frame: its first 14 octets, its IPv4 header, its UDP header, and its payload. Of a packet
+/// the octets after the IPv4 header, and what fills the frame.
+fn texts_of(frame: Frame) -> [&'static str; 4] {
+    match frame {
+        Frame::Of18 => {
+            let ethernet = "0300000000120200000001200800";
+            let ip = "4500002d000100000111cdcb0a010101e0e00012";
+            [ethernet, ip, UDP, PAYLOAD]
+        }
+        Frame::Ethernet(ethernet) => [ethernet, IP, UDP, PAYLOAD],
+        Frame::Ip(ip) => [ETHERNET, ip, UDP, PAYLOAD],
+        Frame::Udp(udp) => [ETHERNET, IP, udp, PAYLOAD],
+        Frame::Payload(payload) => [ETHERNET, IP, UDP, payload],
+        Frame::Packet(packet) => {
+            let (ip, octets) = packet.texts();
+            [ETHERNET, ip, octets, padding_after(octets)]
         }
     }
-    Ok(trace)
 }
 
-/// The output for frames of link 17 in this order.
-pub(crate) fn output_of(alloc: Global, steps: &[Step]) -> Result<String, Memory> {
-    let mut output = String::new(alloc);
-    for (place, (net, time, _, words)) in steps.iter().enumerate() {
-        writeln!(output, "{time} {net} vl 17 {place} {words}")?;
+/// Adds the line of a frame with these parts and this sequence number, that came at `time` microseconds.
+pub(crate) fn add_line(
+    rt: &impl Abort,
+    alloc: Global,
+    trace: &mut String,
+    time: u64,
+    texts: &[&str],
+    sequence_number: u8,
+) {
+    let frame = frame_of(alloc, texts, sequence_number).expect(rt, "a frame");
+    let digits = hex::encode(alloc, &frame).expect(rt, "memory");
+    writeln!(trace, "{time} {digits}").expect(rt, "memory");
+}
+
+/// The network of a frame, its arrival time in microseconds, the frame, and its sequence number.
+pub(crate) type Step = (Net, u64, Frame, u8);
+
+/// The trace of one network's frames.
+pub(crate) fn trace_of(rt: &impl Abort, alloc: Global, net: Net, steps: &[Step]) -> String {
+    let mut trace = String::new(alloc);
+    for (step_net, time, frame, sequence_number) in steps {
+        if *step_net == net {
+            let texts = texts_of(*frame);
+            add_line(rt, alloc, &mut trace, *time, &texts, *sequence_number);
+        }
     }
-    Ok(output)
+    trace
 }
 
-/// Smallest frames of link 17, in the order in which they are played, come to these verdicts with the
-/// built-in configuration.
+/// These frames, in the order in which they are played, come to these lines.
 pub(crate) fn check_steps(
     rt: &(impl Abort + Wait),
     alloc: Global,
+    document: Document,
     steps: &[Step],
-) -> Result<(), Fail> {
-    let config = first(alloc)?;
-    let a = trace_of(alloc, Net::A, steps)?;
-    let b = trace_of(alloc, Net::B, steps)?;
-    let output = output_of(alloc, steps)?;
-    check_output(rt, alloc, &config, a.as_str(), b.as_str(), output.as_str());
-    Ok(())
+    lines: &str,
+) {
+    let a = trace_of(rt, alloc, Net::A, steps);
+    let b = trace_of(rt, alloc, Net::B, steps);
+    check_output(rt, alloc, document, (a.as_str(), b.as_str()), lines);
 }

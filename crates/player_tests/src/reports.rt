@@ -1,70 +1,62 @@
 //! Whole outputs, with their reports. The values are worked out by hand from the formats.
-use crate::configurations::{changed, first};
-use crate::played::{played, trace_line};
-use crate::queues::packet_line;
+use crate::configurations::Document;
+use crate::configurations::Document::{BuiltIn, Depth};
+use crate::played::{EMPTY_NAV, NAV, SMALLEST, Step, Wanted, check_played, trace_of};
+use crate::queues::fragments;
+use es_base::Net::A;
 use std::alloc::Global;
 use std::process::Abort;
 use std::sync::Wait;
-use std::test::Fail;
-use test_inputs::fragments::PacketName::{First, Last};
-use test_inputs::{ETHERNET, IP, PAYLOAD, frame_of, smallest};
-use vl_config::Config;
 
-/// The player writes this whole output for two traces, with a report at this time in microseconds.
-fn check_whole(
+/// The player writes this whole output for these frames of A and this trace of B.
+fn check_frames(
     rt: &(impl Abort + Wait),
     alloc: Global,
-    config: &Config,
-    (a, b): (&str, &str),
+    document: Document,
+    (steps, b): (&[Step], &str),
     at: Option<u64>,
     output: &str,
 ) {
-    let (answer, written) = played(rt, alloc, config, a, b, at);
-    assert_eq!(rt; answer, Ok(()));
-    assert!(rt; written.as_slice() == output.as_bytes(), "{output}");
-}
-
-/// The output for one smallest frame at 1000 microseconds, with the freshness of its message.
-fn one_message(alloc: Global, state: &str) -> Result<String, Fail> {
-    Ok(format!(in alloc;
-        "1000 A vl 17 0 sampled pos 1\n\
-        port pos sampling 1 1000 17 {state} 0102030405060708090a0b0c0d0e0f1011\n\
-        port nav queuing 0\n\
-        count 17 A 0 0 0 0 0 0 0 0 0 1 0 0 0\n\
-        count 17 B 0 0 0 0 0 0 0 0 0 0 0 0 0\n\
-        filtered A 0 0 0 0 0\n\
-        filtered B 0 0 0 0 0\n"
-    )?)
-}
-
-/// The message is fresh or stale in a report at this time, in microseconds.
-fn check_freshness(
-    rt: &(impl Abort + Wait),
-    alloc: Global,
-    at: Option<u64>,
-    state: &str,
-) -> Result<(), Fail> {
-    let config = first(alloc)?;
-    let trace = trace_line(alloc, 1000, &smallest(alloc, 0)?)?;
-    let output = one_message(alloc, state)?;
-    check_whole(
+    let a = trace_of(rt, alloc, A, steps);
+    check_played(
         rt,
         alloc,
-        &config,
-        (trace.as_str(), ""),
+        document,
+        (a.as_str(), b),
         at,
-        output.as_str(),
+        Wanted::Whole(output),
     );
-    Ok(())
 }
+
+/// One smallest frame at 1000 microseconds.
+const ONE: [Step; 1] = [(A, 1000, SMALLEST, 0)];
+
+/// The output for this frame, where its message is fresh.
+const FRESH: &str = "1000 A vl 17 0 sampled pos 1\n\
+    port pos sampling 1 1000 17 fresh 0102030405060708090a0b0c0d0e0f1011\n\
+    port nav queuing 0\n\
+    count 17 A 0 0 0 0 0 0 0 0 0 1 0 0 0\n\
+    count 17 B 0 0 0 0 0 0 0 0 0 0 0 0 0\n\
+    filtered A 0 0 0 0 0\n\
+    filtered B 0 0 0 0 0\n";
+
+/// The output for this frame, where its message is stale.
+const STALE: &str = "1000 A vl 17 0 sampled pos 1\n\
+    port pos sampling 1 1000 17 stale 0102030405060708090a0b0c0d0e0f1011\n\
+    port nav queuing 0\n\
+    count 17 A 0 0 0 0 0 0 0 0 0 1 0 0 0\n\
+    count 17 B 0 0 0 0 0 0 0 0 0 0 0 0 0\n\
+    filtered A 0 0 0 0 0\n\
+    filtered B 0 0 0 0 0\n";
 
 /// The refresh period is 20,000 microseconds.
 #[test]
-fn the_age_of_a_message_is_that_at_the_time_of_the_report(rt: HostRuntime) -> Result<(), Fail> {
-    check_freshness(&rt, rt.alloc(), None, "fresh")?;
-    check_freshness(&rt, rt.alloc(), Some(0), "fresh")?;
-    check_freshness(&rt, rt.alloc(), Some(21_000), "fresh")?;
-    check_freshness(&rt, rt.alloc(), Some(21_001), "stale")
+fn the_age_of_a_message_is_that_at_the_time_of_the_report(rt: HostRuntime) {
+    let alloc = rt.alloc();
+    check_frames(&rt, alloc, BuiltIn, (&ONE, ""), None, FRESH);
+    check_frames(&rt, alloc, BuiltIn, (&ONE, ""), Some(0), FRESH);
+    check_frames(&rt, alloc, BuiltIn, (&ONE, ""), Some(21_000), FRESH);
+    check_frames(&rt, alloc, BuiltIn, (&ONE, ""), Some(21_001), STALE);
 }
 
 /// The greatest time of both traces is that of a filtered frame of B.
@@ -77,16 +69,10 @@ const LATE: &str = "1000 A vl 17 0 sampled pos 1\n\
     filtered A 0 0 0 0 0\n\
     filtered B 1 0 0 0 0\n";
 
-fn check_late(rt: &(impl Abort + Wait), alloc: Global) -> Result<(), Fail> {
-    let config = first(alloc)?;
-    let trace = trace_line(alloc, 1000, &smallest(alloc, 0)?)?;
-    check_whole(rt, alloc, &config, (trace.as_str(), "21001 00"), None, LATE);
-    Ok(())
-}
-
 #[test]
-fn the_report_is_at_the_greatest_time_of_both_traces(rt: HostRuntime) -> Result<(), Fail> {
-    check_late(&rt, rt.alloc())
+fn the_report_is_at_the_greatest_time_of_both_traces(rt: HostRuntime) {
+    let traces = (ONE.as_slice(), "21001 00");
+    check_frames(&rt, rt.alloc(), BuiltIn, traces, None, LATE);
 }
 
 const NO_FRAMES: &str = "port pos sampling empty\n\
@@ -96,16 +82,11 @@ const NO_FRAMES: &str = "port pos sampling empty\n\
     filtered A 0 0 0 0 0\n\
     filtered B 0 0 0 0 0\n";
 
-fn check_no_frames(rt: &(impl Abort + Wait), alloc: Global) -> Result<(), Fail> {
-    let config = first(alloc)?;
-    check_whole(rt, alloc, &config, ("", "# nothing\n"), None, NO_FRAMES);
-    check_whole(rt, alloc, &config, ("", ""), Some(5), NO_FRAMES);
-    Ok(())
-}
-
 #[test]
-fn two_empty_traces_have_a_report(rt: HostRuntime) -> Result<(), Fail> {
-    check_no_frames(&rt, rt.alloc())
+fn two_empty_traces_have_a_report(rt: HostRuntime) {
+    let alloc = rt.alloc();
+    check_frames(&rt, alloc, BuiltIn, (&[], "# nothing\n"), None, NO_FRAMES);
+    check_frames(&rt, alloc, BuiltIn, (&[], ""), Some(5), NO_FRAMES);
 }
 
 /// A message that is joined of two fragments.
@@ -119,23 +100,15 @@ const JOINED: &str = "1000 A vl 17 0 fragment-held\n\
     filtered A 0 0 0 0 0\n\
     filtered B 0 0 0 0 0\n";
 
-fn check_joined(rt: &(impl Abort + Wait), alloc: Global) -> Result<(), Fail> {
-    let config = first(alloc)?;
-    let mut trace = packet_line(alloc, 1000, 1, First)?;
-    trace.push_str(packet_line(alloc, 1100, 2, Last)?.as_str())?;
-    check_whole(rt, alloc, &config, (trace.as_str(), ""), None, JOINED);
-    Ok(())
-}
-
 #[test]
-fn a_joined_message_is_in_the_report(rt: HostRuntime) -> Result<(), Fail> {
-    check_joined(&rt, rt.alloc())
+fn a_joined_message_is_in_the_report(rt: HostRuntime) {
+    let frames = fragments();
+    check_frames(&rt, rt.alloc(), BuiltIn, (&frames, ""), None, JOINED);
 }
 
-/// The UDP header of the smallest frame, for `nav`; and of no octets after it.
-const NAV_UDP: &str = "1389138a00190000";
-
-const EMPTY_UDP: &str = "1389138a00080000";
+fn queued() -> [Step; 3] {
+    [(A, 10, EMPTY_NAV, 1), (A, 20, NAV, 2), (A, 30, NAV, 3)]
+}
 
 /// A queue of depth 2: two messages, the first of them empty, and a third that is lost.
 const QUEUED: &str = "10 A vl 17 0 queued nav\n\
@@ -150,19 +123,8 @@ const QUEUED: &str = "10 A vl 17 0 queued nav\n\
     filtered A 0 0 0 0 0\n\
     filtered B 0 0 0 0 0\n";
 
-fn check_queued(rt: &(impl Abort + Wait), alloc: Global) -> Result<(), Fail> {
-    let config = changed(alloc, "depth = 4\n", "depth = 2\n")?;
-    let mut trace = String::new(alloc);
-    let frames = [(10, 1, EMPTY_UDP), (20, 2, NAV_UDP), (30, 3, NAV_UDP)];
-    for (time, number, udp) in frames {
-        let frame = frame_of(alloc, &[ETHERNET, IP, udp, PAYLOAD], number)?;
-        trace.push_str(trace_line(alloc, time, &frame)?.as_str())?;
-    }
-    check_whole(rt, alloc, &config, (trace.as_str(), ""), None, QUEUED);
-    Ok(())
-}
-
 #[test]
-fn queued_messages_are_in_the_report_in_their_order(rt: HostRuntime) -> Result<(), Fail> {
-    check_queued(&rt, rt.alloc())
+fn queued_messages_are_in_the_report_in_their_order(rt: HostRuntime) {
+    let frames = queued();
+    check_frames(&rt, rt.alloc(), Depth(2), (&frames, ""), None, QUEUED);
 }

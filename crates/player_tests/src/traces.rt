@@ -1,13 +1,13 @@
 //! Traces that are read and traces that are refused.
-use crate::configurations::first;
-use crate::played::{check_output, played};
+use crate::configurations::Document::BuiltIn;
+use crate::configurations::config_of;
+use crate::played::Wanted::Fault;
+use crate::played::{check_output, check_played};
 use es_base::Net;
-use std::alloc::{AllocError, Global};
+use std::alloc::Global;
 use std::process::Abort;
 use std::sync::Wait;
-use std::test::Fail;
 use trace_player::{PlayFault, TraceCause, play_texts};
-use vl_config::Config;
 
 /// A trace of network A, and the output.
 type Accepted = (&'static str, &'static str);
@@ -31,24 +31,22 @@ fn accepted() -> [Accepted; 6] {
 }
 
 #[test]
-fn empty_lines_and_comments_are_skipped(rt: HostRuntime) -> Result<(), Fail> {
-    let config = first(rt.alloc())?;
+fn empty_lines_and_comments_are_skipped(rt: HostRuntime) {
     for (trace, output) in accepted() {
-        check_output(&rt, rt.alloc(), &config, trace, "", output);
+        check_output(&rt, rt.alloc(), BuiltIn, (trace, ""), output);
     }
-    Ok(())
 }
 
-fn check_texts(rt: &(impl Abort + Wait), alloc: Global, config: &Config) {
-    let output = play_texts(rt, alloc, config, b"5 00\n", b"4 0000", None).ok();
-    let wanted: &[u8] = b"4 B filtered too-short\n5 A filtered too-short\nport pos ";
-    assert!(rt; output.is_some_and(|output| output.starts_with(wanted)));
+fn check_texts(rt: &(impl Abort + Wait), alloc: Global) {
+    let config = config_of(rt, alloc, BuiltIn);
+    let output = play_texts(rt, alloc, &config, b"5 00\n", b"4 0000", None);
+    let output = output.expect(rt, "an output");
+    assert!(rt; output.starts_with(b"4 B filtered too-short\n5 A filtered too-short\nport pos "));
 }
 
 #[test]
-fn texts_in_memory_are_played(rt: HostRuntime) -> Result<(), Fail> {
-    check_texts(&rt, rt.alloc(), &first(rt.alloc())?);
-    Ok(())
+fn texts_in_memory_are_played(rt: HostRuntime) {
+    check_texts(&rt, rt.alloc());
 }
 
 /// A trace of network A, and the number and the cause of its first faulty line.
@@ -74,65 +72,46 @@ fn refused() -> [Refused<'static>; 14] {
     ]
 }
 
-/// The player refuses these traces for this fault, and writes nothing.
-fn check_refusal(
-    rt: &(impl Abort + Wait),
-    alloc: Global,
-    config: &Config,
-    (a, b): (&str, &str),
-    fault: PlayFault,
-) {
-    let (answer, written) = played(rt, alloc, config, a, b, None);
-    assert_eq!(rt; answer, Err(fault), "{a}, {b}");
-    assert!(rt; written.is_empty(), "{a}, {b}");
-}
-
-fn check_refused(rt: &(impl Abort + Wait), alloc: Global, config: &Config, row: Refused<'_>) {
+/// The player refuses this trace of network A for the fault of this line, and writes nothing.
+fn check_refused(rt: &(impl Abort + Wait), alloc: Global, row: Refused<'_>) {
     let (trace, line, cause) = row;
     let net = Net::A;
     let fault = PlayFault::Trace { net, line, cause };
-    check_refusal(rt, alloc, config, (trace, ""), fault);
+    check_played(rt, alloc, BuiltIn, (trace, ""), None, Fault(fault));
 }
 
 #[test]
-fn a_trace_is_refused_for_its_first_faulty_line(rt: HostRuntime) -> Result<(), Fail> {
-    let config = first(rt.alloc())?;
+fn a_trace_is_refused_for_its_first_faulty_line(rt: HostRuntime) {
     for row in refused() {
-        check_refused(&rt, rt.alloc(), &config, row);
+        check_refused(&rt, rt.alloc(), row);
     }
-    Ok(())
 }
 
 #[test]
-fn a_fault_of_trace_b_names_its_network(rt: HostRuntime) -> Result<(), Fail> {
-    let config = first(rt.alloc())?;
+fn a_fault_of_trace_b_names_its_network(rt: HostRuntime) {
     let fault = PlayFault::Trace {
         net: Net::B,
         line: 2,
         cause: TraceCause::Hex,
     };
-    check_refusal(&rt, rt.alloc(), &config, ("1000 00", "\n1000 0"), fault);
-    Ok(())
+    let traces = ("1000 00", "\n1000 0");
+    check_played(&rt, rt.alloc(), BuiltIn, traces, None, Fault(fault));
 }
 
 /// A comment of this many bytes.
-fn comment(alloc: Global, bytes: usize) -> Result<String, AllocError> {
-    "#".repeat(alloc, bytes)
+fn comment(rt: &impl Abort, alloc: Global, bytes: usize) -> String {
+    "#".repeat(alloc, bytes).expect(rt, "memory")
 }
 
 #[test]
-fn a_line_has_at_most_8192_bytes(rt: HostRuntime) -> Result<(), Fail> {
-    let config = first(rt.alloc())?;
-    let longest = comment(rt.alloc(), 8192)?;
-    check_output(&rt, rt.alloc(), &config, longest.as_str(), "", "");
-    Ok(())
+fn a_line_has_at_most_8192_bytes(rt: HostRuntime) {
+    let longest = comment(&rt, rt.alloc(), 8192);
+    check_output(&rt, rt.alloc(), BuiltIn, (longest.as_str(), ""), "");
 }
 
 #[test]
-fn a_longer_line_is_refused(rt: HostRuntime) -> Result<(), Fail> {
-    let config = first(rt.alloc())?;
-    let longer = comment(rt.alloc(), 8193)?;
+fn a_longer_line_is_refused(rt: HostRuntime) {
+    let longer = comment(&rt, rt.alloc(), 8193);
     let row = (longer.as_str(), 1, TraceCause::LongLine);
-    check_refused(&rt, rt.alloc(), &config, row);
-    Ok(())
+    check_refused(&rt, rt.alloc(), row);
 }

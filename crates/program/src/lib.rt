@@ -14,4 +14,4 @@ pub use fault::RunFault;
 pub use files::Files;
 pub use program::{Ending, run};
 pub use status::status_of;
-pub use system::run_on;
+pub use system::{Ended, run_on};

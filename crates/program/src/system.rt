@@ -4,13 +4,28 @@ use crate::{Files, run};
 use std::env::{self, Env};
 use std::fs::{self, File};
 use std::io::{self, Stderr, Stdin, Stdout};
-use std::process::ExitCode;
+use std::process::{ExitCode, Termination};
 use std::rt;
 use std::sync::Wait;
 use trace_player::Device;
 
-/// Runs the program over a system, as `run` says, and answers with its exit status. The words are those
-/// after the program's name.
+/// How a run over a system ended: what `main` answers with.
+///
+/// A value that isn't `Drop` has to be handed on, and nothing but `run_on` makes this one. So a `main` that
+/// runs the program can't leave its exit status out.
+pub struct Ended {
+    status: u8,
+}
+
+impl Termination for Ended {
+    /// The exit status of the run.
+    fn report<R: Eprint>(self, _rt: &R) -> ExitCode {
+        let Ended { status } = self;
+        ExitCode::from(status)
+    }
+}
+
+/// Runs the program over a system, as `run` says. The words are those after the program's name.
 ///
 /// No contract can name what the words, the files and the streams of a system hold. So it is only tested
 /// that each is put in its place, by programs that are nothing but this call: `afdx_play` with no words,
@@ -20,7 +35,7 @@ pub fn run_on<R: AllocGlobal + Env + rt::Files + Wait>(
     input: Stdin,
     output: Stdout,
     errors: Stderr,
-) -> ExitCode {
+) -> Ended {
     let mut errors = errors;
     let ending = run(
         rt,
@@ -31,7 +46,9 @@ pub fn run_on<R: AllocGlobal + Env + rt::Files + Wait>(
         &mut Device::new(output),
         &mut errors,
     );
-    ExitCode::from(ending.status)
+    Ended {
+        status: ending.status,
+    }
 }
 
 /// The words after the program's name.

@@ -1,32 +1,21 @@
 //! The words and the status of each fault of a configuration.
-use crate::shelf::{Wanted, check_files};
-use std::alloc::Global;
+use crate::shelf::{READ_C, Wanted, check_files};
+use std::alloc::{AllocError, Global};
 use std::io::ErrorKind;
 use std::process::Abort;
 use std::sync::Wait;
-use std::test::Fail;
-use test_inputs::ScriptedReader;
 use vl_config::BUILT_IN;
 
-/// What a run comes to that is refused for its configuration: nothing but that file was asked for.
-fn refused<'a>(errors: &'a str) -> Wanted<'a> {
-    Wanted {
+/// A run is refused for its configuration: nothing but that file was asked for.
+fn check_refused(rt: &(impl Abort + Wait), alloc: Global, octets: &[u8], errors: &str) {
+    let missing = Err(ErrorKind::NotFound);
+    let wanted = Wanted {
         status: 1,
         output: "",
         errors,
-        asked: "read c. ",
-    }
-}
-
-fn check_refused(
-    rt: &(impl Abort + Wait),
-    alloc: Global,
-    octets: &[u8],
-    errors: &str,
-) -> Result<(), Fail> {
-    let missing = Err(ErrorKind::NotFound);
-    let files = (Ok(ScriptedReader::of(octets)), missing, missing);
-    check_files(rt, alloc, files, refused(errors))
+        asked: READ_C,
+    };
+    check_files(rt, alloc, (Ok(octets), missing, missing), wanted);
 }
 
 /// The octets of a configuration's file, and the line that is printed.
@@ -42,11 +31,10 @@ fn documents() -> [Document; 3] {
 }
 
 #[test]
-fn a_file_that_is_no_document_is_refused(rt: HostRuntime) -> Result<(), Fail> {
+fn a_file_that_is_no_document_is_refused(rt: HostRuntime) {
     for (octets, errors) in documents() {
-        check_refused(&rt, rt.alloc(), octets, errors)?;
+        check_refused(&rt, rt.alloc(), octets, errors);
     }
-    Ok(())
 }
 
 /// A text of the built-in configuration, another in its place, and the words of the fault.
@@ -89,31 +77,29 @@ fn changes() -> [Changed; 20] {
     ]
 }
 
-fn check_change(
-    rt: &(impl Abort + Wait),
-    alloc: Global,
-    (old, new, words): Changed,
-) -> Result<(), Fail> {
+/// The built-in configuration with that change, and the line that is printed.
+fn texts_of(alloc: Global, change: Changed) -> Result<(String, String), AllocError> {
+    let (old, new, words) = change;
     let config = BUILT_IN.replace(alloc, old, new)?;
     let errors = format!(in alloc; "afdx_play: config: {words}\n")?;
-    check_refused(rt, alloc, config.as_bytes(), errors.as_str())
+    Ok((config, errors))
+}
+
+fn check_change(rt: &(impl Abort + Wait), alloc: Global, change: Changed) {
+    let (config, errors) = texts_of(alloc, change).expect(rt, "memory");
+    check_refused(rt, alloc, config.as_bytes(), errors.as_str());
 }
 
 #[test]
-fn each_fault_of_a_configuration_has_its_words(rt: HostRuntime) -> Result<(), Fail> {
+fn each_fault_of_a_configuration_has_its_words(rt: HostRuntime) {
     for row in changes() {
-        check_change(&rt, rt.alloc(), row)?;
+        check_change(&rt, rt.alloc(), row);
     }
-    Ok(())
-}
-
-fn check_too_many(rt: &(impl Abort + Wait), alloc: Global) -> Result<(), Fail> {
-    let config = "[[link]]\n".repeat(alloc, 65)?;
-    let errors = "afdx_play: config: too many links or ports\n";
-    check_refused(rt, alloc, config.as_bytes(), errors)
 }
 
 #[test]
-fn too_many_links_have_their_words(rt: HostRuntime) -> Result<(), Fail> {
-    check_too_many(&rt, rt.alloc())
+fn too_many_links_have_their_words(rt: HostRuntime) {
+    let config = "[[link]]\n".repeat(rt.alloc(), 65).expect(&rt, "memory");
+    let errors = "afdx_play: config: too many links or ports\n";
+    check_refused(&rt, rt.alloc(), config.as_bytes(), errors);
 }

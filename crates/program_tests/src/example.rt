@@ -1,9 +1,8 @@
 //! The examples.
-use crate::shelf::{Wanted, check_files};
+use crate::shelf::{ALL, Wanted, check_files};
 use std::alloc::Global;
 use std::process::Abort;
 use std::sync::Wait;
-use std::test::Fail;
 use test_inputs::{SECOND_LINK, ScriptedReader};
 use vl_config::BUILT_IN;
 
@@ -82,16 +81,10 @@ const FRAGMENTS_B: &str = "# Network B has the first fragment before A has it.
 ";
 
 /// Two links play these traces to this output.
-fn check_example(
-    rt: &(impl Abort + Wait),
-    alloc: Global,
-    a: &str,
-    b: &str,
-    output: &str,
-) -> Result<(), Fail> {
-    let config = format!(in alloc; "{BUILT_IN}{SECOND_LINK}")?;
+fn check_example(rt: &(impl Abort + Wait), alloc: Global, a: &str, b: &str, output: &str) {
+    let config = format!(in alloc; "{BUILT_IN}{SECOND_LINK}").expect(rt, "memory");
     let files = (
-        Ok(ScriptedReader::of(config.as_bytes())),
+        Ok(config.as_bytes()),
         Ok(ScriptedReader::of(a.as_bytes())),
         Ok(ScriptedReader::of(b.as_bytes())),
     );
@@ -99,18 +92,18 @@ fn check_example(
         status: 0,
         output,
         errors: "",
-        asked: "read c. open x. open y. ",
+        asked: ALL,
     };
-    check_files(rt, alloc, files, wanted)
+    check_files(rt, alloc, files, wanted);
 }
 
 #[test]
-fn the_example_of_the_readme_prints_what_stands_there(rt: HostRuntime) -> Result<(), Fail> {
-    check_example(&rt, rt.alloc(), NETWORK_A, NETWORK_B, OUTPUT)
+fn the_example_of_the_readme_prints_what_stands_there(rt: HostRuntime) {
+    check_example(&rt, rt.alloc(), NETWORK_A, NETWORK_B, OUTPUT);
 }
 
 #[test]
-fn fragments_are_joined_from_both_networks(rt: HostRuntime) -> Result<(), Fail> {
+fn fragments_are_joined_from_both_networks(rt: HostRuntime) {
     let output = OUTPUT_OF_FRAGMENTS;
-    check_example(&rt, rt.alloc(), FRAGMENTS_A, FRAGMENTS_B, output)
+    check_example(&rt, rt.alloc(), FRAGMENTS_A, FRAGMENTS_B, output);
 }

@@ -1,45 +1,72 @@
 //! Files in memory, and a run over them.
 use program::{Ending, Files, run};
-use std::alloc::Global;
-use std::io::{self, Error, ErrorKind, Read};
+use std::alloc::{AllocError, Global};
+use std::io::{self, Error, ErrorKind};
 use std::process::Abort;
 use std::sync::Wait;
-use std::test::Fail;
-use test_inputs::{ScriptedReader, words_of};
+use test_inputs::{ScriptedReader, ScriptedWriter, WriteCall};
 use trace_player::Device;
 
-/// A file, or the fault of one that can't be opened or read.
-pub(crate) type Stored<'a> = Result<ScriptedReader<'a>, ErrorKind>;
+/// A configuration's file, or the fault of one that can't be opened or read.
+pub(crate) type StoredConfig<'a> = Result<&'a [u8], ErrorKind>;
 
-/// The files `c`, `x` and `y`, and what was asked of them, in words.
-#[derive(Drop)]
+/// A trace's file, or the fault of one that can't be opened.
+pub(crate) type StoredTrace<'a> = Result<ScriptedReader<'a>, ErrorKind>;
+
+/// `c` was read, and nothing else asked for.
+pub(crate) const READ_C: u8 = 1;
+
+/// `c` was read, and then `x` opened.
+pub(crate) const UP_TO_X: u8 = 2;
+
+/// `c` was read, then `x` opened, and then `y`.
+pub(crate) const ALL: u8 = 3;
+
+/// Something was asked for in another order, or another file.
+const OTHER: u8 = 4;
+
+/// The files `c`, `x` and `y`, and how many of them were asked for in this order.
+#[derive(Clone, Copy, Drop)]
 pub(crate) struct Shelf<'a> {
-    pub c: Stored<'a>,
-    pub x: Stored<'a>,
-    pub y: Stored<'a>,
-    pub asked: String,
-}
-
-impl<'a> Shelf<'a> {
-    /// The file at `path`.
-    fn at(&self, path: &str) -> io::Result<ScriptedReader<'a>> {
-        match path {
-            "c" => self.c.map_err(Error::from),
-            "x" => self.x.map_err(Error::from),
-            "y" => self.y.map_err(Error::from),
-            _ => Err(Error::from(ErrorKind::NotFound)),
-        }
-    }
+    pub alloc: Global,
+    pub c: StoredConfig<'a>,
+    pub x: StoredTrace<'a>,
+    pub y: StoredTrace<'a>,
+    pub asked: u8,
 }
 
 /// No files.
 pub(crate) fn empty_shelf<'a>(alloc: Global) -> Shelf<'a> {
-    let missing = Err(ErrorKind::NotFound);
     Shelf {
-        c: missing,
-        x: missing,
-        y: missing,
-        asked: String::new(alloc),
+        alloc,
+        c: Err(ErrorKind::NotFound),
+        x: Err(ErrorKind::NotFound),
+        y: Err(ErrorKind::NotFound),
+        asked: 0,
+    }
+}
+
+impl<'a> Shelf<'a> {
+    fn config_at(&mut self, path: &str) -> StoredConfig<'a> {
+        if self.asked == 0 && path == "c" {
+            self.asked = READ_C;
+            return self.c;
+        }
+        self.asked = OTHER;
+        Err(ErrorKind::NotFound)
+    }
+
+    fn trace_at(&mut self, path: &str) -> StoredTrace<'a> {
+        if self.asked == READ_C && path == "x" {
+            self.asked = UP_TO_X;
+            return self.x;
+        }
+        if self.asked == UP_TO_X && path == "y" {
+            self.asked = ALL;
+            return self.y;
+        }
+        self.asked = OTHER;
+        Err(ErrorKind::NotFound)
     }
 }
 
@@ -47,44 +74,101 @@ impl<'a> Files for Shelf<'a> {
     type Trace = Device<ScriptedReader<'a>>;
 
     fn read(&mut self, path: &str) -> io::Result<Vec<u8>> {
-        write!(self.asked, "read {path}. ")?;
-        let mut octets = Vec::new(*self.asked.allocator());
-        self.at(path)?.read_to_end(&mut octets)?;
-        Ok(octets)
+        match self.config_at(path) {
+            Ok(octets) => Ok(octets.to_vec(self.alloc)?),
+            Err(kind) => Err(Error::from(kind)),
+        }
     }
 
     fn open(&mut self, path: &str) -> io::Result<Device<ScriptedReader<'a>>> {
-        write!(self.asked, "open {path}. ")?;
-        Ok(Device::new(self.at(path)?))
+        match self.trace_at(path) {
+            Ok(reader) => Ok(Device::new(reader)),
+            Err(kind) => Err(Error::from(kind)),
+        }
     }
 }
 
-/// A run with the words of a whole command line: the files `c`, `x` and `y`.
-pub(crate) const LINE: &[&str] = &["--config", "c", "--a", "x", "--b", "y"];
+/// The words in a text, with a space between each two. In the empty text there are none.
+pub(crate) fn words_in(rt: &impl Abort, alloc: Global, text: &str) -> Vec<String> {
+    let mut words = Vec::new(alloc);
+    if !text.is_empty() {
+        for word in text.split(' ') {
+            push_word(alloc, &mut words, word).expect(rt, "memory");
+        }
+    }
+    words
+}
+
+fn push_word(alloc: Global, words: &mut Vec<String>, word: &str) -> Result<(), AllocError> {
+    words.push(String::from_str(alloc, word)?)?;
+    Ok(())
+}
+
+/// The words of a whole command line: the files `c`, `x` and `y`.
+pub(crate) const LINE: &str = "--config c --a x --b y";
+
+/// What a run is given beside its words: its files, its standard input, and what writing its standard
+/// output and its standard error do.
+#[derive(Clone, Copy)]
+pub(crate) struct Given<'a> {
+    pub shelf: Shelf<'a>,
+    pub input: ScriptedReader<'a>,
+    pub output: &'a [WriteCall],
+    pub errors: &'a [WriteCall],
+}
 
 /// What a run has to come to.
-#[derive(Clone, Copy, Drop)]
+#[derive(Clone, Copy)]
 pub(crate) struct Wanted<'a> {
     pub status: u8,
     pub output: &'a str,
     pub errors: &'a str,
-    /// What is asked of the files, in words.
-    pub asked: &'a str,
+    /// How many of the files are asked for.
+    pub asked: u8,
 }
 
-fn check_ending(
+fn check_ending(rt: &impl Abort, ending: &Ending, told: bool, status: u8) {
+    assert!(rt; ending.status == status, "{}", ending.status);
+    assert!(rt; ending.told.is_ok() == told);
+}
+
+fn check_written(rt: &impl Abort, written: &[u8], wanted: &str) {
+    assert!(rt; written == wanted.as_bytes(), "{wanted}");
+}
+
+fn writer_of<'a>(alloc: Global, calls: &'a [WriteCall]) -> ScriptedWriter<'a> {
+    ScriptedWriter {
+        calls,
+        written: Vec::new(alloc),
+    }
+}
+
+/// A run with these words and with what is given comes to this. Where the standard error fails it is not
+/// told.
+pub(crate) fn check_given(
     rt: &(impl Abort + Wait),
-    ending: &Ending,
-    output: &[u8],
-    errors: &[u8],
-    asked: &str,
+    alloc: Global,
+    words: io::Result<Vec<String>>,
+    given: Given<'_>,
     wanted: Wanted<'_>,
 ) {
-    assert_eq!(rt; ending.status, wanted.status);
-    assert!(rt; ending.told.is_ok());
-    assert!(rt; output == wanted.output.as_bytes(), "{}", wanted.output);
-    assert!(rt; errors == wanted.errors.as_bytes(), "{}", wanted.errors);
-    assert_eq!(rt; asked, wanted.asked);
+    let mut shelf = given.shelf;
+    let mut input = Device::new(given.input);
+    let mut output = Device::new(writer_of(alloc, given.output));
+    let mut errors = writer_of(alloc, given.errors);
+    let ending = run(
+        rt,
+        alloc,
+        words,
+        &mut shelf,
+        &mut input,
+        &mut output,
+        &mut errors,
+    );
+    check_ending(rt, &ending, given.errors.is_empty(), wanted.status);
+    check_written(rt, &output.inner.written, wanted.output);
+    check_written(rt, &errors.written, wanted.errors);
+    assert!(rt; shelf.asked == wanted.asked, "{}", shelf.asked);
 }
 
 /// A run with these words, this standard input and these files comes to this.
@@ -96,21 +180,13 @@ pub(crate) fn check_run(
     shelf: Shelf<'_>,
     wanted: Wanted<'_>,
 ) {
-    let mut shelf = shelf;
-    let mut input = Device::new(input.as_bytes());
-    let mut output = Device::new(Vec::new(alloc));
-    let mut errors = Vec::new(alloc);
-    let ending = run(
-        rt,
-        alloc,
-        words,
-        &mut shelf,
-        &mut input,
-        &mut output,
-        &mut errors,
-    );
-    let asked = shelf.asked.as_str();
-    check_ending(rt, &ending, &output.inner, &errors, asked, wanted);
+    let given = Given {
+        shelf,
+        input: ScriptedReader::of(input.as_bytes()),
+        output: &[],
+        errors: &[],
+    };
+    check_given(rt, alloc, words, given, wanted);
 }
 
 /// A run with the words of a whole command line over the files `c`, `x` and `y` comes to this. The
@@ -118,12 +194,16 @@ pub(crate) fn check_run(
 pub(crate) fn check_files(
     rt: &(impl Abort + Wait),
     alloc: Global,
-    (c, x, y): (Stored<'_>, Stored<'_>, Stored<'_>),
+    (c, x, y): (StoredConfig<'_>, StoredTrace<'_>, StoredTrace<'_>),
     wanted: Wanted<'_>,
-) -> Result<(), Fail> {
-    let words = words_of(alloc, LINE)?;
-    let asked = String::new(alloc);
-    let shelf = Shelf { c, x, y, asked };
-    check_run(rt, alloc, Ok(words), "1 00", shelf, wanted);
-    Ok(())
+) {
+    let words = Ok(words_in(rt, alloc, LINE));
+    let shelf = Shelf {
+        alloc,
+        c,
+        x,
+        y,
+        asked: 0,
+    };
+    check_run(rt, alloc, words, "1 00", shelf, wanted);
 }

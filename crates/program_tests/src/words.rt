@@ -1,11 +1,10 @@
 //! What the words ask for: the standard input, a run over files, the help; and words that are refused.
-use crate::shelf::{Wanted, check_files, check_run, empty_shelf};
+use crate::shelf::{ALL, Wanted, check_files, check_run, empty_shelf, words_in};
 use std::alloc::Global;
 use std::io::{Error, ErrorKind};
 use std::process::Abort;
 use std::sync::Wait;
-use std::test::Fail;
-use test_inputs::{ScriptedReader, words_of};
+use test_inputs::ScriptedReader;
 use vl_config::BUILT_IN;
 
 const HELP: &str = "Plays the hex traces of two redundant networks through a receiver
@@ -28,17 +27,9 @@ Usage: afdx_play --config <FILE> --a <FILE> --b <FILE>
 For more information, try '--help'.
 ";
 
-/// Words, the standard input, and what a run with no files comes to.
-type Row<'a> = (&'a [&'a str], &'a str, Wanted<'a>);
-
-fn wanted(status: u8, output: &'static str, errors: &'static str) -> Wanted<'static> {
-    Wanted {
-        status,
-        output,
-        errors,
-        asked: "",
-    }
-}
+/// Words, the standard input, and what a run with no files comes to: the status, the output and what is on
+/// the standard error.
+type Row = (&'static str, &'static str, u8, &'static str, &'static str);
 
 /// A frame of link 17 for the port `pos`.
 const FRAME: &str =
@@ -62,63 +53,59 @@ filtered A 0 0 0 0 0
 filtered B 0 0 0 0 0
 ";
 
-fn runs_without_files() -> [Row<'static>; 5] {
+fn runs_without_files() -> [Row; 5] {
     [
-        (&[], FRAME, wanted(0, ONE_FRAME, "")),
-        (&[], "", wanted(0, NO_FRAMES, "")),
-        (
-            &[],
-            "\n7",
-            wanted(1, "", "afdx_play: trace A line 2: space\n"),
-        ),
-        (&["--help"], FRAME, wanted(0, HELP, "")),
-        (
-            &["--config", "c", "--a", "x"],
-            FRAME,
-            wanted(2, "", REFUSAL),
-        ),
+        ("", FRAME, 0, ONE_FRAME, ""),
+        ("", "", 0, NO_FRAMES, ""),
+        ("", "\n7", 1, "", "afdx_play: trace A line 2: space\n"),
+        ("--help", FRAME, 0, HELP, ""),
+        ("--config c --a x", FRAME, 2, "", REFUSAL),
     ]
 }
 
-fn check_row(rt: &(impl Abort + Wait), alloc: Global, row: Row<'_>) -> Result<(), Fail> {
-    let (words, input, wanted) = row;
-    let words = words_of(alloc, words)?;
-    check_run(rt, alloc, Ok(words), input, empty_shelf(alloc), wanted);
-    Ok(())
+fn check_row(rt: &(impl Abort + Wait), alloc: Global, row: Row) {
+    let (words, input, status, output, errors) = row;
+    let wanted = Wanted {
+        status,
+        output,
+        errors,
+        asked: 0,
+    };
+    let words = Ok(words_in(rt, alloc, words));
+    check_run(rt, alloc, words, input, empty_shelf(alloc), wanted);
 }
 
 #[test]
-fn words_ask_for_the_standard_input_or_the_help(rt: HostRuntime) -> Result<(), Fail> {
+fn words_ask_for_the_standard_input_or_the_help(rt: HostRuntime) {
     for row in runs_without_files() {
-        check_row(&rt, rt.alloc(), row)?;
+        check_row(&rt, rt.alloc(), row);
     }
-    Ok(())
 }
 
-/// The error of words that could not be read, and what the run comes to.
-fn unread_words() -> [(ErrorKind, Wanted<'static>); 2] {
-    [
-        (
-            ErrorKind::InvalidData,
-            wanted(2, "", "afdx_play: command line refused\n"),
-        ),
-        (
-            ErrorKind::OutOfMemory,
-            wanted(4, "", "afdx_play: out of memory\n"),
-        ),
-    ]
-}
-
-fn check_unread(rt: &(impl Abort + Wait), alloc: Global, kind: ErrorKind, wanted: Wanted<'_>) {
+/// Words that could not be read, by this error.
+fn check_unread(
+    rt: &(impl Abort + Wait),
+    alloc: Global,
+    kind: ErrorKind,
+    status: u8,
+    errors: &str,
+) {
+    let wanted = Wanted {
+        status,
+        output: "",
+        errors,
+        asked: 0,
+    };
     let words = Err(Error::from(kind));
     check_run(rt, alloc, words, FRAME, empty_shelf(alloc), wanted);
 }
 
 #[test]
 fn words_that_are_no_text_are_refused(rt: HostRuntime) {
-    for (kind, wanted) in unread_words() {
-        check_unread(&rt, rt.alloc(), kind, wanted);
-    }
+    let refused = "afdx_play: command line refused\n";
+    let memory = "afdx_play: out of memory\n";
+    check_unread(&rt, rt.alloc(), ErrorKind::InvalidData, 2, refused);
+    check_unread(&rt, rt.alloc(), ErrorKind::OutOfMemory, 4, memory);
 }
 
 const TWO_FRAMES: &str = "900 B filtered too-short
@@ -132,10 +119,9 @@ filtered B 1 0 0 0 0
 ";
 
 /// A frame on each network, one for the port and one for a link that isn't configured.
-fn check_line(rt: &(impl Abort + Wait), alloc: Global) -> Result<(), Fail> {
-    let config = BUILT_IN.replace(alloc, "\"pos\"", "\"height\"")?;
+fn check_line(rt: &(impl Abort + Wait), alloc: Global, config: &str) {
     let files = (
-        Ok(ScriptedReader::of(config.as_bytes())),
+        Ok(config.as_bytes()),
         Ok(ScriptedReader::of(FRAME.as_bytes())),
         Ok(ScriptedReader::of(b"900 00")),
     );
@@ -143,12 +129,13 @@ fn check_line(rt: &(impl Abort + Wait), alloc: Global) -> Result<(), Fail> {
         status: 0,
         output: TWO_FRAMES,
         errors: "",
-        asked: "read c. open x. open y. ",
+        asked: ALL,
     };
-    check_files(rt, alloc, files, wanted)
+    check_files(rt, alloc, files, wanted);
 }
 
 #[test]
-fn a_command_line_plays_its_files(rt: HostRuntime) -> Result<(), Fail> {
-    check_line(&rt, rt.alloc())
+fn a_command_line_plays_its_files(rt: HostRuntime) {
+    let config = BUILT_IN.replace(rt.alloc(), "\"pos\"", "\"height\"");
+    check_line(&rt, rt.alloc(), &config.expect(&rt, "memory"));
 }

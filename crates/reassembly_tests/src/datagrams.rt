@@ -1,19 +1,17 @@
 //! Which datagram some pieces make.
-use crate::steps::Fate::{Alone, Held, Joined};
+use crate::steps::Fate::{Alone, Completed, Held, Joined};
 use crate::steps::{Step, check};
-use std::test::Fail;
-use test_inputs::fragments::JOINED;
 use test_inputs::fragments::PacketName::{
     EndAt16, EndAt40, First, FirstAnew, FirstForPos, FirstOf21, Last, LastFrom24, LastTo19,
     LastTo20, LongerLast, NoOctets, SevenOctets,
 };
 
 fn in_order() -> [Step; 2] {
-    [(First, 1000, Held), (Last, 1100, Joined(JOINED))]
+    [(First, 1000, Held), (Last, 1100, Completed)]
 }
 
 fn last_first() -> [Step; 2] {
-    [(Last, 1000, Held), (First, 1100, Joined(JOINED))]
+    [(Last, 1000, Held), (First, 1100, Completed)]
 }
 
 /// The head of a joined datagram says its port.
@@ -37,7 +35,7 @@ fn end_moves_down() -> [Step; 3] {
     [
         (LongerLast, 1000, Held),
         (Last, 1100, Held),
-        (First, 1200, Joined(JOINED)),
+        (First, 1200, Completed),
     ]
 }
 
@@ -86,7 +84,7 @@ fn gap_within_a_block() -> [Step; 3] {
 fn last_once_more() -> [Step; 3] {
     [
         (First, 1000, Held),
-        (Last, 1100, Joined(JOINED)),
+        (Last, 1100, Completed),
         (Last, 1200, Held),
     ]
 }
@@ -100,41 +98,41 @@ fn short_datagrams() -> [Step; 2] {
 }
 
 #[test]
-fn pieces_are_joined_in_either_order(rt: HostRuntime) -> Result<(), Fail> {
-    check(&rt, rt.alloc(), &in_order())?;
-    check(&rt, rt.alloc(), &last_first())?;
-    check(&rt, rt.alloc(), &for_a_sampling_port())
+fn pieces_are_joined_in_either_order(rt: HostRuntime) {
+    check(&rt, rt.alloc(), &in_order());
+    check(&rt, rt.alloc(), &last_first());
+    check(&rt, rt.alloc(), &for_a_sampling_port());
 }
 
 #[test]
-fn octets_of_a_later_piece_replace_those_of_an_earlier_one(rt: HostRuntime) -> Result<(), Fail> {
-    check(&rt, rt.alloc(), &first_twice())
+fn octets_of_a_later_piece_replace_those_of_an_earlier_one(rt: HostRuntime) {
+    check(&rt, rt.alloc(), &first_twice());
 }
 
 #[test]
-fn the_latest_last_fragment_sets_the_end(rt: HostRuntime) -> Result<(), Fail> {
-    check(&rt, rt.alloc(), &end_moves_down())?;
-    check(&rt, rt.alloc(), &end_moves_up())?;
-    check(&rt, rt.alloc(), &end_moves_to_and_fro())
+fn the_latest_last_fragment_sets_the_end(rt: HostRuntime) {
+    check(&rt, rt.alloc(), &end_moves_down());
+    check(&rt, rt.alloc(), &end_moves_up());
+    check(&rt, rt.alloc(), &end_moves_to_and_fro());
 }
 
 #[test]
-fn the_last_fragment_may_have_any_length(rt: HostRuntime) -> Result<(), Fail> {
-    check(&rt, rt.alloc(), &empty_end())?;
-    check(&rt, rt.alloc(), &end_within_a_block())
+fn the_last_fragment_may_have_any_length(rt: HostRuntime) {
+    check(&rt, rt.alloc(), &empty_end());
+    check(&rt, rt.alloc(), &end_within_a_block());
 }
 
 #[test]
-fn each_octet_has_to_come(rt: HostRuntime) -> Result<(), Fail> {
-    check(&rt, rt.alloc(), &gap_within_a_block())
+fn each_octet_has_to_come(rt: HostRuntime) {
+    check(&rt, rt.alloc(), &gap_within_a_block());
 }
 
 #[test]
-fn a_complete_datagram_ends_its_group(rt: HostRuntime) -> Result<(), Fail> {
-    check(&rt, rt.alloc(), &last_once_more())
+fn a_complete_datagram_ends_its_group(rt: HostRuntime) {
+    check(&rt, rt.alloc(), &last_once_more());
 }
 
 #[test]
-fn the_head_of_a_short_datagram_has_zeros(rt: HostRuntime) -> Result<(), Fail> {
-    check(&rt, rt.alloc(), &short_datagrams())
+fn the_head_of_a_short_datagram_has_zeros(rt: HostRuntime) {
+    check(&rt, rt.alloc(), &short_datagrams());
 }

@@ -1,8 +1,6 @@
 //! Which pieces belong together, and which are given up.
-use crate::steps::Fate::{Alone, Held, Joined};
+use crate::steps::Fate::{Alone, Completed, Held};
 use crate::steps::{Step, check};
-use std::test::Fail;
-use test_inputs::fragments::JOINED;
 use test_inputs::fragments::PacketName::{
     First, First3, First4, First5, First6, Last, LastFromAnother, LastToAnother, Whole,
 };
@@ -24,7 +22,7 @@ fn four_begin() -> [Step; 5] {
         (First3, 1100, Held),
         (First4, 1200, Held),
         (First5, 1300, Held),
-        (Last, 1500, Joined(JOINED)),
+        (Last, 1500, Completed),
     ]
 }
 
@@ -42,7 +40,7 @@ fn first_touched_last() -> [Step; 7] {
 }
 
 fn at_the_limit() -> [Step; 2] {
-    [(First, 1000, Held), (Last, 51_000, Joined(JOINED))]
+    [(First, 1000, Held), (Last, 51_000, Completed)]
 }
 
 /// The last fragment begins a group anew, which the first completes.
@@ -50,7 +48,7 @@ fn after_the_limit() -> [Step; 3] {
     [
         (First, 1000, Held),
         (Last, 51_001, Held),
-        (First, 51_002, Joined(JOINED)),
+        (First, 51_002, Completed),
     ]
 }
 
@@ -67,7 +65,7 @@ fn another_key_between() -> [Step; 3] {
     [
         (First, 1000, Held),
         (First3, 60_000, Held),
-        (Last, 51_000, Joined(JOINED)),
+        (Last, 51_000, Completed),
     ]
 }
 
@@ -90,31 +88,31 @@ fn whole_between() -> [Step; 3] {
 }
 
 #[test]
-fn the_one_that_began_first_is_given_up_for_a_fifth(rt: HostRuntime) -> Result<(), Fail> {
-    check(&rt, rt.alloc(), &five_begin())?;
-    check(&rt, rt.alloc(), &four_begin())?;
-    check(&rt, rt.alloc(), &first_touched_last())
+fn the_one_that_began_first_is_given_up_for_a_fifth(rt: HostRuntime) {
+    check(&rt, rt.alloc(), &five_begin());
+    check(&rt, rt.alloc(), &four_begin());
+    check(&rt, rt.alloc(), &first_touched_last());
 }
 
 #[test]
-fn the_age_is_that_of_the_first_piece(rt: HostRuntime) -> Result<(), Fail> {
-    check(&rt, rt.alloc(), &at_the_limit())?;
-    check(&rt, rt.alloc(), &after_the_limit())?;
-    check(&rt, rt.alloc(), &touched_between())
+fn the_age_is_that_of_the_first_piece(rt: HostRuntime) {
+    check(&rt, rt.alloc(), &at_the_limit());
+    check(&rt, rt.alloc(), &after_the_limit());
+    check(&rt, rt.alloc(), &touched_between());
 }
 
 #[test]
-fn no_other_key_is_given_up_for_its_age(rt: HostRuntime) -> Result<(), Fail> {
-    check(&rt, rt.alloc(), &another_key_between())
+fn no_other_key_is_given_up_for_its_age(rt: HostRuntime) {
+    check(&rt, rt.alloc(), &another_key_between());
 }
 
 #[test]
-fn a_key_has_both_addresses(rt: HostRuntime) -> Result<(), Fail> {
-    check(&rt, rt.alloc(), &another_source())?;
-    check(&rt, rt.alloc(), &another_destination())
+fn a_key_has_both_addresses(rt: HostRuntime) {
+    check(&rt, rt.alloc(), &another_source());
+    check(&rt, rt.alloc(), &another_destination());
 }
 
 #[test]
-fn a_whole_datagram_gives_up_the_group_of_its_key(rt: HostRuntime) -> Result<(), Fail> {
-    check(&rt, rt.alloc(), &whole_between())
+fn a_whole_datagram_gives_up_the_group_of_its_key(rt: HostRuntime) {
+    check(&rt, rt.alloc(), &whole_between());
 }

@@ -1,7 +1,6 @@
 //! Plain IPv4, without frames.
 use ip_reassembly::{Offered, Packet, Reassembly};
 use std::process::Abort;
-use std::test::Fail;
 
 fn end() -> Packet<'static> {
     Packet {
@@ -36,10 +35,9 @@ fn check_joined(rt: &impl Abort, offered: Offered<'_>) {
 }
 
 #[test]
-fn a_datagram_of_plain_ipv4_is_joined(rt: HostRuntime) -> Result<(), Fail> {
-    let mut reassembly = Reassembly::new(rt.alloc(), 500_000)?;
+fn a_datagram_of_plain_ipv4_is_joined(rt: HostRuntime) {
+    let mut reassembly = Reassembly::new(rt.alloc(), 500_000).expect(&rt, "memory");
     let held = matches!(reassembly.offer(&end(), 1_000), Offered::Held);
     assert!(rt; held);
     check_joined(&rt, reassembly.offer(&beginning(), 1_200));
-    Ok(())
 }

@@ -1,11 +1,9 @@
 //! Packets given to a Reassembly one after another.
 use frame_reader::{Packet, read_frame, read_packet};
-use hex::FromHexError;
 use ip_reassembly::{Offered, Preview, Reassembly};
 use std::alloc::Global;
 use std::process::Abort;
-use std::test::Fail;
-use test_inputs::fragments::{PacketName, padding_after};
+use test_inputs::fragments::{JOINED, PacketName, padding_after};
 use test_inputs::{CONSTANT, ETHERNET, frame_of};
 
 /// How long pieces are waited for, in microseconds.
@@ -20,74 +18,101 @@ pub(crate) enum Fate {
     Alone(&'static str),
     /// Pieces were joined to this datagram.
     Joined(&'static str),
+    /// `First` and `Last` were joined, to `JOINED`.
+    Completed,
+}
+
+impl Fate {
+    /// The datagram, where there is one, and whether it was joined.
+    fn datagram(self) -> (&'static str, bool) {
+        match self {
+            Fate::Bad | Fate::Held => ("", false),
+            Fate::Alone(text) => (text, false),
+            Fate::Joined(text) => (text, true),
+            Fate::Completed => (JOINED, true),
+        }
+    }
 }
 
 /// A packet, its time in microseconds, and what becomes of it.
 pub(crate) type Step = (PacketName, u64, Fate);
 
 /// A new Reassembly does this with these packets.
-pub(crate) fn check(rt: &impl Abort, alloc: Global, steps: &[Step]) -> Result<(), Fail> {
-    let mut reassembly = Reassembly::new(alloc, LIMIT)?;
-    assert_eq!(rt; reassembly.limit(), LIMIT);
+pub(crate) fn check(rt: &impl Abort, alloc: Global, steps: &[Step]) {
+    let mut reassembly = Reassembly::new(alloc, LIMIT).expect(rt, "memory");
+    assert!(rt; reassembly.limit() == LIMIT);
     for (packet, time, fate) in steps {
-        let (ip, octets) = packet.texts();
-        let frame = frame_of(alloc, &[ETHERNET, ip, octets, padding_after(octets)], 0)?;
-        let frame = read_frame(CONSTANT, &frame).expect(rt, "a frame");
-        let packet = read_packet(&frame).expect(rt, "a packet");
-        check_preview(rt, alloc, &reassembly.preview(&packet, *time), *fate)?;
-        check_offered(rt, alloc, &mut reassembly, &packet, *time, *fate)?;
+        check_step(rt, alloc, &mut reassembly, *packet, *time, *fate);
     }
-    Ok(())
 }
 
-fn check_preview(
+fn check_step(
     rt: &impl Abort,
     alloc: Global,
-    preview: &Preview,
+    reassembly: &mut Reassembly,
+    name: PacketName,
+    time: u64,
     fate: Fate,
-) -> Result<(), Fail> {
+) {
+    let octets = frame_octets(rt, alloc, name);
+    let packet = packet_from(rt, &octets);
+    let (text, joined) = fate.datagram();
+    let datagram = hex::decode(alloc, text).expect(rt, "a datagram");
+    check_preview(
+        rt,
+        reassembly.preview(&packet, time),
+        fate,
+        &datagram,
+        joined,
+    );
+    check_offered(rt, reassembly.offer(&packet, time), fate, &datagram, joined);
+}
+
+/// The octets of the frame with this packet.
+fn frame_octets(rt: &impl Abort, alloc: Global, name: PacketName) -> Vec<u8> {
+    let (ip, octets) = name.texts();
+    let texts = [ETHERNET, ip, octets, padding_after(octets)];
+    frame_of(alloc, &texts, 0).expect(rt, "octets")
+}
+
+/// The packet of the frame of these octets.
+fn packet_from<'a>(rt: &impl Abort, octets: &'a [u8]) -> Packet<'a> {
+    let frame = read_frame(CONSTANT, octets).expect(rt, "a frame");
+    read_packet(&frame).expect(rt, "a packet")
+}
+
+fn check_preview(rt: &impl Abort, preview: Preview, fate: Fate, datagram: &[u8], joined: bool) {
     let expected = match fate {
         Fate::Bad => Preview::Bad,
         Fate::Held => Preview::Held,
-        Fate::Alone(text) => whole(alloc, text, false)?,
-        Fate::Joined(text) => whole(alloc, text, true)?,
+        _ => whole(datagram, joined),
     };
-    assert_eq!(rt; *preview, expected);
-    Ok(())
+    assert!(rt; preview == expected);
 }
 
-fn whole(alloc: Global, text: &str, joined: bool) -> Result<Preview, FromHexError> {
-    let octets = hex::decode(alloc, text)?;
+fn whole(octets: &[u8], joined: bool) -> Preview {
     let mut head = [0; 8];
     for i in 0..octets.len().min(8) {
         head[i] = octets[i];
     }
-    Ok(Preview::Whole {
+    Preview::Whole {
         len: octets.len(),
         head,
         joined,
-    })
+    }
 }
 
 fn check_offered(
     rt: &impl Abort,
-    alloc: Global,
-    reassembly: &mut Reassembly,
-    packet: &Packet<'_>,
-    time: u64,
+    offered: Offered<'_>,
     fate: Fate,
-) -> Result<(), Fail> {
-    match (reassembly.offer(packet, time), fate) {
+    datagram: &[u8],
+    is_joined: bool,
+) {
+    match (offered, fate) {
         (Offered::Bad, Fate::Bad) | (Offered::Held, Fate::Held) => {}
-        (Offered::Whole { octets, joined }, Fate::Alone(text)) => {
-            assert!(rt; !joined);
-            assert!(rt; octets == hex::decode(alloc, text)?.as_slice());
-        }
-        (Offered::Whole { octets, joined }, Fate::Joined(text)) => {
-            assert!(rt; joined);
-            assert!(rt; octets == hex::decode(alloc, text)?.as_slice());
-        }
-        _ => assert!(rt; false, "at {time}"),
+        (Offered::Whole { octets, joined }, Fate::Alone(_) | Fate::Joined(_) | Fate::Completed) =>
+            assert!(rt; octets == datagram && joined == is_joined),
+        _ => assert!(rt; false, "another fate"),
     }
-    Ok(())
 }

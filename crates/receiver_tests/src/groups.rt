@@ -3,7 +3,6 @@ use crate::packets::{PacketRow, check};
 use crate::receive::FOR_NAV;
 use es_base::Net::A;
 use es_base::Verdict::FragmentHeld;
-use std::test::Fail;
 use test_inputs::fragments::PacketName::{
     First, First3, First4, First5, First6, Last, LastFromAnother, LastToAnother, Whole,
 };
@@ -100,31 +99,31 @@ fn whole_between() -> [PacketRow; 3] {
 }
 
 #[test]
-fn the_one_that_began_first_is_given_up_for_a_fifth(rt: HostRuntime) -> Result<(), Fail> {
-    check(&rt, rt.alloc(), &five_begin())?;
-    check(&rt, rt.alloc(), &four_begin())?;
-    check(&rt, rt.alloc(), &first_touched_last())
+fn the_one_that_began_first_is_given_up_for_a_fifth(rt: HostRuntime) {
+    check(&rt, rt.alloc(), &five_begin());
+    check(&rt, rt.alloc(), &four_begin());
+    check(&rt, rt.alloc(), &first_touched_last());
 }
 
 #[test]
-fn the_age_is_that_of_the_first_piece(rt: HostRuntime) -> Result<(), Fail> {
-    check(&rt, rt.alloc(), &at_the_limit())?;
-    check(&rt, rt.alloc(), &after_the_limit())?;
-    check(&rt, rt.alloc(), &touched_between())
+fn the_age_is_that_of_the_first_piece(rt: HostRuntime) {
+    check(&rt, rt.alloc(), &at_the_limit());
+    check(&rt, rt.alloc(), &after_the_limit());
+    check(&rt, rt.alloc(), &touched_between());
 }
 
 #[test]
-fn no_other_key_is_given_up_for_its_age(rt: HostRuntime) -> Result<(), Fail> {
-    check(&rt, rt.alloc(), &another_key_between())
+fn no_other_key_is_given_up_for_its_age(rt: HostRuntime) {
+    check(&rt, rt.alloc(), &another_key_between());
 }
 
 #[test]
-fn a_key_has_both_addresses(rt: HostRuntime) -> Result<(), Fail> {
-    check(&rt, rt.alloc(), &another_source())?;
-    check(&rt, rt.alloc(), &another_destination())
+fn a_key_has_both_addresses(rt: HostRuntime) {
+    check(&rt, rt.alloc(), &another_source());
+    check(&rt, rt.alloc(), &another_destination());
 }
 
 #[test]
-fn a_whole_datagram_gives_up_the_group_of_its_key(rt: HostRuntime) -> Result<(), Fail> {
-    check(&rt, rt.alloc(), &whole_between())
+fn a_whole_datagram_gives_up_the_group_of_its_key(rt: HostRuntime) {
+    check(&rt, rt.alloc(), &whole_between());
 }

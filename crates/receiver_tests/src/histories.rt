@@ -1,190 +1,107 @@
 //! The messages that a link's history delivered to its ports.
-use crate::receive::{NAV, POS};
+use crate::messages::check_message;
+use crate::packets::frame_row;
+use crate::queues::NAV_UDP;
+use crate::receive::{FOR_NAV, FrameRow, NAV, POS, check_frames, opened};
 use es_base::Net::{A, B};
-use es_base::{Arrival, LinkSettings, Message, Net, Octets, PortNo};
-use frame_reader::read_frame;
-use link_receiver::UnreadLink;
+use es_base::Verdict::{FragmentHeld, OutOfSequence, Overflow, Redundant, Sampled};
+use es_base::{Message, PortNo, Verdict};
 use std::alloc::Global;
 use std::process::Abort;
 use std::sync::Wait;
-use std::test::Fail;
-use test_inputs::fragments::{PacketName, PacketText, padding_after};
-use test_inputs::{CONSTANT, ETHERNET, IP, LINK, Link, PAYLOAD, frame_of};
+use test_inputs::fragments::PacketName::{First, Last};
+use test_inputs::{IP, LINK, Link, PAYLOAD, UDP};
 
 /// The other payload.
 const NEXT_PAYLOAD: &str = "2122232425262728292a2b2c2d2e2f3031";
-/// The payload that the beginning and the end make.
+/// The payload that the two fragments make.
 const JOINED_PAYLOAD: &str = "a0a1a2a3a4a5a6a7b0b1b2b3b4b5b6b7b8b9babbbcbdbebf";
 
-/// What a frame brings.
-#[derive(Clone, Copy)]
-enum Brought {
-    /// A datagram for `pos` with `PAYLOAD`, or with the other payload.
-    Sample,
-    NextSample,
-    /// A datagram for `nav` with `PAYLOAD`, or with the other payload.
-    Queued,
-    NextQueued,
-    /// The beginning or the end of a datagram for `nav`.
-    Beginning,
-    End,
-}
-
-use Brought::{Beginning, End, NextQueued, NextSample, Queued, Sample};
-
-impl Brought {
-    /// The packet.
-    fn texts(self) -> PacketText {
-        match self {
-            Sample => (IP, "13891388001900000102030405060708090a0b0c0d0e0f1011"),
-            NextSample => (IP, "13891388001900002122232425262728292a2b2c2d2e2f3031"),
-            Queued => (IP, "1389138a001900000102030405060708090a0b0c0d0e0f1011"),
-            NextQueued => (IP, "1389138a001900002122232425262728292a2b2c2d2e2f3031"),
-            Beginning => PacketName::First.texts(),
-            End => PacketName::Last.texts(),
-        }
-    }
-}
-
-/// The network, arrival time in microseconds and sequence number of a frame of link 17, and what it
-/// brings.
-type Row = (Net, u64, u8, Brought);
 /// The time of a message in microseconds, and its octets.
 type Wanted = (u64, &'static str);
 
 /// The second frame is a copy of the first, and the fourth is out of sequence.
-fn samples() -> [Row; 4] {
+fn samples() -> [FrameRow<'static>; 4] {
     [
-        (A, 1000, 1, Sample),
-        (B, 1100, 1, Sample),
-        (A, 2000, 2, NextSample),
-        (A, 3000, 9, Sample),
+        (A, 1000, 1, IP, UDP, PAYLOAD, Sampled(POS, 1)),
+        (B, 1100, 1, IP, UDP, PAYLOAD, Redundant),
+        (A, 2000, 2, IP, UDP, NEXT_PAYLOAD, Sampled(POS, 2)),
+        (A, 3000, 9, IP, UDP, PAYLOAD, OutOfSequence),
     ]
 }
 
 /// Both pieces come on both networks, with a whole datagram between them.
-fn pieces() -> [Row; 5] {
+fn pieces() -> [FrameRow<'static>; 5] {
     [
-        (A, 1000, 1, Beginning),
-        (B, 1050, 1, Beginning),
-        (A, 1070, 2, Queued),
-        (B, 1100, 3, End),
-        (A, 1150, 3, End),
+        frame_row((A, 1000, 1, First, FragmentHeld)),
+        frame_row((B, 1050, 1, First, Redundant)),
+        (A, 1070, 2, IP, NAV_UDP, PAYLOAD, FOR_NAV),
+        frame_row((B, 1100, 3, Last, FOR_NAV)),
+        frame_row((A, 1150, 3, Last, Redundant)),
     ]
 }
 
-/// The receiver takes this frame.
-fn take_row(
-    rt: &(impl Abort + Wait),
-    alloc: Global,
-    link: &mut UnreadLink,
-    (net, time, sequence_number, brought): Row,
-) -> Result<(), Fail> {
-    let (ip, octets) = brought.texts();
-    let texts = [ETHERNET, ip, octets, padding_after(octets)];
-    let octets = Octets::from(frame_of(alloc, &texts, sequence_number)?);
-    let frame = read_frame(CONSTANT, octets.as_slice()).expect(rt, "a frame");
-    assert!(rt; frame.vl == link.settings().vl());
-    let arrival = Arrival {
-        net,
-        time,
-        frame: octets,
-    };
-    link.take_arrival(rt, alloc, arrival)?;
-    Ok(())
-}
-
-/// A receiver with these settings that took these frames.
-fn receiver_of(
-    rt: &(impl Abort + Wait),
-    alloc: Global,
-    settings: &LinkSettings,
-    rows: &[Row],
-) -> Result<UnreadLink, Fail> {
-    let mut link = UnreadLink::new(alloc, settings)?;
-    for row in rows {
-        take_row(rt, alloc, &mut link, *row)?;
+fn check_messages(rt: &impl Abort, alloc: Global, messages: &[Message], wanted: &[Wanted]) {
+    assert_eq!(rt; messages.len(), wanted.len());
+    for (message, (time, payload)) in messages.iter().zip(wanted) {
+        check_message(rt, alloc, message, *time, payload);
     }
-    Ok(link)
 }
 
-fn check_message(
-    rt: &impl Abort,
-    alloc: Global,
-    message: &Message,
-    (time, payload): Wanted,
-) -> Result<(), Fail> {
-    let octets = hex::decode(alloc, payload)?;
-    assert_eq!(rt; message.time, time);
-    assert!(rt; message.octets.as_slice() == octets.as_slice(), "{time}");
-    Ok(())
-}
-
-/// The messages that these frames delivered to a port, where the queue of `nav` has this depth.
-fn delivered(
-    rt: &(impl Abort + Wait),
-    alloc: Global,
-    nav_depth: u8,
-    rows: &[Row],
-    port: PortNo,
-) -> Result<Vec<Message>, Fail> {
-    let settings = Link { nav_depth, ..LINK }.settings(alloc)?;
-    let link = receiver_of(rt, alloc, &settings, rows)?;
-    Ok(link.deliveries(alloc, port)?)
-}
-
-/// After these frames these messages were delivered to a port, where the queue of `nav` has this depth.
+/// These frames have these verdicts, and then these messages were delivered to a port, where the queue
+/// of `nav` has this depth.
 fn check_deliveries(
     rt: &(impl Abort + Wait),
     alloc: Global,
     nav_depth: u8,
-    rows: &[Row],
+    rows: &[FrameRow<'_>],
     port: PortNo,
     wanted: &[Wanted],
-) -> Result<(), Fail> {
-    let messages = delivered(rt, alloc, nav_depth, rows, port)?;
-    assert_eq!(rt; messages.len(), wanted.len());
-    for (message, wanted) in messages.iter().zip(wanted) {
-        check_message(rt, alloc, message, *wanted)?;
-    }
-    Ok(())
+) {
+    let (mut state, _) = opened(rt, alloc, Link { nav_depth, ..LINK });
+    check_frames(rt, alloc, &mut state, rows);
+    let messages = state.deliveries(alloc, port).expect(rt, "memory");
+    check_messages(rt, alloc, &messages, wanted);
 }
 
 #[test]
-fn first_copies_in_sequence_are_delivered(rt: HostRuntime) -> Result<(), Fail> {
+fn first_copies_in_sequence_are_delivered(rt: HostRuntime) {
     let wanted = [(1000, PAYLOAD), (2000, NEXT_PAYLOAD)];
-    check_deliveries(&rt, rt.alloc(), 4, &samples(), POS, &wanted)
+    check_deliveries(&rt, rt.alloc(), 4, &samples(), POS, &wanted);
 }
 
 #[test]
-fn no_port_has_the_messages_of_another(rt: HostRuntime) -> Result<(), Fail> {
-    check_deliveries(&rt, rt.alloc(), 4, &samples(), NAV, &[])?;
-    check_deliveries(&rt, rt.alloc(), 4, &samples(), PortNo(2), &[])
+fn no_port_has_the_messages_of_another(rt: HostRuntime) {
+    check_deliveries(&rt, rt.alloc(), 4, &samples(), NAV, &[]);
+    check_deliveries(&rt, rt.alloc(), 4, &samples(), PortNo(2), &[]);
 }
 
 #[test]
-fn a_link_without_frames_delivers_nothing(rt: HostRuntime) -> Result<(), Fail> {
-    check_deliveries(&rt, rt.alloc(), 4, &[], POS, &[])
+fn a_link_without_frames_delivers_nothing(rt: HostRuntime) {
+    check_deliveries(&rt, rt.alloc(), 4, &[], POS, &[]);
 }
 
 #[test]
-fn a_joined_datagram_is_delivered_once(rt: HostRuntime) -> Result<(), Fail> {
+fn a_joined_datagram_is_delivered_once(rt: HostRuntime) {
     let wanted = [(1070, PAYLOAD), (1100, JOINED_PAYLOAD)];
-    check_deliveries(&rt, rt.alloc(), 4, &pieces(), NAV, &wanted)
+    check_deliveries(&rt, rt.alloc(), 4, &pieces(), NAV, &wanted);
 }
 
-fn more_than_the_queue_holds() -> [Row; 3] {
+/// Three messages for `nav`. The verdicts of the last two depend on the depth of its queue.
+fn three_queued(second: Verdict, third: Verdict) -> [FrameRow<'static>; 3] {
     [
-        (A, 1000, 1, Queued),
-        (A, 1100, 2, NextQueued),
-        (A, 1200, 3, Queued),
+        (A, 1000, 1, IP, NAV_UDP, PAYLOAD, FOR_NAV),
+        (A, 1100, 2, IP, NAV_UDP, NEXT_PAYLOAD, second),
+        (A, 1200, 3, IP, NAV_UDP, PAYLOAD, third),
     ]
 }
 
 #[test]
-fn a_lost_message_is_not_delivered(rt: HostRuntime) -> Result<(), Fail> {
-    let rows = more_than_the_queue_holds();
+fn a_lost_message_is_not_delivered(rt: HostRuntime) {
     let wanted = [(1000, PAYLOAD), (1100, NEXT_PAYLOAD)];
-    check_deliveries(&rt, rt.alloc(), 2, &rows, NAV, &wanted)?;
-    check_deliveries(&rt, rt.alloc(), 1, &rows, NAV, &wanted[..1])
+    let lost = Overflow(NAV);
+    let depth_2 = three_queued(FOR_NAV, lost);
+    check_deliveries(&rt, rt.alloc(), 2, &depth_2, NAV, &wanted);
+    let depth_1 = three_queued(lost, lost);
+    check_deliveries(&rt, rt.alloc(), 1, &depth_1, NAV, &wanted[..1]);
 }

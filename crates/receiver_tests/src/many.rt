@@ -1,46 +1,26 @@
 //! Many frames of one link.
-use crate::receive::{POS, opened};
-use es_base::{LinkSettings, Net, Verdict};
-use frame_reader::read_frame;
-use link_receiver::LinkState;
+use crate::receive::{POS, check_step, opened};
+use es_base::{Net, Verdict};
 use std::alloc::Global;
 use std::process::Abort;
 use std::sync::Wait;
-use std::test::Fail;
-use test_inputs::{CONSTANT, LINK, sequence_number_at, smallest};
+use test_inputs::{LINK, sequence_number_at};
 
-/// The receiver takes the frame at this place, from 0, and it becomes a message.
-fn take_one(
-    rt: &(impl Abort + Wait),
-    alloc: Global,
-    state: &mut LinkState,
-    place: u32,
-) -> Result<(), Fail> {
-    let octets = smallest(alloc, sequence_number_at(place))?;
-    let frame = read_frame(CONSTANT, &octets).expect(rt, "a frame");
-    assert!(rt; frame.vl == state.settings().vl());
-    let verdict = state.take(rt, alloc, Net::A, u64::from(place), &frame)?;
-    assert_eq!(rt; verdict, Verdict::Sampled(POS, u64::from(place) + 1));
-    Ok(())
-}
-
-/// A new receiver takes this many frames, one after another, and each becomes a message.
-fn check_many(
-    rt: &(impl Abort + Wait),
-    alloc: Global,
-    settings: &LinkSettings,
-    count: u32,
-) -> Result<(), Fail> {
-    let (mut state, _) = opened(alloc, settings)?;
+/// A new receiver takes this many frames, one a microsecond, and each becomes a message.
+fn check_many(rt: &(impl Abort + Wait), alloc: Global, count: u32) {
+    let (mut state, _) = opened(rt, alloc, LINK);
     for place in 0..count {
-        take_one(rt, alloc, &mut state, place)?;
+        let time = u64::from(place);
+        let verdict = Verdict::Sampled(POS, time + 1);
+        let step = (Net::A, time, sequence_number_at(place), verdict);
+        check_step(rt, alloc, &mut state, step);
     }
-    assert_eq!(rt; state.history().len(), count as usize);
-    Ok(())
+    assert!(rt; state.history().len() == count as usize);
+    let last_time = state.history().last().map(|event| event.time);
+    assert!(rt; last_time == Some(u64::from(count).wrapping_sub(1)));
 }
 
 #[test]
-fn a_link_takes_a_hundred_thousand_frames(rt: HostRuntime) -> Result<(), Fail> {
-    let settings = LINK.settings(rt.alloc())?;
-    check_many(&rt, rt.alloc(), &settings, 100_000)
+fn a_link_takes_a_hundred_thousand_frames(rt: HostRuntime) {
+    check_many(&rt, rt.alloc(), 100_000);
 }

@@ -1,46 +1,59 @@
 //! Messages at the ports: which are taken, and the newest of each port.
-use crate::receive::{FrameRow, NAV, POS, check_rows, opened, receive_all};
+use crate::receive::{FrameRow, NAV, POS, check_frames, check_rows, opened, opened_with};
 use es_base::Net::A;
 use es_base::Verdict::{Sampled, TooLong};
 use es_base::{LinkSettings, Message, PortNo, Verdict};
+use link_receiver::LinkState;
 use std::alloc::Global;
 use std::process::Abort;
 use std::sync::Wait;
-use std::test::Fail;
 use test_inputs::{IP, LINK, LONGEST_IP, LONGEST_UDP, Link, PAYLOAD, UDP, fives, sampling_port};
 
-fn check_message(rt: &impl Abort, message: &Message, time: u64, octets: &[u8]) {
-    assert_eq!(rt; message.time, time);
-    assert!(rt; message.octets.as_slice() == octets);
+/// The newest message of a port: its message number, its time in microseconds and its payload as a
+/// hexadecimal text.
+type Newest<'a> = (u64, u64, &'a str);
+
+/// The message has this time in microseconds and this payload.
+pub(crate) fn check_message(
+    rt: &impl Abort,
+    alloc: Global,
+    message: &Message,
+    time: u64,
+    payload: &str,
+) {
+    let octets = hex::decode(alloc, payload).expect(rt, "octets");
+    assert!(rt; message.time == time, "{}", message.time);
+    assert!(rt; message.octets.as_slice() == octets.as_slice(), "{time}");
 }
 
-/// The newest message of a port has this message number, time in microseconds and payload.
+/// The port has this newest message.
 fn check_newest(
     rt: &impl Abort,
     alloc: Global,
-    newest: Option<(u64, &Message)>,
-    message_number: u64,
-    time: u64,
-    payload: &str,
-) -> Result<(), Fail> {
-    let octets = hex::decode(alloc, payload)?;
-    let (number, message) = newest.expect(rt, "a message");
-    assert_eq!(rt; number, message_number);
-    check_message(rt, message, time, &octets);
-    Ok(())
+    state: &LinkState,
+    port: PortNo,
+    wanted: Newest<'_>,
+) {
+    let (wanted_number, time, payload) = wanted;
+    let (message_number, message) = state.newest(port).expect(rt, "a message");
+    assert!(rt; message_number == wanted_number, "{message_number}");
+    check_message(rt, alloc, message, time, payload);
 }
 
-/// No port of a new receiver with these settings has a message.
-fn check_none(rt: &impl Abort, alloc: Global, settings: &LinkSettings) -> Result<(), Fail> {
-    let (state, _) = opened(alloc, settings)?;
-    assert!(rt; state.newest(POS).is_none());
-    assert!(rt; state.newest(NAV).is_none());
-    Ok(())
+/// The port has no newest message.
+fn check_none(rt: &impl Abort, state: &LinkState, port: PortNo) {
+    assert!(rt; state.newest(port).is_none());
+}
+
+fn check_new(rt: &impl Abort, alloc: Global) {
+    let (state, _) = opened(rt, alloc, LINK);
+    check_none(rt, &state, POS);
+    check_none(rt, &state, NAV);
 }
 
 #[test]
-fn a_port_has_no_newest_message_before_the_first(rt: HostRuntime) -> Result<(), Fail> {
-    check_none(&rt, rt.alloc(), &LINK.settings(rt.alloc())?)
+fn a_port_has_no_newest_message_before_the_first(rt: HostRuntime) {
+    check_new(&rt, rt.alloc());
 }
 
 /// A first frame becomes message 1 of `pos`, with this payload, and comes to no other port. The frame
@@ -51,31 +64,31 @@ fn check_delivered(
     (ip, udp): (&str, &str),
     padded: &str,
     payload: &str,
-) -> Result<(), Fail> {
+) {
+    let (mut state, _) = opened(rt, alloc, LINK);
     let frame = (A, 1000, 0, ip, udp, padded, Sampled(POS, 1));
-    let state = receive_all(rt, alloc, &LINK.settings(alloc)?, &[frame])?;
-    check_newest(rt, alloc, state.newest(POS), 1, 1000, payload)?;
-    assert!(rt; state.newest(NAV).is_none());
-    assert!(rt; state.newest(PortNo(2)).is_none());
-    Ok(())
+    check_frames(rt, alloc, &mut state, &[frame]);
+    check_newest(rt, alloc, &state, POS, (1, 1000, payload));
+    check_none(rt, &state, NAV);
+    check_none(rt, &state, PortNo(2));
 }
 
 #[test]
-fn the_newest_message_of_a_port_is_shown(rt: HostRuntime) -> Result<(), Fail> {
-    check_delivered(&rt, rt.alloc(), (IP, UDP), PAYLOAD, PAYLOAD)
+fn the_newest_message_of_a_port_is_shown(rt: HostRuntime) {
+    check_delivered(&rt, rt.alloc(), (IP, UDP), PAYLOAD, PAYLOAD);
 }
 
 #[test]
-fn the_longest_frame_is_delivered_whole(rt: HostRuntime) -> Result<(), Fail> {
-    let payload = fives(rt.alloc(), 1471)?;
+fn the_longest_frame_is_delivered_whole(rt: HostRuntime) {
+    let payload = fives(rt.alloc(), 1471).expect(&rt, "memory");
     let headers = (LONGEST_IP, LONGEST_UDP);
-    check_delivered(&rt, rt.alloc(), headers, payload.as_str(), payload.as_str())
+    check_delivered(&rt, rt.alloc(), headers, payload.as_str(), payload.as_str());
 }
 
 #[test]
-fn a_udp_datagram_of_eight_octets_has_an_empty_payload(rt: HostRuntime) -> Result<(), Fail> {
+fn a_udp_datagram_of_eight_octets_has_an_empty_payload(rt: HostRuntime) {
     let headers = (IP, "1389138800080000");
-    check_delivered(&rt, rt.alloc(), headers, PAYLOAD, "")
+    check_delivered(&rt, rt.alloc(), headers, PAYLOAD, "");
 }
 
 /// A third port of link 17, the sampling port `aux`, follows `nav`.
@@ -93,6 +106,14 @@ fn frames_for_two_ports() -> [FrameRow<'static>; 3] {
     ]
 }
 
+/// The settings of link 17 with three ports.
+fn three_ports(rt: &impl Abort, alloc: Global) -> LinkSettings {
+    let mut ports = LINK.ports(alloc).expect(rt, "ports");
+    let aux = sampling_port("aux", 5004, 1471).expect(rt, "aux");
+    ports.push(aux).expect(rt, "memory");
+    LINK.with_ports(ports).expect(rt, "settings")
+}
+
 /// After these frames the newest message of `pos` has this message number and time, and that of `aux`
 /// is its first.
 fn check_two_ports(
@@ -101,19 +122,18 @@ fn check_two_ports(
     frames: &[FrameRow<'_>],
     message_number: u64,
     time: u64,
-) -> Result<(), Fail> {
-    let mut ports = LINK.ports(alloc)?;
-    ports.push(sampling_port("aux", 5004, 1471).ok_or("aux")?)?;
-    let state = receive_all(rt, alloc, &LINK.with_ports(ports)?, frames)?;
-    check_newest(rt, alloc, state.newest(POS), message_number, time, PAYLOAD)?;
-    check_newest(rt, alloc, state.newest(AUX), 1, 2000, AUX_PAYLOAD)
+) {
+    let (mut state, _) = opened_with(rt, alloc, &three_ports(rt, alloc));
+    check_frames(rt, alloc, &mut state, frames);
+    check_newest(rt, alloc, &state, POS, (message_number, time, PAYLOAD));
+    check_newest(rt, alloc, &state, AUX, (1, 2000, AUX_PAYLOAD));
 }
 
 #[test]
-fn the_messages_of_each_port_are_numbered_apart(rt: HostRuntime) -> Result<(), Fail> {
+fn the_messages_of_each_port_are_numbered_apart(rt: HostRuntime) {
     let frames = frames_for_two_ports();
-    check_two_ports(&rt, rt.alloc(), &frames[..2], 1, 1000)?;
-    check_two_ports(&rt, rt.alloc(), &frames, 2, 3000)
+    check_two_ports(&rt, rt.alloc(), &frames[..2], 1, 1000);
+    check_two_ports(&rt, rt.alloc(), &frames, 2, 3000);
 }
 
 /// The largest payload of `pos`, a UDP header before a payload of 17 octets, and the verdict of their
@@ -130,22 +150,17 @@ fn largest_payloads() -> [Row; 4] {
     ]
 }
 
-fn check_largest(
-    rt: &(impl Abort + Wait),
-    alloc: Global,
-    (pos_max, udp, verdict): Row,
-) -> Result<(), Fail> {
-    let settings = Link { pos_max, ..LINK }.settings(alloc)?;
+fn check_largest(rt: &(impl Abort + Wait), alloc: Global, row: Row) {
+    let (pos_max, udp, verdict) = row;
     let frame = (A, 1000, 0, IP, udp, PAYLOAD, verdict);
-    check_rows(rt, alloc, &settings, &[frame])
+    check_rows(rt, alloc, Link { pos_max, ..LINK }, &[frame]);
 }
 
 #[test]
-fn payloads_are_compared_with_the_largest(rt: HostRuntime) -> Result<(), Fail> {
+fn payloads_are_compared_with_the_largest(rt: HostRuntime) {
     for row in largest_payloads() {
-        check_largest(&rt, rt.alloc(), row)?;
+        check_largest(&rt, rt.alloc(), row);
     }
-    Ok(())
 }
 
 #[test]

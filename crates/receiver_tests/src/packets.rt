@@ -1,38 +1,44 @@
 //! Fragments and other packets given to the receiver of a link, each in a frame of 60 octets.
-use crate::receive::check_rows;
-use es_base::{LinkSettings, Net, Verdict};
+use crate::receive::{FrameRow, check_frame, opened};
+use es_base::{Net, Verdict};
+use link_receiver::LinkState;
 use std::alloc::Global;
 use std::process::Abort;
 use std::sync::Wait;
-use std::test::Fail;
-use test_inputs::LINK;
 use test_inputs::fragments::{PacketName, padding_after};
+use test_inputs::{LINK, Link};
 
 /// The network, arrival time in microseconds and sequence number of a frame of link 17, its packet, and
 /// its verdict.
 pub(crate) type PacketRow = (Net, u64, u8, PacketName, Verdict);
 
-/// A new receiver with these settings gives these verdicts.
-pub(crate) fn check_with(
+/// The frame of this packet.
+pub(crate) fn frame_row(row: PacketRow) -> FrameRow<'static> {
+    let (net, now, sequence_number, packet, verdict) = row;
+    let (ip, octets) = packet.texts();
+    let padding = padding_after(octets);
+    (net, now, sequence_number, ip, octets, padding, verdict)
+}
+
+/// The receiver gives these packets these verdicts.
+pub(crate) fn check_packets(
     rt: &(impl Abort + Wait),
     alloc: Global,
-    settings: &LinkSettings,
+    state: &mut LinkState,
     rows: &[PacketRow],
-) -> Result<(), Fail> {
-    let mut frames = Vec::new(alloc);
-    for (net, now, sequence_number, packet, verdict) in rows {
-        let (ip, octets) = packet.texts();
-        let padding = padding_after(octets);
-        frames.push((*net, *now, *sequence_number, ip, octets, padding, *verdict))?;
+) {
+    for row in rows {
+        check_frame(rt, alloc, state, frame_row(*row));
     }
-    check_rows(rt, alloc, settings, &frames)
+}
+
+/// A new receiver of this link gives these packets these verdicts.
+pub(crate) fn check_of(rt: &(impl Abort + Wait), alloc: Global, link: Link, rows: &[PacketRow]) {
+    let (mut state, _) = opened(rt, alloc, link);
+    check_packets(rt, alloc, &mut state, rows);
 }
 
 /// The same for the built-in configuration's link.
-pub(crate) fn check(
-    rt: &(impl Abort + Wait),
-    alloc: Global,
-    rows: &[PacketRow],
-) -> Result<(), Fail> {
-    check_with(rt, alloc, &LINK.settings(alloc)?, rows)
+pub(crate) fn check(rt: &(impl Abort + Wait), alloc: Global, rows: &[PacketRow]) {
+    check_of(rt, alloc, LINK, rows);
 }

@@ -1,62 +1,57 @@
 //! The octets of messages that are queued.
-use crate::packets::PacketRow;
+use crate::messages::check_message;
+use crate::packets::{PacketRow, check_packets};
 use crate::queues::taker_of;
-use crate::receive::{FOR_NAV, FrameRow, opened, receive_rows};
+use crate::receive::{FOR_NAV, FrameRow, check_frames, opened};
 use es_base::Net::A;
 use es_base::Verdict::FragmentHeld;
 use queuing_port::Taker;
 use std::alloc::Global;
 use std::process::Abort;
 use std::sync::Wait;
-use std::test::Fail;
 use test_inputs::fragments::PacketName::{First, FirstAnew, Last, LongerLast};
-use test_inputs::fragments::padding_after;
 use test_inputs::{IP, LINK, PAYLOAD, fives};
 
-/// A new receiver gives these frames these verdicts. Returns the taker of `nav`.
-fn taker_after(
+/// The taker takes one message, of this time in microseconds and with this payload.
+fn check_taken(
     rt: &(impl Abort + Wait),
     alloc: Global,
-    rows: &[FrameRow<'_>],
-) -> Result<Taker, Fail> {
-    let (mut state, ends) = opened(alloc, &LINK.settings(alloc)?)?;
-    receive_rows(rt, alloc, &mut state, rows)?;
-    Ok(taker_of(rt, ends))
+    taker: &mut Taker,
+    time: u64,
+    payload: &str,
+) {
+    let message = taker.take(rt).expect(rt, "a message");
+    check_message(rt, alloc, &message, time, payload);
+    assert!(rt; taker.take(rt).is_none());
 }
 
 /// A new receiver gives these frames these verdicts, and then the taker of `nav` takes one message, of
 /// this time in microseconds and with this payload.
-fn check_taken(
+fn check_queued(
     rt: &(impl Abort + Wait),
     alloc: Global,
     rows: &[FrameRow<'_>],
     time: u64,
     payload: &str,
-) -> Result<(), Fail> {
-    let mut taker = taker_after(rt, alloc, rows)?;
-    let message = taker.take(rt).expect(rt, "a message");
-    assert_eq!(rt; message.time, time);
-    let octets = hex::decode(alloc, payload)?;
-    assert!(rt; message.octets.as_slice() == octets.as_slice());
-    assert!(rt; taker.take(rt).is_none());
-    Ok(())
+) {
+    let (mut state, ends) = opened(rt, alloc, LINK);
+    let mut taker = taker_of(rt, ends);
+    check_frames(rt, alloc, &mut state, rows);
+    check_taken(rt, alloc, &mut taker, time, payload);
 }
 
 /// The same for packets, each in a frame of 60 octets.
 fn check_joined(
     rt: &(impl Abort + Wait),
     alloc: Global,
-    packets: &[PacketRow],
+    rows: &[PacketRow],
     time: u64,
     payload: &str,
-) -> Result<(), Fail> {
-    let mut rows = Vec::new(alloc);
-    for (net, now, number, packet, verdict) in packets {
-        let (ip, octets) = packet.texts();
-        let padding = padding_after(octets);
-        rows.push((*net, *now, *number, ip, octets, padding, *verdict))?;
-    }
-    check_taken(rt, alloc, &rows, time, payload)
+) {
+    let (mut state, ends) = opened(rt, alloc, LINK);
+    let mut taker = taker_of(rt, ends);
+    check_packets(rt, alloc, &mut state, rows);
+    check_taken(rt, alloc, &mut taker, time, payload);
 }
 
 /// Three fragments of a datagram, the third of which completes it.
@@ -65,55 +60,55 @@ fn three(first: PacketRow, second: PacketRow, third: PacketRow) -> [PacketRow; 3
 }
 
 #[test]
-fn a_joined_datagram_is_queued_whole(rt: HostRuntime) -> Result<(), Fail> {
+fn a_joined_datagram_is_queued_whole(rt: HostRuntime) {
     let payload = "a0a1a2a3a4a5a6a7b0b1b2b3b4b5b6b7b8b9babbbcbdbebf";
     let in_order = [
         (A, 1000, 1, First, FragmentHeld),
         (A, 1100, 2, Last, FOR_NAV),
     ];
-    check_joined(&rt, rt.alloc(), &in_order, 1100, payload)?;
+    check_joined(&rt, rt.alloc(), &in_order, 1100, payload);
     let last_first = [
         (A, 1000, 1, Last, FragmentHeld),
         (A, 1100, 2, First, FOR_NAV),
     ];
-    check_joined(&rt, rt.alloc(), &last_first, 1100, payload)
+    check_joined(&rt, rt.alloc(), &last_first, 1100, payload);
 }
 
 #[test]
-fn a_queued_message_has_the_latest_octets(rt: HostRuntime) -> Result<(), Fail> {
+fn a_queued_message_has_the_latest_octets(rt: HostRuntime) {
     let rows = three(
         (A, 1000, 1, First, FragmentHeld),
         (A, 1100, 2, FirstAnew, FragmentHeld),
         (A, 1200, 3, Last, FOR_NAV),
     );
     let payload = "c0c1c2c3c4c5c6c7b0b1b2b3b4b5b6b7b8b9babbbcbdbebf";
-    check_joined(&rt, rt.alloc(), &rows, 1200, payload)
+    check_joined(&rt, rt.alloc(), &rows, 1200, payload);
 }
 
 /// The last fragment that ends earlier comes later, and the end is its end; and the other way round the
 /// UDP header cuts what was joined.
 #[test]
-fn a_queued_message_is_as_long_as_its_udp_header_says(rt: HostRuntime) -> Result<(), Fail> {
+fn a_queued_message_is_as_long_as_its_udp_header_says(rt: HostRuntime) {
     let down = three(
         (A, 1000, 1, LongerLast, FragmentHeld),
         (A, 1100, 2, Last, FragmentHeld),
         (A, 1200, 3, First, FOR_NAV),
     );
     let payload = "a0a1a2a3a4a5a6a7b0b1b2b3b4b5b6b7b8b9babbbcbdbebf";
-    check_joined(&rt, rt.alloc(), &down, 1200, payload)?;
+    check_joined(&rt, rt.alloc(), &down, 1200, payload);
     let up = three(
         (A, 1000, 1, Last, FragmentHeld),
         (A, 1100, 2, LongerLast, FragmentHeld),
         (A, 1200, 3, First, FOR_NAV),
     );
     let payload = "a0a1a2a3a4a5a6a7d0d1d2d3d4d5d6d7d8d9dadbdcdddedf";
-    check_joined(&rt, rt.alloc(), &up, 1200, payload)
+    check_joined(&rt, rt.alloc(), &up, 1200, payload);
 }
 
 #[test]
-fn an_empty_message_is_queued(rt: HostRuntime) -> Result<(), Fail> {
+fn an_empty_message_is_queued(rt: HostRuntime) {
     let row = (A, 1000, 1, IP, "1389138a00080000", PAYLOAD, FOR_NAV);
-    check_taken(&rt, rt.alloc(), &[row], 1000, "")
+    check_queued(&rt, rt.alloc(), &[row], 1000, "");
 }
 
 /// The headers of the six fragments of a datagram of 8200 octets: 1472 octets in each, and 840 in the
@@ -127,10 +122,17 @@ const LONGEST: [&str; 6] = [
     "4500035c000203980111c7040a010101e0e00011",
 ];
 
+/// The hexadecimal text of this many octets 5a.
+fn text_of(rt: &impl Abort, alloc: Global, octets: usize) -> String {
+    fives(alloc, octets).expect(rt, "memory")
+}
+
 /// A message of 8192 octets is the longest.
-fn check_longest(rt: &(impl Abort + Wait), alloc: Global) -> Result<(), Fail> {
-    let payload = fives(alloc, 8192)?;
-    let (begin, middle, end) = (fives(alloc, 1464)?, fives(alloc, 1472)?, fives(alloc, 840)?);
+fn check_longest(rt: &(impl Abort + Wait), alloc: Global) {
+    let payload = text_of(rt, alloc, 8192);
+    let begin = text_of(rt, alloc, 1464);
+    let middle = text_of(rt, alloc, 1472);
+    let end = text_of(rt, alloc, 840);
     let [one, two, three, four, five, six] = LONGEST;
     let rows = [
         (
@@ -148,10 +150,10 @@ fn check_longest(rt: &(impl Abort + Wait), alloc: Global) -> Result<(), Fail> {
         (A, 5, 5, five, "", middle.as_str(), FragmentHeld),
         (A, 6, 6, six, "", end.as_str(), FOR_NAV),
     ];
-    check_taken(rt, alloc, &rows, 6, payload.as_str())
+    check_queued(rt, alloc, &rows, 6, payload.as_str());
 }
 
 #[test]
-fn the_longest_message_is_queued_whole(rt: HostRuntime) -> Result<(), Fail> {
-    check_longest(&rt, rt.alloc())
+fn the_longest_message_is_queued_whole(rt: HostRuntime) {
+    check_longest(&rt, rt.alloc());
 }

@@ -1,5 +1,5 @@
 //! Messages at a queuing port: which are queued, and which its taker takes.
-use crate::receive::{NAV, POS, opened, receive};
+use crate::receive::{NAV, POS, check_frame, opened};
 use es_base::Net::A;
 use es_base::Verdict;
 use es_base::Verdict::{Overflow, Queued, Sampled};
@@ -8,11 +8,10 @@ use queuing_port::Taker;
 use std::alloc::Global;
 use std::process::Abort;
 use std::sync::Wait;
-use std::test::Fail;
-use test_inputs::{ETHERNET, IP, LINK, Link, PAYLOAD, UDP, frame_of};
+use test_inputs::{IP, LINK, Link, PAYLOAD, UDP};
 
 /// The UDP header of the smallest frame, for `nav`.
-const NAV_UDP: &str = "1389138a00190000";
+pub(crate) const NAV_UDP: &str = "1389138a00190000";
 
 /// The taker of `nav`, the one queuing port of its link.
 pub(crate) fn taker_of(rt: &impl Abort, ends: Vec<PortEnd>) -> Taker {
@@ -38,18 +37,16 @@ use Step::{Nav, Pos, Take};
 
 /// The frame at this place, from 0, brings its payload to the port with this UDP header, and has this
 /// verdict.
-fn check_frame(
+fn check_payload(
     rt: &(impl Abort + Wait),
     alloc: Global,
     state: &mut LinkState,
     place: u8,
     udp: &str,
     verdict: Verdict,
-) -> Result<(), Fail> {
-    let frame = frame_of(alloc, &[ETHERNET, IP, udp, PAYLOAD], place)?;
-    let answer = receive(rt, alloc, state, A, u64::from(place), &frame);
-    assert_eq!(rt; answer, verdict, "frame {place}");
-    Ok(())
+) {
+    let frame = (A, u64::from(place), place, IP, udp, PAYLOAD, verdict);
+    check_frame(rt, alloc, state, frame);
 }
 
 /// The step brings the frame at this place. Returns the place of the next frame.
@@ -59,13 +56,13 @@ fn check_next(
     state: &mut LinkState,
     place: u8,
     step: Step,
-) -> Result<u8, Fail> {
+) -> u8 {
     match step {
-        Nav(verdict) => check_frame(rt, alloc, state, place, NAV_UDP, verdict)?,
-        Pos(verdict) => check_frame(rt, alloc, state, place, UDP, verdict)?,
-        Take(_) => return Ok(place),
+        Nav(verdict) => check_payload(rt, alloc, state, place, NAV_UDP, verdict),
+        Pos(verdict) => check_payload(rt, alloc, state, place, UDP, verdict),
+        Take(_) => return place,
     }
-    Ok(place.wrapping_add(1))
+    place.wrapping_add(1)
 }
 
 /// The taker takes the message of this time, or none.
@@ -75,22 +72,16 @@ fn check_take(rt: &(impl Abort + Wait), taker: &mut Taker, wanted: Option<u64>) 
 }
 
 /// A new receiver of this link goes these steps.
-fn check_steps(
-    rt: &(impl Abort + Wait),
-    alloc: Global,
-    link: Link,
-    steps: &[Step],
-) -> Result<(), Fail> {
-    let (mut state, ends) = opened(alloc, &link.settings(alloc)?)?;
+fn check_steps(rt: &(impl Abort + Wait), alloc: Global, link: Link, steps: &[Step]) {
+    let (mut state, ends) = opened(rt, alloc, link);
     let mut taker = taker_of(rt, ends);
     let mut place = 0;
     for step in steps {
         match step {
             Take(wanted) => check_take(rt, &mut taker, *wanted),
-            _ => place = check_next(rt, alloc, &mut state, place, *step)?,
+            _ => place = check_next(rt, alloc, &mut state, place, *step),
         }
     }
-    Ok(())
 }
 
 /// The link with this depth of `nav`.
@@ -159,32 +150,32 @@ fn no_taker() -> [Step; 6] {
 }
 
 #[test]
-fn a_queue_holds_as_many_messages_as_its_depth(rt: HostRuntime) -> Result<(), Fail> {
-    check_steps(&rt, rt.alloc(), with_depth(1), &one_place())?;
-    check_steps(&rt, rt.alloc(), with_depth(3), &three_places())
+fn a_queue_holds_as_many_messages_as_its_depth(rt: HostRuntime) {
+    check_steps(&rt, rt.alloc(), with_depth(1), &one_place());
+    check_steps(&rt, rt.alloc(), with_depth(3), &three_places());
 }
 
 #[test]
-fn a_taker_that_comes_late_takes_the_oldest_first(rt: HostRuntime) -> Result<(), Fail> {
-    check_steps(&rt, rt.alloc(), LINK, &late_taker())
+fn a_taker_that_comes_late_takes_the_oldest_first(rt: HostRuntime) {
+    check_steps(&rt, rt.alloc(), LINK, &late_taker());
 }
 
 #[test]
-fn a_queue_that_nobody_reads_loses_its_newest_messages_alone(rt: HostRuntime) -> Result<(), Fail> {
-    check_steps(&rt, rt.alloc(), with_depth(1), &no_taker())
+fn a_queue_that_nobody_reads_loses_its_newest_messages_alone(rt: HostRuntime) {
+    check_steps(&rt, rt.alloc(), with_depth(1), &no_taker());
 }
 
 /// What is too long for the port doesn't come to its queue.
 #[test]
-fn a_queuing_port_has_a_largest_payload(rt: HostRuntime) -> Result<(), Fail> {
+fn a_queuing_port_has_a_largest_payload(rt: HostRuntime) {
     let too_long = [Nav(Verdict::TooLong(NAV)), Take(None)];
-    check_steps(&rt, rt.alloc(), with_max(16), &too_long)?;
+    check_steps(&rt, rt.alloc(), with_max(16), &too_long);
     let fits = [Nav(Queued(NAV)), Take(Some(0))];
-    check_steps(&rt, rt.alloc(), with_max(17), &fits)
+    check_steps(&rt, rt.alloc(), with_max(17), &fits);
 }
 
-fn check_dropped(rt: &(impl Abort + Wait), alloc: Global) -> Result<(), Fail> {
-    let (mut state, ends) = opened(alloc, &LINK.settings(alloc)?)?;
+fn check_dropped(rt: &(impl Abort + Wait), alloc: Global) {
+    let (mut state, ends) = opened(rt, alloc, LINK);
     drop(ends);
     for place in 0..6 {
         let verdict = if place < 4 {
@@ -192,12 +183,11 @@ fn check_dropped(rt: &(impl Abort + Wait), alloc: Global) -> Result<(), Fail> {
         } else {
             Overflow(NAV)
         };
-        check_frame(rt, alloc, &mut state, place, NAV_UDP, verdict)?;
+        check_payload(rt, alloc, &mut state, place, NAV_UDP, verdict);
     }
-    Ok(())
 }
 
 #[test]
-fn a_dropped_taker_stops_nobody(rt: HostRuntime) -> Result<(), Fail> {
-    check_dropped(&rt, rt.alloc())
+fn a_dropped_taker_stops_nobody(rt: HostRuntime) {
+    check_dropped(&rt, rt.alloc());
 }

@@ -69,7 +69,7 @@ fn a_queuing_port_shows_all_its_messages_in_order(rt: HostRuntime) -> Result<(),
 
 /// The counts of link 17 and the filtered frames, where there were none, are these four lines.
 fn check_zeros(rt: &impl Abort, alloc: Global) -> Result<(), Fail> {
-    let link = LINK.settings(alloc)?;
+    let link = LINK.settings(alloc).ok_or("settings")?;
     let mut text = String::new(alloc);
     write_counts(&mut text, &link, &Tally::opening())?;
     write_filtered(&mut text, &FilterTally::opening())?;

@@ -5,8 +5,6 @@
 #[cfg(test)]
 mod mistakes;
 #[cfg(test)]
-mod picture;
-#[cfg(test)]
 mod places;
 #[cfg(test)]
 mod publications;

@@ -1,12 +1,12 @@
 //! Steps that name a reader, a slot or a word that there isn't, where the writer and the readers are at
 //! each of their steps.
-use crate::schedule::{Schedule, refused};
+use crate::schedule::Move::{Publishes, Reads, Refused, Scans, Step};
+use crate::schedule::{Move, check_refused, core_after};
 use slot_core::CoreEvent;
 use slot_core::CoreEvent::{Announce, Clear, LoadFirst, LoadSecond, LoadWord, Scan, StoreWord};
 use slot_core::StepRefusal::{NoSuchPlace, NotItsTurn};
-use std::alloc::{AllocError, Global};
+use std::alloc::Global;
 use std::process::Abort;
-use std::test::Fail;
 
 /// The first reader, slot and index that there isn't, and the greatest.
 fn nowhere() -> [CoreEvent; 14] {
@@ -49,40 +49,41 @@ fn nowhere() -> [CoreEvent; 14] {
     ]
 }
 
-fn check_nowhere(rt: &impl Abort, alloc: Global, schedule: &mut Schedule) -> Result<(), Fail> {
+/// After these moves each of those steps is refused for its place.
+fn check_nowhere(rt: &impl Abort, alloc: Global, moves: &[Move]) {
+    let mut core = core_after(rt, alloc, moves);
     for event in nowhere() {
-        refused(rt, alloc, schedule, event, NoSuchPlace)?;
+        check_refused(rt, alloc, &mut core, event, NoSuchPlace);
     }
-    Ok(())
+}
+
+fn at_the_opening() -> [Move; 2] {
+    [
+        Refused(Scan { reader: 1 }, NotItsTurn),
+        Refused(Clear { reader: 0 }, NotItsTurn),
+    ]
 }
 
 /// Reader 0 holds, reader 1 has announced, reader 2 has looked, and the writer is at a message's second
 /// word.
-fn each_at_another_step(alloc: Global) -> Result<Schedule, AllocError> {
-    let mut schedule = Schedule::new(alloc);
-    schedule.publishes(0)?;
-    schedule.reads(0)?;
-    schedule.then(&[
-        LoadFirst { reader: 1 },
-        Announce { reader: 1 },
-        LoadFirst { reader: 2 },
-    ])?;
-    schedule.scans()?;
-    schedule.then(&[StoreWord {
-        slot: 1,
-        index: 0,
-        word: 8,
-    }])?;
-    Ok(schedule)
+fn each_at_another_step() -> [Move; 7] {
+    [
+        Publishes(0),
+        Reads(0),
+        Step(LoadFirst { reader: 1 }),
+        Step(Announce { reader: 1 }),
+        Step(LoadFirst { reader: 2 }),
+        Scans,
+        Step(StoreWord {
+            slot: 1,
+            index: 0,
+            word: 8,
+        }),
+    ]
 }
 
 #[test]
-fn the_place_is_tested_first(rt: HostRuntime) -> Result<(), Fail> {
-    let alloc = rt.alloc();
-    let mut opening = Schedule::new(alloc);
-    check_nowhere(&rt, alloc, &mut opening)?;
-    refused(&rt, alloc, &mut opening, Scan { reader: 1 }, NotItsTurn)?;
-    refused(&rt, alloc, &mut opening, Clear { reader: 0 }, NotItsTurn)?;
-    let mut schedule = each_at_another_step(alloc)?;
-    check_nowhere(&rt, alloc, &mut schedule)
+fn the_place_is_tested_first(rt: HostRuntime) {
+    check_nowhere(&rt, rt.alloc(), &at_the_opening());
+    check_nowhere(&rt, rt.alloc(), &each_at_another_step());
 }

@@ -1,171 +1,172 @@
 //! Publications while readers look and hold.
-use crate::schedule::{Schedule, accepted, refused};
+use crate::schedule::Move::{Latest, Publishes, Reader, Reads, Refused, Scans, Step, Writes};
+use crate::schedule::{Move, check, core_after};
 use slot_core::CoreEvent::{
-    Announce, Clear, LoadFirst, LoadSecond, LoadWord, StoreLatest, StoreWord,
+    Announce, Clear, LoadFirst, LoadSecond, LoadWord, Scan, StoreLatest, StoreWord,
 };
 use slot_core::Phase::{Announced, Holding, Idle, Loaded};
 use slot_core::StepRefusal::{NoSuchPlace, NotItsTurn, SlotAnnounced, SlotLatest};
-use slot_core::{Core, StepRefusal};
-use std::alloc::{AllocError, Global};
+use slot_core::{Core, CoreEvent, StepRefusal, run};
+use std::alloc::Global;
 use std::process::Abort;
-use std::test::Fail;
 
-/// Message 1 in slot 0, and the first look of reader 0.
-fn one_message_looked_at(alloc: Global) -> Result<Schedule, AllocError> {
-    let mut schedule = Schedule::new(alloc);
-    schedule.publishes(0)?;
-    schedule.then(&[LoadFirst { reader: 0 }])?;
-    Ok(schedule)
-}
-
-/// Then messages 2 to 6 in slots 1, 0, 1, 0, 1.
-fn six_messages(alloc: Global) -> Result<Schedule, AllocError> {
-    let mut schedule = one_message_looked_at(alloc)?;
-    for slot in [1, 0, 1, 0, 1] {
-        schedule.publishes(slot)?;
-    }
-    Ok(schedule)
-}
-
-/// Where reader 0 is, its announcement, and how many messages it has seen.
-fn check_reader(rt: &impl Abort, core: &Core, phase: slot_core::Phase, own: u64, seen: u64) {
-    assert_eq!(rt; core.reader_phase(0), phase);
-    assert_eq!(rt; core.announcement(0), own);
-    assert_eq!(rt; core.seen(0), seen);
+/// Messages 1 to 6 in slots 0, 1, 0, 1, 0, 1; reader 0 looks after the first.
+fn six_messages() -> [Move; 15] {
+    [
+        Publishes(0),
+        Step(LoadFirst { reader: 0 }),
+        Reader(Loaded(16), 0, 1),
+        Publishes(1),
+        Publishes(0),
+        Publishes(1),
+        Publishes(0),
+        Publishes(1),
+        Step(Announce { reader: 0 }),
+        Reader(Announced(16), 16, 1),
+        Step(LoadSecond { reader: 0 }),
+        Reader(Loaded(97), 16, 6),
+        Step(Clear { reader: 0 }),
+        Reader(Idle, 0, 6),
+        Latest(97, 6),
+    ]
 }
 
 #[test]
-fn a_look_that_fails_sees_newer_messages(rt: HostRuntime) -> Result<(), Fail> {
-    let alloc = rt.alloc();
-    let core = accepted(&rt, alloc, &one_message_looked_at(alloc)?)?;
-    check_reader(&rt, &core, Loaded(16), 0, 1);
-    let mut schedule = six_messages(alloc)?;
-    schedule.then(&[Announce { reader: 0 }])?;
-    let core = accepted(&rt, alloc, &schedule)?;
-    check_reader(&rt, &core, Announced(16), 16, 1);
-    schedule.then(&[LoadSecond { reader: 0 }])?;
-    let core = accepted(&rt, alloc, &schedule)?;
-    check_reader(&rt, &core, Loaded(97), 16, 6);
-    schedule.then(&[Clear { reader: 0 }])?;
-    let core = accepted(&rt, alloc, &schedule)?;
-    check_reader(&rt, &core, Idle, 0, 6);
-    assert_eq!(rt; schedule.steps.len(), 46);
-    assert_eq!(rt; core.latest(), 97);
-    assert_eq!(rt; core.published().len(), 6);
-    Ok(())
+fn a_look_that_fails_sees_newer_messages(rt: HostRuntime) {
+    check(&rt, rt.alloc(), &six_messages());
 }
 
-/// Message 1 in slot 0, which reader 0 holds; message 2 in slot 1; all readers are scanned.
-fn one_held_and_one_newer(alloc: Global) -> Result<Schedule, AllocError> {
-    let mut schedule = Schedule::new(alloc);
-    schedule.publishes(0)?;
-    schedule.reads(0)?;
-    schedule.publishes(1)?;
-    schedule.scans()?;
-    Ok(schedule)
-}
-
-/// A message of 0 octets can't begin in this slot.
-fn check_slot(
-    rt: &impl Abort,
-    alloc: Global,
-    schedule: &mut Schedule,
-    slot: usize,
-    refusal: StepRefusal,
-) -> Result<(), Fail> {
-    let event = StoreWord {
+/// The first word of a message of 0 octets.
+fn first_word(slot: usize) -> CoreEvent {
+    StoreWord {
         slot,
         index: 0,
         word: 0,
-    };
-    refused(rt, alloc, schedule, event, refusal)
+    }
+}
+
+/// Message 1 in slot 0, which reader 0 holds; message 2 in slot 1.
+fn one_held_and_one_newer() -> [Move; 9] {
+    [
+        Publishes(0),
+        Reads(0),
+        Publishes(1),
+        Scans,
+        Refused(first_word(0), SlotAnnounced),
+        Refused(first_word(1), SlotLatest),
+        Refused(first_word(6), NoSuchPlace),
+        Writes(2),
+        Reader(Holding(16), 16, 1),
+    ]
 }
 
 #[test]
-fn a_held_slot_and_the_newest_one_are_not_written(rt: HostRuntime) -> Result<(), Fail> {
-    let alloc = rt.alloc();
-    let mut schedule = one_held_and_one_newer(alloc)?;
-    check_slot(&rt, alloc, &mut schedule, 0, SlotAnnounced)?;
-    check_slot(&rt, alloc, &mut schedule, 1, SlotLatest)?;
-    check_slot(&rt, alloc, &mut schedule, 6, NoSuchPlace)?;
-    schedule.writes(2)?;
-    let core = accepted(&rt, alloc, &schedule)?;
-    check_reader(&rt, &core, Holding(16), 16, 1);
-    Ok(())
+fn a_held_slot_and_the_newest_one_are_not_written(rt: HostRuntime) {
+    check(&rt, rt.alloc(), &one_held_and_one_newer());
 }
 
 /// Each reader holds a message of its own, in the slot of its number; one more is the newest, in slot 4.
-fn four_held(alloc: Global) -> Result<Schedule, AllocError> {
-    let mut schedule = Schedule::new(alloc);
-    for place in 0..4 {
-        schedule.publishes(place)?;
-        schedule.reads(place)?;
-    }
-    schedule.publishes(4)?;
-    schedule.scans()?;
-    Ok(schedule)
+fn four_held() -> [Move; 18] {
+    [
+        Publishes(0),
+        Reads(0),
+        Publishes(1),
+        Reads(1),
+        Publishes(2),
+        Reads(2),
+        Publishes(3),
+        Reads(3),
+        Publishes(4),
+        Scans,
+        Refused(first_word(0), SlotAnnounced),
+        Refused(first_word(1), SlotAnnounced),
+        Refused(first_word(2), SlotAnnounced),
+        Refused(first_word(3), SlotAnnounced),
+        Refused(first_word(4), SlotLatest),
+        Latest(84, 5),
+        Writes(5),
+        Latest(84, 5),
+    ]
 }
 
 #[test]
-fn one_slot_is_left_where_every_reader_holds_another(rt: HostRuntime) -> Result<(), Fail> {
-    let alloc = rt.alloc();
-    let mut schedule = four_held(alloc)?;
-    assert_eq!(rt; schedule.steps.len(), 51);
-    for slot in 0..4 {
-        check_slot(&rt, alloc, &mut schedule, slot, SlotAnnounced)?;
-    }
-    check_slot(&rt, alloc, &mut schedule, 4, SlotLatest)?;
-    schedule.writes(5)?;
-    let core = accepted(&rt, alloc, &schedule)?;
-    assert_eq!(rt; core.latest(), 84);
-    Ok(())
+fn one_slot_is_left_where_every_reader_holds_another(rt: HostRuntime) {
+    check(&rt, rt.alloc(), &four_held());
 }
 
-/// A message of 1 octet, 11 hexadecimal, of time 5, in slot 3.
-fn one_octet(alloc: Global) -> Result<Schedule, AllocError> {
-    let mut schedule = Schedule::new(alloc);
-    schedule.scans()?;
-    schedule.then(&[
-        StoreWord {
-            slot: 3,
+/// A message of 1 octet, 11 hexadecimal, of time 5, in slot 3, which reader 2 holds and loads.
+fn one_octet() -> [Move; 11] {
+    let slot = 3;
+    let word = 0x1100_0000_0000_0000;
+    let reader = 2;
+    [
+        Scans,
+        Step(StoreWord {
+            slot,
             index: 0,
             word: 1,
-        },
-        StoreWord {
-            slot: 3,
+        }),
+        Step(StoreWord {
+            slot,
             index: 1,
             word: 5,
-        },
-        StoreWord {
-            slot: 3,
+        }),
+        Step(StoreWord {
+            slot,
             index: 2,
-            word: 0x1100_0000_0000_0000,
-        },
-        StoreLatest,
-    ])?;
-    schedule.reads(2)?;
-    Ok(schedule)
+            word,
+        }),
+        Step(StoreLatest),
+        Reads(2),
+        Step(LoadWord { reader, index: 0 }),
+        Step(LoadWord { reader, index: 1 }),
+        Step(LoadWord { reader, index: 2 }),
+        Refused(LoadWord { reader, index: 3 }, NotItsTurn),
+        Latest(19, 1),
+    ]
 }
 
-#[test]
-fn a_held_message_is_read_word_by_word(rt: HostRuntime) -> Result<(), Fail> {
-    let alloc = rt.alloc();
-    let mut schedule = one_octet(alloc)?;
-    for index in 0..3 {
-        schedule.then(&[LoadWord { reader: 2, index }])?;
-    }
-    let core = accepted(&rt, alloc, &schedule)?;
-    assert_eq!(rt; core.latest(), 19);
+fn check_octet(rt: &impl Abort, core: &Core) {
     assert_eq!(rt; core.word(3, 0), 1);
     assert_eq!(rt; core.word(3, 1), 5);
     assert_eq!(rt; core.word(3, 2), 0x1100_0000_0000_0000);
     assert_eq!(rt; core.reader_phase(2), Holding(19));
-    let message = core.published().first().expect(&rt, "a message");
+    let message = core.published().first().expect(rt, "a message");
     assert!(rt; message.as_slice() == [1, 5, 0x1100_0000_0000_0000].as_slice());
     assert!(rt; message.len() == 3 && !message.is_empty());
-    let past = LoadWord {
-        reader: 2,
-        index: 3,
-    };
-    refused(&rt, alloc, &mut schedule, past, NotItsTurn)
+}
+
+#[test]
+fn a_held_message_is_read_word_by_word(rt: HostRuntime) {
+    let core = core_after(&rt, rt.alloc(), &one_octet());
+    check_octet(&rt, &core);
+}
+
+/// The steps of message 1, of 0 octets and time 0, in slot 0.
+fn first_message() -> [CoreEvent; 7] {
+    [
+        Scan { reader: 0 },
+        Scan { reader: 1 },
+        Scan { reader: 2 },
+        Scan { reader: 3 },
+        first_word(0),
+        StoreWord {
+            slot: 0,
+            index: 1,
+            word: 0,
+        },
+        StoreLatest,
+    ]
+}
+
+/// What these steps lead to: the word `latest`, or the place of the first refused step and why.
+fn outcome_of(alloc: Global, steps: &[CoreEvent]) -> Result<u64, (usize, StepRefusal)> {
+    Ok(run(alloc, steps)?.latest())
+}
+
+#[test]
+fn a_list_of_steps_leads_to_a_core_or_to_its_first_refusal(rt: HostRuntime) {
+    assert_eq!(rt; outcome_of(rt.alloc(), &first_message()), Ok(16));
+    let early = [Scan { reader: 0 }, StoreLatest];
+    assert_eq!(rt; outcome_of(rt.alloc(), &early), Err((1, NotItsTurn)));
 }

@@ -1,114 +1,112 @@
-//! Schedules: lists of steps, and what becomes of them.
-use crate::picture::picture;
+//! Schedules: what happens at a port, step by step, and what is seen of it between the steps.
 use slot_core::CoreEvent::{Announce, LoadFirst, LoadSecond, Scan, StoreLatest, StoreWord};
-use slot_core::{Core, CoreEvent, READERS, StepRefusal, run};
-use std::alloc::{AllocError, Global};
+use slot_core::{Core, CoreEvent, Phase, READERS, StepRefusal};
+use std::alloc::Global;
 use std::process::Abort;
-use std::test::Fail;
 
-/// Steps, one after another.
-#[derive(Drop)]
-pub(crate) struct Schedule {
-    pub steps: Vec<CoreEvent>,
+/// What happens at a port, or is seen of it.
+#[derive(Clone, Copy)]
+pub(crate) enum Move {
+    /// A step that is accepted.
+    Step(CoreEvent),
+    /// A step that is refused.
+    Refused(CoreEvent, StepRefusal),
+    /// The writer scans all readers.
+    Scans,
+    /// The words of a message of 0 octets and time 0 are stored in this slot.
+    Writes(usize),
+    /// A message of 0 octets and time 0 is published in this slot.
+    Publishes(usize),
+    /// This reader takes the three steps to a hold.
+    Reads(usize),
+    /// The word `latest`, and how many messages were published.
+    Latest(u64, usize),
+    /// Where reader 0 is, its announcement, and how many messages it has seen.
+    Reader(Phase, u64, u64),
 }
 
-impl Schedule {
-    pub(crate) fn new(alloc: Global) -> Schedule {
-        Schedule {
-            steps: Vec::new(alloc),
-        }
-    }
+use Move::{Latest, Publishes, Reader, Reads, Refused, Scans, Step, Writes};
 
-    pub(crate) fn then(&mut self, steps: &[CoreEvent]) -> Result<(), AllocError> {
-        self.steps.extend_from_slice(steps)
-    }
-
-    /// The writer scans the readers below this one.
-    pub(crate) fn scans_below(&mut self, end: usize) -> Result<(), AllocError> {
-        for reader in 0..end {
-            self.steps.push(Scan { reader })?;
-        }
-        Ok(())
-    }
-
-    pub(crate) fn scans(&mut self) -> Result<(), AllocError> {
-        self.scans_below(READERS)
-    }
-
-    /// The words of a message of 0 octets and time 0 are stored in a slot.
-    pub(crate) fn writes(&mut self, slot: usize) -> Result<(), AllocError> {
-        self.then(&[
-            StoreWord {
-                slot,
-                index: 0,
-                word: 0,
-            },
-            StoreWord {
-                slot,
-                index: 1,
-                word: 0,
-            },
-        ])
-    }
-
-    /// A message of 0 octets and time 0 is published in a slot.
-    pub(crate) fn publishes(&mut self, slot: usize) -> Result<(), AllocError> {
-        self.scans()?;
-        self.writes(slot)?;
-        self.then(&[StoreLatest])
-    }
-
-    /// A reader takes the three steps to a hold.
-    pub(crate) fn reads(&mut self, reader: usize) -> Result<(), AllocError> {
-        self.then(&[
-            LoadFirst { reader },
-            Announce { reader },
-            LoadSecond { reader },
-        ])
-    }
+fn take(rt: &impl Abort, alloc: Global, core: &mut Core, event: CoreEvent) {
+    let answer = core.step(alloc, &event);
+    assert!(rt; answer == Ok(()), "{event:?}: {answer:?}");
 }
 
-/// All steps are accepted, one by one and as one list, and lead to the same core.
-pub(crate) fn accepted(rt: &impl Abort, alloc: Global, schedule: &Schedule) -> Result<Core, Fail> {
-    let mut core = Core::opening(alloc);
-    for (place, event) in schedule.steps.iter().enumerate() {
-        let answer = core.step(alloc, event);
-        assert!(rt; answer == Ok(()), "step {place}");
-    }
-    match run(alloc, &schedule.steps) {
-        Ok(other) => {
-            let (one, two) = (picture(alloc, &core)?, picture(alloc, &other)?);
-            assert!(rt;
-                one.as_slice() == two.as_slice(),
-                "step by step, and as one list"
-            );
-        }
-        Err((place, refusal)) => panic!(rt; "{place}: {refusal:?}"),
-    }
-    Ok(core)
-}
-
-/// After these steps this one is refused so, and the core is as before. As one list too, the place being
-/// the number of steps before it.
-pub(crate) fn refused(
+/// The step is refused so.
+pub(crate) fn check_refused(
     rt: &impl Abort,
     alloc: Global,
-    schedule: &mut Schedule,
+    core: &mut Core,
     event: CoreEvent,
     refusal: StepRefusal,
-) -> Result<(), Fail> {
-    let mut core = accepted(rt, alloc, schedule)?;
-    let before = picture(alloc, &core)?;
+) {
     let answer = core.step(alloc, &event);
     assert!(rt; answer == Err(refusal), "{event:?}: {answer:?}");
-    let after = picture(alloc, &core)?;
-    assert!(rt; before.as_slice() == after.as_slice(), "{event:?}");
-    let place = schedule.steps.len();
-    schedule.steps.push(event)?;
-    match run(alloc, &schedule.steps) {
-        Ok(_) => panic!(rt; "{event:?}"),
-        Err(first) => assert!(rt; first == (place, refusal), "{event:?}"),
+}
+
+fn scan_all(rt: &impl Abort, alloc: Global, core: &mut Core) {
+    for reader in 0..READERS {
+        take(rt, alloc, core, Scan { reader });
     }
-    let _ = schedule.steps.pop();
-    Ok(())
+}
+
+fn write(rt: &impl Abort, alloc: Global, core: &mut Core, slot: usize) {
+    for index in 0..2 {
+        let event = StoreWord {
+            slot,
+            index,
+            word: 0,
+        };
+        take(rt, alloc, core, event);
+    }
+}
+
+fn publish(rt: &impl Abort, alloc: Global, core: &mut Core, slot: usize) {
+    scan_all(rt, alloc, core);
+    write(rt, alloc, core, slot);
+    take(rt, alloc, core, StoreLatest);
+}
+
+fn read(rt: &impl Abort, alloc: Global, core: &mut Core, reader: usize) {
+    take(rt, alloc, core, LoadFirst { reader });
+    take(rt, alloc, core, Announce { reader });
+    take(rt, alloc, core, LoadSecond { reader });
+}
+
+fn check_latest(rt: &impl Abort, core: &Core, latest: u64, count: usize) {
+    assert_eq!(rt; core.latest(), latest);
+    assert_eq!(rt; core.published().len(), count);
+}
+
+fn check_reader(rt: &impl Abort, core: &Core, phase: Phase, own: u64, seen: u64) {
+    assert_eq!(rt; core.reader_phase(0), phase);
+    assert_eq!(rt; core.announcement(0), own);
+    assert_eq!(rt; core.seen(0), seen);
+}
+
+fn make(rt: &impl Abort, alloc: Global, core: &mut Core, part: Move) {
+    match part {
+        Step(event) => take(rt, alloc, core, event),
+        Refused(event, refusal) => check_refused(rt, alloc, core, event, refusal),
+        Scans => scan_all(rt, alloc, core),
+        Writes(slot) => write(rt, alloc, core, slot),
+        Publishes(slot) => publish(rt, alloc, core, slot),
+        Reads(reader) => read(rt, alloc, core, reader),
+        Latest(latest, count) => check_latest(rt, core, latest, count),
+        Reader(phase, own, seen) => check_reader(rt, core, phase, own, seen),
+    }
+}
+
+/// The core after these moves, from the opening on.
+pub(crate) fn core_after(rt: &impl Abort, alloc: Global, moves: &[Move]) -> Core {
+    let mut core = Core::opening(alloc);
+    for part in moves {
+        make(rt, alloc, &mut core, *part);
+    }
+    core
+}
+
+/// These moves go as they say, from the opening on.
+pub(crate) fn check(rt: &impl Abort, alloc: Global, moves: &[Move]) {
+    let _ = core_after(rt, alloc, moves);
 }

@@ -1,34 +1,26 @@
 //! Steps out of turn, at each step of the writer and of a reader.
-use crate::schedule::{Schedule, accepted, refused};
-use slot_core::CoreEvent;
+use crate::schedule::Move::{Publishes, Scans, Step};
+use crate::schedule::{Move, check_refused, core_after};
 use slot_core::CoreEvent::{
     Announce, Clear, LoadFirst, LoadSecond, LoadWord, Scan, StoreLatest, StoreWord,
 };
 use slot_core::StepRefusal::NotItsTurn;
-use std::alloc::{AllocError, Global};
+use slot_core::{Core, CoreEvent};
+use std::alloc::Global;
 use std::process::Abort;
-use std::test::Fail;
 
 /// A step, and whether it is allowed. Those allowed change nothing for the next: each is tried on a core
 /// of its own.
 type Turn = (CoreEvent, bool);
 
-fn check_turns(
-    rt: &impl Abort,
-    alloc: Global,
-    schedule: &mut Schedule,
-    turns: &[Turn],
-) -> Result<(), Fail> {
+/// After these moves each of the steps is accepted or refused.
+fn check_turns(rt: &impl Abort, alloc: Global, moves: &[Move], turns: &[Turn]) {
     for (event, allowed) in turns {
-        if *allowed {
-            schedule.steps.push(*event)?;
-            let _ = accepted(rt, alloc, schedule)?;
-            let _ = schedule.steps.pop();
-        } else {
-            refused(rt, alloc, schedule, *event, NotItsTurn)?;
-        }
+        let mut core = core_after(rt, alloc, moves);
+        let answer = core.step(alloc, event);
+        let wanted = if *allowed { Ok(()) } else { Err(NotItsTurn) };
+        assert!(rt; answer == wanted, "{event:?}: {answer:?}");
     }
-    Ok(())
 }
 
 fn store(slot: usize, index: usize, word: u64) -> CoreEvent {
@@ -51,71 +43,61 @@ fn reader_turns(allowed: [bool; 6]) -> [Turn; 6] {
     ]
 }
 
-/// Nothing published: a look finds 0, and the reader stays idle.
-fn looks_at_nothing(alloc: Global) -> Result<Schedule, AllocError> {
-    let mut schedule = Schedule::new(alloc);
-    schedule.then(&[LoadFirst { reader: 3 }])?;
-    Ok(schedule)
-}
-
-/// Message 1 in slot 2, and then as many of the reader's first three steps.
-fn first_steps(alloc: Global, count: usize) -> Result<Schedule, AllocError> {
-    let mut schedule = Schedule::new(alloc);
-    schedule.publishes(2)?;
-    schedule.reads(3)?;
-    for _ in count..3 {
-        let _ = schedule.steps.pop();
-    }
-    Ok(schedule)
+/// Message 1 in slot 2, and the reader's steps to a hold.
+fn steps_to_a_hold() -> [Move; 4] {
+    [
+        Publishes(2),
+        Step(LoadFirst { reader: 3 }),
+        Step(Announce { reader: 3 }),
+        Step(LoadSecond { reader: 3 }),
+    ]
 }
 
 /// A second look that finds message 2: the announcement of message 1 stands.
-fn failed_look(alloc: Global) -> Result<Schedule, AllocError> {
-    let mut schedule = first_steps(alloc, 2)?;
-    schedule.publishes(1)?;
-    schedule.then(&[LoadSecond { reader: 3 }])?;
-    Ok(schedule)
+fn failed_look() -> [Move; 5] {
+    [
+        Publishes(2),
+        Step(LoadFirst { reader: 3 }),
+        Step(Announce { reader: 3 }),
+        Publishes(1),
+        Step(LoadSecond { reader: 3 }),
+    ]
 }
 
 #[test]
-fn a_reader_takes_its_steps_in_turn(rt: HostRuntime) -> Result<(), Fail> {
+fn a_reader_takes_its_steps_in_turn(rt: HostRuntime) {
     let alloc = rt.alloc();
     let idle = reader_turns([true, false, false, false, false, false]);
     let loaded = reader_turns([true, true, false, false, false, false]);
     let announced = reader_turns([false, false, true, false, false, true]);
     let holding = reader_turns([false, false, false, true, false, true]);
     let late = reader_turns([false, true, false, false, false, true]);
-    check_turns(&rt, alloc, &mut Schedule::new(alloc), &idle)?;
-    check_turns(&rt, alloc, &mut looks_at_nothing(alloc)?, &idle)?;
-    check_turns(&rt, alloc, &mut first_steps(alloc, 0)?, &idle)?;
-    check_turns(&rt, alloc, &mut first_steps(alloc, 1)?, &loaded)?;
-    check_turns(&rt, alloc, &mut first_steps(alloc, 2)?, &announced)?;
-    check_turns(&rt, alloc, &mut first_steps(alloc, 3)?, &holding)?;
-    check_turns(&rt, alloc, &mut failed_look(alloc)?, &late)
+    let steps = steps_to_a_hold();
+    check_turns(&rt, alloc, &[], &idle);
+    // Nothing published: a look finds 0, and the reader stays idle.
+    check_turns(&rt, alloc, &[Step(LoadFirst { reader: 3 })], &idle);
+    check_turns(&rt, alloc, &steps[..1], &idle);
+    check_turns(&rt, alloc, &steps[..2], &loaded);
+    check_turns(&rt, alloc, &steps[..3], &announced);
+    check_turns(&rt, alloc, &steps, &holding);
+    check_turns(&rt, alloc, &failed_look(), &late);
 }
 
 // ---- the writer
 
-/// This many readers are scanned.
-fn scanned(alloc: Global, count: usize) -> Result<Schedule, AllocError> {
-    let mut schedule = Schedule::new(alloc);
-    schedule.scans_below(count)?;
-    Ok(schedule)
+/// Two readers are scanned.
+fn two_scanned() -> [Move; 2] {
+    [Step(Scan { reader: 0 }), Step(Scan { reader: 1 })]
 }
 
-/// Of a message of 1 octet and time 5 in slot 0 this many words are stored.
-fn stored(alloc: Global, count: usize) -> Result<Schedule, AllocError> {
-    let mut schedule = Schedule::new(alloc);
-    schedule.scans()?;
-    schedule.then(&[
-        store(0, 0, 1),
-        store(0, 1, 5),
-        store(0, 2, 0x1100_0000_0000_0000),
-    ])?;
-    for _ in count..3 {
-        let _ = schedule.steps.pop();
-    }
-    Ok(schedule)
+/// A message of 1 octet and time 5 is stored in slot 0.
+fn one_octet() -> [Move; 4] {
+    [
+        Scans,
+        Step(store(0, 0, 1)),
+        Step(store(0, 1, 5)),
+        Step(store(0, 2, 0x1100_0000_0000_0000)),
+    ]
 }
 
 fn before_all_are_scanned() -> [Turn; 7] {
@@ -183,39 +165,34 @@ fn after_the_last_word() -> [Turn; 5] {
 }
 
 #[test]
-fn the_writer_takes_its_steps_in_turn(rt: HostRuntime) -> Result<(), Fail> {
+fn the_writer_takes_its_steps_in_turn(rt: HostRuntime) {
     let alloc = rt.alloc();
-    check_turns(
-        &rt,
-        alloc,
-        &mut scanned(alloc, 2)?,
-        &before_all_are_scanned(),
-    )?;
-    check_turns(
-        &rt,
-        alloc,
-        &mut scanned(alloc, 4)?,
-        &after_all_are_scanned(),
-    )?;
-    check_turns(&rt, alloc, &mut stored(alloc, 1)?, &after_the_length())?;
-    check_turns(&rt, alloc, &mut stored(alloc, 2)?, &after_the_time())?;
-    check_turns(&rt, alloc, &mut stored(alloc, 3)?, &after_the_last_word())
+    let words = one_octet();
+    check_turns(&rt, alloc, &two_scanned(), &before_all_are_scanned());
+    check_turns(&rt, alloc, &words[..1], &after_all_are_scanned());
+    check_turns(&rt, alloc, &words[..2], &after_the_length());
+    check_turns(&rt, alloc, &words[..3], &after_the_time());
+    check_turns(&rt, alloc, &words, &after_the_last_word());
 }
 
-/// The longest message, 1471 octets, has 186 words; the last one has 7 octets.
-#[test]
-fn the_longest_message_fills_a_slot(rt: HostRuntime) -> Result<(), Fail> {
-    let alloc = rt.alloc();
-    let mut schedule = Schedule::new(alloc);
-    schedule.scans()?;
-    schedule.then(&[store(5, 0, 1471)])?;
+/// The first 185 words of the longest message, 1471 octets, are stored in slot 5.
+fn store_longest(rt: &impl Abort, alloc: Global, core: &mut Core) {
     for index in 1..185 {
-        schedule.then(&[store(5, index, u64::MAX)])?;
+        let answer = core.step(alloc, &store(5, index, u64::MAX));
+        assert_eq!(rt; answer, Ok(()));
     }
-    refused(&rt, alloc, &mut schedule, StoreLatest, NotItsTurn)?;
-    refused(&rt, alloc, &mut schedule, store(5, 185, 1), NotItsTurn)?;
-    schedule.then(&[store(5, 185, u64::MAX - 255), StoreLatest])?;
-    let core = accepted(&rt, alloc, &schedule)?;
+}
+
+/// It has 186 words; the last one has 7 octets.
+#[test]
+fn the_longest_message_fills_a_slot(rt: HostRuntime) {
+    let alloc = rt.alloc();
+    let mut core = core_after(&rt, alloc, &[Scans, Step(store(5, 0, 1471))]);
+    store_longest(&rt, alloc, &mut core);
+    let last = store(5, 185, u64::MAX - 255);
+    check_refused(&rt, alloc, &mut core, StoreLatest, NotItsTurn);
+    check_refused(&rt, alloc, &mut core, store(5, 185, 1), NotItsTurn);
+    assert_eq!(rt; core.step(alloc, &last), Ok(()));
+    assert_eq!(rt; core.step(alloc, &StoreLatest), Ok(()));
     assert_eq!(rt; core.word(5, 185), u64::MAX - 255);
-    Ok(())
 }

@@ -3,7 +3,6 @@ use es_base::{
     LONGEST_QUEUED, LONGEST_SAMPLE, LinkNo, LinkSettings, PortKind, PortName, PortSettings,
 };
 use std::alloc::Global;
-use std::test::Fail;
 
 /// The text of a second link, 18, with the sampling port `alt`, to follow the built-in configuration.
 pub const SECOND_LINK: &str = r#"
@@ -52,24 +51,24 @@ pub fn sampling_port(name: &str, udp: u16, max: u16) -> Option<PortSettings> {
 }
 
 impl Link {
-    /// The ports `pos` and `nav`.
-    pub fn ports(&self, alloc: Global) -> Result<Vec<PortSettings>, Fail> {
+    /// The ports `pos` and `nav`. None where memory runs out or a limit is broken.
+    pub fn ports(&self, alloc: Global) -> Option<Vec<PortSettings>> {
         let depth = self.nav_depth;
-        let nav = port_of("nav", 5002, self.nav_max, PortKind::Queuing { depth });
+        let pos = sampling_port("pos", 5000, self.pos_max)?;
+        let nav = port_of("nav", 5002, self.nav_max, PortKind::Queuing { depth })?;
         let mut ports = Vec::new(alloc);
-        ports.push(sampling_port("pos", 5000, self.pos_max).ok_or("pos")?)?;
-        ports.push(nav.ok_or("nav")?)?;
-        Ok(ports)
+        ports.push(pos).ok()?;
+        ports.push(nav).ok()?;
+        Some(ports)
     }
 
-    /// This link with these ports.
-    pub fn with_ports(&self, ports: Vec<PortSettings>) -> Result<LinkSettings, Fail> {
-        let link = LinkSettings::new(LinkNo(17), 1000, self.redundancy, 50_000, ports);
-        Ok(link.ok_or("a link")?)
+    /// This link with these ports. None where a limit is broken.
+    pub fn with_ports(&self, ports: Vec<PortSettings>) -> Option<LinkSettings> {
+        LinkSettings::new(LinkNo(17), 1000, self.redundancy, 50_000, ports)
     }
 
-    /// The settings of this link.
-    pub fn settings(&self, alloc: Global) -> Result<LinkSettings, Fail> {
+    /// The settings of this link. None where memory runs out or a limit is broken.
+    pub fn settings(&self, alloc: Global) -> Option<LinkSettings> {
         self.with_ports(self.ports(alloc)?)
     }
 }

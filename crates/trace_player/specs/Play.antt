@@ -1,5 +1,5 @@
 -- What a whole run does to its devices.
-use Rattle.std.specs.Prelude.{◌≡◌, ℕ, Bool, true, false, List, take, reverse, Option, Result, Ok, Err}
+use Rattle.std.specs.Prelude.{◌≡◌, ⊤, ℕ, Bool, true, false, List, take, reverse, Option, Result, Ok, Err}
 use Rattle.std.specs.Io.KnownBytes.{Appends}
 use Rattle.es_base.specs.declared.place.Net.{Net}
 use Rattle.es_base.specs.declared.place.Net.TheVariants as nets
@@ -68,14 +68,24 @@ Played c at a b contents has_failed old new (Err Memory) = (a.failed ≡ false) 
 abbrev pub AreAfter : Configuration → List TimedFrame → List TimedFrame → List Link → Type 0
 AreAfter c frames_a frames_b states = states ≡ states_after c (reverse (merged frames_a frames_b))
 
--- both texts are traces, and this is their output
-abbrev pub IsOutputOf : Configuration → Option ℕ → List ℕ → List ℕ → List ℕ → Type 0
-IsOutputOf c at a b output =
-    (frames_a : List TimedFrame) × ((frames_b : List TimedFrame) × (frames_in a ≡ Ok frames_a) × (frames_in b ≡ Ok frames_b) × (output ≡ output_of c frames_a frames_b at))
-
--- the same where a run returns the links' states, seen through `view`
+-- what `Played` says, where a run returns the links' states, seen through `view`
 abbrev pub Replayed : {S X : Type 0} → (X → List Link) → Configuration → Option ℕ → Given → Given → (S → Option (List ℕ)) → (S → Bool) → S → S → Result X PlayFault → Type 0
 Replayed view c at a b contents has_failed old new (Ok x) =
     (has_failed new ≡ false)
     × PlaysTraces a b (λ frames_a frames_b. Appends (contents old) (contents new) (output_of c frames_a frames_b at) × AreAfter c frames_a frames_b (view x))
 Replayed view c at a b contents has_failed old new (Err fault) = Played {X = Unit {0}} c at a b contents has_failed old new (Err fault)
+
+-- ---- two texts in memory
+
+-- both texts are traces, and this is their output
+abbrev pub IsOutputOf : Configuration → Option ℕ → List ℕ → List ℕ → List ℕ → Type 0
+IsOutputOf c at a b output =
+    (frames_a : List TimedFrame) × ((frames_b : List TimedFrame) × (frames_in a ≡ Ok frames_a) × (frames_in b ≡ Ok frames_b) × (output ≡ output_of c frames_a frames_b at))
+
+-- the fault is the first of these texts: that of A, or that of B where A is a trace
+abbrev pub IsFaultOf : List ℕ → List ℕ → PlayFault → Type 0
+IsFaultOf a b (Trace nets.A line cause) = frames_in a ≡ Err (line, cause)
+IsFaultOf a b (Trace nets.B line cause) = ((frames : List TimedFrame) × (frames_in a ≡ Ok frames)) × (frames_in b ≡ Err (line, cause))
+IsFaultOf a b (Read net) = ⊤
+IsFaultOf a b Write = ⊤
+IsFaultOf a b Memory = ⊤

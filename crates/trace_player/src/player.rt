@@ -1,7 +1,7 @@
 //! A whole run: from the bytes of a trace to the bytes of the output.
 ghost use Rattle.std.specs.Prelude.{◌≡◌, IfErr, IfOk, false};
 ghost use Rattle.es_base.specs.declared.place.Net.TheVariants.{A as net_a};
-ghost use Rattle.trace_player.specs.Play.{ReadsTraceOf, WritesWhole, Played, Replayed, IsFaultOfTrace, IsOutputOf};
+ghost use Rattle.trace_player.specs.Play.{ReadsTraceOf, WritesWhole, Played, Replayed, IsFaultOf, IsFaultOfTrace, IsOutputOf};
 
 use crate::run::{new_states, output_of};
 use crate::{PlayFault, Sink};
@@ -40,7 +40,7 @@ pub fn play<R: Wait, A: Source, B: Source, W: Sink>(
     Ok(())
 }
 
-/// Plays two texts that are in memory, and returns the output.
+/// Plays two texts that are in memory, and returns the output, or the first fault of the two.
 pub fn play_texts<R: Wait>(
     rt: &R,
     alloc: Global,
@@ -49,7 +49,8 @@ pub fn play_texts<R: Wait>(
     b: &[u8],
     at: Option<u64>,
 ) -> Result<Vec<u8>, PlayFault>
-    ensures { IfOk result (λ output. IsOutputOf config.now at a.now b.now output.items) }
+    ensures output { IfOk result (λ output. IsOutputOf config.now at a.now b.now output.items) }
+    ensures fault { IfErr result (λ fault. IsFaultOf a.now b.now fault) }
 {
     let mut a = Device::new(a);
     let mut b = Device::new(b);
