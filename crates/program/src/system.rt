@@ -12,7 +12,8 @@ use trace_player::Device;
 /// How a run over a system ended: what `main` answers with.
 ///
 /// A value that isn't `Drop` has to be handed on, and nothing but `run_on` makes this one. So a `main` that
-/// runs the program can't leave its exit status out.
+/// lets go of it doesn't compile: it would have to forget it by name (`mem::forget`), or to throw away what
+/// `report` returns.
 pub struct Ended {
     status: u8,
 }
