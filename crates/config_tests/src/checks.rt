@@ -1,8 +1,9 @@
 //! Checks of what a document comes to.
 use crate::configurations::read;
+use es_base::LinkNo;
 use std::alloc::Global;
 use std::process::Abort;
-use vl_config::{BUILT_IN, ConfigFault};
+use vl_config::{BUILT_IN, Config, ConfigFault};
 
 /// The document has this fault, or none.
 pub(crate) fn check_fault(
@@ -39,4 +40,9 @@ pub(crate) fn check_taken(rt: &impl Abort, alloc: Global, rows: &[Taken]) {
     for (old, new) in rows {
         check_change(rt, alloc, old, new, None);
     }
+}
+
+/// The link with this link number is at this place, or there is none.
+pub(crate) fn check_place(rt: &impl Abort, config: &Config, vl: u16, place: Option<usize>) {
+    assert!(rt; config.link_of(LinkNo(vl)) == place, "{vl}");
 }

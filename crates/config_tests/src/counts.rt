@@ -1,7 +1,7 @@
 //! How many links and ports there may be.
-use crate::checks::check_fault;
+use crate::checks::{check_fault, check_place};
 use crate::configurations::config_of;
-use es_base::{LinkNo, PortNo};
+use es_base::PortNo;
 use std::alloc::Global;
 use std::process::Abort;
 use vl_config::Config;
@@ -35,8 +35,8 @@ fn ports(rt: &impl Abort, alloc: Global, count: u16) -> String {
 
 fn check_64_links(rt: &impl Abort, config: &Config) {
     assert!(rt; config.links().len() == 64);
-    assert!(rt; config.link_of(LinkNo(63)) == Some(63));
-    assert!(rt; config.link_of(LinkNo(64)) == None);
+    check_place(rt, config, 63, Some(63));
+    check_place(rt, config, 64, None);
 }
 
 #[test]

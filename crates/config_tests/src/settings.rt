@@ -1,17 +1,30 @@
 //! The settings that a document gives, and the look-ups in them.
+use crate::checks::check_place;
 use crate::configurations::{both_links, config_of, first, with_first_line};
-use es_base::{LinkNo, PortKind, PortNo, PortSettings};
+use es_base::{LinkNo, LinkSettings, PortKind, PortNo, PortSettings};
 use std::process::Abort;
 use vl_config::{BUILT_IN, Config};
 
-fn check_link(rt: &impl Abort, config: &Config) {
-    assert_eq!(rt; config.constant(), [3, 0, 0, 0]);
-    assert_eq!(rt; config.links().len(), 1);
-    let link = &config.links()[0];
-    assert_eq!(rt; link.vl(), LinkNo(17));
-    assert_eq!(rt; link.skew_max(), 1000);
+/// The setting of this name has this value.
+fn check_setting(rt: &impl Abort, name: &str, value: u64, wanted: u64) {
+    assert!(rt; value == wanted, "{name}: {value}");
+}
+
+fn check_link_settings(rt: &impl Abort, link: &LinkSettings) {
+    check_setting(rt, "vl", u64::from(link.vl().0), 17);
+    check_setting(rt, "skew_max", link.skew_max(), 1000);
+    check_setting(rt, "reassembly", link.reassembly(), 50_000);
     assert!(rt; link.redundancy());
-    assert_eq!(rt; link.reassembly(), 50_000);
+}
+
+fn check_constant(rt: &impl Abort, config: &Config, constant: [u8; 4]) {
+    assert!(rt; config.constant() == constant);
+}
+
+fn check_link(rt: &impl Abort, config: &Config) {
+    check_constant(rt, config, [3, 0, 0, 0]);
+    check_setting(rt, "links", config.links().len() as u64, 1);
+    check_link_settings(rt, &config.links()[0]);
 }
 
 #[test]
@@ -42,16 +55,18 @@ fn built_in_ports() -> [Port; 2] {
 }
 
 fn check_port(rt: &impl Abort, port: &PortSettings, (name, address, udp, max, kind): Port) {
-    assert_eq!(rt; port.name().as_str(), name);
-    assert_eq!(rt; port.address(), address);
-    assert_eq!(rt; port.udp(), udp);
-    assert_eq!(rt; port.max(), max);
-    assert_eq!(rt; port.kind(), kind);
+    check_setting(rt, "address", u64::from(port.address()), u64::from(address));
+    check_setting(rt, "udp", u64::from(port.udp()), u64::from(udp));
+    check_setting(rt, "max", u64::from(port.max()), u64::from(max));
+    assert!(rt;
+        port.name().as_str() == name && port.kind() == kind,
+        "{name}"
+    );
 }
 
 fn check_ports(rt: &impl Abort, config: &Config) {
     let ports = config.links()[0].ports();
-    assert_eq!(rt; ports.len(), 2);
+    check_setting(rt, "ports", ports.len() as u64, 2);
     for (port, wanted) in ports.iter().zip(built_in_ports()) {
         check_port(rt, port, wanted);
     }
@@ -60,10 +75,6 @@ fn check_ports(rt: &impl Abort, config: &Config) {
 #[test]
 fn ports_have_the_settings_of_their_tables(rt: HostRuntime) {
     check_ports(&rt, &first(&rt, rt.alloc()));
-}
-
-fn check_constant(rt: &impl Abort, config: &Config, constant: [u8; 4]) {
-    assert_eq!(rt; config.constant(), constant);
 }
 
 fn check_off(rt: &impl Abort, config: &Config) {
@@ -85,10 +96,10 @@ fn redundancy_management_may_be_switched_off(rt: HostRuntime) {
 }
 
 fn check_links_found(rt: &impl Abort, config: &Config) {
-    assert_eq!(rt; config.link_of(LinkNo(17)), Some(0));
-    assert_eq!(rt; config.link_of(LinkNo(18)), Some(1));
-    assert_eq!(rt; config.link_of(LinkNo(16)), None);
-    assert_eq!(rt; config.link_of(LinkNo(0x1111)), None);
+    check_place(rt, config, 17, Some(0));
+    check_place(rt, config, 18, Some(1));
+    check_place(rt, config, 16, None);
+    check_place(rt, config, 0x1111, None);
 }
 
 #[test]
@@ -118,7 +129,7 @@ fn look_ups() -> [LookUp; 5] {
 fn check_look_up(rt: &impl Abort, config: &Config, row: LookUp) {
     let (vl, address, udp, port) = row;
     let link = config.link_of(LinkNo(vl)).expect(rt, "a link");
-    assert_eq!(rt; config.port_of(link, address, udp), port);
+    assert!(rt; config.port_of(link, address, udp) == port, "{vl} {udp}");
 }
 
 #[test]

@@ -7,7 +7,7 @@ use std::alloc::Global;
 use std::process::Abort;
 use std::sync::Wait;
 use test_inputs::ReadCall::{Ends, Fails, Gives, Interrupted};
-use test_inputs::{ReadCall, ScriptedReader, ScriptedWriter, WriteCall};
+use test_inputs::{ReadCall, ScriptedReader, WriteCall};
 use trace_player::{PlayFault, TraceCause};
 
 /// The output for the trace `5 00`.
@@ -87,13 +87,12 @@ fn check_reads(rt: &(impl Abort + Wait), alloc: Global, row: Reads) {
     let config = config_of(rt, alloc, BuiltIn);
     let a = ScriptedReader::new(calls_of(a));
     let b = ScriptedReader::new(calls_of(b));
-    let run = run_over(rt, alloc, &config, (a, b, Vec::new(alloc)), None);
+    let run = run_over(rt, alloc, &config, (a, b), &[], None);
     assert!(rt; run.answer == wanted, "{wanted:?}");
-    assert!(rt;
-        (run.a.failed, run.b.failed) == (failed_a, failed_b),
-        "{wanted:?}"
-    );
-    assert!(rt; run.out.inner.is_empty() == wanted.is_err(), "{wanted:?}");
+    let is_failed = run.a.failed == failed_a && run.b.failed == failed_b;
+    assert!(rt; is_failed, "{wanted:?}");
+    let is_written = !run.out.inner.written.is_empty();
+    assert!(rt; is_written == wanted.is_ok(), "{wanted:?}");
 }
 
 #[test]
@@ -132,10 +131,8 @@ fn writes() -> [Writes<'static>; 7] {
 fn check_writes(rt: &(impl Abort + Wait), alloc: Global, row: Writes<'_>) {
     let (calls, count, wanted) = row;
     let config = config_of(rt, alloc, BuiltIn);
-    let written = Vec::new(alloc);
-    let out = ScriptedWriter { calls, written };
-    let devices = (b"5 00".as_slice(), b"".as_slice(), out);
-    let run = run_over(rt, alloc, &config, devices, None);
+    let readers = (ScriptedReader::of(b"5 00"), ScriptedReader::of(b""));
+    let run = run_over(rt, alloc, &config, readers, calls, None);
     assert!(rt; run.answer == wanted, "{count} bytes, {wanted:?}");
     assert!(rt; run.out.failed == wanted.is_err(), "{count} bytes");
     let written = run.out.inner.written.as_slice();

@@ -2,35 +2,38 @@
 use crate::configurations::{Document, config_of};
 use es_base::Net;
 use std::alloc::Global;
-use std::io::{Read, Write};
 use std::process::Abort;
 use std::sync::Wait;
 use test_inputs::fragments::{PacketName, padding_after};
-use test_inputs::{ETHERNET, IP, PAYLOAD, UDP, frame_of};
+use test_inputs::{
+    ETHERNET, IP, PAYLOAD, ScriptedReader, ScriptedWriter, UDP, WriteCall, frame_of,
+};
 use trace_player::{Device, PlayFault, play};
 use vl_config::Config;
 
 /// What the player returned, and its devices after that.
 #[derive(Drop)]
-pub(crate) struct Run<A, B, W> {
+pub(crate) struct Run<'a> {
     pub answer: Result<(), PlayFault>,
-    pub a: Device<A>,
-    pub b: Device<B>,
-    pub out: Device<W>,
+    pub a: Device<ScriptedReader<'a>>,
+    pub b: Device<ScriptedReader<'a>>,
+    pub out: Device<ScriptedWriter<'a>>,
 }
 
-/// A run over these readers and this writer, with a report at this time in microseconds. It has no
-/// clause: a test doesn't need what the player promises.
-pub(crate) fn run_over<A: Read, B: Read, W: Write>(
+/// A run over these readers and a writer that does this, with a report at this time in microseconds. It
+/// has no clause: a test doesn't need what the player promises.
+pub(crate) fn run_over<'a>(
     rt: &impl Wait,
     alloc: Global,
     config: &Config,
-    (a, b, out): (A, B, W),
+    (a, b): (ScriptedReader<'a>, ScriptedReader<'a>),
+    calls: &'a [WriteCall],
     at: Option<u64>,
-) -> Run<A, B, W> {
+) -> Run<'a> {
+    let written = Vec::new(alloc);
     let mut a = Device::new(a);
     let mut b = Device::new(b);
-    let mut out = Device::new(out);
+    let mut out = Device::new(ScriptedWriter { calls, written });
     let answer = play(rt, alloc, config, &mut a, &mut b, &mut out, at);
     Run { answer, a, b, out }
 }
@@ -72,9 +75,12 @@ pub(crate) fn check_played(
     wanted: Wanted<'_>,
 ) {
     let config = config_of(rt, alloc, document);
-    let devices = (a.as_bytes(), b.as_bytes(), Vec::new(alloc));
-    let run = run_over(rt, alloc, &config, devices, at);
-    let is_wanted = is_wanted(run.answer, run.out.inner.as_slice(), wanted);
+    let readers = (
+        ScriptedReader::of(a.as_bytes()),
+        ScriptedReader::of(b.as_bytes()),
+    );
+    let run = run_over(rt, alloc, &config, readers, &[], at);
+    let is_wanted = is_wanted(run.answer, run.out.inner.written.as_slice(), wanted);
     assert!(rt; is_wanted, "{a}, {b}: {:?}", run.answer);
 }
 

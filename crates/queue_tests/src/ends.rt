@@ -1,48 +1,63 @@
 //! The two ends of a queue: what they know when they meet, and where one of them is gone.
-use crate::messages::{put, take, take_nothing};
-use queuing_port::{meet, open_queue};
-use std::test::Fail;
+ghost use Rattle.std.specs.Prelude.{◌≡◌};
 
-#[test]
-fn ends_that_meet_know_how_many_messages_are_held(rt: HostRuntime) -> Result<(), Fail> {
-    let alloc = rt.alloc();
-    let (mut putter, mut taker) = open_queue(alloc, 2)?;
-    assert_eq!(rt; meet(&rt, &mut putter, &mut taker), 0);
-    put(&rt, alloc, &mut putter, 1, true)?;
-    put(&rt, alloc, &mut putter, 2, true)?;
-    put(&rt, alloc, &mut putter, 3, false)?;
-    assert_eq!(rt; meet(&rt, &mut putter, &mut taker), 2);
-    take(&rt, &mut taker, 1);
-    assert_eq!(rt; meet(&rt, &mut putter, &mut taker), 1);
-    put(&rt, alloc, &mut putter, 4, true)?;
-    take(&rt, &mut taker, 2);
-    take(&rt, &mut taker, 4);
-    assert_eq!(rt; meet(&rt, &mut putter, &mut taker), 0);
-    Ok(())
+use crate::messages::{open, put, put_each, take, take_each, take_nothing};
+use queuing_port::{Putter, Taker, meet};
+use std::alloc::Global;
+use std::process::Abort;
+use std::sync::Wait;
+
+/// The ends meet while the queue holds this many messages.
+fn check_meeting(rt: &(impl Abort + Wait), putter: &mut Putter, taker: &mut Taker, held: usize)
+    requires { taker.old.queue ≡ putter.old.queue }
+    ensures { (putter.new.queue ≡ putter.old.queue) × (taker.new.queue ≡ putter.old.queue) }
+{
+    assert_eq!(rt; meet(rt, putter, taker), held);
+}
+
+fn check_meetings(rt: &(impl Abort + Wait), alloc: Global) {
+    let (mut putter, mut taker) = open(rt, alloc, 2);
+    check_meeting(rt, &mut putter, &mut taker, 0);
+    put(rt, alloc, &mut putter, 1, true);
+    put(rt, alloc, &mut putter, 2, true);
+    put(rt, alloc, &mut putter, 3, false);
+    check_meeting(rt, &mut putter, &mut taker, 2);
+    take(rt, alloc, &mut taker, 1);
+    check_meeting(rt, &mut putter, &mut taker, 1);
+    put(rt, alloc, &mut putter, 4, true);
+    take(rt, alloc, &mut taker, 2);
+    take(rt, alloc, &mut taker, 4);
+    check_meeting(rt, &mut putter, &mut taker, 0);
 }
 
 #[test]
-fn a_dropped_taker_stops_nobody(rt: HostRuntime) -> Result<(), Fail> {
-    let alloc = rt.alloc();
-    let (mut putter, mut taker) = open_queue(alloc, 2)?;
-    put(&rt, alloc, &mut putter, 1, true)?;
-    take(&rt, &mut taker, 1);
+fn ends_that_meet_know_how_many_messages_are_held(rt: HostRuntime) {
+    check_meetings(&rt, rt.alloc());
+}
+
+fn check_without_taker(rt: &(impl Abort + Wait), alloc: Global) {
+    let (mut putter, mut taker) = open(rt, alloc, 2);
+    put(rt, alloc, &mut putter, 1, true);
+    take(rt, alloc, &mut taker, 1);
     drop(taker);
-    for (time, has_room) in [(2, true), (3, true), (4, false), (5, false)] {
-        put(&rt, alloc, &mut putter, time, has_room)?;
-    }
-    Ok(())
+    let rows = [(2, true), (3, true), (4, false), (5, false)];
+    put_each(rt, alloc, &mut putter, &rows);
 }
 
 #[test]
-fn a_dropped_putter_leaves_its_messages(rt: HostRuntime) -> Result<(), Fail> {
-    let alloc = rt.alloc();
-    let (mut putter, mut taker) = open_queue(alloc, 2)?;
-    put(&rt, alloc, &mut putter, 1, true)?;
-    put(&rt, alloc, &mut putter, 2, true)?;
+fn a_dropped_taker_stops_nobody(rt: HostRuntime) {
+    check_without_taker(&rt, rt.alloc());
+}
+
+fn check_without_putter(rt: &(impl Abort + Wait), alloc: Global) {
+    let (mut putter, mut taker) = open(rt, alloc, 2);
+    put_each(rt, alloc, &mut putter, &[(1, true), (2, true)]);
     drop(putter);
-    take(&rt, &mut taker, 1);
-    take(&rt, &mut taker, 2);
-    take_nothing(&rt, &mut taker);
-    Ok(())
+    take_each(rt, alloc, &mut taker, &[1, 2]);
+    take_nothing(rt, &mut taker);
+}
+
+#[test]
+fn a_dropped_putter_leaves_its_messages(rt: HostRuntime) {
+    check_without_putter(&rt, rt.alloc());
 }

@@ -1,19 +1,27 @@
 //! Messages for a queue, each put and taken with its result compared.
 ghost use Rattle.std.specs.Prelude.{◌≡◌};
 
-use es_base::{Memory, Message, Octets};
-use queuing_port::{Putter, Taker};
+use es_base::{DEEPEST_QUEUE, Message, Octets};
+use queuing_port::{Putter, Taker, open_queue};
 use std::alloc::Global;
 use std::process::Abort;
 use std::sync::Wait;
 
+/// Opens a queue of a depth that is within its limits.
+pub(crate) fn open(rt: &impl Abort, alloc: Global, depth: u8) -> (Putter, Taker)
+    ensures { result.1.queue ≡ result.0.queue }
+{
+    assert!(rt; 1 <= depth && depth <= DEEPEST_QUEUE);
+    open_queue(alloc, depth).expect(rt, "memory")
+}
+
 /// A message of this many octets, all of them `octet`, that came at `time` microseconds.
-pub(crate) fn message(alloc: Global, time: u64, octet: u8, len: usize) -> Result<Message, Memory> {
-    let octets = Vec::from_elem(alloc, octet, len)?;
-    Ok(Message {
+pub(crate) fn message(rt: &impl Abort, alloc: Global, time: u64, octet: u8, len: usize) -> Message {
+    let octets = Vec::from_elem(alloc, octet, len).expect(rt, "memory");
+    Message {
         time,
         octets: Octets::from(octets),
-    })
+    }
 }
 
 /// A message with no octets.
@@ -24,39 +32,77 @@ pub(crate) fn empty_message(alloc: Global, time: u64) -> Message {
     }
 }
 
-/// Puts a message of two octets: one is put, or handed back.
+/// A message that is put at `time` microseconds has two of these octets.
+fn octet_of(time: u64) -> u8 {
+    (time % 256) as u8
+}
+
+/// The message that is put at `time` microseconds.
+fn message_at(rt: &impl Abort, alloc: Global, time: u64) -> Message {
+    message(rt, alloc, time, octet_of(time), 2)
+}
+
+/// The two messages are the same.
+pub(crate) fn check_same(rt: &impl Abort, message: &Message, wanted: &Message) {
+    let is_same = message.octets.as_slice() == wanted.octets.as_slice();
+    assert!(rt; is_same && message.time == wanted.time, "{wanted:?}");
+}
+
+/// Puts a message. Where the queue is full it is handed back.
+pub(crate) fn put_message(rt: &impl Wait, putter: &mut Putter, message: Message) -> Option<Message>
+    ensures { putter.new.queue ≡ putter.old.queue }
+{
+    putter.put(rt, message).err()
+}
+
+/// Puts the message of this time: it is put, or handed back.
 pub(crate) fn put(
     rt: &(impl Abort + Wait),
     alloc: Global,
     putter: &mut Putter,
     time: u64,
     has_room: bool,
-) -> Result<(), Memory>
+)
     ensures { putter.new.queue ≡ putter.old.queue }
 {
-    let octet = (time % 256) as u8;
-    match putter.put(rt, message(alloc, time, octet, 2)?) {
-        Ok(()) => assert!(rt; has_room, "{time} was put"),
-        Err(back) => {
-            assert!(rt; !has_room, "{time} was handed back");
-            assert_eq!(rt; back.time, time);
-            assert!(rt; back.octets.as_slice() == [octet, octet].as_slice());
-        }
+    let back = put_message(rt, putter, message_at(rt, alloc, time));
+    assert!(rt; back.is_none() == has_room, "{time}");
+    if let Some(back) = back {
+        check_same(rt, &back, &message_at(rt, alloc, time));
     }
-    Ok(())
 }
 
-/// Takes a message that `put` has put at this time.
-pub(crate) fn take(rt: &(impl Abort + Wait), taker: &mut Taker, time: u64)
+/// Puts a message at each time, each of which has room or not.
+pub(crate) fn put_each(
+    rt: &(impl Abort + Wait),
+    alloc: Global,
+    putter: &mut Putter,
+    rows: &[(u64, bool)],
+) {
+    for (time, has_room) in rows {
+        put(rt, alloc, putter, *time, *has_room);
+    }
+}
+
+/// Takes a message.
+pub(crate) fn take_message(rt: &(impl Abort + Wait), taker: &mut Taker) -> Message
     ensures { taker.new.queue ≡ taker.old.queue }
 {
-    let octet = (time % 256) as u8;
-    let message = taker.take(rt).expect(rt, "a message");
-    assert_eq!(rt; message.time, time);
-    assert!(rt;
-        message.octets.as_slice() == [octet, octet].as_slice(),
-        "{time}"
-    );
+    taker.take(rt).expect(rt, "a message")
+}
+
+/// Takes the message of this time.
+pub(crate) fn take(rt: &(impl Abort + Wait), alloc: Global, taker: &mut Taker, time: u64)
+    ensures { taker.new.queue ≡ taker.old.queue }
+{
+    check_same(rt, &take_message(rt, taker), &message_at(rt, alloc, time));
+}
+
+/// Takes the messages of these times.
+pub(crate) fn take_each(rt: &(impl Abort + Wait), alloc: Global, taker: &mut Taker, times: &[u64]) {
+    for time in times {
+        take(rt, alloc, taker, *time);
+    }
 }
 
 /// Finds the queue empty.

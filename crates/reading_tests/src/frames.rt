@@ -1,50 +1,61 @@
 //! Frames as they are read, and their faults.
+use crate::fields::check_field;
 use es_base::FrameFault;
 use frame_reader::{Frame, read_frame};
 use std::alloc::Global;
 use std::process::Abort;
-use std::test::Fail;
-use test_inputs::{CONSTANT, ETHERNET, IP, PAYLOAD, UDP, frame_of, longest, smallest};
+use test_inputs::{CONSTANT, IP, PAYLOAD, UDP, frame_of, longest, smallest};
 
-fn check_too_short(rt: &impl Abort, beginning: &[u8]) {
-    let fault = read_frame(CONSTANT, beginning).err();
-    assert_eq!(rt; fault, Some(FrameFault::TooShort), "{beginning:?}");
+/// The frame of these octets.
+pub(crate) fn frame_from<'a>(rt: &impl Abort, octets: &'a [u8]) -> Frame<'a> {
+    read_frame(CONSTANT, octets).expect(rt, "a frame")
 }
 
-#[test]
-fn every_beginning_of_the_smallest_frame_is_too_short(rt: HostRuntime) -> Result<(), Fail> {
-    let frame = smallest(rt.alloc(), 0)?;
-    assert_eq!(rt; frame.len(), 60);
+/// These octets are refused for this fault.
+fn check_fault(rt: &impl Abort, octets: &[u8], wanted: FrameFault) {
+    let fault = read_frame(CONSTANT, octets).err();
+    assert!(rt; fault == Some(wanted), "{octets:?}");
+}
+
+/// The octets of the smallest frame, with this sequence number.
+pub(crate) fn smallest_octets(rt: &impl Abort, alloc: Global, sequence_number: u8) -> Vec<u8> {
+    smallest(alloc, sequence_number).expect(rt, "octets")
+}
+
+/// The octets of a frame with these texts as its first 14 octets and its IPv4 header.
+pub(crate) fn octets_of(rt: &impl Abort, alloc: Global, ethernet: &str, ip: &str) -> Vec<u8> {
+    frame_of(alloc, &[ethernet, ip, UDP, PAYLOAD], 0).expect(rt, "octets")
+}
+
+fn check_beginnings(rt: &impl Abort, alloc: Global) {
+    let frame = smallest_octets(rt, alloc, 0);
+    assert!(rt; frame.len() == 60);
     for length in 0..60 {
-        check_too_short(&rt, &frame[..length]);
+        check_fault(rt, &frame[..length], FrameFault::TooShort);
     }
-    Ok(())
-}
-
-fn check_too_long(rt: &impl Abort, frame: &[u8]) {
-    let fault = read_frame(CONSTANT, frame).err();
-    assert_eq!(rt; fault, Some(FrameFault::TooLong));
-}
-
-fn check_longest(rt: &impl Abort, frame: &[u8]) {
-    assert_eq!(rt; frame.len(), 1514);
-    assert!(rt; read_frame(CONSTANT, frame).is_ok());
 }
 
 #[test]
-fn a_frame_longer_than_the_longest_is_too_long(rt: HostRuntime) -> Result<(), Fail> {
-    let mut frame = longest(rt.alloc(), 0)?;
-    check_longest(&rt, &frame);
-    frame.push(0)?;
-    check_too_long(&rt, &frame);
-    Ok(())
+fn every_beginning_of_the_smallest_frame_is_too_short(rt: HostRuntime) {
+    check_beginnings(&rt, rt.alloc());
+}
+
+fn check_longest(rt: &impl Abort, alloc: Global) {
+    let mut frame = longest(alloc, 0).expect(rt, "octets");
+    let whole = frame_from(rt, &frame).whole.len();
+    assert!(rt; whole == 1514, "{whole}");
+    frame.push(0).expect(rt, "memory");
+    check_fault(rt, &frame, FrameFault::TooLong);
 }
 
 #[test]
-fn the_length_is_tested_before_the_ethertype(rt: HostRuntime) -> Result<(), Fail> {
-    let zeros = vec![in rt.alloc(); 0u8; 1515]?;
-    check_too_long(&rt, &zeros);
-    Ok(())
+fn a_frame_longer_than_the_longest_is_too_long(rt: HostRuntime) {
+    check_longest(&rt, rt.alloc());
+}
+
+#[test]
+fn the_length_is_tested_before_the_ethertype(rt: HostRuntime) {
+    check_fault(&rt, &[0; 1515], FrameFault::TooLong);
 }
 
 /// The first 14 octets of a frame, and its fault.
@@ -59,37 +70,26 @@ fn beginnings() -> [Beginning; 3] {
     ]
 }
 
-fn check_beginning(rt: &impl Abort, alloc: Global, row: Beginning) -> Result<(), Fail> {
-    let (ethernet, fault) = row;
-    let frame = frame_of(alloc, &[ethernet, IP, UDP, PAYLOAD], 0)?;
-    let answer = read_frame(CONSTANT, &frame).err();
-    assert_eq!(rt; answer, Some(fault), "{ethernet}");
-    Ok(())
+fn check_beginning(rt: &impl Abort, alloc: Global, (ethernet, fault): Beginning) {
+    check_fault(rt, &octets_of(rt, alloc, ethernet, IP), fault);
 }
 
 #[test]
-fn frames_are_refused_by_their_first_fault(rt: HostRuntime) -> Result<(), Fail> {
+fn frames_are_refused_by_their_first_fault(rt: HostRuntime) {
     for row in beginnings() {
-        check_beginning(&rt, rt.alloc(), row)?;
+        check_beginning(&rt, rt.alloc(), row);
     }
-    Ok(())
-}
-
-/// The frame of these octets.
-pub(crate) fn frame_from<'a>(rt: &impl Abort, octets: &'a [u8]) -> Frame<'a> {
-    read_frame(CONSTANT, octets).expect(rt, "a frame")
 }
 
 fn check_smallest_frame(rt: &impl Abort, frame: &Frame<'_>) {
-    assert_eq!(rt; frame.vl.0, 17);
-    assert_eq!(rt; frame.number, 7);
-    assert_eq!(rt; frame.inner.len(), 45);
-    assert_eq!(rt; frame.whole.len(), 60);
+    check_field(rt, "link number", u64::from(frame.vl.0), 17);
+    check_field(rt, "sequence number", u64::from(frame.number), 7);
+    check_field(rt, "octets inside", frame.inner.len() as u64, 45);
+    check_field(rt, "octets", frame.whole.len() as u64, 60);
 }
 
 #[test]
-fn the_smallest_frame_is_read_field_by_field(rt: HostRuntime) -> Result<(), Fail> {
-    let octets = smallest(rt.alloc(), 7)?;
+fn the_smallest_frame_is_read_field_by_field(rt: HostRuntime) {
+    let octets = smallest_octets(&rt, rt.alloc(), 7);
     check_smallest_frame(&rt, &frame_from(&rt, &octets));
-    Ok(())
 }

@@ -1,8 +1,16 @@
-//! Tests of how frames, IPv4 packets and UDP datagrams are read, with values worked out by hand from
-//! the wire layouts.
+//! Tests of how traces, frames, IPv4 packets and UDP datagrams are read, with values worked out by hand
+//! from the formats and the wire layouts.
 #![tactic(auto)]
 
 #[cfg(test)]
+mod bad_digits;
+#[cfg(test)]
+mod fields;
+#[cfg(test)]
 mod frames;
 #[cfg(test)]
+mod lengths;
+#[cfg(test)]
 mod packets;
+#[cfg(test)]
+mod patterns;

@@ -1,41 +1,55 @@
 //! IPv4 packets and UDP datagrams as they are read, and their faults.
-use crate::frames::frame_from;
+use crate::fields::check_field;
+use crate::frames::{frame_from, octets_of, smallest_octets};
 use es_base::UdpFault;
 use frame_reader::{Packet, read_packet, read_udp, read_udp_head};
 use std::alloc::Global;
 use std::process::Abort;
-use std::test::Fail;
-use test_inputs::{ETHERNET, PAYLOAD, UDP, frame_of, smallest};
+use test_inputs::ETHERNET;
 
 /// The packet of the frame of these octets.
 fn packet_from<'a>(rt: &impl Abort, octets: &'a [u8]) -> Packet<'a> {
     read_packet(&frame_from(rt, octets)).expect(rt, "a packet")
 }
 
+/// The packet is a fragment with this identification and offset, and this many octets.
+fn check_place(rt: &impl Abort, packet: &Packet<'_>, ident: u64, offset: u32, octets: u64) {
+    check_field(rt, "identification", u64::from(packet.ident), ident);
+    check_field(rt, "offset", u64::from(packet.offset), u64::from(offset));
+    check_field(rt, "octets", packet.octets.len() as u64, octets);
+}
+
 fn check_smallest_packet(rt: &impl Abort, packet: &Packet<'_>) {
-    assert_eq!(rt; packet.source, 0x0a01_0101);
-    assert_eq!(rt; packet.destination, 0xe0e0_0011);
-    assert_eq!(rt; packet.ident, 1);
+    check_field(rt, "source", u64::from(packet.source), 0x0a01_0101);
+    check_field(
+        rt,
+        "destination",
+        u64::from(packet.destination),
+        0xe0e0_0011,
+    );
+    check_place(rt, packet, 1, 0, 25);
     assert!(rt; !packet.more);
-    assert_eq!(rt; packet.offset, 0);
-    assert_eq!(rt; packet.octets.len(), 25);
 }
 
 fn check_smallest_datagram(rt: &impl Abort, packet: &Packet<'_>) {
     let datagram = read_udp(packet.octets).expect(rt, "a UDP datagram");
-    assert_eq!(rt; datagram.source_port, 5001);
-    assert_eq!(rt; datagram.destination_port, 5000);
-    assert_eq!(rt; datagram.payload.len(), 17);
-    assert_eq!(rt; datagram.payload.first().copied(), Some(1));
+    check_field(rt, "source port", u64::from(datagram.source_port), 5001);
+    check_field(
+        rt,
+        "destination port",
+        u64::from(datagram.destination_port),
+        5000,
+    );
+    check_field(rt, "octets", datagram.payload.len() as u64, 17);
+    assert!(rt; datagram.payload.starts_with(&[1, 2]));
 }
 
 #[test]
-fn the_smallest_packet_is_read_field_by_field(rt: HostRuntime) -> Result<(), Fail> {
-    let octets = smallest(rt.alloc(), 7)?;
+fn the_smallest_packet_is_read_field_by_field(rt: HostRuntime) {
+    let octets = smallest_octets(&rt, rt.alloc(), 7);
     let packet = packet_from(&rt, &octets);
     check_smallest_packet(&rt, &packet);
     check_smallest_datagram(&rt, &packet);
-    Ok(())
 }
 
 /// The first 8 octets, with zeros where there are fewer.
@@ -49,17 +63,20 @@ fn head_of(octets: &[u8]) -> [u8; 8] {
 
 fn check_smallest_head(rt: &impl Abort, octets: &[u8]) {
     let head = read_udp_head(&head_of(octets), octets.len()).expect(rt, "a UDP header");
-    assert_eq!(rt; head.source_port, 5001);
-    assert_eq!(rt; head.destination_port, 5000);
-    assert_eq!(rt; head.payload_octets, 17);
+    check_field(rt, "source port", u64::from(head.source_port), 5001);
+    check_field(
+        rt,
+        "destination port",
+        u64::from(head.destination_port),
+        5000,
+    );
+    check_field(rt, "octets", head.payload_octets as u64, 17);
 }
 
 #[test]
-fn a_udp_header_is_read_in_the_first_octets(rt: HostRuntime) -> Result<(), Fail> {
-    let octets = smallest(rt.alloc(), 7)?;
-    let packet = packet_from(&rt, &octets);
-    check_smallest_head(&rt, packet.octets);
-    Ok(())
+fn a_udp_header_is_read_in_the_first_octets(rt: HostRuntime) {
+    let octets = smallest_octets(&rt, rt.alloc(), 7);
+    check_smallest_head(&rt, packet_from(&rt, &octets).octets);
 }
 
 /// The IPv4 header of a fragment, and its offset in octets.
@@ -73,28 +90,24 @@ fn fragments() -> [Fragment; 2] {
     ]
 }
 
-fn check_fragment(rt: &impl Abort, alloc: Global, (ip, offset): Fragment) -> Result<(), Fail> {
-    let octets = frame_of(alloc, &[ETHERNET, ip, UDP, PAYLOAD], 0)?;
+fn check_fragment(rt: &impl Abort, alloc: Global, (ip, offset): Fragment) {
+    let octets = octets_of(rt, alloc, ETHERNET, ip);
     let packet = packet_from(rt, &octets);
-    assert_eq!(rt; packet.ident, 2);
+    check_place(rt, &packet, 2, offset, 12);
     assert!(rt; packet.more);
-    assert_eq!(rt; packet.offset, offset);
-    assert_eq!(rt; packet.octets.len(), 12);
-    Ok(())
 }
 
 #[test]
-fn fragments_are_read(rt: HostRuntime) -> Result<(), Fail> {
+fn fragments_are_read(rt: HostRuntime) {
     for row in fragments() {
-        check_fragment(&rt, rt.alloc(), row)?;
+        check_fragment(&rt, rt.alloc(), row);
     }
-    Ok(())
 }
 
 fn check_udp(rt: &impl Abort, octets: &[u8], fault: Option<UdpFault>) {
-    assert_eq!(rt; read_udp(octets).err(), fault);
-    let head = head_of(octets);
-    assert_eq!(rt; read_udp_head(&head, octets.len()).err(), fault);
+    assert!(rt; read_udp(octets).err() == fault, "{octets:?}");
+    let answer = read_udp_head(&head_of(octets), octets.len());
+    assert!(rt; answer.err() == fault, "{octets:?}");
 }
 
 #[test]

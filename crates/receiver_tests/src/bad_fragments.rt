@@ -1,6 +1,6 @@
 //! Fragments that are no piece of a datagram, and the verdict of each frame.
-use crate::packets::{PacketRow, check};
-use crate::receive::FOR_NAV;
+use crate::frames::FOR_NAV;
+use crate::packets::{PacketRow, check_packet_rows};
 use es_base::Net::A;
 use es_base::Verdict::{BadFragment, FragmentHeld};
 use test_inputs::fragments::PacketName::{
@@ -35,20 +35,20 @@ fn uneven_after_the_limit() -> [PacketRow; 3] {
 
 #[test]
 fn a_length_between_blocks_is_bad(rt: HostRuntime) {
-    check(&rt, rt.alloc(), &[(A, 1000, 1, FirstTo11, BadFragment)]);
-    check(&rt, rt.alloc(), &[(A, 1000, 1, EmptyFirst, BadFragment)]);
+    check_packet_rows(&rt, rt.alloc(), &[(A, 1000, 1, FirstTo11, BadFragment)]);
+    check_packet_rows(&rt, rt.alloc(), &[(A, 1000, 1, EmptyFirst, BadFragment)]);
 }
 
 #[test]
 fn an_end_past_the_longest_datagram_is_bad(rt: HostRuntime) {
-    check(&rt, rt.alloc(), &[(A, 1000, 1, LastTo8199, FragmentHeld)]);
-    check(&rt, rt.alloc(), &[(A, 1000, 1, LastTo8200, BadFragment)]);
-    check(&rt, rt.alloc(), &[(A, 1000, 1, NextFrom65528, BadFragment)]);
+    check_packet_rows(&rt, rt.alloc(), &[(A, 1000, 1, LastTo8199, FragmentHeld)]);
+    check_packet_rows(&rt, rt.alloc(), &[(A, 1000, 1, LastTo8200, BadFragment)]);
+    check_packet_rows(&rt, rt.alloc(), &[(A, 1000, 1, NextFrom65528, BadFragment)]);
 }
 
 #[test]
 fn a_bad_fragment_changes_nothing(rt: HostRuntime) {
-    check(&rt, rt.alloc(), &bad_between());
-    check(&rt, rt.alloc(), &uneven_between());
-    check(&rt, rt.alloc(), &uneven_after_the_limit());
+    check_packet_rows(&rt, rt.alloc(), &bad_between());
+    check_packet_rows(&rt, rt.alloc(), &uneven_between());
+    check_packet_rows(&rt, rt.alloc(), &uneven_after_the_limit());
 }

@@ -1,6 +1,6 @@
 //! Which datagram the fragments of some frames make, and the verdict of each frame.
-use crate::packets::{PacketRow, check, check_of};
-use crate::receive::{FOR_NAV, POS};
+use crate::frames::{FOR_NAV, POS};
+use crate::packets::{PacketRow, check_packet_rows, check_packets_of};
 use es_base::Net::{A, B};
 use es_base::Verdict::{BadUdp, FragmentHeld, FragmentedSample, Redundant};
 use test_inputs::fragments::PacketName::{
@@ -112,45 +112,45 @@ fn shorter_than_its_header() -> [PacketRow; 2] {
 
 #[test]
 fn fragments_are_joined_in_any_order(rt: HostRuntime) {
-    check(&rt, rt.alloc(), &in_order());
-    check(&rt, rt.alloc(), &last_first());
+    check_packet_rows(&rt, rt.alloc(), &in_order());
+    check_packet_rows(&rt, rt.alloc(), &last_first());
 }
 
 #[test]
 fn fragments_of_both_networks_are_joined_once(rt: HostRuntime) {
-    check(&rt, rt.alloc(), &on_both_networks());
+    check_packet_rows(&rt, rt.alloc(), &on_both_networks());
 }
 
 #[test]
 fn a_fragment_may_come_twice(rt: HostRuntime) {
-    check(&rt, rt.alloc(), &first_twice());
+    check_packet_rows(&rt, rt.alloc(), &first_twice());
 }
 
 #[test]
 fn the_latest_last_fragment_sets_the_end(rt: HostRuntime) {
-    check(&rt, rt.alloc(), &end_moves_down());
-    check(&rt, rt.alloc(), &end_moves_up());
-    check(&rt, rt.alloc(), &end_moves_to_and_fro());
+    check_packet_rows(&rt, rt.alloc(), &end_moves_down());
+    check_packet_rows(&rt, rt.alloc(), &end_moves_up());
+    check_packet_rows(&rt, rt.alloc(), &end_moves_to_and_fro());
 }
 
 #[test]
 fn the_last_fragment_may_end_within_a_block(rt: HostRuntime) {
-    check(&rt, rt.alloc(), &end_within_a_block());
+    check_packet_rows(&rt, rt.alloc(), &end_within_a_block());
 }
 
 #[test]
 fn each_octet_has_to_come(rt: HostRuntime) {
-    check(&rt, rt.alloc(), &gap_within_a_block());
+    check_packet_rows(&rt, rt.alloc(), &gap_within_a_block());
 }
 
 #[test]
 fn a_complete_datagram_ends_its_group(rt: HostRuntime) {
-    check(&rt, rt.alloc(), &last_once_more());
+    check_packet_rows(&rt, rt.alloc(), &last_once_more());
 }
 
 #[test]
 fn a_sampling_port_refuses_what_was_joined(rt: HostRuntime) {
-    check(&rt, rt.alloc(), &joined_for_a_sampling_port());
+    check_packet_rows(&rt, rt.alloc(), &joined_for_a_sampling_port());
 }
 
 /// The payload has 24 octets, and the largest of the port is 16: that it was joined decides.
@@ -160,10 +160,10 @@ fn what_was_joined_is_refused_before_what_is_too_long(rt: HostRuntime) {
         pos_max: 16,
         ..LINK
     };
-    check_of(&rt, rt.alloc(), link, &joined_for_a_sampling_port());
+    check_packets_of(&rt, rt.alloc(), link, &joined_for_a_sampling_port());
 }
 
 #[test]
 fn what_is_joined_needs_a_good_udp_header(rt: HostRuntime) {
-    check(&rt, rt.alloc(), &shorter_than_its_header());
+    check_packet_rows(&rt, rt.alloc(), &shorter_than_its_header());
 }

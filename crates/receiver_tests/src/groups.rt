@@ -1,6 +1,6 @@
 //! Which fragments of some frames belong together, which are given up, and the verdict of each frame.
-use crate::packets::{PacketRow, check};
-use crate::receive::FOR_NAV;
+use crate::frames::FOR_NAV;
+use crate::packets::{PacketRow, check_packet_rows};
 use es_base::Net::A;
 use es_base::Verdict::FragmentHeld;
 use test_inputs::fragments::PacketName::{
@@ -100,30 +100,30 @@ fn whole_between() -> [PacketRow; 3] {
 
 #[test]
 fn the_one_that_began_first_is_given_up_for_a_fifth(rt: HostRuntime) {
-    check(&rt, rt.alloc(), &five_begin());
-    check(&rt, rt.alloc(), &four_begin());
-    check(&rt, rt.alloc(), &first_touched_last());
+    check_packet_rows(&rt, rt.alloc(), &five_begin());
+    check_packet_rows(&rt, rt.alloc(), &four_begin());
+    check_packet_rows(&rt, rt.alloc(), &first_touched_last());
 }
 
 #[test]
 fn the_age_is_that_of_the_first_piece(rt: HostRuntime) {
-    check(&rt, rt.alloc(), &at_the_limit());
-    check(&rt, rt.alloc(), &after_the_limit());
-    check(&rt, rt.alloc(), &touched_between());
+    check_packet_rows(&rt, rt.alloc(), &at_the_limit());
+    check_packet_rows(&rt, rt.alloc(), &after_the_limit());
+    check_packet_rows(&rt, rt.alloc(), &touched_between());
 }
 
 #[test]
 fn no_other_key_is_given_up_for_its_age(rt: HostRuntime) {
-    check(&rt, rt.alloc(), &another_key_between());
+    check_packet_rows(&rt, rt.alloc(), &another_key_between());
 }
 
 #[test]
 fn a_key_has_both_addresses(rt: HostRuntime) {
-    check(&rt, rt.alloc(), &another_source());
-    check(&rt, rt.alloc(), &another_destination());
+    check_packet_rows(&rt, rt.alloc(), &another_source());
+    check_packet_rows(&rt, rt.alloc(), &another_destination());
 }
 
 #[test]
 fn a_whole_datagram_gives_up_the_group_of_its_key(rt: HostRuntime) {
-    check(&rt, rt.alloc(), &whole_between());
+    check_packet_rows(&rt, rt.alloc(), &whole_between());
 }

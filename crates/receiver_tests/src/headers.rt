@@ -1,5 +1,5 @@
 //! What the headers of IPv4 and UDP decide about a frame.
-use crate::receive::{FOR_NAV, POS, check_rows};
+use crate::frames::{FOR_NAV, POS, check_rows};
 use es_base::PacketFault::{Checksum, HeaderLength, Protocol, TotalLength, Version};
 use es_base::Verdict::{BadHeader, BadUdp, NoPort, Sampled};
 use es_base::{Net, Verdict};

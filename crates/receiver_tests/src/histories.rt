@@ -1,8 +1,8 @@
 //! The messages that a link's history delivered to its ports.
+use crate::frames::{FOR_NAV, FrameRow, NAV, POS, check_frames, opened};
 use crate::messages::check_message;
 use crate::packets::frame_row;
 use crate::queues::NAV_UDP;
-use crate::receive::{FOR_NAV, FrameRow, NAV, POS, check_frames, opened};
 use es_base::Net::{A, B};
 use es_base::Verdict::{FragmentHeld, OutOfSequence, Overflow, Redundant, Sampled};
 use es_base::{Message, PortNo, Verdict};
@@ -42,7 +42,7 @@ fn pieces() -> [FrameRow<'static>; 5] {
 }
 
 fn check_messages(rt: &impl Abort, alloc: Global, messages: &[Message], wanted: &[Wanted]) {
-    assert_eq!(rt; messages.len(), wanted.len());
+    assert!(rt; messages.len() == wanted.len());
     for (message, (time, payload)) in messages.iter().zip(wanted) {
         check_message(rt, alloc, message, *time, payload);
     }

@@ -1,5 +1,5 @@
 //! Which sequence numbers pass on one network.
-use crate::receive::{POS, Step, check_steps};
+use crate::frames::{POS, Step, check_steps};
 use es_base::Net::A;
 use es_base::Verdict::{OutOfSequence, Sampled};
 

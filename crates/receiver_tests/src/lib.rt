@@ -7,6 +7,8 @@ mod bad_fragments;
 #[cfg(test)]
 mod datagrams;
 #[cfg(test)]
+mod frames;
+#[cfg(test)]
 mod groups;
 #[cfg(test)]
 mod headers;
@@ -24,7 +26,5 @@ mod packets;
 mod queued;
 #[cfg(test)]
 mod queues;
-#[cfg(test)]
-mod receive;
 #[cfg(test)]
 mod redundancy;

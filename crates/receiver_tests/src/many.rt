@@ -1,5 +1,5 @@
 //! Many frames of one link.
-use crate::receive::{POS, check_step, opened};
+use crate::frames::{POS, check_step, opened};
 use es_base::{Net, Verdict};
 use std::alloc::Global;
 use std::process::Abort;
@@ -16,8 +16,8 @@ fn check_many(rt: &(impl Abort + Wait), alloc: Global, count: u32) {
         check_step(rt, alloc, &mut state, step);
     }
     assert!(rt; state.history().len() == count as usize);
-    let last_time = state.history().last().map(|event| event.time);
-    assert!(rt; last_time == Some(u64::from(count).wrapping_sub(1)));
+    let last = state.history().last().expect(rt, "an event");
+    assert!(rt; last.time == u64::from(count).wrapping_sub(1));
 }
 
 #[test]

@@ -1,5 +1,5 @@
 //! Messages at the ports: which are taken, and the newest of each port.
-use crate::receive::{FrameRow, NAV, POS, check_frames, check_rows, opened, opened_with};
+use crate::frames::{FrameRow, NAV, POS, check_frames, check_rows, opened, opened_with};
 use es_base::Net::A;
 use es_base::Verdict::{Sampled, TooLong};
 use es_base::{LinkSettings, Message, PortNo, Verdict};
@@ -22,8 +22,13 @@ pub(crate) fn check_message(
     payload: &str,
 ) {
     let octets = hex::decode(alloc, payload).expect(rt, "octets");
-    assert!(rt; message.time == time, "{}", message.time);
+    assert!(rt; message.time == time, "{time}");
     assert!(rt; message.octets.as_slice() == octets.as_slice(), "{time}");
+}
+
+/// The newest message of a port. It has no clause: a test doesn't need what the history says of it.
+fn newest_of(state: &LinkState, port: PortNo) -> Option<(u64, &Message)> {
+    state.newest(port)
 }
 
 /// The port has this newest message.
@@ -35,14 +40,14 @@ fn check_newest(
     wanted: Newest<'_>,
 ) {
     let (wanted_number, time, payload) = wanted;
-    let (message_number, message) = state.newest(port).expect(rt, "a message");
-    assert!(rt; message_number == wanted_number, "{message_number}");
+    let (message_number, message) = newest_of(state, port).expect(rt, "a message");
+    assert!(rt; message_number == wanted_number);
     check_message(rt, alloc, message, time, payload);
 }
 
 /// The port has no newest message.
 fn check_none(rt: &impl Abort, state: &LinkState, port: PortNo) {
-    assert!(rt; state.newest(port).is_none());
+    assert!(rt; newest_of(state, port).is_none());
 }
 
 fn check_new(rt: &impl Abort, alloc: Global) {

@@ -1,5 +1,5 @@
 //! Fragments and other packets given to the receiver of a link, each in a frame of 60 octets.
-use crate::receive::{FrameRow, check_frame, opened};
+use crate::frames::{FrameRow, check_frame, opened};
 use es_base::{Net, Verdict};
 use link_receiver::LinkState;
 use std::alloc::Global;
@@ -33,12 +33,17 @@ pub(crate) fn check_packets(
 }
 
 /// A new receiver of this link gives these packets these verdicts.
-pub(crate) fn check_of(rt: &(impl Abort + Wait), alloc: Global, link: Link, rows: &[PacketRow]) {
+pub(crate) fn check_packets_of(
+    rt: &(impl Abort + Wait),
+    alloc: Global,
+    link: Link,
+    rows: &[PacketRow],
+) {
     let (mut state, _) = opened(rt, alloc, link);
     check_packets(rt, alloc, &mut state, rows);
 }
 
 /// The same for the built-in configuration's link.
-pub(crate) fn check(rt: &(impl Abort + Wait), alloc: Global, rows: &[PacketRow]) {
-    check_of(rt, alloc, LINK, rows);
+pub(crate) fn check_packet_rows(rt: &(impl Abort + Wait), alloc: Global, rows: &[PacketRow]) {
+    check_packets_of(rt, alloc, LINK, rows);
 }

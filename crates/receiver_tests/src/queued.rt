@@ -1,8 +1,8 @@
 //! The octets of messages that are queued.
+use crate::frames::{FOR_NAV, FrameRow, check_frames, opened};
 use crate::messages::check_message;
 use crate::packets::{PacketRow, check_packets};
 use crate::queues::taker_of;
-use crate::receive::{FOR_NAV, FrameRow, check_frames, opened};
 use es_base::Net::A;
 use es_base::Verdict::FragmentHeld;
 use queuing_port::Taker;

@@ -1,8 +1,8 @@
 //! Messages at a queuing port: which are queued, and which its taker takes.
-use crate::receive::{NAV, POS, check_frame, opened};
+use crate::frames::{NAV, POS, check_frame, decision_of, opened};
 use es_base::Net::A;
-use es_base::Verdict;
 use es_base::Verdict::{Overflow, Queued, Sampled};
+use es_base::{Decision, Verdict};
 use link_receiver::{LinkState, PortEnd};
 use queuing_port::Taker;
 use std::alloc::Global;
@@ -14,11 +14,9 @@ use test_inputs::{IP, LINK, Link, PAYLOAD, UDP};
 pub(crate) const NAV_UDP: &str = "1389138a00190000";
 
 /// The taker of `nav`, the one queuing port of its link.
-pub(crate) fn taker_of(rt: &impl Abort, ends: Vec<PortEnd>) -> Taker {
-    assert_eq!(rt; ends.len(), 1);
-    let PortEnd::Queuing { port, name, taker } = ends.into_iter().next().expect(rt, "an end");
-    assert_eq!(rt; port, NAV);
-    assert_eq!(rt; name.as_str(), "nav");
+pub(crate) fn taker_of(rt: &impl Abort, mut ends: Vec<PortEnd>) -> Taker {
+    let PortEnd::Queuing { port, name, taker } = ends.pop().expect(rt, "an end");
+    assert!(rt; ends.is_empty() && port == NAV && name.as_str() == "nav");
     taker
 }
 
@@ -67,8 +65,10 @@ fn check_next(
 
 /// The taker takes the message of this time, or none.
 fn check_take(rt: &(impl Abort + Wait), taker: &mut Taker, wanted: Option<u64>) {
-    let time = taker.take(rt).map(|message| message.time);
-    assert_eq!(rt; time, wanted);
+    match taker.take(rt) {
+        Some(message) => assert!(rt; wanted == Some(message.time)),
+        None => assert!(rt; wanted == None),
+    }
 }
 
 /// A new receiver of this link goes these steps.
@@ -147,6 +147,15 @@ fn no_taker() -> [Step; 6] {
         Nav(Overflow(NAV)),
         Pos(Sampled(POS, 3)),
     ]
+}
+
+/// What is decided of a frame is final where no queue is asked.
+#[test]
+fn a_queue_is_asked_for_its_own_port_alone(rt: HostRuntime) {
+    let sampled = decision_of(&rt, rt.alloc(), UDP);
+    assert!(rt; sampled == Decision::Final(Sampled(POS, 1)));
+    let queued = decision_of(&rt, rt.alloc(), NAV_UDP);
+    assert!(rt; queued == Decision::ByQueue(NAV));
 }
 
 #[test]

@@ -1,5 +1,5 @@
 //! Which frames of both networks are forwarded.
-use crate::receive::{FrameRow, POS, Step, check_rows, check_steps, check_steps_of};
+use crate::frames::{FrameRow, POS, Step, check_rows, check_steps, check_steps_of};
 use es_base::Net::{A, B};
 use es_base::Verdict::{BadHeader, OutOfSequence, Redundant, Sampled};
 use es_base::{PacketFault, Verdict};

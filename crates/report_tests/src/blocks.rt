@@ -1,24 +1,25 @@
 //! Blocks of the report, each from what a link knows.
-use es_base::{FilterTally, Memory, Message, Octets, PortKind, PortName, PortSettings, Tally};
+use es_base::{FilterTally, Message, Octets, PortKind, PortName, PortSettings, Tally};
 use output_lines::{write_counts, write_filtered, write_port};
 use std::alloc::Global;
 use std::process::Abort;
-use std::test::Fail;
 use test_inputs::LINK;
 
 /// A message of these octets, that came at `time` microseconds.
-fn message(alloc: Global, time: u64, octets: &[u8]) -> Result<Message, Memory> {
-    let octets = Octets::copy_of(alloc, octets)?;
-    Ok(Message { time, octets })
+fn message(rt: &impl Abort, alloc: Global, time: u64, octets: &[u8]) -> Message {
+    Message {
+        time,
+        octets: Octets::copy_of(alloc, octets).expect(rt, "memory"),
+    }
 }
 
 /// Three messages, the second of them empty.
-fn messages(alloc: Global) -> Result<Vec<Message>, Memory> {
-    let mut messages = Vec::new(alloc);
-    messages.push(message(alloc, 1000, &[1, 2])?)?;
-    messages.push(message(alloc, 1100, &[])?)?;
-    messages.push(message(alloc, 1300, &[0xa0])?)?;
-    Ok(messages)
+fn messages(rt: &impl Abort, alloc: Global) -> [Message; 3] {
+    [
+        message(rt, alloc, 1000, &[1, 2]),
+        message(rt, alloc, 1100, &[]),
+        message(rt, alloc, 1300, &[0xa0]),
+    ]
 }
 
 /// A port of this kind for three octets at most.
@@ -34,13 +35,13 @@ fn check_port(
     at: u64,
     count: usize,
     lines: &str,
-) -> Result<(), Fail> {
-    let port = port_of(name, kind).ok_or("a port")?;
-    let messages = messages(alloc)?;
+) {
+    let port = port_of(name, kind).expect(rt, "a port");
+    let messages = messages(rt, alloc);
     let mut text = String::new(alloc);
-    write_port(&mut text, at, &port, &messages[..count.min(messages.len())])?;
+    let answer = write_port(&mut text, at, &port, &messages[..count.min(3)]);
+    assert!(rt; answer.is_ok());
     assert!(rt; text.as_str() == lines, "{text}");
-    Ok(())
 }
 
 /// A sampling port that refreshes after 200 microseconds.
@@ -49,32 +50,30 @@ const POS: (&str, PortKind) = ("pos", PortKind::Sampling { refresh: 200 });
 const NAV: (&str, PortKind) = ("nav", PortKind::Queuing { depth: 4 });
 
 #[test]
-fn a_sampling_port_shows_its_newest_message(rt: HostRuntime) -> Result<(), Fail> {
-    let alloc = rt.alloc();
-    check_port(&rt, alloc, POS, 0, 0, "port pos sampling empty\n")?;
+fn a_sampling_port_shows_its_newest_message(rt: HostRuntime) {
+    check_port(&rt, rt.alloc(), POS, 0, 0, "port pos sampling empty\n");
     let fresh = "port pos sampling 2 1100 0 fresh\n";
-    check_port(&rt, alloc, POS, 1300, 2, fresh)?;
+    check_port(&rt, rt.alloc(), POS, 1300, 2, fresh);
     let stale = "port pos sampling 3 1300 1 stale a0\n";
-    check_port(&rt, alloc, POS, 1501, 3, stale)
+    check_port(&rt, rt.alloc(), POS, 1501, 3, stale);
 }
 
 #[test]
-fn a_queuing_port_shows_all_its_messages_in_order(rt: HostRuntime) -> Result<(), Fail> {
-    let alloc = rt.alloc();
-    check_port(&rt, alloc, NAV, 0, 0, "port nav queuing 0\n")?;
+fn a_queuing_port_shows_all_its_messages_in_order(rt: HostRuntime) {
+    check_port(&rt, rt.alloc(), NAV, 0, 0, "port nav queuing 0\n");
     let lines =
         "port nav queuing 3\nmessage nav 1000 2 0102\nmessage nav 1100 0\nmessage nav 1300 1 a0\n";
-    check_port(&rt, alloc, NAV, 0, 3, lines)
+    check_port(&rt, rt.alloc(), NAV, 0, 3, lines);
 }
 
 /// The counts of link 17 and the filtered frames, where there were none, are these four lines.
-fn check_zeros(rt: &impl Abort, alloc: Global) -> Result<(), Fail> {
-    let link = LINK.settings(alloc).ok_or("settings")?;
+fn check_zeros(rt: &impl Abort, alloc: Global) {
+    let link = LINK.settings(alloc).expect(rt, "settings");
     let mut text = String::new(alloc);
-    write_counts(&mut text, &link, &Tally::opening())?;
-    write_filtered(&mut text, &FilterTally::opening())?;
+    let counts = write_counts(&mut text, &link, &Tally::opening());
+    let filtered = write_filtered(&mut text, &FilterTally::opening());
+    assert!(rt; counts.is_ok() && filtered.is_ok());
     assert!(rt; text.as_str() == ZEROS, "{text}");
-    Ok(())
 }
 
 const ZEROS: &str = "count 17 A 0 0 0 0 0 0 0 0 0 0 0 0 0
@@ -84,6 +83,6 @@ filtered B 0 0 0 0 0
 ";
 
 #[test]
-fn counts_stand_by_network(rt: HostRuntime) -> Result<(), Fail> {
-    check_zeros(&rt, rt.alloc())
+fn counts_stand_by_network(rt: HostRuntime) {
+    check_zeros(&rt, rt.alloc());
 }

@@ -15,30 +15,34 @@ fn events() -> [(Net, u8); 6] {
     [(A, 10), (B, 2), (A, 10), (A, 1), (B, 13), (A, 13)]
 }
 
-/// How many of these events there are.
-fn events_of(net: Net, kind: u8) -> u64 {
-    match (net, kind) {
-        (A, 10) => 2,
-        (A, 1 | 13) | (B, 2 | 13) => 1,
-        _ => 0,
+/// How many of these events there are of each kind, from kind 1 on.
+fn events_of(net: Net) -> [u64; 13] {
+    match net {
+        A => [1, 0, 0, 0, 0, 0, 0, 0, 0, 2, 0, 0, 1],
+        B => [0, 1, 0, 0, 0, 0, 0, 0, 0, 0, 0, 0, 1],
     }
 }
 
-fn check_counts(rt: &impl Abort, tally: &Tally) {
-    for before in 0..13_u8 {
-        let kind = before + 1;
-        assert_eq!(rt; tally.count(A, kind), events_of(A, kind), "A {kind}");
-        assert_eq!(rt; tally.count(B, kind), events_of(B, kind), "B {kind}");
+fn check_counts(rt: &impl Abort, tally: &Tally, net: Net) {
+    let wanted = events_of(net);
+    for place in 0..13_u8 {
+        let count = tally.count(net, place + 1);
+        assert!(rt; count == wanted[place as usize], "{net:?} {place}");
     }
+}
+
+fn check_events(rt: &impl Abort) {
+    let mut tally = Tally::opening();
+    for (net, kind) in events() {
+        add(rt, &mut tally, net, kind);
+    }
+    check_counts(rt, &tally, A);
+    check_counts(rt, &tally, B);
 }
 
 #[test]
 fn events_are_counted_by_network_and_kind(rt: HostRuntime) {
-    let mut tally = Tally::opening();
-    for (net, kind) in events() {
-        add(&rt, &mut tally, net, kind);
-    }
-    check_counts(&rt, &tally);
+    check_events(&rt);
 }
 
 /// The network and the cause of each filtered frame.
@@ -51,28 +55,32 @@ fn filtered() -> [(Net, FilterCause); 4] {
     ]
 }
 
-/// How many of these frames there are with a cause of this kind.
-fn filtered_of(net: Net, kind: u8) -> u64 {
-    match (net, kind) {
-        (A, 1) => 2,
-        (A, 3) | (B, 5) => 1,
-        _ => 0,
+/// How many of these frames there are with a cause of each kind, from kind 1 on.
+fn filtered_of(net: Net) -> [u64; 5] {
+    match net {
+        A => [2, 0, 1, 0, 0],
+        B => [0, 0, 0, 0, 1],
     }
 }
 
-fn check_filtered(rt: &impl Abort, tally: &FilterTally) {
-    for before in 0..5_u8 {
-        let kind = before + 1;
-        assert_eq!(rt; tally.count(A, kind), filtered_of(A, kind), "A {kind}");
-        assert_eq!(rt; tally.count(B, kind), filtered_of(B, kind), "B {kind}");
+fn check_filtered(rt: &impl Abort, tally: &FilterTally, net: Net) {
+    let wanted = filtered_of(net);
+    for place in 0..5_u8 {
+        let count = tally.count(net, place + 1);
+        assert!(rt; count == wanted[place as usize], "{net:?} {place}");
     }
 }
 
-#[test]
-fn filtered_frames_are_counted_by_network_and_cause(rt: HostRuntime) {
+fn check_causes(rt: &impl Abort) {
     let mut tally = FilterTally::opening();
     for (net, cause) in filtered() {
         tally.add(net, cause);
     }
-    check_filtered(&rt, &tally);
+    check_filtered(rt, &tally, A);
+    check_filtered(rt, &tally, B);
+}
+
+#[test]
+fn filtered_frames_are_counted_by_network_and_cause(rt: HostRuntime) {
+    check_causes(&rt);
 }

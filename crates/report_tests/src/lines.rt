@@ -1,44 +1,31 @@
 //! Each line of the report, printed.
 use es_base::Net::{A, B};
-use es_base::{FilterTally, LinkNo, Memory, Tally};
+use es_base::{FilterTally, LinkNo, Tally};
 use output_lines::{CountLine, EmptyLine, FilteredCountLine, MessageLine, QueueLine, SampleLine};
 use sampling_port::Freshness;
 use std::alloc::Global;
 use std::fmt::Display;
 use std::process::Abort;
-use std::test::Fail;
 
 /// The line is printed as this text.
-fn check_line<L: Display + Drop>(
-    rt: &impl Abort,
-    alloc: Global,
-    line: L,
-    text: &str,
-) -> Result<(), Memory> {
-    let printed = format!(in alloc; "{line}")?;
+fn check_line<L: Display + Drop>(rt: &impl Abort, alloc: Global, line: L, text: &str) {
+    let printed = format!(in alloc; "{line}").expect(rt, "memory");
     assert!(rt; printed.as_str() == text, "{printed}");
-    Ok(())
+}
+
+fn check_empty_port(rt: &impl Abort, alloc: Global) {
+    let sampling = EmptyLine { name: "pos" };
+    check_line(rt, alloc, sampling, "port pos sampling empty");
+    let queuing = QueueLine {
+        name: "nav",
+        count: 0,
+    };
+    check_line(rt, alloc, queuing, "port nav queuing 0");
 }
 
 #[test]
-fn ports_without_messages_have_a_line(rt: HostRuntime) -> Result<(), Fail> {
-    let alloc = rt.alloc();
-    check_line(
-        &rt,
-        alloc,
-        EmptyLine { name: "pos" },
-        "port pos sampling empty",
-    )?;
-    check_line(
-        &rt,
-        alloc,
-        QueueLine {
-            name: "nav",
-            count: 0,
-        },
-        "port nav queuing 0",
-    )?;
-    Ok(())
+fn ports_without_messages_have_a_line(rt: HostRuntime) {
+    check_empty_port(&rt, rt.alloc());
 }
 
 /// A message of `pos` at 1000 microseconds, with these octets.
@@ -52,49 +39,49 @@ fn sample<'a>(state: Freshness, octets: &'a [u8]) -> SampleLine<'a> {
     }
 }
 
-#[test]
-fn the_newest_message_of_a_sampling_port_is_printed(rt: HostRuntime) -> Result<(), Fail> {
+fn check_samples(rt: &impl Abort, alloc: Global) {
     let fresh = sample(Freshness::Fresh, &[1, 2, 0xab, 0xff]);
     check_line(
-        &rt,
-        rt.alloc(),
+        rt,
+        alloc,
         fresh,
         "port pos sampling 1 1000 4 fresh 0102abff",
-    )?;
+    );
     let empty = sample(Freshness::Stale, &[]);
-    check_line(&rt, rt.alloc(), empty, "port pos sampling 1 1000 0 stale")?;
-    Ok(())
+    check_line(rt, alloc, empty, "port pos sampling 1 1000 0 stale");
 }
 
 #[test]
-fn a_message_of_a_queue_is_printed(rt: HostRuntime) -> Result<(), Fail> {
-    let alloc = rt.alloc();
-    let line = MessageLine {
+fn the_newest_message_of_a_sampling_port_is_printed(rt: HostRuntime) {
+    check_samples(&rt, rt.alloc());
+}
+
+/// A message of `nav`.
+fn queued<'a>(time: u64, octets: &'a [u8]) -> MessageLine<'a> {
+    MessageLine {
         name: "nav",
-        time: u64::MAX,
-        octets: &[0xa0],
-    };
-    check_line(&rt, alloc, line, "message nav 18446744073709551615 1 a0")?;
-    let empty = MessageLine {
-        name: "nav",
-        time: 0,
-        octets: &[],
-    };
-    check_line(&rt, alloc, empty, "message nav 0 0")?;
-    Ok(())
+        time,
+        octets,
+    }
+}
+
+fn check_queued(rt: &impl Abort, alloc: Global) {
+    let line = queued(u64::MAX, &[0xa0]);
+    check_line(rt, alloc, line, "message nav 18446744073709551615 1 a0");
+    check_line(rt, alloc, queued(0, &[]), "message nav 0 0");
+}
+
+#[test]
+fn a_message_of_a_queue_is_printed(rt: HostRuntime) {
+    check_queued(&rt, rt.alloc());
 }
 
 /// A message of this many octets 5a is printed whole.
-fn check_long(rt: &impl Abort, alloc: Global, octets: usize) -> Result<(), Memory> {
-    let payload = Vec::from_elem(alloc, 0x5a, octets)?;
-    let line = MessageLine {
-        name: "nav",
-        time: 7,
-        octets: payload.as_slice(),
-    };
-    let digits = "5a".repeat(alloc, octets)?;
-    let text = format!(in alloc; "message nav 7 {octets} {digits}")?;
-    check_line(rt, alloc, line, text.as_str())
+fn check_long(rt: &impl Abort, alloc: Global, octets: usize) {
+    let payload = Vec::from_elem(alloc, 0x5a, octets).expect(rt, "memory");
+    let digits = "5a".repeat(alloc, octets).expect(rt, "memory");
+    let text = format!(in alloc; "message nav 7 {octets} {digits}").expect(rt, "memory");
+    check_line(rt, alloc, queued(7, &payload), text.as_str());
 }
 
 /// Lengths on both sides of a piece of 64 octets, and the longest message of a queuing port.
@@ -103,32 +90,29 @@ fn lengths() -> [usize; 6] {
 }
 
 #[test]
-fn a_long_message_is_printed_whole(rt: HostRuntime) -> Result<(), Fail> {
+fn a_long_message_is_printed_whole(rt: HostRuntime) {
     for octets in lengths() {
-        check_long(&rt, rt.alloc(), octets)?;
+        check_long(&rt, rt.alloc(), octets);
     }
-    Ok(())
 }
 
-#[test]
-fn counts_of_nothing_are_zeros(rt: HostRuntime) -> Result<(), Fail> {
+fn check_no_counts(rt: &impl Abort, alloc: Global) {
     let tally = Tally::opening();
     let line = CountLine {
         vl: LinkNo(17),
         net: A,
         tally: &tally,
     };
-    check_line(
-        &rt,
-        rt.alloc(),
-        line,
-        "count 17 A 0 0 0 0 0 0 0 0 0 0 0 0 0",
-    )?;
+    check_line(rt, alloc, line, "count 17 A 0 0 0 0 0 0 0 0 0 0 0 0 0");
     let filtered = FilterTally::opening();
     let line = FilteredCountLine {
         net: B,
         tally: &filtered,
     };
-    check_line(&rt, rt.alloc(), line, "filtered B 0 0 0 0 0")?;
-    Ok(())
+    check_line(rt, alloc, line, "filtered B 0 0 0 0 0");
+}
+
+#[test]
+fn counts_of_nothing_are_zeros(rt: HostRuntime) {
+    check_no_counts(&rt, rt.alloc());
 }

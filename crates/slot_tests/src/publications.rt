@@ -1,6 +1,6 @@
 //! Publications while readers look and hold.
 use crate::schedule::Move::{Latest, Publishes, Reader, Reads, Refused, Scans, Step, Writes};
-use crate::schedule::{Move, check, core_after};
+use crate::schedule::{Move, check, check_phase, check_word, core_after};
 use slot_core::CoreEvent::{
     Announce, Clear, LoadFirst, LoadSecond, LoadWord, Scan, StoreLatest, StoreWord,
 };
@@ -127,10 +127,10 @@ fn one_octet() -> [Move; 11] {
 }
 
 fn check_octet(rt: &impl Abort, core: &Core) {
-    assert_eq!(rt; core.word(3, 0), 1);
-    assert_eq!(rt; core.word(3, 1), 5);
-    assert_eq!(rt; core.word(3, 2), 0x1100_0000_0000_0000);
-    assert_eq!(rt; core.reader_phase(2), Holding(19));
+    check_word(rt, core, 3, 0, 1);
+    check_word(rt, core, 3, 1, 5);
+    check_word(rt, core, 3, 2, 0x1100_0000_0000_0000);
+    check_phase(rt, core, 2, Holding(19));
     let message = core.published().first().expect(rt, "a message");
     assert!(rt; message.as_slice() == [1, 5, 0x1100_0000_0000_0000].as_slice());
     assert!(rt; message.len() == 3 && !message.is_empty());
@@ -164,9 +164,19 @@ fn outcome_of(alloc: Global, steps: &[CoreEvent]) -> Result<u64, (usize, StepRef
     Ok(run(alloc, steps)?.latest())
 }
 
+fn check_outcome(
+    rt: &impl Abort,
+    alloc: Global,
+    steps: &[CoreEvent],
+    wanted: Result<u64, (usize, StepRefusal)>,
+) {
+    let outcome = outcome_of(alloc, steps);
+    assert!(rt; outcome == wanted, "{outcome:?}");
+}
+
 #[test]
 fn a_list_of_steps_leads_to_a_core_or_to_its_first_refusal(rt: HostRuntime) {
-    assert_eq!(rt; outcome_of(rt.alloc(), &first_message()), Ok(16));
+    check_outcome(&rt, rt.alloc(), &first_message(), Ok(16));
     let early = [Scan { reader: 0 }, StoreLatest];
-    assert_eq!(rt; outcome_of(rt.alloc(), &early), Err((1, NotItsTurn)));
+    check_outcome(&rt, rt.alloc(), &early, Err((1, NotItsTurn)));
 }

@@ -1,6 +1,6 @@
 //! Schedules: what happens at a port, step by step, and what is seen of it between the steps.
 use slot_core::CoreEvent::{Announce, LoadFirst, LoadSecond, Scan, StoreLatest, StoreWord};
-use slot_core::{Core, CoreEvent, Phase, READERS, StepRefusal};
+use slot_core::{Core, CoreEvent, Phase, READERS, SLOTS, StepRefusal, WORDS};
 use std::alloc::Global;
 use std::process::Abort;
 
@@ -27,7 +27,8 @@ pub(crate) enum Move {
 
 use Move::{Latest, Publishes, Reader, Reads, Refused, Scans, Step, Writes};
 
-fn take(rt: &impl Abort, alloc: Global, core: &mut Core, event: CoreEvent) {
+/// The step is accepted.
+pub(crate) fn take(rt: &impl Abort, alloc: Global, core: &mut Core, event: CoreEvent) {
     let answer = core.step(alloc, &event);
     assert!(rt; answer == Ok(()), "{event:?}: {answer:?}");
 }
@@ -73,15 +74,33 @@ fn read(rt: &impl Abort, alloc: Global, core: &mut Core, reader: usize) {
     take(rt, alloc, core, LoadSecond { reader });
 }
 
+/// What is seen of this name has this value.
+fn check_value(rt: &impl Abort, name: &str, value: u64, wanted: u64) {
+    assert!(rt; value == wanted, "{name}: {value}");
+}
+
+/// This word of a slot has this value.
+pub(crate) fn check_word(rt: &impl Abort, core: &Core, slot: usize, index: usize, word: u64) {
+    assert!(rt; slot < SLOTS && index < WORDS);
+    check_value(rt, "word", core.word(slot, index), word);
+}
+
+/// This reader is there.
+pub(crate) fn check_phase(rt: &impl Abort, core: &Core, reader: usize, phase: Phase) {
+    assert!(rt; reader < READERS);
+    let found = core.reader_phase(reader);
+    assert!(rt; found == phase, "{found:?}");
+}
+
 fn check_latest(rt: &impl Abort, core: &Core, latest: u64, count: usize) {
-    assert_eq!(rt; core.latest(), latest);
-    assert_eq!(rt; core.published().len(), count);
+    check_value(rt, "latest", core.latest(), latest);
+    check_value(rt, "published", core.published().len() as u64, count as u64);
 }
 
 fn check_reader(rt: &impl Abort, core: &Core, phase: Phase, own: u64, seen: u64) {
-    assert_eq!(rt; core.reader_phase(0), phase);
-    assert_eq!(rt; core.announcement(0), own);
-    assert_eq!(rt; core.seen(0), seen);
+    check_phase(rt, core, 0, phase);
+    check_value(rt, "announcement", core.announcement(0), own);
+    check_value(rt, "seen", core.seen(0), seen);
 }
 
 fn make(rt: &impl Abort, alloc: Global, core: &mut Core, part: Move) {

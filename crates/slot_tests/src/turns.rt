@@ -1,6 +1,6 @@
 //! Steps out of turn, at each step of the writer and of a reader.
 use crate::schedule::Move::{Publishes, Scans, Step};
-use crate::schedule::{Move, check_refused, core_after};
+use crate::schedule::{Move, check_refused, check_word, core_after, take};
 use slot_core::CoreEvent::{
     Announce, Clear, LoadFirst, LoadSecond, LoadWord, Scan, StoreLatest, StoreWord,
 };
@@ -178,21 +178,22 @@ fn the_writer_takes_its_steps_in_turn(rt: HostRuntime) {
 /// The first 185 words of the longest message, 1471 octets, are stored in slot 5.
 fn store_longest(rt: &impl Abort, alloc: Global, core: &mut Core) {
     for index in 1..185 {
-        let answer = core.step(alloc, &store(5, index, u64::MAX));
-        assert_eq!(rt; answer, Ok(()));
+        take(rt, alloc, core, store(5, index, u64::MAX));
     }
+}
+
+fn check_longest(rt: &impl Abort, alloc: Global) {
+    let mut core = core_after(rt, alloc, &[Scans, Step(store(5, 0, 1471))]);
+    store_longest(rt, alloc, &mut core);
+    check_refused(rt, alloc, &mut core, StoreLatest, NotItsTurn);
+    check_refused(rt, alloc, &mut core, store(5, 185, 1), NotItsTurn);
+    take(rt, alloc, &mut core, store(5, 185, u64::MAX - 255));
+    take(rt, alloc, &mut core, StoreLatest);
+    check_word(rt, &core, 5, 185, u64::MAX - 255);
 }
 
 /// It has 186 words; the last one has 7 octets.
 #[test]
 fn the_longest_message_fills_a_slot(rt: HostRuntime) {
-    let alloc = rt.alloc();
-    let mut core = core_after(&rt, alloc, &[Scans, Step(store(5, 0, 1471))]);
-    store_longest(&rt, alloc, &mut core);
-    let last = store(5, 185, u64::MAX - 255);
-    check_refused(&rt, alloc, &mut core, StoreLatest, NotItsTurn);
-    check_refused(&rt, alloc, &mut core, store(5, 185, 1), NotItsTurn);
-    assert_eq!(rt; core.step(alloc, &last), Ok(()));
-    assert_eq!(rt; core.step(alloc, &StoreLatest), Ok(()));
-    assert_eq!(rt; core.word(5, 185), u64::MAX - 255);
+    check_longest(&rt, rt.alloc());
 }

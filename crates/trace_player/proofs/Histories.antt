@@ -4,6 +4,7 @@ use Rattle.std.specs.List.{find, slice_get, AllByRecursion, IsDistinct}
 use Rattle.std.specs.Option.{option_map}
 use Rattle.std.proofs.lemmas.Bool.{eqb-true, eqb-false, ne_eqb}
 use Rattle.std.proofs.lemmas.List.{reverse-append, reverse-reverse}
+use Rattle.std.proofs.Math.ListN.{get_or-map}
 use Rattle.std.proofs.lemmas.Option.{slice_get-map, get_or_from_slice_get}
 use Rattle.es_base.specs.declared.fault.FrameFault.{FrameFault}
 use Rattle.es_base.specs.declared.fault.FilterCause.{FilterCause}
@@ -148,3 +149,9 @@ settings_kept constant earlier (link ∷ links) = ap (λ (rest : List Settings).
 
 pub are_of_links : (c : Configuration) (earlier : List Arrival) (states : List Link) → states ≡ states_after c earlier → map (λ state. state.settings) states ≡ c.links
 are_of_links c earlier states same = ap (map (λ (state : Link). state.settings)) same ∙ settings_kept c.constant earlier c.links
+
+-- the state at the place of a link has its settings
+pub settings_at : (links : List Settings) (states : List Link) (place : ℕ) (link : Settings) (d : Link)
+    → map (λ state. state.settings) states ≡ links → slice_get links place ≡ Some link → (get_or states place d).settings ≡ link
+settings_at links states place link d same there =
+    sym (get_or-map (λ (state : Link). state.settings) states place d) ∙ ap (λ (l : List Settings). get_or l place d.settings) same ∙ get_or_from_slice_get links place link d.settings there

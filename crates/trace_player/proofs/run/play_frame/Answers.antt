@@ -1,7 +1,8 @@
 use Rattle.std.proofs.Common.{◌∙◌, ap, refl, subst, sym, List, ℕ}
 use Rattle.std.proofs.lemmas.Result.{on_ok_weaker}
-use Rattle.es_base.specs.Addressing.{ComesToPlace, addressed_link}
-use Rattle.trace_player.proofs.Histories.{on_ok_always, filtered_states, taken_states, taken_line}
+use Rattle.es_base.specs.Settings.{Settings}
+use Rattle.es_base.specs.Addressing.{ComesToPlace, addressed_link, addressee_of}
+use Rattle.trace_player.proofs.Histories.{on_ok_always, filtered_states, settings_at, taken_states, taken_line}
 use Rattle.trace_player.proofs.run.play_frame.Goals as goal
 
 pub returns-in-Err-clause-states : goal.returns-in-Err-clause-states
@@ -35,3 +36,12 @@ returns-in-Err-clause-filtered g c =
     let config = c.args.config.now in
     let filtered = ap (addressed_link config) (sym c.as_slice.ensures) ∙ c.in-Err.ensures.filtered in
     on_ok_always c.writeln.result (λ earlier has. c.add.ensures.filtered config earlier c.args.arrival has refl filtered)
+
+pub take_frame-requires-clause-frame : goal.take_frame-requires-clause-frame
+take_frame-requires-clause-frame g c = rw c.as_slice.ensures at c.in-Ok.ensures.place.framed
+
+pub take_frame-requires-clause-link : goal.take_frame-requires-clause-link
+take_frame-requires-clause-link g c =
+    let comes = c.in-Ok.ensures.place in
+    let settings = settings_at c.args.config.now.links c.args.states.now c.in-Ok.place comes.link c.index-states-place.result c.requires comes.there in
+    ap (λ (link : Settings). link.vl) settings ∙ comes.numbered ∙ ap addressee_of c.as_slice.ensures

@@ -1,8 +1,9 @@
-use Rattle.std.proofs.Common.{◌≡◌, ◌∙◌, ◌++◌, [], ◌∷◌, rules, sym}
+use Rattle.std.proofs.Common.{◌≡◌, ◌∙◌, ◌++◌, [], ◌∷◌, inr, rules, sym}
+use Rattle.std.proofs.lemmas.Result.{err_from_is_err_and}
 use Rattle.toml.specs.View.{table_view}
 use Rattle.es_base.specs.Config.{ports_in}
 use Rattle.vl_config.specs.Port.{port_from}
-use Rattle.vl_config.proofs.Collected.{one_more}
+use Rattle.vl_config.proofs.Collected.{one_more, first_fault}
 use Rattle.vl_config.proofs.Ports.{apart_push, names_push}
 use Rattle.vl_config.proofs.link.ports_from.Goals as goal
 
@@ -20,3 +21,11 @@ loop-table-preserved c =
       apart = apart_push done port kept.apart (search rules);
       names = names_push earlier done port kept.names (search rules);
     })
+
+pub returns-in_err-port-clause-value : goal.returns-in_err-port-clause-value
+returns-in_err-port-clause-value c =
+    let fault = c.in_err-port.field-0.0 in
+    let returned = err_from_is_err_and c.from_residual-in_err-port.result c.from_residual-in_err-port.ensures.1 in
+    let read = first_fault (port_from (ports_in c.args.links.now)) (λ table. table_view table.now) c.loop-table.ports.items c.args.tables.now c.loop-table.table-index c.table-item.result fault
+    (search rules) c.table-item.is (search rules) in
+    rw (returned.1, returned.2) (inr (sym c.loop-table.invariant.value ∙ read))

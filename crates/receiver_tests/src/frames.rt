@@ -1,6 +1,5 @@
-//! Frames given to the receiver of a link. The helpers return no `Result`: a test that hands on none is
-//! proved in a fraction of the time.
-use es_base::{Decision, Event, LinkSettings, Net, PortNo, Verdict};
+//! Frames given to the receiver of a link, each with its verdict.
+use es_base::{Decision, LinkSettings, Net, PortNo, Verdict};
 use frame_reader::read_frame;
 use link_receiver::{LinkState, PortEnd};
 use std::alloc::Global;
@@ -30,17 +29,7 @@ pub(crate) fn opened(rt: &impl Abort, alloc: Global, link: Link) -> (LinkState, 
     opened_with(rt, alloc, &settings)
 }
 
-/// The event's verdict and room are as it was decided: what was final, or an answer of the port's queue.
-fn check_decision(rt: &impl Abort, decision: Decision, event: &Event) {
-    let is_decided = match decision {
-        Decision::Final(verdict) => event.room && event.verdict == verdict,
-        Decision::ByQueue(port) if event.room => event.verdict == Verdict::Queued(port),
-        Decision::ByQueue(port) => event.verdict == Verdict::Overflow(port),
-    };
-    assert!(rt; is_decided, "{:?}", event.verdict);
-}
-
-/// The verdict of a frame of this link that came at `now` microseconds. It was decided before.
+/// The verdict of a frame of this link that came at `now` microseconds.
 fn receive(
     rt: &(impl Abort + Wait),
     alloc: Global,
@@ -51,12 +40,17 @@ fn receive(
 ) -> Verdict {
     let frame = read_frame(CONSTANT, octets).expect(rt, "a frame");
     assert!(rt; frame.vl == state.settings().vl());
-    let decision = state.decide(net, now, &frame);
-    let verdict = state.take(rt, alloc, net, now, &frame).expect(rt, "memory");
-    let event = state.history().last().expect(rt, "an event");
-    assert_eq!(rt; event.verdict, verdict);
-    check_decision(rt, decision, event);
-    verdict
+    state.take(rt, alloc, net, now, &frame).expect(rt, "memory")
+}
+
+/// What is decided of a first frame of link 17, with a UDP header for one of its ports.
+pub(crate) fn decision_of(rt: &impl Abort, alloc: Global, udp: &str) -> Decision {
+    let (state, _) = opened(rt, alloc, LINK);
+    let texts = [ETHERNET, IP, udp, PAYLOAD];
+    let octets = frame_of(alloc, &texts, 1).expect(rt, "octets");
+    let frame = read_frame(CONSTANT, &octets).expect(rt, "a frame");
+    assert!(rt; frame.vl == state.settings().vl());
+    state.decide(Net::A, 1000, &frame)
 }
 
 /// The network, arrival time in microseconds and sequence number of a frame of link 17, its IPv4 header,
@@ -74,7 +68,7 @@ pub(crate) fn check_frame(
     let texts = [ETHERNET, ip, udp, payload];
     let frame = frame_of(alloc, &texts, sequence_number).expect(rt, "octets");
     let answer = receive(rt, alloc, state, net, now, &frame);
-    assert_eq!(rt; answer, verdict, "{sequence_number} at {now}, {ip} {udp}");
+    assert!(rt; answer == verdict, "{sequence_number} at {now}: {answer:?}");
 }
 
 /// The receiver gives these frames these verdicts.

@@ -1,7 +1,7 @@
 //! Digits, the octets that they say, and what a trace is read as.
-use es_base::Memory;
 use hex_trace::{Device, Frames, TraceCause, TraceFault, read_trace};
 use std::alloc::Global;
+use std::process::Abort;
 
 /// Digits of both cases.
 const DIGITS: [u8; 22] = *b"0a1B2c3D4e5F6a7B8c9DeF";
@@ -12,21 +12,21 @@ const OCTETS: [u8; 11] = [
 ];
 
 /// This many digits: `DIGITS` again and again.
-pub(crate) fn digits(alloc: Global, count: usize) -> Result<Vec<u8>, Memory> {
+pub(crate) fn digits(rt: &impl Abort, alloc: Global, count: usize) -> Vec<u8> {
     let mut digits = Vec::new(alloc);
     for i in 0..count {
-        digits.push(DIGITS[i % 22])?;
+        digits.push(DIGITS[i % 22]).expect(rt, "memory");
     }
-    Ok(digits)
+    digits
 }
 
 /// This many octets: `OCTETS` again and again.
-pub(crate) fn octets(alloc: Global, count: usize) -> Result<Vec<u8>, Memory> {
+pub(crate) fn octets(rt: &impl Abort, alloc: Global, count: usize) -> Vec<u8> {
     let mut octets = Vec::new(alloc);
     for i in 0..count {
-        octets.push(OCTETS[i % 11])?;
+        octets.push(OCTETS[i % 11]).expect(rt, "memory");
     }
-    Ok(octets)
+    octets
 }
 
 /// What a trace is read as. `text` serves for one trace after another.

@@ -1,0 +1,119 @@
+//! Bytes that are no digits, and odd numbers of digits: the fault is that of `hex`, at the same line.
+use crate::patterns::{digits, fault_at, octets, read};
+use hex::FromHexError;
+use hex_trace::{TraceCause, decode_digits};
+use std::alloc::Global;
+use std::process::Abort;
+
+/// How many digits the lines have.
+const COUNT: usize = 132;
+
+/// Bytes that are no digits: the neighbours of those that are, and some others.
+const BAD: [u8; 9] = *b"/:@G`g \x00\xff";
+
+/// A trace whose third line has these digits. Its fourth has none.
+fn trace_with(rt: &impl Abort, alloc: Global, digits: &[u8]) -> Vec<u8> {
+    let mut trace = Vec::from_slice(alloc, b"# a comment\n0 00\n7 ").expect(rt, "memory");
+    trace.extend_from_slice(digits).expect(rt, "memory");
+    trace.extend_from_slice(b"\n8 zz\n").expect(rt, "memory");
+    trace
+}
+
+/// The first fault of a trace whose third line has these digits is at `line`.
+fn check_line(rt: &impl Abort, alloc: Global, text: &mut Vec<u8>, digits: &[u8], line: u64) {
+    let trace = trace_with(rt, alloc, digits);
+    let fault = read(alloc, &trace, text).err();
+    assert!(rt;
+        fault == Some(fault_at(line, TraceCause::Hex)),
+        "{digits:?}"
+    );
+}
+
+/// These digits are refused so.
+fn check_fault(rt: &impl Abort, alloc: Global, digits: &[u8], fault: FromHexError) {
+    assert!(rt;
+        decode_digits(alloc, digits).err() == Some(fault),
+        "{digits:?}"
+    );
+}
+
+/// These digits say these octets.
+fn check_octets(rt: &impl Abort, alloc: Global, digits: &[u8], octets: &[u8]) {
+    let decoded = decode_digits(alloc, digits).expect(rt, "octets");
+    assert!(rt; decoded.as_slice() == octets, "{digits:?}");
+}
+
+/// With `bad` at `place` the line is refused, for this byte.
+fn check_bad(rt: &impl Abort, alloc: Global, text: &mut Vec<u8>, bad: u8, place: usize) {
+    let mut line = digits(rt, alloc, COUNT);
+    if let Some(digit) = line.get_mut(place) {
+        *digit = bad;
+    }
+    let fault = FromHexError::InvalidHexCharacter {
+        c: char::from(bad),
+        index: place,
+    };
+    check_fault(rt, alloc, &line, fault);
+    check_line(rt, alloc, text, &line, 3);
+}
+
+fn check_bad_everywhere(rt: &impl Abort, alloc: Global, bad: u8) {
+    let mut text = Vec::new(alloc);
+    for place in 0..COUNT {
+        check_bad(rt, alloc, &mut text, bad, place);
+    }
+}
+
+#[test]
+fn a_bad_byte_is_seen_at_each_place(rt: HostRuntime) {
+    for bad in BAD {
+        check_bad_everywhere(&rt, rt.alloc(), bad);
+    }
+}
+
+/// This many digits say their octets, or are odd.
+fn check_count(rt: &impl Abort, alloc: Global, text: &mut Vec<u8>, count: usize) {
+    let line = digits(rt, alloc, count);
+    if count % 2 == 0 {
+        check_octets(rt, alloc, &line, &octets(rt, alloc, count / 2));
+        check_line(rt, alloc, text, &line, 4);
+    } else {
+        check_fault(rt, alloc, &line, FromHexError::OddLength);
+        check_line(rt, alloc, text, &line, 3);
+    }
+}
+
+fn check_counts(rt: &impl Abort, alloc: Global) {
+    let mut text = Vec::new(alloc);
+    for count in 0..=COUNT {
+        check_count(rt, alloc, &mut text, count);
+    }
+}
+
+#[test]
+fn an_odd_number_of_digits_is_refused(rt: HostRuntime) {
+    check_counts(&rt, rt.alloc());
+}
+
+/// The first of two faults is the one that is told: the odd number, and then the first bad byte.
+#[test]
+fn of_two_bad_bytes_the_first_is_told(rt: HostRuntime) {
+    let bad = FromHexError::InvalidHexCharacter { c: 'g', index: 2 };
+    check_fault(&rt, rt.alloc(), b"00g0h0", bad);
+    check_fault(&rt, rt.alloc(), b"0g0", FromHexError::OddLength);
+}
+
+/// Each digit in each case.
+const EVERY_DIGIT: &[u8] = b"0123456789abcdefABCDEFaAbBcCdDeEfF";
+
+/// The octets of `EVERY_DIGIT`.
+const EVERY_VALUE: [u8; 17] = [
+    0x01, 0x23, 0x45, 0x67, 0x89, 0xab, 0xcd, 0xef, 0xab, 0xcd, 0xef, 0xaa, 0xbb, 0xcc, 0xdd, 0xee,
+    0xff,
+];
+
+#[test]
+fn digits_of_both_cases_stand_in_one_line(rt: HostRuntime) {
+    check_octets(&rt, rt.alloc(), EVERY_DIGIT, &EVERY_VALUE);
+    check_line(&rt, rt.alloc(), &mut Vec::new(rt.alloc()), EVERY_DIGIT, 4);
+}
