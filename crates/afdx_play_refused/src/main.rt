@@ -1,4 +1,4 @@
-//! The same call as in `afdx_play`, for the gate to run to a fault: a program has one stored run.
+//! What `afdx_play` is, for the gate to run to a fault: a program has one stored run.
 #![tactic(auto)]
 
 use program::{Ended, run_on};

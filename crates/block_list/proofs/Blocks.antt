@@ -8,7 +8,8 @@ use Rattle.std.proofs.lemmas.Bool.{ltb-true, ltb-false}
 use Rattle.std.proofs.lemmas.Option.{slice_get_past, slice_get-get_or}
 use Rattle.std.proofs.Math.ListN.{drop_of_length-le}
 use Rattle.std.proofs.Math.Seq.{drop-append-add, take-append_seam}
-use Rattle.block_list.specs.BlockList.{block_size, block_at}
+use Rattle.block_list.specs.BlockList.{block_size}
+use Rattle.block_list.specs.Kept.{block_at}
 
 module _ {B T : Type 0} (f : B → List T) where
   joined_length : (bs : List B) → AllByRecursion (λ b. length (f b) ≡ 1024) bs → length (flat_map f bs) ≡ length bs * 1024
@@ -97,3 +98,7 @@ got xs i (Some x) is value = sym (slice_get-get_or xs i x.now (ltb-true i (lengt
 pub on_ok : {A E P : Type 0} (r : Result A E) → P → OnOk r P
 on_ok (Ok x) p = p
 on_ok (Err e) p = tt
+
+pub on_ok_by : {A E P Q R : Type 0} (r : Result A E) → OnOk r P → OnOk r Q → (P → Q → R) → OnOk r R
+on_ok_by (Ok x) p q both = both p q
+on_ok_by (Err e) p q both = tt

@@ -1,15 +1,18 @@
 -- What callers see of a list that is kept in blocks.
-use Rattle.std.specs.Prelude.{ℕ, ◌*◌, Bool, List, take, drop}
+use Rattle.std.specs.Prelude.{◌≡◌, ℕ, List, [], ◌∷◌, ◌++◌}
+use denote.RawPtr.{Ptr}
 
 -- how many entries a block has
 abbrev pub block_size : ℕ
 block_size = 1024
 
--- its entries in order, and whether one more may be added with no memory taken
+-- its entries in order; how many more may be added with no memory taken; and where the memory of each
+-- block begins, in order: while that stays, the entries of the block stand where they stood
 pub record BlockList (T : Type 0) : Type 0 where
   pub items : List T
-  pub has_room : Bool
+  pub room : ℕ
+  pub blocks : List Ptr
 
--- the entries of one block, counted from 0; none after the last block
-abbrev pub block_at : {T : Type 0} → ℕ → List T → List T
-block_at number items = take block_size (drop (number * block_size) items)
+-- the memory of one more block was taken, and nothing else has changed
+abbrev pub Grows : {T : Type 0} → BlockList T → BlockList T → Type 0
+Grows old new = (block : Ptr) × (new ≡ record old { room = block_size; blocks = old.blocks ++ block ∷ [] })

@@ -1,13 +1,15 @@
 //! A list that grows by blocks: no growth moves an entry, however long the list is.
 //!
 //! A `Vec` grows by copying itself, so one of a million calls that add an entry copies all entries before it. Here a
-//! growth takes one block of `BLOCK` entries, and at most moves the list of the blocks, three words
-//! for each.
+//! growth takes the memory of one block of `BLOCK` entries, and at most moves the list of the blocks, three words
+//! for each. Contracts see where the memory of each block begins, and that no call changes it.
 #![tactic(auto)]
 
-ghost use Rattle.std.specs.Prelude.{◌≡◌, ◌<◌, ◌≤◌, ◌==◌, ◌*◌, ◌-◌, ◌^◌, ◌++◌, ◌∷◌, [], length, slice_get, OnOk, OnErr, true, false};
+ghost use Rattle.std.specs.Prelude.{◌≡◌, ◌<◌, ◌==◌, ◌-◌, ◌^◌, ◌++◌, ◌∷◌, [], length, slice_get, IsOk, OnOk, OnErr};
 ghost use Rattle.std.specs.Option.{option_map};
-ghost use Rattle.block_list.specs.BlockList.{block_at, block_size};
+ghost use Rattle.std.specs.Vec.{vec_capacity};
+ghost use Rattle.block_list.specs.BlockList.{Grows, block_size};
+ghost use Rattle.block_list.specs.Kept.{block_at};
 
 use std::alloc::{AllocError, Global};
 use std::marker::Model;
@@ -31,26 +33,30 @@ const MOST_BLOCKS: usize = usize::MAX / 2 / BLOCK;
 pub struct BlockList<T> {
     /// The blocks before the last, each with `BLOCK` entries.
     full: Vec<Vec<T>>,
-    /// The last block, with at most `BLOCK` entries.
+    /// The last block, with at most `BLOCK` entries, and memory for as many. Before the first growth it
+    /// has neither.
     last: Vec<T>,
 }
 
 impl<T> Model for BlockList<T> {
-    ghost use Rattle.block_list.specs.BlockList.{BlockList, block_size};
-    ghost use Rattle.block_list.specs.Kept.{entries_of, has_room, AreFull};
-    ghost use Rattle.std.specs.Prelude.{◌≤◌, length};
+    ghost use Rattle.block_list.specs.BlockList.{BlockList};
+    ghost use Rattle.block_list.specs.Kept.{entries_of, room_in, addresses_of, IsKept};
 
     ghost Value = { BlockList T };
 
-    ghost view = { λ l. record { items = entries_of l.full.items l.last.items; has_room = has_room l.last } };
+    ghost view = { λ l. record {
+      items = entries_of l.full.items l.last.items;
+      room = room_in l.last;
+      blocks = addresses_of l.full.items l.last;
+    } };
 
-    ghost invariant = { λ l. AreFull l.full.items × (length l.last.items ≤ block_size) };
+    ghost invariant = { λ l. IsKept l.full.items l.last };
 }
 
 impl<T> BlockList<T> {
     /// A list with no entries. It takes no memory.
     pub fn new(alloc: Global) -> BlockList<T>
-        ensures items { result.items ≡ [] }
+        ensures { result ≡ record { items = []; room = 0; blocks = [] } }
     {
         BlockList {
             full: Vec::new(alloc),
@@ -58,32 +64,41 @@ impl<T> BlockList<T> {
         }
     }
 
-    /// Takes the memory for one more entry, where there is none. No entry is moved. Where memory runs
+    /// How many entries may be added with no memory taken: at most `BLOCK`.
+    pub fn room(&self) -> usize
+        ensures { result ≡ self.now.room }
+    {
+        self.last.capacity().min(BLOCK) - self.last.len()
+    }
+
+    /// Takes the memory of a whole block if there is no room for one more entry. No entry is moved. If memory runs
     /// out nothing has changed. No memory has room for 2^63 entries.
     pub fn reserve_one(&mut self, alloc: Global) -> Result<(), AllocError>
         ensures items { self.new.items ≡ self.old.items }
-        ensures room { OnOk result (self.new.has_room ≡ true) }
+        ensures room { OnOk result (0 < self.new.room) }
         ensures few { OnOk result (length self.new.items < 2 ^ 63) }
+        ensures same { 0 < self.old.room → IsOk result × (self.new ≡ self.old) }
+        ensures grown { self.old.room ≡ 0 → OnOk result (Grows self.old self.new) }
         ensures err { OnErr result (self.new ≡ self.old) }
     {
-        let len = self.last.len();
-        if len < BLOCK {
-            return self.last.reserve_exact(BLOCK - len);
+        if self.room() > 0 {
+            return Ok(());
+        }
+        if self.last.is_empty() {
+            return self.last.reserve_exact(BLOCK);
         }
         if self.full.len() >= MOST_BLOCKS {
             return Err(AllocError);
         }
-        self.full.reserve(1)?;
-        let next = Vec::with_capacity(alloc, BLOCK)?;
-        let full = mem::replace(&mut self.last, next);
-        self.full.push_reserved(full);
-        Ok(())
+        add_block(alloc, &mut self.full, &mut self.last)
     }
 
-    /// Adds an entry after the others, into memory that `reserve_one` took.
+    /// Adds an entry after the others, into memory that `reserve_one` took. No other entry is moved.
     pub fn push_reserved(&mut self, entry: T)
-        requires { self.old.has_room ≡ true }
-        ensures { self.new.items ≡ self.old.items ++ entry ∷ [] }
+        requires { 0 < self.old.room }
+        ensures items { self.new.items ≡ self.old.items ++ entry ∷ [] }
+        ensures room { self.new.room ≡ self.old.room - 1 }
+        ensures blocks { self.new.blocks ≡ self.old.blocks }
     {
         self.last.push_reserved(entry);
     }
@@ -118,16 +133,8 @@ impl<T> BlockList<T> {
         }
     }
 
-    /// How many blocks have entries, or could. The entries in order are those of `block(0)`, `block(1)` and so
-    /// on below this number.
-    pub fn blocks(&self) -> usize
-        ensures { length self.now.items ≤ result * block_size }
-    {
-        self.full.len() + 1
-    }
-
     /// The entries of one block, counted from 0: `BLOCK` of them, and fewer in the last. None after it.
-    pub fn block(&self, number: usize) -> &[T]
+    fn block(&self, number: usize) -> &[T]
         ensures { result.now ≡ block_at number self.now.items }
     {
         match self.full.get(number) {
@@ -136,4 +143,18 @@ impl<T> BlockList<T> {
             None => &[],
         }
     }
+}
+
+/// The last block becomes one of those before it, where it stands, and a new one follows it: with no entries,
+/// and memory for `BLOCK`. If memory runs out no block has changed.
+fn add_block<T>(alloc: Global, full: &mut Vec<Vec<T>>, last: &mut Vec<T>) -> Result<(), AllocError>
+    ensures before { OnOk result (full.new.items ≡ full.old.items ++ last.old ∷ []) }
+    ensures last { OnOk result ((last.new.items ≡ []) × (vec_capacity last.new ≡ block_size)) }
+    ensures err { OnErr result ((full.new.items ≡ full.old.items) × (last.new ≡ last.old)) }
+{
+    full.reserve(1)?;
+    let next = Vec::with_capacity(alloc, BLOCK)?;
+    let before = mem::replace(last, next);
+    full.push_reserved(before);
+    Ok(())
 }

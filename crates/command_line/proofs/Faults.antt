@@ -1,4 +1,4 @@
--- A command without subcommands finds one fault at most in any words, and none only where it takes them.
+-- A command without subcommands finds one fault at most in any words, and none only if it takes them.
 use Rattle.std.proofs.Common.{◌≡◌, ◌∙◌, ◌&&◌, ◌||◌, ◌==◌, ℕ, Bool, zero, suc, true, false, not, List, [], ◌∷◌, length, drop, min, Option, Some, None, is_some, refl, sym, ap, subst, inl, inr, arith, codes}
 use Rattle.std.specs.Prelude.{if◌then◌else◌, nat_le, nat_lt, encode_utf8, slice_get, ◌+◌}
 use Rattle.std.specs.List.{list_all}
@@ -24,7 +24,7 @@ use Rattle.std.specs.Prelude.{String}
 use Rattle.std.specs.declared.alloc.Global.{Global}
 use Rattle.command_line.specs.Command.{HasFault, IsFaultOf, play_command, texts_of, fault_from}
 
--- there is one kind at most, and none only where the test passes
+-- there is one kind at most, and none only if the test passes
 pub record Says (kinds : Kinds) (passes : Bool) : Type 0 where
   pub one : (k : ErrorKind) → IsAmong k kinds → kinds ≡ k ∷ []
   pub none : kinds ≡ [] → passes ≡ true

@@ -194,7 +194,7 @@ module _ (c : Command) (is : app_of c ≡ play_command) where
         go None each = (refl, tt)
         go (Some x) each = let is = each x refl in head x.reading x.vals.items is.0 is.1
 
-    -- the same of the rows
+    -- the time among the rows is given as written, in digits
     time_given : IsReadAsTime (one_of (codes "at") (rows_of (found_of m))) (first_of (codes "at") (rows_of (found_of m)))
     time_given = subst (λ (o : Option Text). IsReadAsTime o (first_of (codes "at") (rows_of (found_of m)))) (one_text-rows (found_of m) (codes "at"))
         (subst (λ (o : Option Text). IsReadAsTime (one_text (found_of m) (codes "at")) o) (first_value-rows (found_of m) (codes "at")) time_found)

@@ -67,7 +67,7 @@ abbrev pub microseconds_in : Text → ℕ
 microseconds_in text = digits_value 10 (without_leading_plus text)
 
 -- the files are the values that the command matches in the words, each under its own option; the time of
--- the report is the number that it matches, and there is none where the option isn't given
+-- the report is the number that it matches, and there is none if the option isn't given
 abbrev pub IsLineIn : List Row → Line → Type 0
 IsLineIn rows line = (first_of (codes "config") rows ≡ Some (string_bytes line.config))
     × (first_of (codes "a") rows ≡ Some (string_bytes line.a))
@@ -78,7 +78,7 @@ IsLineIn rows line = (first_of (codes "config") rows ≡ Some (string_bytes line
 abbrev pub HasTimeInRange : Line → Type 0
 HasTimeInRange line = IfSome line.at (λ at. at ≤ latest_time)
 
--- the same of what the command matches in these words
+-- the line is what the command matches in these words
 unfoldable pub IsLineOf : List (String Global) → Line → Type 0
 IsLineOf words line = IsLineIn (matches_of play_command (texts_of words)) line
 
@@ -86,13 +86,13 @@ IsLineOf words line = IsLineIn (matches_of play_command (texts_of words)) line
 unfoldable pub HasFault : ErrorKind → List (String Global) → Type 0
 HasFault kind words = fault_of play_command (texts_of words) ≡ kind ∷ []
 
--- the error is of the fault in the words: help where they ask for it, and else a refusal
+-- the error is of the fault in the words: help if they ask for it, and else a refusal
 abbrev pub IsFaultOf : List (String Global) → LineFault → Type 0
 IsFaultOf words (Help error) = HasFault (kind_of error) words × (kind_of error ≡ DisplayHelp)
 IsFaultOf words (Refused error) = HasFault (kind_of error) words × (kind_of error ≢ DisplayHelp)
 IsFaultOf words Memory = ⊤
 
--- the fault of an error: help where the words ask for it, memory where it ran out, else a refusal
+-- the fault of an error: help if the words ask for it, memory if it ran out, else a refusal
 abbrev pub fault_from : ErrorKind → Error → LineFault
 fault_from DisplayHelp error = Help error
 fault_from OutOfMemory error = Memory

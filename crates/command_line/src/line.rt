@@ -19,13 +19,13 @@ pub struct Line {
     pub a: String,
     /// The trace of network B.
     pub b: String,
-    /// The time of the report, in microseconds, 0 to 9223372036854775807. None where it isn't given: the
+    /// The time of the report, in microseconds, 0 to 9223372036854775807. None if it isn't given: the
     /// report is then of the greatest arrival time.
     pub at: Option<u64>,
 }
 
-/// Reads the words after the program's name. The fault is Help where they ask for help, Refused where
-/// they are no command line of the program, each with the text for the user, and Memory where memory
+/// Reads the words after the program's name. The fault is Help if they ask for help, Refused if
+/// they are no command line of the program, each with the text for the user, and Memory if memory
 /// ran out.
 #[tactic(auto, unfolding(crate::specs::Command::IsLineOf))]
 pub fn line_of(alloc: Global, words: &[String]) -> Result<Line, LineFault>
@@ -69,7 +69,7 @@ fn value_of(alloc: Global, matches: &ArgMatches<'_>, name: &str) -> Result<Strin
     String::from_str(alloc, value)
 }
 
-/// The time of an option, in microseconds. None where it wasn't given.
+/// The time of an option, in microseconds. None if it wasn't given.
 fn time_of(matches: &ArgMatches<'_>, name: &str) -> Option<u64>
     requires read { one_of name.now (given matches.now) ≡ first_of name.now (given matches.now) }
     requires time { IfSome (first_of name.now (given matches.now)) IsTime }

@@ -1,3 +1,4 @@
 pub mod Firsts
 pub mod Places
 pub mod Counted
+pub mod Addressed

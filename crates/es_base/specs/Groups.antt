@@ -22,7 +22,7 @@ is_same_key a b = a.source == b.source && a.destination == b.destination && a.id
 abbrev pub has_key : DatagramKey → Group → Bool
 has_key key group = is_same_key group.key key
 
--- when the first of some pieces came, or this time where there are none
+-- when the first of some pieces came, or this time if there are none
 abbrev pub begin_or : ℕ → List Piece → ℕ
 begin_or time [] = time
 begin_or time (piece ∷ earlier) = begin_or piece.time earlier

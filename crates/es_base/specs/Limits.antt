@@ -60,3 +60,15 @@ deepest_queue = 64
 -- how many messages a sampling port numbers, from 1
 abbrev pub most_samples : ℕ
 most_samples = 2 ^ 60 - 1
+
+-- the most events of a link's history: a count of 64 bits has room for all of them
+abbrev pub most_events : ℕ
+most_events = 2 ^ 61
+
+-- the kinds of verdicts
+abbrev pub verdict_kinds : ℕ
+verdict_kinds = 13
+
+-- the kinds of causes for which a frame is filtered
+abbrev pub filter_causes : ℕ
+filter_causes = 5

@@ -1,20 +1,21 @@
 -- How far a frame comes on its way to a port: integrity checking, redundancy management, the IPv4
--- packet, reassembly, the UDP datagram, the port.
-use Rattle.std.specs.Prelude.{ℕ, Bool, true, false, List, length, slice_get, nat_lt, Option, None, Some, Result, Ok, Err, if◌then◌else◌}
+-- packet, reassembly, the UDP datagram, the port. The first step that refuses it says its verdict.
+use Rattle.std.specs.Prelude.{ℕ, Bool, not, ◌&&◌, List, length, slice_get, nat_lt, Result, Ok, Err, if◌then◌else◌}
+use Rattle.std.specs.Option.{ok_or}
 use Rattle.es_base.specs.declared.place.PortNo.{PortNo}
 use Rattle.es_base.specs.declared.port.PortKind.{PortKind}
-use Rattle.es_base.specs.declared.port.PortKind.TheVariants.{Sampling, Queuing}
 use Rattle.es_base.specs.declared.verdict.Verdict.{Verdict}
 use Rattle.es_base.specs.declared.verdict.Verdict.TheVariants as verdicts
 use Rattle.es_base.specs.declared.event.Arrival.{Arrival}
 use Rattle.es_base.specs.declared.event.Event.{Event}
-use Rattle.es_base.specs.Returns.{◌>>=◌}
+use Rattle.es_base.specs.Returns.{◌>>=◌, map_err}
 use Rattle.es_base.specs.Settings.{Settings}
 use Rattle.es_base.specs.Udp.{udp_of}
-use Rattle.es_base.specs.Port.{Port, port_of}
+use Rattle.es_base.specs.Port.{Port, is_sampling, port_of}
 use Rattle.es_base.specs.Past.{Origin}
 use Rattle.es_base.specs.Integrity.{passes}
 use Rattle.es_base.specs.Redundancy.{forwarded, is_redundant}
+use Rattle.es_base.specs.Packet.{PacketParts}
 use Rattle.es_base.specs.Groups.{Group, Fate, bad, held, whole, fate}
 use Rattle.es_base.specs.Reassembly.{packet_in, groups_in}
 
@@ -41,75 +42,57 @@ pub data Outcome : Type 0 where
   -- it is forwarded, and brings this payload to a port
   brings : Payload → Outcome
 
--- a fault's verdict
-abbrev pub judged : {A E : Type 0} → (E → Verdict) → Result A E → Result A Verdict
-judged verdict (Ok x) = Ok x
-judged verdict (Err fault) = Err (verdict fault)
+-- ---- the datagram (RFC 791 3.2)
 
--- ---- the datagram
-
--- what becomes of a packet for this address: it has or completes a datagram, or its fragment is held or
--- bad (RFC 791 3.2)
-abbrev pub datagram_by : ℕ → Fate → Result Datagram Verdict
-datagram_by destination bad = Err verdicts.BadFragment
-datagram_by destination held = Err verdicts.FragmentHeld
-datagram_by destination (whole octets joined) = Ok (record { destination = destination; joined = joined; octets = octets })
-
--- the datagram of a forwarded frame, where these groups stand
-unfoldable pub datagram_in : ℕ → List Group → Arrival → Result Datagram Verdict
-datagram_in limit groups a = do
-  packet ← judged verdicts.BadHeader (packet_in a.frame)
-  datagram_by packet.destination (fate limit groups packet a.time)
+-- what reassembly hands on of a packet, by its fate: the datagram that it has or completes, or nothing
+-- where its fragment is bad or held
+abbrev pub reassembled : PacketParts → Fate → Result Datagram Verdict
+reassembled packet bad = Err verdicts.BadFragment
+reassembled packet held = Err verdicts.FragmentHeld
+reassembled packet (whole octets joined) = Ok (record { destination = packet.destination; joined = joined; octets = octets })
 
 -- ---- the port (ARINC 664 Part 7, port services)
 
--- a payload at a port of this kind, with the largest that it takes; a sampling port takes none that was
--- joined of fragments (own)
-abbrev pub payload_if : PortKind → ℕ → Payload → Result Payload Verdict
-payload_if (Queuing depth) max payload =
-    if nat_lt max (length payload.octets) then Err (verdicts.TooLong payload.port)
-    else Ok payload
-payload_if (Sampling refresh) max payload =
-    if payload.joined then Err (verdicts.FragmentedSample payload.port)
-    else if nat_lt max (length payload.octets) then Err (verdicts.TooLong payload.port)
+-- what a port admits: a sampling port no payload of a datagram that was joined of fragments (own), and no
+-- port one that is longer than its largest
+abbrev pub admitted : Port → Payload → Result Payload Verdict
+admitted port payload =
+    if is_sampling port.kind && payload.joined then Err (verdicts.FragmentedSample payload.port)
+    else if nat_lt port.max (length payload.octets) then Err (verdicts.TooLong payload.port)
     else Ok payload
 
--- a payload at the port that stands at this place
-abbrev pub payload_for : PortNo → Option Port → Bool → List ℕ → Result Payload Verdict
-payload_for place None joined octets = Err verdicts.NoPort
-payload_for place (Some port) joined octets =
-    payload_if port.kind port.max (record { port = place; kind = port.kind; joined = joined; octets = octets })
+-- the payload of a datagram (RFC 768), for the port with its address and UDP port
+unfoldable pub datagram_payload : List Port → Datagram → Result Payload Verdict
+datagram_payload ports datagram = do
+  udp ← map_err (λ fault. verdicts.BadUdp) (udp_of datagram.octets)
+  place ← ok_or (port_of ports datagram.destination udp.destination_port) verdicts.NoPort
+  port ← ok_or (slice_get ports place.0) verdicts.NoPort
+  admitted port (record { port = place; kind = port.kind; joined = datagram.joined; octets = udp.payload })
 
-abbrev pub payload_at : List Port → Option PortNo → Bool → List ℕ → Result Payload Verdict
-payload_at ports None joined octets = Err verdicts.NoPort
-payload_at ports (Some place) joined octets = payload_for place (slice_get ports place.0) joined octets
+-- ---- the whole way of a frame that is forwarded
 
--- the payload of a datagram, for the port with its address and UDP port
-unfoldable pub payload_in : List Port → Datagram → Result Payload Verdict
-payload_in ports datagram = do
-  udp ← judged (λ fault. verdicts.BadUdp) (udp_of datagram.octets)
-  payload_at ports (port_of ports datagram.destination udp.destination_port) datagram.joined udp.payload
+-- the payload of a packet that comes now, where these groups stand; times are in microseconds
+abbrev pub packet_payload : List Port → ℕ → List Group → PacketParts → ℕ → Result Payload Verdict
+packet_payload ports limit groups packet now = do
+  datagram ← reassembled packet (fate limit groups packet now)
+  datagram_payload ports datagram
 
--- ---- the whole way
+-- the payload of a frame that is forwarded, where these groups stand at its link
+unfoldable pub frame_payload : Settings → List Group → Arrival → Result Payload Verdict
+frame_payload settings groups a = do
+  packet ← map_err verdicts.BadHeader (packet_in a.frame)
+  packet_payload settings.ports settings.reassembly groups packet a.time
 
+-- the outcome of a frame that is forwarded
 abbrev pub brought : Result Payload Verdict → Outcome
 brought (Ok payload) = brings payload
 brought (Err verdict) = refused verdict
 
-abbrev pub payload_of : Settings → List Group → Arrival → Result Payload Verdict
-payload_of settings groups a = do
-  datagram ← datagram_in settings.reassembly groups a
-  payload_in settings.ports datagram
-
--- what a forwarded frame brings, where these groups stand
-abbrev pub brought_by : Settings → List Group → Arrival → Outcome
-brought_by settings groups a = brought (payload_of settings groups a)
-
-unfoldable pub outcome_if : Bool → Bool → Settings → List Group → Arrival → Outcome
-outcome_if false is_copy settings groups a = out_of_sequence
-outcome_if true true settings groups a = redundant
-outcome_if true false settings groups a = brought_by settings groups a
+-- ---- the outcome
 
 -- how far a frame comes that comes after this past
-abbrev pub outcome : Origin → List Event → Arrival → Outcome
-outcome o past a = outcome_if (passes o past a) (is_redundant o (forwarded o past) a) o.settings (groups_in o past) a
+unfoldable pub outcome : Origin → List Event → Arrival → Outcome
+outcome o past a =
+    if not (passes o past a) then out_of_sequence
+    else if is_redundant o (forwarded o past) a then redundant
+    else brought (frame_payload o.settings (groups_in o past) a)

@@ -24,7 +24,7 @@ arrived net time frame = record { net = net; time = time; frame = frame }
 abbrev pub arrival_of : Event → Arrival
 arrival_of event = arrived event.net event.time event.frame
 
--- the event of an arrival: whether the queue had room, where one was asked, and the verdict
+-- the event of an arrival: whether the queue had room, if one was asked, and the verdict
 abbrev pub event_of : Arrival → Bool → Verdict → Event
 event_of a room verdict = record { net = a.net; time = a.time; frame = a.frame; room = room; verdict = verdict }
 

@@ -24,7 +24,7 @@ is_ahead p r =
     else if r == 0 then nat_le 128 p
     else nat_le 1 ((r + 255 - p) % 255) && nat_le ((r + 255 - p) % 255) 127
 
--- the time from t to now, 0 where now is earlier
+-- the time from t to now, 0 if now is earlier
 abbrev pub elapsed : ℕ → ℕ → ℕ
 elapsed now t = now - t
 

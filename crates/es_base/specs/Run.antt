@@ -60,7 +60,7 @@ may_refuse_with (brings payload) delivered = may_be_full payload.kind (delivered
 abbrev pub may_refuse : Origin → List Event → Arrival → Bool
 may_refuse o past a = may_refuse_with (outcome o past a) (λ port. length (deliveries o past port))
 
--- what a queue may answer: that it has room, and that it has none only where it may refuse
+-- what a queue may answer: that it has room, and that it has none only if it may refuse
 abbrev pub MayAnswer : Origin → List Event → Arrival → Bool → Type 0
 MayAnswer o past a true = Unit {0}
 MayAnswer o past a false = may_refuse o past a ≡ true

@@ -1,28 +1,18 @@
--- How many events of each kind came on each network (own).
-use Rattle.std.specs.Prelude.{◌≡◌, ℕ, ◌+◌, ◌-◌, ◌≤◌, ◌==◌, Bool, ◌&&◌, List, [], ◌∷◌, slice_index, if◌then◌else◌}
+-- Counts of each network by kind (own).
+use Rattle.std.specs.Prelude.{◌≡◌, ℕ, ◌+◌, ◌-◌, ◌^◌, ◌≤◌, ◌==◌, Bool, ◌&&◌, List, [], ◌∷◌, min, slice_index, if◌then◌else◌}
 use Rattle.es_base.specs.declared.place.Net.{Net}
 use Rattle.es_base.specs.declared.place.Net.TheVariants as nets
 use Rattle.es_base.specs.declared.event.Event.{Event}
+use Rattle.es_base.specs.Limits.{verdict_kinds}
 use Rattle.es_base.specs.Verdict.{kind_of}
 use Rattle.es_base.specs.Integrity.{is_same_net}
 
--- ---- counting a past
-
--- whether an event came on this network, and has a verdict of this kind
-abbrev pub is_counted : Net → ℕ → Event → Bool
-is_counted net kind e = is_same_net e.net net && kind_of e.verdict == kind
-
--- the number of a past's events of a network with a verdict of a kind
-abbrev pub count_of : List Event → Net → ℕ → ℕ
-count_of [] net kind = 0
-count_of (e ∷ past) net kind = if is_counted net kind e then count_of past net kind + 1 else count_of past net kind
-
 -- ---- a tally
 
--- the kinds of verdicts
-pub record IsKind (kind : ℕ) : Type 0 where
+-- of this many kinds this is one
+pub record IsKind (kinds kind : ℕ) : Type 0 where
   pub low : 1 ≤ kind
-  pub high : kind ≤ 13
+  pub high : kind ≤ kinds
 
 -- the counts of each network, in the order of the kinds, from 1
 pub record Counts : Type 0 where
@@ -36,17 +26,32 @@ counts_on counts nets.B = counts.b
 abbrev pub count_in : Counts → Net → ℕ → ℕ
 count_in counts net kind = slice_index (counts_on counts net) (kind - 1)
 
--- every count is 0
-abbrev pub IsZero : Counts → Type 0
-IsZero counts = (net : Net) (kind : ℕ) → IsKind kind → count_in counts net kind ≡ 0
+-- every count of these kinds is 0
+abbrev pub IsZero : ℕ → Counts → Type 0
+IsZero kinds counts = (net : Net) (kind : ℕ) → IsKind kinds kind → count_in counts net kind ≡ 0
 
--- one count is one more, and all others are as they were
-abbrev pub AddsOne : Counts → Counts → Net → ℕ → Type 0
-AddsOne old new net kind =
-    (other_net : Net) (other_kind : ℕ) → IsKind other_kind
+-- one more, up to the greatest number of 64 bits
+abbrev pub one_more : ℕ → ℕ
+one_more count = min (count + 1) (2 ^ 64 - 1)
+
+-- one count is one more, and all others of these kinds are as they were
+abbrev pub AddsOne : ℕ → Counts → Counts → Net → ℕ → Type 0
+AddsOne kinds old new net kind =
+    (other_net : Net) (other_kind : ℕ) → IsKind kinds other_kind
     → count_in new other_net other_kind
-    ≡ (if is_same_net net other_net && kind == other_kind then count_in old other_net other_kind + 1 else count_in old other_net other_kind)
+    ≡ (if is_same_net net other_net && kind == other_kind then one_more (count_in old other_net other_kind) else count_in old other_net other_kind)
+
+-- ---- counting a past
+
+-- whether an event came on this network, and has a verdict of this kind
+abbrev pub is_counted : Net → ℕ → Event → Bool
+is_counted net kind e = is_same_net e.net net && kind_of e.verdict == kind
+
+-- the number of a past's events of a network with a verdict of a kind
+abbrev pub count_of : List Event → Net → ℕ → ℕ
+count_of [] net kind = 0
+count_of (e ∷ past) net kind = if is_counted net kind e then count_of past net kind + 1 else count_of past net kind
 
 -- these are the counts of a past
 abbrev pub HasCounts : Counts → List Event → Type 0
-HasCounts counts past = (net : Net) (kind : ℕ) → IsKind kind → count_in counts net kind ≡ count_of past net kind
+HasCounts counts past = (net : Net) (kind : ℕ) → IsKind verdict_kinds kind → count_in counts net kind ≡ count_of past net kind

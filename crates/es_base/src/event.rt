@@ -23,7 +23,7 @@ pub struct Event {
     pub time: u64,
     /// The whole frame, without its FCS.
     pub frame: Octets,
-    /// Whether the queue had room, where one was asked, and else true.
+    /// Whether the queue had room, if one was asked, and else true.
     pub room: bool,
     pub verdict: Verdict,
 }
@@ -31,7 +31,7 @@ pub struct Event {
 impl Event {
     ghost use Rattle.es_base.specs.Past.{event_of};
 
-    /// The event of an arrival. `room` is the queue's answer, where one was asked, and else true.
+    /// The event of an arrival. `room` is the queue's answer, if one was asked, and else true.
     pub fn of(arrival: Arrival, room: bool, verdict: Verdict) -> Event
         ensures { result ≡ event_of arrival room verdict }
     {

@@ -1,22 +1,31 @@
 //! What holds of every past.
-ghost use Rattle.std.specs.Prelude.{◌≡◌, ◌<◌, ◌-◌, ◌^◌, ◌∷◌, ℕ, List, Ok, length};
-ghost use Rattle.es_base.specs.declared.place.Net.{Net};
+ghost use Rattle.std.specs.Prelude.{◌≡◌, ◌<◌, ◌-◌, ◌^◌, ◌∷◌, List, Err, Ok, length};
+ghost use Rattle.es_base.specs.declared.fault.FilterCause.{FilterCause};
 ghost use Rattle.es_base.specs.declared.event.Arrival.{Arrival};
 ghost use Rattle.es_base.specs.declared.event.Event.{Event};
 ghost use Rattle.es_base.specs.Settings.{Settings};
 ghost use Rattle.es_base.specs.Config.{Configuration};
 ghost use Rattle.es_base.specs.Addressing.{addressed_link};
-ghost use Rattle.es_base.specs.FilterTally.{FilterCounts, HasFiltered};
-ghost use Rattle.es_base.specs.Tally.{Counts, HasCounts, IsKind, count_in};
+ghost use Rattle.es_base.specs.FilterTally.{HasFiltered, cause_kind};
+ghost use Rattle.es_base.specs.Limits.{filter_causes, verdict_kinds};
+ghost use Rattle.es_base.specs.Tally.{AddsOne, Counts, HasCounts};
+ghost use Rattle.es_base.specs.Verdict.{kind_of};
 
-/// The counts of a past have room for one event more, as long as the number of its events has.
-pub fn counts_have_room()
-    ensures { (counts : Counts) (past : List Event) (net : Net) (kind : ℕ) → HasCounts counts past → IsKind kind
-        → length past < 2 ^ 64 - 1 → count_in counts net kind < 2 ^ 64 - 1 }
+/// A tally of a past that has one more of an event's kind is that of the past with the event. No count
+/// has stopped, as long as the number of the events fits in 64 bits.
+pub fn an_event_is_counted_once()
+    ensures { (old new : Counts) (past : List Event) (e : Event) → HasCounts old past → length past < 2 ^ 64 - 1
+        → AddsOne verdict_kinds old new e.net (kind_of e.verdict) → HasCounts new (e ∷ past) }
+{}
+
+/// A tally of filtered frames that has one more of a frame's cause is that of these frames with it.
+pub fn a_filtered_frame_is_counted_once()
+    ensures { (old new : Counts) (c : Configuration) (earlier : List Arrival) (a : Arrival) (cause : FilterCause) → HasFiltered old c earlier
+        → addressed_link c a.frame ≡ Err cause → AddsOne filter_causes old new a.net (cause_kind cause) → HasFiltered new c (a ∷ earlier) }
 {}
 
 /// A frame that comes to a link leaves the counts of filtered frames as they are.
 pub fn a_frame_of_a_link_is_not_filtered()
-    ensures { (counts : FilterCounts) (c : Configuration) (earlier : List Arrival) (a : Arrival) (link : Settings) → HasFiltered counts c earlier
+    ensures { (counts : Counts) (c : Configuration) (earlier : List Arrival) (a : Arrival) (link : Settings) → HasFiltered counts c earlier
         → addressed_link c a.frame ≡ Ok link → HasFiltered counts c (a ∷ earlier) }
 {}

@@ -1,14 +1,13 @@
-//! The types that every layer of the receiver speaks of, and (in `specs/`) the definitions of the
-//! receiver: how a frame is read, which frames pass, what becomes of each, and what a
-//! lawful history of a link is.
-//!
-//! Nothing here waits, prints or looks at a clock. Times are microseconds, lengths are octets.
+//! The types that every layer of the receiver speaks of: settings within their limits, frames as they arrive,
+//! verdicts, events, counts. A value keeps its limits, so nothing above tests them again. In `specs/` are the
+//! definitions of the receiver, a file for each subject: how a frame is read, which frames pass, what becomes
+//! of each, and what a lawful history of a link is. Nothing here waits, prints or looks at a clock. Times are
+//! microseconds, lengths are octets.
 #![tactic(auto)]
 
 mod config;
 mod event;
 mod fault;
-mod filter_tally;
 mod fragment;
 pub mod laws;
 mod links;
@@ -22,8 +21,7 @@ mod verdict;
 
 pub use config::{Config, MOST_LINKS};
 pub use event::{Arrival, Event, Message};
-pub use fault::{FilterCause, FrameFault, PacketFault, UdpFault};
-pub use filter_tally::FilterTally;
+pub use fault::{FILTER_CAUSES, FilterCause, FrameFault, PacketFault, UdpFault};
 pub use fragment::DatagramKey;
 pub use links::Links;
 pub use name::PortName;
@@ -33,8 +31,8 @@ pub use port::{
     DEEPEST_QUEUE, LONGEST_QUEUED, LONGEST_REFRESH, LONGEST_SAMPLE, PortKind, PortSettings,
 };
 pub use settings::{LONGEST_REASSEMBLY, LONGEST_SKEW, LinkSettings, MOST_PORTS, any_accepts};
-pub use tally::Tally;
-pub use verdict::{Decision, Verdict};
+pub use tally::{FilterTally, Tally, VerdictTally};
+pub use verdict::{Decision, VERDICT_KINDS, Verdict};
 
 /// Memory ran out: a growth was refused.
 pub type Memory = std::alloc::AllocError;

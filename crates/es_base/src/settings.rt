@@ -49,7 +49,7 @@ impl Model for LinkSettings {
 impl LinkSettings {
     /// A link with these settings. `skew_max` is SkewMax, 0 to 1,000,000 microseconds;
     /// `redundancy` says whether redundancy management is on; `reassembly` is the time that a
-    /// datagram's fragments are waited for, 0 to 10,000,000 microseconds. None exactly where one of
+    /// datagram's fragments are waited for, 0 to 10,000,000 microseconds. None exactly if one of
     /// them is out of range, there are more than 32 ports, or two ports agree in address and UDP port.
     pub fn new(
         vl: LinkNo,
@@ -119,7 +119,7 @@ impl LinkSettings {
         self.ports.as_slice()
     }
 
-    /// The port that takes UDP datagrams to this address and UDP port. None where no port does.
+    /// The port that takes UDP datagrams to this address and UDP port. None if no port does.
     pub fn port_of(&self, address: u32, udp: u16) -> Option<PortNo>
         ensures value { result ≡ port_of self.now.ports address udp }
         ensures bound { IfSome result (λ port. (port.0 < length self.now.ports) × (port.0 < most_ports)) }
@@ -130,7 +130,7 @@ impl LinkSettings {
         }
     }
 
-    /// The same port, with its settings.
+    /// The port that takes UDP datagrams to this address and UDP port, with its settings. None if no port does.
     pub fn port_for(&self, address: u32, udp: u16) -> Option<(PortNo, &PortSettings)>
         ensures place { option_map (λ found. found.0) result ≡ port_of self.now.ports address udp }
         ensures settings { IfSome result (λ found. slice_get self.now.ports found.0.0 ≡ Some found.1.now) }

@@ -1,23 +1,25 @@
-//! How many events of each kind came on each network.
-ghost use Rattle.std.specs.Prelude.{◌≡◌, ◌<◌, ◌^◌, ◌-◌, ◌∷◌, List};
-ghost use Rattle.es_base.specs.declared.event.Event.{Event};
-ghost use Rattle.es_base.specs.Verdict.{kind_of};
-ghost use Rattle.es_base.specs.Tally.{IsKind, IsZero, AddsOne, HasCounts, count_in};
+//! How many events or filtered frames of each kind came on each network.
+ghost use Rattle.std.specs.Prelude.{◌≡◌};
+ghost use Rattle.es_base.specs.Tally.{IsKind, IsZero, AddsOne, count_in};
 
-use crate::Net;
+use crate::{FILTER_CAUSES, Net, VERDICT_KINDS};
 use std::marker::Model;
 
-/// The kinds of verdicts.
-const KINDS: usize = 13;
+/// How many events came on each network with each kind of verdict, 1 to 13.
+pub type VerdictTally = Tally<VERDICT_KINDS>;
 
-/// How many events of each kind came on each network. It takes no memory.
+/// How many frames were filtered on each network for each kind of cause, 1 to 5.
+pub type FilterTally = Tally<FILTER_CAUSES>;
+
+/// A count for each network and each kind, from 1 to KINDS. It takes no memory. A count stops at the
+/// greatest number of 64 bits.
 #[derive(Drop)]
-pub struct Tally {
+pub struct Tally<const KINDS: usize> {
     a: [u64; KINDS],
     b: [u64; KINDS],
 }
 
-impl Model for Tally {
+impl<const KINDS: usize> Model for Tally<KINDS> {
     ghost use Rattle.es_base.specs.Tally.{Counts};
 
     ghost Value = { Counts };
@@ -25,10 +27,10 @@ impl Model for Tally {
     ghost view = { λ t. record { a = t.a; b = t.b } };
 }
 
-impl Tally {
-    /// No events.
-    pub fn opening() -> Tally
-        ensures { IsZero result }
+impl<const KINDS: usize> Tally<KINDS> {
+    /// Every count is 0.
+    pub fn opening() -> Tally<KINDS>
+        ensures { IsZero KINDS result }
     {
         Tally {
             a: [0; KINDS],
@@ -36,38 +38,27 @@ impl Tally {
         }
     }
 
-    /// One more event on this network with a verdict of this kind, 1 to 13.
-    pub fn add(&mut self, net: Net, kind: u8)
-        requires kind { IsKind kind }
-        requires room { count_in self.old net kind < 2 ^ 64 - 1 }
-        ensures one_more { AddsOne self.old self.new net kind }
-        ensures past { (past : List Event) (e : Event) → HasCounts self.old past →
-            e.net ≡ net → kind_of e.verdict ≡ kind → HasCounts self.new (e ∷ past) }
+    /// One more of this kind, 1 to KINDS, on this network.
+    pub fn add(&mut self, net: Net, kind: usize)
+        requires { IsKind KINDS kind }
+        ensures { AddsOne KINDS self.old self.new net kind }
     {
-        let place = place_of(kind);
+        let place = kind - 1;
         match net {
-            Net::A => self.a[place] += 1,
-            Net::B => self.b[place] += 1,
+            Net::A => self.a[place] = self.a[place].saturating_add(1),
+            Net::B => self.b[place] = self.b[place].saturating_add(1),
         }
     }
 
-    /// How many events with a verdict of this kind, 1 to 13, came on this network.
-    pub fn count(&self, net: Net, kind: u8) -> u64
-        requires { IsKind kind }
+    /// How many of this kind, 1 to KINDS, came on this network.
+    pub fn count(&self, net: Net, kind: usize) -> u64
+        requires { IsKind KINDS kind }
         ensures { result ≡ count_in self.now net kind }
     {
-        let place = place_of(kind);
+        let place = kind - 1;
         match net {
             Net::A => self.a[place],
             Net::B => self.b[place],
         }
     }
-}
-
-/// The place of a kind, 1 to 13, among the counts of a network.
-fn place_of(kind: u8) -> usize
-    requires { IsKind kind }
-    ensures { result ≡ kind - 1 }
-{
-    kind as usize - 1
 }

@@ -1,5 +1,6 @@
 //! Which link a frame comes to.
-ghost use Rattle.std.specs.Prelude.{◌≡◌, Err, IfErr, IfOk};
+ghost use Rattle.std.specs.Prelude.{◌≡◌, Err, IfErr, IfOk, OnOk};
+ghost use Rattle.es_base.specs.Config.{AreLinks};
 ghost use Rattle.es_base.specs.Addressing.{ComesToPlace, addressed_link};
 
 use crate::frame::{Frame, read_frame};
@@ -15,6 +16,7 @@ pub fn read_addressed<'a>(
     ensures filtered { IfErr result (λ cause. addressed_link config.now bytes.now ≡ Err cause) }
     ensures place { IfOk result (λ found. ComesToPlace config.now bytes.now found.0) }
     ensures whole { IfOk result (λ found. found.1.whole.now ≡ bytes.now) }
+    ensures limits { OnOk result (AreLinks config.now.links) }
 {
     let frame = match read_frame(config.constant(), bytes) {
         Ok(frame) => frame,

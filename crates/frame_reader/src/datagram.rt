@@ -7,9 +7,10 @@ ghost use Rattle.frame_reader.specs.Parts.{udp_parts, udp_head_parts};
 use crate::field::u16_at;
 use es_base::UdpFault;
 
-const HEADER: usize = 8;
+/// The octets of a header.
+pub const UDP_HEADER: usize = 8;
 
-/// Where the fields of a header stand.
+/// If the fields of a header stand.
 const SOURCE_PORT: usize = 0;
 
 const DESTINATION_PORT: usize = 2;
@@ -38,23 +39,23 @@ pub struct UdpHead {
 pub fn read_udp(octets: &[u8]) -> Result<Datagram<'_>, UdpFault>
     ensures { Gives udp_parts result (udp_of octets.now) }
 {
-    if octets.len() < HEADER {
+    if octets.len() < UDP_HEADER {
         return Err(UdpFault::Short);
     }
     let length = u16_at(octets, LENGTH) as usize;
-    if length < HEADER || octets.len() < length {
+    if length < UDP_HEADER || octets.len() < length {
         return Err(UdpFault::Length);
     }
     Ok(Datagram {
         source_port: u16_at(octets, SOURCE_PORT),
         destination_port: u16_at(octets, DESTINATION_PORT),
-        payload: &octets[HEADER..length],
+        payload: &octets[UDP_HEADER..length],
     })
 }
 
-/// Reads the header of a UDP datagram of `len` octets from the first 8 of them, with zeros past its end:
-/// what `read_udp` reads of the whole datagram, without the payload's octets.
-pub fn read_udp_head(head: &[u8; 8], len: usize) -> Result<UdpHead, UdpFault>
+/// Reads the header of a UDP datagram of `len` octets from the first `UDP_HEADER` of them, with zeros past its
+/// end: what `read_udp` reads of the whole datagram, without the payload's octets.
+pub fn read_udp_head(head: &[u8; UDP_HEADER], len: usize) -> Result<UdpHead, UdpFault>
     ensures { (octets : List ℕ) → head.now ≡ head_of octets → length octets ≡ len →
         Gives udp_head_parts result (udp_head_of (length octets) octets) }
 {
@@ -62,19 +63,19 @@ pub fn read_udp_head(head: &[u8; 8], len: usize) -> Result<UdpHead, UdpFault>
 }
 
 /// The header in these octets, of `came` that came.
-fn udp_head_in(octets: &[u8; 8], came: usize) -> Result<UdpHead, UdpFault>
+fn udp_head_in(octets: &[u8; UDP_HEADER], came: usize) -> Result<UdpHead, UdpFault>
     ensures { Gives udp_head_parts result (udp_head_of came octets.now) }
 {
-    if came < HEADER {
+    if came < UDP_HEADER {
         return Err(UdpFault::Short);
     }
     let length = u16_at(octets, LENGTH) as usize;
-    if length < HEADER || came < length {
+    if length < UDP_HEADER || came < length {
         return Err(UdpFault::Length);
     }
     Ok(UdpHead {
         source_port: u16_at(octets, SOURCE_PORT),
         destination_port: u16_at(octets, DESTINATION_PORT),
-        payload_octets: length - HEADER,
+        payload_octets: length - UDP_HEADER,
     })
 }

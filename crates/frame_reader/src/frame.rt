@@ -13,15 +13,15 @@ const SHORTEST: usize = 60;
 /// The longest, in octets: 1518 less the FCS.
 const LONGEST: usize = 1514;
 
-/// Where the link number stands: the last two octets of the destination address.
+/// If the link number stands: the last two octets of the destination address.
 const LINK_NUMBER: usize = 4;
 
-/// Where the EtherType stands: after two addresses of 6 octets.
+/// If the EtherType stands: after two addresses of 6 octets.
 const ETHERTYPE: usize = 12;
 
 const ETHERTYPE_IPV4: u16 = 0x0800;
 
-/// Where the IPv4 packet stands: after the EtherType.
+/// If the IPv4 packet stands: after the EtherType.
 const INNER: usize = 14;
 
 /// A frame of a virtual link, without its FCS: 60 to 1514 octets, with the EtherType of IPv4.
@@ -29,8 +29,8 @@ const INNER: usize = 14;
 pub struct Frame<'a> {
     /// The link number.
     pub vl: LinkNo,
-    /// The sequence number, 0 to 255: the frame's last octet.
-    pub number: u8,
+    /// 0 to 255: the frame's last octet.
+    pub sequence_number: u8,
     /// What stands between the EtherType and the sequence number: an IPv4 packet and padding.
     pub inner: &'a [u8],
     /// The frame as it came.
@@ -39,7 +39,7 @@ pub struct Frame<'a> {
     pub ghost long: { length whole.now ≤ longest_frame },
     pub ghost carries: { ethertype_of whole.now ≡ ethertype_ipv4 },
     pub ghost vl_is: { vl.0 ≡ link_number_of whole.now },
-    pub ghost number_is: { number ≡ sequence_number_of whole.now },
+    pub ghost sequence_number_is: { sequence_number ≡ sequence_number_of whole.now },
     pub ghost inner_is: { inner.now ≡ inner_of whole.now },
 }
 
@@ -47,7 +47,7 @@ pub struct Frame<'a> {
 pub fn read_frame(constant: [u8; 4], bytes: &[u8]) -> Result<Frame<'_>, FrameFault>
     ensures parts { Gives (λ frame. record {
       link_number = frame.vl.0;
-      sequence_number = frame.number;
+      sequence_number = frame.sequence_number;
       inner = frame.inner.now;
     }) result (frame_of constant bytes.now) }
     ensures whole { IfOk result (λ frame. frame.whole.now ≡ bytes.now) }
@@ -75,7 +75,7 @@ pub fn frame_in(bytes: &[u8]) -> Frame<'_>
     let last = bytes.len() - 1;
     Frame {
         vl: LinkNo(u16_at(bytes, LINK_NUMBER)),
-        number: bytes[last],
+        sequence_number: bytes[last],
         inner: &bytes[INNER..last],
         whole: bytes,
     }

@@ -13,7 +13,7 @@ const HEADER_WORDS: u8 = 5;
 
 const HEADER: usize = 20;
 
-/// Where the fields of a header stand.
+/// If the fields of a header stand.
 const TOTAL_LENGTH: usize = 2;
 
 const IDENTIFICATION: usize = 4;
@@ -42,7 +42,7 @@ pub struct Packet<'a> {
     pub ident: u16,
     /// Whether more fragments follow.
     pub more: bool,
-    /// Where the packet's octets stand in the datagram, in octets: 0 to 65,528.
+    /// If the packet's octets stand in the datagram, in octets: 0 to 65,528.
     pub offset: u32,
     /// The octets that follow the header.
     pub octets: &'a [u8],

@@ -54,7 +54,7 @@ one_more digits i are within =
 pub value_so_far : (digits : List ℕ) (i : ℕ) → digits_value 10 (take i digits) ≤ digits_value 10 digits
 value_so_far digits i = digits_value-take-le 10 digits i (omega arith)
 
--- where no digit is left
+-- if no digit is left
 pub all_read : (digits : List ℕ) (i time : ℕ) → length digits ≤ i → 0 < length digits → time < 2 ^ 64 → time ≡ digits_value 10 (take i digits) → Ok time ≡ time_from digits
 all_read digits i time end some fits is =
     let value : time ≡ digits_value 10 digits = is ∙ ap (digits_value 10) (take_all i digits end) in

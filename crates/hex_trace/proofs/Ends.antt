@@ -41,7 +41,7 @@ split_cons (b ∷ bs) =
     (λ (is : is_line_end b ≡ false). (b ∷ rest.0, (rest.1.0, slice_split-cons_no is_line_end b bs is ∙ ap (onto_first b) rest.1.1)))
     (cases_Bool (is_line_end b))
 
--- where no line ends, the first line is at least as long
+-- if no line ends, the first line is at least as long
 long_line : (front more : List ℕ) → HasNoEnd front → (line : List ℕ) × ((lines : List (List ℕ)) × (slice_split is_line_end (front ++ more) ≡ line ∷ lines) × (length front ≤ length line))
 long_line [] more none = let first = split_cons more in (first.0, (first.1.0, first.1.1, omega arith))
 long_line (b ∷ bs) more none =
@@ -63,15 +63,7 @@ refused line_number before frames front more none long =
     let next : ℕ → Result (List TimedFrame) (ℕ × TraceCause) = λ time. frames_from (line_number + 1) time first.1.0 in
     ap (λ lines. with_front frames (frames_from line_number before lines)) first.1.1 ∙ ap (λ (read : Result (Option TimedFrame) TraceCause). with_front frames (and_then line_number before read next)) bad
 
--- after a fault the lines that follow don't matter
-pub after_fault : (lines : Lines) (xs ys : List (List ℕ)) → (lines.fault ≡ None → ⊥) → said_with lines xs ≡ said_with lines ys
-after_fault lines xs ys is = by lines.fault is
-  where
-    by : (fault : Option (ℕ × TraceCause)) → (fault ≡ None → ⊥) → said_if fault (with_front lines.frames (frames_from lines.line_number lines.before xs)) ≡ said_if fault (with_front lines.frames (frames_from lines.line_number lines.before ys))
-    by None is = absurd (is refl)
-    by (Some fault) is = refl
-
--- a text where no line ends is one line
+-- a text in which no line ends is one line
 pub one_line : (text : List ℕ) → HasNoEnd text → slice_split is_line_end text ≡ text ∷ []
 one_line text none = slice_split_none is_line_end text none
 

@@ -52,7 +52,7 @@ octets_from digits = octets_if (decode_of digits)
 abbrev pub is_skipped : List ℕ → Bool
 is_skipped line = length line == 0 || slice_index line 0 == comment
 
--- the frame of a line that follows one with a frame of the time `before`, in microseconds: none where
+-- the frame of a line that follows one with a frame of the time `before`, in microseconds: none if
 -- the line is skipped; or what is wrong with it
 unfoldable pub frame_from : ℕ → List ℕ → Result (Option TimedFrame) TraceCause
 frame_from before line =

@@ -1,12 +1,12 @@
 -- What a trace says whose first lines were read.
-use Rattle.std.specs.Prelude.{◌≡◌, ℕ, false, List, Option, None, Some, Result, Ok, Err}
+use Rattle.std.specs.Prelude.{◌≡◌, ℕ, false, List, [], ◌∷◌, ◌++◌, Option, None, Some, Result, Ok, Err}
 use Rattle.std.specs.List.{All, slice_split}
 use Rattle.hex_trace.specs.declared.frames.TimedFrame.{TimedFrame}
 use Rattle.hex_trace.specs.declared.fault.TraceCause.{TraceCause}
 use Rattle.hex_trace.specs.declared.fault.TraceFault.{TraceFault}
 use Rattle.hex_trace.specs.declared.fault.TraceFault.TheVariants.{Line, Read, Memory}
 use Rattle.hex_trace.specs.declared.lines.Lines.{Lines}
-use Rattle.hex_trace.specs.Trace.{is_line_end, with_front, frames_from}
+use Rattle.hex_trace.specs.Trace.{is_line_end, line_end, with_front, frames_from}
 
 abbrev pub said_if : Option (ℕ × TraceCause) → Result (List TimedFrame) (ℕ × TraceCause) → Result (List TimedFrame) (ℕ × TraceCause)
 said_if (Some fault) said = Err fault
@@ -16,9 +16,15 @@ said_if None said = said
 abbrev pub said_with : Lines → List (List ℕ) → Result (List TimedFrame) (ℕ × TraceCause)
 said_with lines more = said_if lines.fault (with_front lines.frames (frames_from lines.line_number lines.before more))
 
--- the same where a text follows
+-- what a trace says in which this text follows the lines that were read
 abbrev pub said_by : Lines → List ℕ → Result (List TimedFrame) (ℕ × TraceCause)
 said_by lines text = said_with lines (slice_split is_line_end text)
+
+-- the skipped lines, each with its end, after a line that says this: a line without a frame is one of them
+abbrev pub skipped_after : List ℕ → List ℕ → Result (Option TimedFrame) TraceCause → List ℕ
+skipped_after skipped line (Ok None) = skipped ++ line ++ line_end ∷ []
+skipped_after skipped line (Ok (Some frame)) = skipped
+skipped_after skipped line (Err cause) = skipped
 
 -- no line ends in a text
 abbrev pub HasNoEnd : List ℕ → Type 0

@@ -4,17 +4,21 @@ use Rattle.std.specs.Io.KnownBytes.{Consumes, IsAtEnd}
 use Rattle.hex_trace.specs.declared.fault.TraceFault.{TraceFault}
 use Rattle.hex_trace.specs.declared.fault.TraceFault.TheVariants.{Line, Read, Memory}
 
--- the bytes that a source had, where that is known, and whether a read of it failed
+-- the bytes that a source had, if that is known, and whether a read of it failed
 pub record Given : Type 0 where
   pub bytes : Option (List ℕ)
   pub failed : Bool
 
--- the text is all that the source had, where that is known
+-- a source that had these bytes, if they are known, and has failed or not
+abbrev pub given : Option (List ℕ) → Bool → Given
+given bytes failed = record { bytes = bytes; failed = failed }
+
+-- the text is all that the source had, if that is known
 abbrev pub IsWhole : Given → List ℕ → Type 0
 IsWhole given text = IfSome given.bytes (λ bytes. text ≡ bytes)
 
 -- some bytes of a source were read, and stand after the front of a text, which is `text count` then; none
--- only at its end; or a read failed, exactly where one did; or memory ran out
+-- only at its end; or a read failed, exactly if one did; or memory ran out
 abbrev pub ReadsMore : Option (List ℕ) → Option (List ℕ) → Bool → List ℕ → (ℕ → List ℕ) → Result ℕ TraceFault → Type 0
 ReadsMore old new failed front text (Ok count) =
     (failed ≡ false) × ((bytes : List ℕ) × Consumes old new bytes × (text count ≡ front ++ bytes) × (count ≡ 0 → (bytes ≡ []) × IsAtEnd new))

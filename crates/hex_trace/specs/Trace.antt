@@ -8,9 +8,12 @@ use Rattle.hex_trace.specs.declared.fault.TraceFault.TheVariants.{Line, Read, Me
 use Rattle.hex_trace.specs.Line.{frame_from}
 use Rattle.hex_trace.specs.Source.{Given, IsWhole}
 
--- a line ends with the byte 0a
+-- the byte with which a line ends, 0a
+abbrev pub line_end : ℕ
+line_end = 10
+
 abbrev pub is_line_end : ℕ → Bool
-is_line_end b = b == 10
+is_line_end b = b == line_end
 
 -- these frames, and then those that are read
 abbrev pub with_front : List TimedFrame → Result (List TimedFrame) (ℕ × TraceCause) → Result (List TimedFrame) (ℕ × TraceCause)
@@ -38,7 +41,7 @@ frames_in text = frames_from 1 0 (slice_split is_line_end text)
 abbrev pub Says : Given → Result (List TimedFrame) (ℕ × TraceCause) → Type 0
 Says given said = (given.failed ≡ false) × ((text : List ℕ) × IsWhole given text × (frames_in text ≡ said))
 
--- reading a trace returns this: its frames, or its first fault; that a read failed, exactly where one
+-- reading a trace returns this: its frames, or its first fault; that a read failed, exactly if one
 -- did; or that memory ran out
 abbrev pub ReadsTrace : Given → Result (List TimedFrame) TraceFault → Type 0
 ReadsTrace given (Ok frames) = Says given (Ok frames)

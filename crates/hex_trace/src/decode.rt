@@ -11,9 +11,9 @@ use std::alloc::Global;
 const NO_DIGIT: u8 = 255;
 
 /// The octets that hexadecimal digits of either case say: what `hex::decode` returns, several times
-/// as fast where all are digits.
+/// as fast if all are digits.
 ///
-/// The two digits of an octet are decoded at a time. Where a byte is no digit, or the number of digits
+/// The two digits of an octet are decoded at a time. If a byte is no digit, or the number of digits
 /// is odd, `hex` says what is wrong.
 ///
 /// ```rust
@@ -37,7 +37,7 @@ pub fn decode_digits(alloc: Global, digits: &[u8]) -> Result<Vec<u8>, FromHexErr
 /// The bit by which a letter of lower case differs from that of upper case.
 const CASE: u8 = b'a' - b'A';
 
-/// Decodes pairs of digits, and returns whether all were digits. Where one wasn't, what `octets` holds
+/// Decodes pairs of digits, and returns whether all were digits. If one wasn't, what `octets` holds
 /// then means nothing.
 ///
 /// There is no early return, and the function stands alone in the program, so that the compiler makes

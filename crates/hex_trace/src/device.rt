@@ -29,7 +29,7 @@ impl<T> Device<T> {
     }
 }
 
-/// What an answer of a reader or a writer of the standard library says to a source or a sink. None where
+/// What an answer of a reader or a writer of the standard library says to a source or a sink. None if
 /// the call was interrupted, and is to be made again.
 pub fn told(answer: io::Result<usize>) -> Option<Result<usize, Failed>>
     ensures { result ≡ told answer }

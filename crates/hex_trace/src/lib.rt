@@ -1,7 +1,7 @@
-//! Hex traces: where they come from, how one is read whole, and the frames that it says.
-//!
-//! A trace is text: a line a frame, with the frame's time in microseconds, a space, and its octets in
-//! hexadecimal digits.
+//! Hex traces: where they come from, how one is read whole, and the frames that it says. A trace is text: a
+//! line for each frame, with the frame's time in microseconds, a space, and its octets in hexadecimal digits.
+//! What `read_trace` returns is what the text says: its frames, or the first faulty line with its cause; and
+//! a failed read exactly if one failed.
 #![tactic(auto)]
 
 mod decode;

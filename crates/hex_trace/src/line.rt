@@ -40,7 +40,7 @@ impl From<TraceCause> for BadLine {
 }
 
 /// The frame of a line that follows one with a frame of the time `before`, in microseconds. None
-/// where the line is skipped: it is empty, or begins with `COMMENT`.
+/// if the line is skipped: it is empty, or begins with `COMMENT`.
 #[tactic(auto, unfolding(crate::specs::Line::frame_from))]
 pub(crate) fn frame_from(
     alloc: Global,
@@ -103,7 +103,7 @@ fn time_from(digits: &[u8]) -> Result<u64, TraceCause>
     Ok(time)
 }
 
-/// The number with one more digit after its last. None where it doesn't fit 64 bits.
+/// The number with one more digit after its last. None if it doesn't fit 64 bits.
 fn with_digit(number: u64, digit: u8) -> Option<u64>
     requires low { 48 ≤ digit }
     ensures { SomeIff result (number * 10 + (digit - 48) < 2 ^ 64) (number * 10 + (digit - 48)) }

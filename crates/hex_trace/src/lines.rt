@@ -1,8 +1,9 @@
 //! The lines of a trace, one after another as they come.
 ghost use Rattle.std.specs.Prelude.{◌≡◌, ◌≤◌, ◌<◌, ◌-◌, ◌∷◌, ◌++◌, ℕ, List, [], None, IfOk, IfSome, IfNone, OnOk, length, drop};
 ghost use Rattle.std.specs.List.{slice_split};
+ghost use Rattle.hex_trace.specs.Line.{frame_from};
 ghost use Rattle.hex_trace.specs.Trace.{is_line_end, frames_in};
-ghost use Rattle.hex_trace.specs.Lines.{said_with, said_by, HasNoEnd, Tells};
+ghost use Rattle.hex_trace.specs.Lines.{said_with, said_by, skipped_after, HasNoEnd, Tells};
 
 use crate::line::{BadLine, LONGEST_LINE, frame_from};
 use crate::{Frames, TraceCause, TraceFault};
@@ -23,7 +24,8 @@ pub(crate) struct Lines {
     before: u64,
     /// The first fault, by its line number.
     fault: Option<(u64, TraceCause)>,
-    /// The lines without a frame. They are kept so that a trace that has no other, and never ends, runs out of memory.
+    /// The skipped lines, each with its end. They are kept so that a trace that has no other, and never ends,
+    /// runs out of memory.
     skipped: Vec<u8>,
 }
 
@@ -62,7 +64,7 @@ impl Lines {
         Ok(text.len() - rest.len())
     }
 
-    /// The frames of the trace, or its first fault, where this line is the last.
+    /// The frames of the trace, or its first fault, if this line is the last.
     pub(crate) fn finish(mut self, alloc: Global, last: &[u8]) -> Result<Frames, TraceFault>
         requires { self.fault ≡ None → HasNoEnd last.now }
         ensures { Tells (said_by self last.now) result }
@@ -76,10 +78,12 @@ impl Lines {
         }
     }
 
-    /// Takes one line.
+    /// Takes one line. A skipped one is kept, with its end.
     fn take_line(&mut self, alloc: Global, line: &[u8]) -> Result<(), Memory>
         requires { self.old.fault ≡ None }
-        ensures { OnOk result ((more : List (List ℕ)) → said_with self.new more ≡ said_with self.old (line.now ∷ more)) }
+        ensures said { OnOk result ((more : List (List ℕ)) → said_with self.new more ≡ said_with self.old (line.now ∷ more)) }
+        ensures kept { OnOk result (self.new.skipped.items
+            ≡ skipped_after self.old.skipped.items line.now (frame_from self.old.before line.now)) }
     {
         match frame_from(alloc, self.before, line) {
             Ok(Some(frame)) => {
@@ -109,7 +113,7 @@ impl Lines {
     }
 }
 
-/// The first line of a text, and what follows its end. None where no line ends.
+/// The first line of a text, and what follows its end. None if no line ends.
 fn cut_line(text: &[u8]) -> Option<(&[u8], &[u8])>
     ensures line { IfSome result (λ cut. (more : List ℕ) → slice_split is_line_end (text.now ++ more)
         ≡ cut.0.now ∷ slice_split is_line_end (cut.1.now ++ more)) }

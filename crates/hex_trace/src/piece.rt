@@ -6,10 +6,10 @@ ghost use Rattle.hex_trace.specs.Source.{ReadsMore};
 use crate::{Failed, Source, TraceFault};
 use es_base::Memory;
 
-/// How many bytes the text grows by, where a source has more than it holds.
+/// How many bytes the text grows by, if a source has more than it holds.
 const PIECE: usize = 262_144;
 
-/// Reads some bytes of a source to the place after the first `filled` of a text, and returns how many. Where
+/// Reads some bytes of a source to the place after the first `filled` of a text, and returns how many. If
 /// there is no room the text grows.
 pub(crate) fn read_more<S: Source>(
     source: &mut S,
@@ -29,7 +29,7 @@ pub(crate) fn read_more<S: Source>(
     }
 }
 
-/// Makes room after the first `filled` bytes of a text, where there is none.
+/// Makes room after the first `filled` bytes of a text, if there is none.
 fn make_room(text: &mut Vec<u8>, filled: usize) -> Result<(), Memory>
     requires { filled ≤ length text.old.items }
     ensures front { OnOk result (take filled text.new.items ≡ take filled text.old.items) }

@@ -7,7 +7,7 @@ use std::io;
 
 /// A reader of a trace.
 pub trait Source {
-    /// The bytes still to come, where the source knows them.
+    /// The bytes still to come, if the source knows them.
     ghost remaining: { Self → Option (List ℕ) } = { λ _. None };
 
     /// Whether a read has failed.

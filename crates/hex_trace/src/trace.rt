@@ -1,5 +1,6 @@
 //! A whole trace, from its source to its frames.
 ghost use Rattle.std.specs.Prelude.{◌≡◌, ◌≤◌, ◌-◌, ◌++◌, ℕ, List, None, IfOk, false, length, take, drop};
+ghost use Rattle.hex_trace.specs.Source.{given};
 ghost use Rattle.hex_trace.specs.Trace.{ReadsTrace};
 ghost use Rattle.hex_trace.specs.Lines.{said_by, HasNoEnd};
 
@@ -13,15 +14,18 @@ use std::alloc::Global;
 /// the rest is read, since a failed read comes before it.
 ///
 /// `text` is where the bytes are read to: a piece of the source, and after a fault all that follows. What it
-/// holds before doesn't matter, and its memory serves for the next trace. Each byte that was read is
-/// kept, in a frame or as it came, so a source that never ends runs out of memory.
+/// holds before doesn't matter, and its memory serves for the next trace.
+///
+/// A source that never ends runs out of memory, since each line that was read is kept: one with a frame as
+/// that frame, which is returned; a skipped one as it came, by the clause `kept` of `Lines::take_line`; and
+/// after a fault all bytes, in `text`.
 pub fn read_trace<S: Source>(
     alloc: Global,
     source: &mut S,
     text: &mut Vec<u8>,
 ) -> Result<Frames, TraceFault>
     requires { S.has_failed source.old ≡ false }
-    ensures { ReadsTrace (record { bytes = S.remaining source.old; failed = S.has_failed source.new }) result }
+    ensures { ReadsTrace (given (S.remaining source.old) (S.has_failed source.new)) result }
 {
     let mut lines = Lines::new(alloc);
     let mut filled = 0;

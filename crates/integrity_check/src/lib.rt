@@ -1,5 +1,7 @@
-//! Integrity checking of one link on one network (ARINC 664 Part 7, integrity checking; the window
-//! is own). No memory is taken.
+//! Integrity checking of one link on one network: which frames pass, by their sequence numbers (ARINC 664
+//! Part 7, integrity checking; the window is own). A `Sequence` stands for all sequence numbers that it was
+//! told of, and keeps the latest alone; what it says is what the definition says of the whole list. No memory
+//! is taken.
 #![tactic(auto)]
 
 ghost use Rattle.std.specs.Prelude.{◌≡◌, ℕ, List, [], ◌∷◌};

@@ -161,16 +161,16 @@ roomy : (gs : List Group) (key : DatagramKey) → AreApart gs → list_any (has_
 roomy gs key apart none =
     ⊎_elim
     (λ (full : (length gs == most_partials) ≡ true).
-    let four : length gs ≡ 4 = eqb-true _ _ full in
+    let full_up : length gs ≡ most_partials = eqb-true _ _ full in
     let less : length (drop 1 gs) ≡ length gs - 1 = length-drop 1 gs in
     rw full (omega arith, distinct_rest gs 0 apart.distinct, absent_rest (has_key key) gs 0 none))
     (λ (room : (length gs == most_partials) ≡ false).
     let few = apart.few in
-    let less : length gs < 4 =
+    let less : length gs < most_partials =
     ⊎_elim
-    (λ (below : length gs < 4). below)
-    (λ (above : 4 ≤ length gs). absurd (false≢true (sym room ∙ eq-eqb (length gs) most_partials (omega arith))))
-    (cases_lt (length gs) 4)
+    (λ (below : length gs < most_partials). below)
+    (λ (above : most_partials ≤ length gs). absurd (false≢true (sym room ∙ eq-eqb (length gs) most_partials (omega arith))))
+    (cases_lt (length gs) most_partials)
     in
     rw room (less, apart.distinct, none))
     (cases_Bool (length gs == most_partials))

@@ -6,7 +6,7 @@ use Rattle.std.proofs.Math.Seq.{drop-cons}
 use Rattle.std.proofs.lemmas.Option.{slice_get_read, slice_get_cases}
 use Rattle.std.proofs.lemmas.Bool.{cases_lt}
 use Rattle.std.proofs.lemmas.Grind.{common_steps, same_number_lists}
-use Rattle.es_base.specs.Udp.{head_of}
+use Rattle.es_base.specs.Udp.{head_of, udp_header_octets}
 use borrow.Rule.Slice.PartMut.{put_mid}
 
 pub refill_whole : {X : Type 0} (n : ℕ) (xs ys : List X) → length ys ≡ n → refill n xs ys ≡ ys
@@ -77,7 +77,7 @@ get_set (z ∷ zs) (suc i) x y there = get_set zs i x y there
 
 -- ---- the first octets
 
-module _ (zeros : List ℕ) (eight : length zeros ≡ 8) (none : (k : ℕ) → slice_index zeros k ≡ 0) where
+module _ (zeros : List ℕ) (eight : length zeros ≡ udp_header_octets) (none : (k : ℕ) → slice_index zeros k ≡ 0) where
   filled : (octets : List ℕ) (k : ℕ) → slice_index (octets ++ zeros) k ≡ slice_index octets k
   filled octets k =
       ⊎_elim
@@ -87,19 +87,19 @@ module _ (zeros : List ℕ) (eight : length zeros ≡ 8) (none : (k : ℕ) → s
       get_or-append_right octets zeros (length octets) k 0 refl past ∙ none (k - length octets) ∙ sym zero_there)
       (cases_lt k (length octets))
 
-  is_head_of : (head octets : List ℕ) → length head ≡ 8 → ((i : ℕ) → i < 8 → slice_index head i ≡ slice_index octets i) → head ≡ take 8 (octets ++ zeros)
+  is_head_of : (head octets : List ℕ) → length head ≡ udp_header_octets → ((i : ℕ) → i < udp_header_octets → slice_index head i ≡ slice_index octets i) → head ≡ take udp_header_octets (octets ++ zeros)
   is_head_of head octets long each =
       let whole : length (octets ++ zeros) ≡ length octets + length zeros = length-append octets zeros in
-      let same : length head ≡ length (take 8 (octets ++ zeros)) = long ∙ sym (length-take-le 8 (octets ++ zeros) (omega arith)) in
-      same_number_lists head (take 8 (octets ++ zeros)) same (λ k less.
-      let below : k < 8 = omega arith in
-      each k below ∙ sym (get_or-take 8 (octets ++ zeros) k 0 below ∙ filled octets k))
+      let same : length head ≡ length (take udp_header_octets (octets ++ zeros)) = long ∙ sym (length-take-le udp_header_octets (octets ++ zeros) (omega arith)) in
+      same_number_lists head (take udp_header_octets (octets ++ zeros)) same (λ k less.
+      let below : k < udp_header_octets = omega arith in
+      each k below ∙ sym (get_or-take udp_header_octets (octets ++ zeros) k 0 below ∙ filled octets k))
 
-  copied : (octets : List ℕ) (n : ℕ) → n ≡ min (length octets) 8 → take n octets ++ drop n zeros ≡ take 8 (octets ++ zeros)
+  copied : (octets : List ℕ) (n : ℕ) → n ≡ min (length octets) udp_header_octets → take n octets ++ drop n zeros ≡ take udp_header_octets (octets ++ zeros)
   copied octets n least =
       let front : length (take n octets) ≡ n = length-take-le n octets (omega arith) in
       let back : length (drop n zeros) ≡ length zeros - n = length-drop n zeros in
-      let long : length (take n octets ++ drop n zeros) ≡ 8 = length-append (take n octets) (drop n zeros) ∙ omega arith in
+      let long : length (take n octets ++ drop n zeros) ≡ udp_header_octets = length-append (take n octets) (drop n zeros) ∙ omega arith in
       is_head_of (take n octets ++ drop n zeros) octets long (λ i less.
       ⊎_elim
       (λ (inside : i < n). grind (arith, common_steps))
@@ -111,8 +111,8 @@ module _ (zeros : List ℕ) (eight : length zeros ≡ 8) (none : (k : ℕ) → s
 zeros_only : (n k : ℕ) → slice_index (replicate n 0) k ≡ 0
 zeros_only n k = grind (arith, common_steps)
 
-pub is_head : (head octets : List ℕ) → length head ≡ 8 → ((i : ℕ) → i < 8 → slice_index head i ≡ slice_index octets i) → head ≡ head_of octets
-is_head head octets long each = is_head_of (replicate 8 0) refl (zeros_only 8) head octets long each
+pub is_head : (head octets : List ℕ) → length head ≡ udp_header_octets → ((i : ℕ) → i < udp_header_octets → slice_index head i ≡ slice_index octets i) → head ≡ head_of octets
+is_head head octets long each = is_head_of (replicate udp_header_octets 0) refl (zeros_only udp_header_octets) head octets long each
 
-pub copied_head : (octets : List ℕ) (n : ℕ) → n ≡ min (length octets) 8 → take n octets ++ drop n (replicate 8 0) ≡ head_of octets
-copied_head octets n least = copied (replicate 8 0) refl (zeros_only 8) octets n least
+pub copied_head : (octets : List ℕ) (n : ℕ) → n ≡ min (length octets) udp_header_octets → take n octets ++ drop n (replicate udp_header_octets 0) ≡ head_of octets
+copied_head octets n least = copied (replicate udp_header_octets 0) refl (zeros_only udp_header_octets) octets n least

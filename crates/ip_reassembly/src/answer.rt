@@ -1,5 +1,7 @@
 //! What is answered to a packet.
 
+use frame_reader::UDP_HEADER;
+
 /// What would become of a packet, without its octets.
 #[derive(Clone, Copy, Debug, PartialEq, Eq)]
 pub enum Preview {
@@ -11,8 +13,8 @@ pub enum Preview {
     Whole {
         /// How many octets the datagram has.
         len: usize,
-        /// The first of them, with zeros past its end.
-        head: [u8; 8],
+        /// The first of them, as many as a UDP header has, with zeros past its end.
+        head: [u8; UDP_HEADER],
         /// Whether it was joined of pieces.
         joined: bool,
     },

@@ -7,6 +7,7 @@ ghost use Rattle.ip_reassembly.specs.Held.{Holds, written_at};
 
 use crate::cover::{are_covered, mark, set_all, unset};
 use es_base::Memory;
+use frame_reader::UDP_HEADER;
 use std::alloc::Global;
 use std::marker::Model;
 
@@ -16,7 +17,7 @@ pub const LONGEST_JOINED: usize = 8200;
 /// What came of one datagram: each octet at its place, and a mark for each that came.
 #[derive(Drop)]
 pub struct Buffer {
-    /// Where the datagram ends, once a piece with no more to follow came.
+    /// If the datagram ends, once a piece with no more to follow came.
     total: Option<usize>,
     octets: Vec<u8>,
     marks: Vec<bool>,
@@ -85,7 +86,7 @@ impl Buffer {
         }
     }
 
-    /// The first `len` octets, which are the datagram's where it is complete and so long.
+    /// The first `len` octets, which are the datagram's if it is complete and so long.
     pub(crate) fn octets(&self, len: usize) -> &[u8]
         requires { len ≤ longest_joined }
         ensures { (pieces : List Piece) (datagram : List ℕ) → Holds self.now pieces →
@@ -94,15 +95,16 @@ impl Buffer {
         &self.octets[..len]
     }
 
-    /// The first 8 octets of a datagram of `len` octets that this piece completes; zeros past its end.
-    pub(crate) fn head_with(&self, offset: usize, octets: &[u8], len: usize) -> [u8; 8]
+    /// The first octets, as many as a UDP header has, of a datagram of `len` octets that this piece completes;
+    /// zeros past its end.
+    pub(crate) fn head_with(&self, offset: usize, octets: &[u8], len: usize) -> [u8; UDP_HEADER]
         ensures { (pieces : List Piece) (piece : Piece) (datagram : List ℕ) → Holds self.now pieces →
             piece.offset ≡ offset → piece.octets ≡ octets.now →
             datagram_from (piece ∷ pieces) ≡ Some datagram → length datagram ≡ len →
             result ≡ head_of datagram }
     {
-        let mut head = [0; 8];
-        for i in 0..len.min(8) {
+        let mut head = [0; UDP_HEADER];
+        for i in 0..len.min(UDP_HEADER) {
             head[i] = octet_with(&self.octets, offset, octets, i);
         }
         head
@@ -115,7 +117,7 @@ fn zeros(alloc: Global, places: usize) -> Result<Vec<u8>, Memory>
     Vec::from_elem(alloc, 0, places)
 }
 
-/// Where the datagram ends after one piece more, which ends at `end`: that is for the latest piece with no
+/// If the datagram ends after one piece more, which ends at `end`: that is for the latest piece with no
 /// more to follow to say.
 fn total_with(total: Option<usize>, more: bool, end: usize) -> Option<usize>
     ensures { result ≡ (if more then total else Some end) }

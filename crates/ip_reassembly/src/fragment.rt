@@ -6,7 +6,7 @@ ghost use Rattle.es_base.specs.Udp.{head_of};
 
 use crate::buffer::LONGEST_JOINED;
 use es_base::DatagramKey;
-use frame_reader::Packet;
+use frame_reader::{Packet, UDP_HEADER};
 
 /// Whether a packet has a datagram whole (RFC 791 3.1).
 pub(crate) fn is_whole(packet: &Packet<'_>) -> bool
@@ -44,12 +44,12 @@ pub(crate) fn key_of(packet: &Packet<'_>) -> DatagramKey
     }
 }
 
-/// The first 8 octets, with zeros where there are fewer.
-pub(crate) fn head_of(octets: &[u8]) -> [u8; 8]
+/// The first octets, as many as a UDP header has, with zeros if there are fewer.
+pub(crate) fn head_of(octets: &[u8]) -> [u8; UDP_HEADER]
     ensures { result ≡ head_of octets.now }
 {
-    let mut head = [0; 8];
-    let len = octets.len().min(8);
+    let mut head = [0; UDP_HEADER];
+    let len = octets.len().min(UDP_HEADER);
     head[..len].copy_from_slice(&octets[..len]);
     head
 }

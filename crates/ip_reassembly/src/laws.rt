@@ -6,7 +6,7 @@ ghost use Rattle.es_base.specs.Groups.{Group, groups_after};
 ghost use Rattle.ip_reassembly.specs.Apart.{AreApart};
 
 /// The datagram that some pieces make ends where the latest piece with no more to follow ends, and each
-/// of its octets is that of the latest piece that has one at its place. Where there are such octets, it
+/// of its octets is that of the latest piece that has one at its place. If there are such octets, it
 /// is made (RFC 791 3.2).
 pub fn joins_the_datagram()
     ensures { (pieces : List Piece) (octets : List ℕ) →

@@ -22,7 +22,7 @@ pub const MOST_PARTIALS: usize = 4;
 
 /// The pieces of datagrams that aren't complete yet.
 ///
-/// Up to four partial datagrams stand (own). Where a fragment begins a fifth, the one that began first is
+/// Up to four partial datagrams stand (own). If a fragment begins a fifth, the one that began first is
 /// given up, whichever was touched last. A datagram that comes whole gives up the partial one with its
 /// key: source, destination and identification.
 ///

@@ -1,4 +1,6 @@
-//! The messages that a link's history delivered to its ports, worked out from the history alone.
+//! The messages that a link's history delivered to its ports, worked out from the history alone: each is
+//! that of an event, in order, joined ones included. The history has to be a lawful one, as `link_receiver`
+//! keeps it. A walk through it takes memory for the messages and for a reassembly of its own.
 #![tactic(auto)]
 
 mod offer;

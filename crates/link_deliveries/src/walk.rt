@@ -35,7 +35,8 @@ pub fn deliveries(
     deliveries_up_to(alloc, settings, history, end, port)
 }
 
-/// The same where it is known that no event from this place on delivered a message to the port.
+/// The messages that a lawful history of a link delivered to a port, in order, for a caller who knows that no
+/// event from this place on delivered one.
 pub fn deliveries_up_to(
     alloc: Global,
     settings: &LinkSettings,
@@ -100,7 +101,7 @@ fn deliveries_before(
     Ok(messages)
 }
 
-/// Adds a message, where there is one.
+/// Adds a message, if there is one.
 fn add(messages: &mut Vec<Message>, message: Option<Message>) -> Result<(), Memory>
     ensures { OnOk result (messages.new.items ≡ messages.old.items ++ option_to_list message) }
 {

@@ -1,13 +1,11 @@
 -- Which outcomes are those of forwarded frames.
-use Rattle.std.proofs.Common.{◌≡◌, Bool, true, false, not, ◌&&◌, List, Result, Ok, Err, refl, ◌∙◌, sym, ap}
+use Rattle.std.proofs.Common.{◌≡◌, Bool, true, false, not, ◌&&◌, List, Result, Ok, Err, refl, ◌∙◌, sym, ap, if◌then◌else◌}
 use Rattle.es_base.specs.declared.verdict.Verdict.{Verdict}
 use Rattle.es_base.specs.declared.event.Arrival.{Arrival}
 use Rattle.es_base.specs.declared.event.Event.{Event}
-use Rattle.es_base.specs.Settings.{Settings}
 use Rattle.es_base.specs.Past.{Origin}
 use Rattle.es_base.specs.Integrity.{passes}
 use Rattle.es_base.specs.Redundancy.{forwarded, is_forwarded, is_redundant}
-use Rattle.es_base.specs.Groups.{Group}
 use Rattle.es_base.specs.Reassembly.{groups_in}
 use Rattle.es_base.specs.Outcome as way
 use Rattle.link_receiver.specs.declared.outcome.Outcome.{Outcome}
@@ -31,12 +29,15 @@ brought_counts : (payload : Result way.Payload Verdict) → counts (way.brought 
 brought_counts (Ok payload) = refl
 brought_counts (Err verdict) = refl
 
-counts_if : (passing is_copy : Bool) (settings : Settings) (groups : List Group) (a : Arrival) → counts (way.outcome_if passing is_copy settings groups a) ≡ (passing && not is_copy)
-unfolding way.outcome_if
-counts_if false is_copy settings groups a = refl
-counts_if true true settings groups a = refl
-counts_if true false settings groups a = brought_counts (way.payload_of settings groups a)
+by_steps : (passing is_copy : Bool) (payload : Result way.Payload Verdict)
+    → counts (if not passing then way.out_of_sequence else if is_copy then way.redundant else way.brought payload) ≡ (passing && not is_copy)
+by_steps false is_copy payload = refl
+by_steps true true payload = refl
+by_steps true false payload = brought_counts payload
+
+outcome_counts : (o : Origin) (past : List Event) (a : Arrival) → counts (way.outcome o past a) ≡ is_forwarded o past a
+unfolding way.outcome
+outcome_counts o past a = by_steps (passes o past a) (is_redundant o (forwarded o past) a) (way.frame_payload o.settings (groups_in o past) a)
 
 pub counts_forwarded : (o : Origin) (past : List Event) (a : Arrival) (seen : Outcome) → Sees seen (way.outcome o past a) → counts_as_forwarded seen ≡ is_forwarded o past a
-counts_forwarded o past a seen sees =
-    seen_counts seen (way.outcome o past a) sees ∙ counts_if (passes o past a) (is_redundant o (forwarded o past) a) o.settings (groups_in o past) a
+counts_forwarded o past a seen sees = seen_counts seen (way.outcome o past a) sees ∙ outcome_counts o past a

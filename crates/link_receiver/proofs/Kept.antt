@@ -1,5 +1,5 @@
 -- What one more event leaves of what a link's state keeps.
-use Rattle.std.proofs.Common.{◌≡◌, ℕ, ◌<◌, Bool, true, false, List, [], ◌∷◌, ◌++◌, length, reverse, Option, None, Some, IfSome, refl, sym, ap, ◌∙◌, append-nil, ⊎_elim, subst}
+use Rattle.std.proofs.Common.{◌≡◌, ℕ, ◌<◌, arith, length-append, Bool, true, false, List, [], ◌∷◌, ◌++◌, length, reverse, Option, None, Some, IfSome, refl, sym, ap, ◌∙◌, append-nil, ⊎_elim, subst}
 use Rattle.std.specs.List.{slice_get}
 use Rattle.std.proofs.lemmas.Bool.{cases_eq, eq-eqb, ne_eqb}
 use Rattle.std.proofs.lemmas.List.{length-set}
@@ -7,12 +7,14 @@ use Rattle.es_base.specs.declared.place.PortNo.{PortNo}
 use Rattle.es_base.specs.declared.event.Event.{Event}
 use Rattle.es_base.specs.declared.event.Message.{Message}
 use Rattle.es_base.specs.Frame.{IsFrame, link_number_of}
+use Rattle.es_base.specs.Limits.{most_events}
 use Rattle.es_base.specs.Settings.{Settings}
 use Rattle.es_base.specs.Past.{Origin, arrival_of, origin_of}
 use Rattle.es_base.specs.Reassembly.{groups_in}
 use Rattle.es_base.specs.Outcome.{outcome}
 use Rattle.es_base.specs.Deliveries.{delivered, deliveries}
 use Rattle.es_base.specs.Run.{MayAnswer, verdict_of}
+use Rattle.es_base.specs.Limits.{verdict_kinds}
 use Rattle.es_base.specs.Tally.{Counts, HasCounts, IsZero}
 use Rattle.ip_reassembly.specs.Kept as pieces
 use Rattle.queuing_port.specs.Queue as queues
@@ -30,9 +32,10 @@ use Rattle.link_receiver.proofs.Places.{reverse-push, slice_get-set_same, slice_
 
 pub kept_new : (settings : Settings) (history : List Event) (checks : Checks) (waiting : pieces.Kept) (outlets : List Outlet) (takers : List (Option queues.Known)) (tally : Counts)
     → history ≡ [] → HavePast checks (origin_of settings) [] → pieces.StandsFor waiting settings.reassembly []
-    → AreOpened settings.ports outlets takers → IsZero tally
+    → AreOpened settings.ports outlets takers → IsZero verdict_kinds tally
     → IsKept settings history checks waiting outlets tally
 kept_new settings history checks waiting outlets takers tally none stand waits are zeros = rw none (record {
+  few = omega arith;
   run = tt;
   checked = stand;
   waiting = waits;
@@ -97,7 +100,7 @@ outlets_stay (Some delivery) room outlets after is within =
 
 -- what a state keeps, after one more event
 pub kept_more : (settings : Settings) (history now : List Event) (checks checked : Checks) (waiting waited : pieces.Kept) (outlets after : List Outlet) (tally counts : Counts) (e : Event) (delivery : Option Delivery)
-    → now ≡ history ++ e ∷ [] → IsKept settings history checks waiting outlets tally
+    → now ≡ history ++ e ∷ [] → length history < most_events → IsKept settings history checks waiting outlets tally
     → e.verdict ≡ verdict_of (origin_of settings) (reverse history) (arrival_of e) e.room
     → MayAnswer (origin_of settings) (reverse history) (arrival_of e) e.room
     → HavePast checked (origin_of settings) (e ∷ reverse history)
@@ -106,12 +109,13 @@ pub kept_more : (settings : Settings) (history now : List Event) (checks checked
     → ((port : PortNo) → delivered (outcome (origin_of settings) (reverse history) (arrival_of e)) e.room e.time port (length (deliveries (origin_of settings) (reverse history) port)) ≡ messages_if e.room (messages_for port delivery))
     → HasCounts counts (e ∷ reverse history) → IsFrame e.frame → link_number_of e.frame ≡ settings.vl.0
     → IsKept settings now checked waited after counts
-kept_more settings history now checks checked waiting waited outlets after tally counts e delivery is kept verdict may stand waits publishes within delivers counted frame addressed =
+kept_more settings history now checks checked waiting waited outlets after tally counts e delivery is few kept verdict may stand waits publishes within delivers counted frame addressed =
     let o : Origin = origin_of settings in
     let past = reverse history in
     let more : reverse now ≡ e ∷ past = ap reverse is ∙ reverse-push history e in
     let shown = shows_delivered (deliveries o past) delivery e.room outlets after publishes within kept.shown in
     record {
+      few = omega (arith, ap length is, length-append history (e ∷ []));
       run = rw more (verdict, may, kept.run);
       checked = rw more stand;
       waiting = rw more waits;

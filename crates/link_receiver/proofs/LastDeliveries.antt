@@ -1,4 +1,4 @@
--- Where the last event stands that delivered a message to a port.
+-- If the last event stands that delivered a message to a port.
 use Rattle.std.proofs.Common.{◌≡◌, ◌∙◌, ap, sym, ℕ, zero, suc, ◌+◌, ◌≤◌, true, false, List, [], ◌∷◌, ◌++◌, length, drop, Some, slice_set, arith, length-append, refl, replicate, ⊎_elim}
 use Rattle.std.specs.List.{slice_get}
 use Rattle.std.proofs.lemmas.List.{drop-append-le, drop_all}

@@ -4,6 +4,7 @@ use Rattle.std.specs.List.{slice_range}
 use Rattle.es_base.specs.declared.place.PortNo.{PortNo}
 use Rattle.es_base.specs.declared.event.Arrival.{Arrival}
 use Rattle.es_base.specs.Packet.{PacketParts}
+use Rattle.es_base.specs.Udp.{udp_header_octets}
 use Rattle.es_base.specs.Past.{origin_of}
 use Rattle.std.proofs.lemmas.Bool.{cases_Bool, eqb-true}
 use Rattle.std.proofs.lemmas.Option.{same_Some}
@@ -76,7 +77,7 @@ filled_with link a (way.brings payload) None delivery brought has fills port =
     (cases_Bool (is_same_port payload.port port))
 filled_with link a (way.brings payload) (Some room) delivery brought has fills port =
     let is = fills brought.packet brought.octets brought.joined brought.is brought.completes in
-    let octets : payload.octets ≡ slice_range brought.octets 8 (8 + room.len) = brought.within.0 ∙ ap (λ count. slice_range brought.octets 8 (8 + count)) has.2 in
+    let octets : payload.octets ≡ slice_range brought.octets udp_header_octets (udp_header_octets + room.len) = brought.within.0 ∙ ap (λ count. slice_range brought.octets udp_header_octets (udp_header_octets + count)) has.2 in
     ⊎_elim
     (λ (same : is_same_port payload.port port ≡ true). rw (is, ← has.1, same, ← same_port payload.port port same, has.0, ← octets) refl)
     (λ (other : is_same_port payload.port port ≡ false). rw (is, ← has.1, other) refl)

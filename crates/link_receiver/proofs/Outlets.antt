@@ -10,7 +10,7 @@ use Rattle.es_base.specs.declared.event.Message.{Message}
 use Rattle.es_base.specs.Deliveries.{newest_of, takes_one_more}
 use Rattle.es_base.specs.Port.{Port, samples_if}
 use Rattle.es_base.specs.Run.{decided_at}
-use Rattle.queuing_port.specs.Queue.{Known, WasFull}
+use Rattle.queuing_port.specs.Queue.{Known, MayBeFull}
 use Rattle.link_receiver.specs.declared.change.Delivery.{Delivery}
 use Rattle.link_receiver.specs.declared.outlet.Outlet.{Outlet}
 use Rattle.link_receiver.specs.declared.outlet.Outlet.TheVariants as outlets
@@ -151,7 +151,7 @@ pub has_number_left : (port : Port) (found : Option Port) (outlet : Outlet) (mes
 has_number_left port found outlet messages is fits shows takes = number_left port.kind outlet messages (rw is at fits) shows takes
 
 -- as many messages were put as a full queue holds
-pub full_after : (queue : Known) → WasFull queue → queue.depth ≤ length queue.put
+pub full_after : (queue : Known) → MayBeFull queue → queue.depth ≤ length queue.put
 full_after queue full = omega (arith, full.1, ap length full.2.1, length-append full.2.0 full.0)
 
 -- ---- what becomes of a message at a queue

@@ -1,4 +1,4 @@
--- A queue refuses a message only where it may: once as many were delivered to its port as it holds.
+-- A queue refuses a message only if it may: once as many were delivered to its port as it holds.
 use Rattle.std.proofs.Common.{◌≡◌, ap, sym, ℕ, ◌<◌, ◌&&◌, Bool, true, false, true≢false, List, [], length, Option, None, Some, IfSome, refl, arith}
 use Rattle.std.specs.List.{slice_get}
 use Rattle.std.proofs.lemmas.Bool.{le-leb}
@@ -15,7 +15,7 @@ use Rattle.es_base.specs.Outcome as way
 use Rattle.es_base.specs.Deliveries as deliveries
 use Rattle.es_base.specs.Deliveries.{delivered, is_same_port}
 use Rattle.es_base.specs.Run.{MayAnswer, may_be_full, may_refuse_with}
-use Rattle.queuing_port.specs.Queue.{Known, WasFull}
+use Rattle.queuing_port.specs.Queue.{Known, MayBeFull}
 use Rattle.link_receiver.specs.declared.change.Delivery.{Delivery}
 use Rattle.link_receiver.specs.declared.change.Room.{Room}
 use Rattle.link_receiver.specs.declared.outlet.Outlet.{Outlet}
@@ -43,9 +43,9 @@ has_number link None opened place fits shown = tt
 has_number link (Some room) opened place fits shown = λ outlet is.
     has_number_left place.0 (slice_get link.settings.ports room.port.0) outlet (deliveries_of link room.port) place.1 (rw is at (fits room.port.0)) (rw is at (shown room.port.0)) place.2
 
--- ---- a full queue
+-- ---- a queue that may be full
 
-full_for : (kind : PortKind) (queue : Known) (messages : List Message) → IsOfKind kind (outlets.Queuing queue) → queue.put ≡ messages → WasFull queue
+full_for : (kind : PortKind) (queue : Known) (messages : List Message) → IsOfKind kind (outlets.Queuing queue) → queue.put ≡ messages → MayBeFull queue
     → may_be_full kind (length messages) ≡ true
 full_for (Sampling refresh) queue messages of_kind shows full = absurd of_kind
 full_for (Queuing depth) queue messages of_kind shows full =
@@ -53,7 +53,7 @@ full_for (Queuing depth) queue messages of_kind shows full =
 
 abbrev MayRefuseIfFull : Link → way.Outcome → List Outlet → PortNo → Type 0
 MayRefuseIfFull link outcome opened port =
-    (queue : Known) → slice_get opened port.0 ≡ Some (outlets.Queuing queue) → WasFull queue → may_refuse_with outcome (λ p. length (deliveries_of link p)) ≡ true
+    (queue : Known) → slice_get opened port.0 ≡ Some (outlets.Queuing queue) → MayBeFull queue → may_refuse_with outcome (λ p. length (deliveries_of link p)) ≡ true
 
 refuses_if_full : (link : Link) (outcome : way.Outcome) (room : Option Room) (opened : List Outlet) → RoomFor outcome link room
     → ((place : ℕ) → Fits (slice_get link.settings.ports place) (slice_get opened place))
@@ -68,9 +68,9 @@ refuses_if_full link way.out_of_sequence (Some room) opened has fits shown = cc
 refuses_if_full link way.redundant (Some room) opened has fits shown = cc
 refuses_if_full link (way.refused verdict) (Some room) opened has fits shown = cc
 
-was_full : (before : Outlet) (message : Message) (after : Outlet) → Accepts before message after false → (queue : Known) × (before ≡ outlets.Queuing queue) × WasFull queue
-was_full (outlets.Sampling register) message after is = absurd (true≢false (sym is.0))
-was_full (outlets.Queuing queue) message after is = (queue, refl, is.1)
+may_be_full_then : (before : Outlet) (message : Message) (after : Outlet) → Accepts before message after false → (queue : Known) × (before ≡ outlets.Queuing queue) × MayBeFull queue
+may_be_full_then (outlets.Sampling register) message after is = absurd (true≢false (sym is.0))
+may_be_full_then (outlets.Queuing queue) message after is = (queue, refl, is.1)
 
 -- where a message was refused, its queue may refuse it
 refused_one : (link : Link) (outcome : way.Outcome) (delivery : Option Delivery) (opened after : List Outlet) → Delivers opened after delivery false
@@ -80,7 +80,7 @@ refused_one link outcome None opened after is within may = absurd (true≢false 
 refused_one link outcome (Some delivery) opened after is within may =
     let before = there opened delivery.port.0 within in
     let new = is before.0 before.1 in
-    let full = was_full before.0 delivery.message new.0 new.1 in
+    let full = may_be_full_then before.0 delivery.message new.0 new.1 in
     may full.0 (rw full.1 at before.1) full.2
 
 pub may_answer : (link : Link) (a : Arrival) (room : Option Room) (delivery : Option Delivery) (opened after : List Outlet) (had : Bool)

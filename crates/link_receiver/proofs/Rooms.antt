@@ -1,6 +1,7 @@
 -- The rooms of queues that nobody reads.
-use Rattle.std.proofs.Common.{◌≡◌, ◌∙◌, ap, subst, ℕ, ◌≤◌, Bool, true, false, List, [], ◌∷◌, ◌++◌, length, Option, None, Some, Result, Ok, Err, if◌then◌else◌, zero, suc, refl, arith, length-append, append-nil, ⊎_elim}
+use Rattle.std.proofs.Common.{◌≡◌, ◌∙◌, ap, subst, ℕ, ◌≤◌, Bool, true, false, not, ◌&&◌, nat_lt, List, [], ◌∷◌, ◌++◌, length, Option, None, Some, Result, Ok, Err, if◌then◌else◌, zero, suc, refl, arith, length-append, append-nil, ⊎_elim}
 use Rattle.std.specs.List.{slice_get}
+use Rattle.std.specs.Option.{ok_or}
 use Rattle.std.proofs.lemmas.Bool.{cases_Bool, eq-eqb, eqb-true, lt-leb}
 use Rattle.es_base.specs.declared.place.PortNo.{PortNo}
 use Rattle.es_base.specs.declared.port.PortKind.{PortKind}
@@ -9,15 +10,15 @@ use Rattle.es_base.specs.declared.verdict.Verdict.{Verdict}
 use Rattle.es_base.specs.declared.verdict.Verdict.TheVariants as verdicts
 use Rattle.es_base.specs.declared.event.Arrival.{Arrival}
 use Rattle.es_base.specs.declared.event.Message.{Message}
-use Rattle.es_base.specs.Returns.{◌>>=◌}
+use Rattle.es_base.specs.Returns.{◌>>=◌, map_err}
 use Rattle.es_base.specs.Udp.{udp_of}
-use Rattle.es_base.specs.Port.{Port, port_of}
+use Rattle.es_base.specs.Port.{Port, is_sampling, port_of}
 use Rattle.es_base.specs.Settings.{Settings}
 use Rattle.es_base.specs.Past.{event_of, origin_of}
 use Rattle.es_base.specs.Integrity.{passes}
 use Rattle.es_base.specs.Redundancy.{forwarded, is_redundant}
-use Rattle.es_base.specs.Groups.{Group}
-use Rattle.es_base.specs.Reassembly.{groups_in}
+use Rattle.es_base.specs.Groups.{Group, fate}
+use Rattle.es_base.specs.Reassembly.{groups_in, packet_in}
 use Rattle.es_base.specs.Outcome as way
 use Rattle.es_base.specs.Deliveries.{delivered, is_same_port}
 use Rattle.es_base.specs.Run.{MayAnswer, decided, may_refuse_with, settled}
@@ -40,31 +41,31 @@ after : {A : Type 0} (ports : List Port) (first : Result A Verdict) (next : A �
 after ports (Ok x) next each = each x
 after ports (Err verdict) next each = tt
 
-if_taken : (ports : List Port) (payload : way.Payload) (joined long : Bool) (v w : Verdict) → IsOfPort ports payload → IfPayload ports (if joined then Err v else if long then Err w else Ok payload)
-if_taken ports payload true long v w is = tt
-if_taken ports payload false true v w is = tt
-if_taken ports payload false false v w is = is
+if_admitted : (ports : List Port) (port : Port) (payload : way.Payload) → IsOfPort ports payload → IfPayload ports (way.admitted port payload)
+if_admitted ports port payload is = go (is_sampling port.kind && payload.joined) (nat_lt port.max (length payload.octets))
+  where
+    go : (fragmented long : Bool) → IfPayload ports (if fragmented then Err (verdicts.FragmentedSample payload.port) else if long then Err (verdicts.TooLong payload.port) else Ok payload)
+    go true long = tt
+    go false true = tt
+    go false false = is
 
-if_short : (ports : List Port) (payload : way.Payload) (long : Bool) (w : Verdict) → IsOfPort ports payload → IfPayload ports (if long then Err w else Ok payload)
-if_short ports payload true w is = tt
-if_short ports payload false w is = is
+at_port : (ports : List Port) (place : PortNo) (found : Option Port) (joined : Bool) (octets : List ℕ) → slice_get ports place.0 ≡ found
+    → IfPayload ports (ok_or found verdicts.NoPort >>= (λ port. way.admitted port (record { port = place; kind = port.kind; joined = joined; octets = octets })))
+at_port ports place None joined octets is = tt
+at_port ports place (Some port) joined octets is = if_admitted ports port (record { port = place; kind = port.kind; joined = joined; octets = octets }) (port, is, refl)
 
-if_kind : (ports : List Port) (kind : PortKind) (max : ℕ) (payload : way.Payload) → IsOfPort ports payload → IfPayload ports (way.payload_if kind max payload)
-if_kind ports (Queuing depth) max payload is = if_short ports payload _ _ is
-if_kind ports (Sampling refresh) max payload is = if_taken ports payload payload.joined _ _ _ is
-
-for_port : (ports : List Port) (place : PortNo) (port : Option Port) (joined : Bool) (octets : List ℕ) → slice_get ports place.0 ≡ port → IfPayload ports (way.payload_for place port joined octets)
-for_port ports place None joined octets is = tt
-for_port ports place (Some port) joined octets is = if_kind ports port.kind port.max (record { port = place; kind = port.kind; joined = joined; octets = octets }) (port, is, refl)
-
-at_port : (ports : List Port) (place : Option PortNo) (joined : Bool) (octets : List ℕ) → IfPayload ports (way.payload_at ports place joined octets)
-at_port ports None joined octets = tt
-at_port ports (Some place) joined octets = for_port ports place (slice_get ports place.0) joined octets refl
-
-in_datagram : (ports : List Port) (datagram : way.Datagram) → IfPayload ports (way.payload_in ports datagram)
-unfolding way.payload_in
+in_datagram : (ports : List Port) (datagram : way.Datagram) → IfPayload ports (way.datagram_payload ports datagram)
+unfolding way.datagram_payload
 in_datagram ports datagram =
-    after ports (way.judged (λ fault. verdicts.BadUdp) (udp_of datagram.octets)) _ (λ udp. at_port ports (port_of ports datagram.destination udp.destination_port) datagram.joined udp.payload)
+    after ports (map_err (λ fault. verdicts.BadUdp) (udp_of datagram.octets)) _ (λ udp.
+    after ports (ok_or (port_of ports datagram.destination udp.destination_port) verdicts.NoPort) _ (λ place.
+    at_port ports place (slice_get ports place.0) datagram.joined udp.payload refl))
+
+in_frame : (settings : Settings) (groups : List Group) (a : Arrival) → IfPayload settings.ports (way.frame_payload settings groups a)
+unfolding way.frame_payload
+in_frame settings groups a =
+    after settings.ports (map_err verdicts.BadHeader (packet_in a.frame)) _ (λ packet.
+    after settings.ports (way.reassembled packet (fate settings.reassembly groups packet a.time)) _ (in_datagram settings.ports))
 
 abbrev pub IfBrings : List Port → way.Outcome → Type 0
 IfBrings ports (way.brings payload) = IsOfPort ports payload
@@ -76,17 +77,18 @@ if_brought : (ports : List Port) (payload : Result way.Payload Verdict) → IfPa
 if_brought ports (Ok payload) is = is
 if_brought ports (Err verdict) is = tt
 
-if_outcome : (passing is_copy : Bool) (settings : Settings) (groups : List Group) (a : Arrival) → IfBrings settings.ports (way.outcome_if passing is_copy settings groups a)
-unfolding way.outcome_if
-if_outcome false is_copy settings groups a = tt
-if_outcome true true settings groups a = tt
-if_outcome true false settings groups a = if_brought settings.ports (way.payload_of settings groups a) (after settings.ports (way.datagram_in settings.reassembly groups a) _ (in_datagram settings.ports))
+by_steps : (passing is_copy : Bool) (settings : Settings) (groups : List Group) (a : Arrival)
+    → IfBrings settings.ports (if not passing then way.out_of_sequence else if is_copy then way.redundant else way.brought (way.frame_payload settings groups a))
+by_steps false is_copy settings groups a = tt
+by_steps true true settings groups a = tt
+by_steps true false settings groups a = if_brought settings.ports (way.frame_payload settings groups a) (in_frame settings groups a)
 
 pub brings_of_port : (link : Link) (a : Arrival) → IfBrings link.settings.ports (outcome_after link a)
+unfolding way.outcome
 brings_of_port link a =
     let o = origin_of link.settings in
     let past = past_of link in
-    if_outcome (passes o past a) (is_redundant o (forwarded o past) a) link.settings (groups_in o past) a
+    by_steps (passes o past a) (is_redundant o (forwarded o past) a) link.settings (groups_in o past) a
 
 -- ---- one event more
 

@@ -22,7 +22,7 @@ abbrev pub messages_for : PortNo → Option Delivery → List Message
 messages_for port None = []
 messages_for port (Some delivery) = if is_same_port delivery.port port then delivery.message ∷ [] else []
 
--- a message goes to a port of the link that takes one more, where its queue has room
+-- a message goes to a port of the link that takes one more, if its queue has room
 abbrev pub HasPlace : Link → Option Room → Type 0
 HasPlace link room =
     IfSome room (λ r. (port : Port) × (slice_get link.settings.ports r.port.0 ≡ Some port) × (takes_one_more port.kind true (length (deliveries_of link r.port)) ≡ true))

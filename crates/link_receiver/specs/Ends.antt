@@ -1,5 +1,5 @@
 -- The ends of a link's ports that partitions hold.
-use Rattle.std.specs.Prelude.{◌≡◌, ◌≤◌, ℕ, ◌+◌, List, [], ◌∷◌, ◌++◌, Option, None, Some}
+use Rattle.std.specs.Prelude.{◌≡◌, ◌≤◌, ℕ, ◌+◌, List, [], ◌∷◌, ◌++◌, slice_get, Option, None, Some}
 use Rattle.es_base.specs.declared.port.PortKind.{PortKind}
 use Rattle.es_base.specs.declared.port.PortKind.TheVariants.{Sampling, Queuing}
 use Rattle.es_base.specs.Port.{Port}
@@ -40,6 +40,10 @@ ends_from place [] takers = []
 -- these are the ends of ports with these queues
 abbrev pub AreEndsOf : List Port → List (Option QueueId) → List PortEnd → Type 0
 AreEndsOf ports queues ends = (takers : List (Option Known)) × AreTakersOf ports queues takers × (ends ≡ ends_from 0 ports takers)
+
+-- an end takes from the queue of its port
+abbrev pub IsOfItsQueue : List (Option QueueId) → PortEnd → Type 0
+IsOfItsQueue queues (ends.Queuing port name taker) = slice_get queues port.0 ≡ Some (Some taker.queue)
 
 -- a link before any event
 abbrev pub IsNewLink : Settings → Link → Type 0

@@ -1,6 +1,7 @@
 -- What a link's state keeps true.
-use Rattle.std.specs.Prelude.{◌≡◌, ℕ, List, reverse, length, slice_get}
+use Rattle.std.specs.Prelude.{◌≡◌, ◌≤◌, ℕ, List, reverse, length, slice_get}
 use Rattle.es_base.specs.declared.event.Event.{Event}
+use Rattle.es_base.specs.Limits.{most_events}
 use Rattle.es_base.specs.Settings.{Settings}
 use Rattle.es_base.specs.Past.{AreFramesOf, origin_of}
 use Rattle.es_base.specs.Reassembly.{groups_in}
@@ -14,6 +15,8 @@ use Rattle.link_receiver.specs.Checks.{HavePast}
 use Rattle.link_receiver.specs.Outlet.{Fits, Shows}
 
 pub record IsKept (settings : Settings) (history : List Event) (checks : Checks) (reassembly : pieces.Kept) (outlets : List Outlet) (tally : Counts) : Type 0 where
+  -- the history is within its limit
+  pub few : length history ≤ most_events
   -- the history is a run
   pub run : IsRun (origin_of settings) (reverse history)
   -- the checks stand for the history

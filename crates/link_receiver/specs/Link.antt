@@ -1,11 +1,12 @@
 -- A link's state, as callers see it.
-use Rattle.std.specs.Prelude.{◌≡◌, ℕ, Bool, List, [], ◌∷◌, ◌++◌, reverse, Option, None, if◌then◌else◌}
+use Rattle.std.specs.Prelude.{◌≡◌, ◌<◌, ℕ, Bool, List, [], ◌∷◌, ◌++◌, length, reverse, Option, None, if◌then◌else◌}
 use Rattle.es_base.specs.declared.place.PortNo.{PortNo}
 use Rattle.es_base.specs.declared.verdict.Verdict.{Verdict}
 use Rattle.es_base.specs.declared.verdict.Decision.{Decision}
 use Rattle.es_base.specs.declared.event.Arrival.{Arrival}
 use Rattle.es_base.specs.declared.event.Message.{Message}
 use Rattle.es_base.specs.declared.event.Event.{Event}
+use Rattle.es_base.specs.Limits.{most_events}
 use Rattle.es_base.specs.Settings.{Settings}
 use Rattle.es_base.specs.Port.{samples_at}
 use Rattle.es_base.specs.Past.{event_of, origin_of}
@@ -57,9 +58,10 @@ with_event link a room verdict = record link { history = link.history ++ event_o
 abbrev pub room_after : Link → Arrival → Bool
 room_after link a = room_unread (origin_of link.settings) (past_of link) a
 
--- the link took the frame: it has one event more, with what becomes of the frame after the events before
--- it, where the queue gave this answer
+-- the link took the frame: it had fewer than the most events, and has one more, with what becomes of the
+-- frame after the events before it, if the queue gave this answer
 pub record Takes (old : Link) (a : Arrival) (verdict : Verdict) (new : Link) : Type 0 where
+  pub few : length old.history < most_events
   pub room : Bool
   pub may : MayAnswer (origin_of old.settings) (past_of old) a room
   pub becomes : verdict ≡ verdict_after old a room

@@ -1,6 +1,7 @@
 -- What reassembly is offered, and what it fills.
 use Rattle.std.specs.Prelude.{◌≡◌, ℕ, ◌+◌, ◌≤◌, Bool, List, length, slice_range, Option, None, Some}
 use Rattle.es_base.specs.Packet.{PacketParts}
+use Rattle.es_base.specs.Udp.{udp_header_octets}
 use Rattle.es_base.specs.Groups.{Group, whole, fate}
 use Rattle.ip_reassembly.specs.Kept.{Kept, StandsFor}
 use Rattle.link_receiver.specs.declared.change.Delivery.{Delivery}
@@ -14,16 +15,16 @@ pub record Yields (kept : Kept) (packet : PacketParts) (now : ℕ) (len : ℕ) :
   pub octets : List ℕ
   pub joined : Bool
   pub completes : fate limit groups packet now ≡ whole octets joined
-  pub enough : 8 + len ≤ length octets
+  pub enough : udp_header_octets + len ≤ length octets
 
--- where there is room, the packet will fill it
+-- if there is room, the packet will fill it
 abbrev pub IsRoomIn : Kept → Option PacketParts → ℕ → Option Room → Type 0
 IsRoomIn kept packet now None = Unit {0}
 IsRoomIn kept packet now (Some room) = (parts : PacketParts) × (packet ≡ Some parts) × Yields kept parts now room.len
 
--- where there was room, the payload of the packet's datagram filled it
+-- if there was room, the payload of the packet's datagram filled it
 abbrev pub Fills : ℕ → List Group → Option PacketParts → ℕ → Option Room → Option Delivery → Type 0
 Fills limit groups packet now None delivery = delivery ≡ None
 Fills limit groups packet now (Some room) delivery =
     (parts : PacketParts) (octets : List ℕ) (joined : Bool) → packet ≡ Some parts → fate limit groups parts now ≡ whole octets joined
-    → delivery ≡ Some (record { port = room.port; message = record { time = now; octets = slice_range octets 8 (8 + room.len) } })
+    → delivery ≡ Some (record { port = room.port; message = record { time = now; octets = slice_range octets udp_header_octets (udp_header_octets + room.len) } })

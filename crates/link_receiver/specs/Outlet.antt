@@ -1,4 +1,4 @@
--- Where the messages of a port go: a sampling port's register, which shows the newest, or the end of a
+-- If the messages of a port go: a sampling port's register, which shows the newest, or the end of a
 -- queuing port's queue that puts.
 use Rattle.std.specs.Prelude.{◌≡◌, ◌<◌, ◌≤◌, ℕ, ◌+◌, ◌-◌, Bool, true, false, List, [], ◌∷◌, length, slice_get, slice_set, Option, None, Some}
 use Rattle.std.specs.Option.{option_map}
@@ -7,7 +7,7 @@ use Rattle.es_base.specs.declared.port.PortKind.TheVariants.{Sampling, Queuing}
 use Rattle.es_base.specs.declared.event.Message.{Message}
 use Rattle.es_base.specs.Limits.{most_samples}
 use Rattle.es_base.specs.Port.{Port}
-use Rattle.queuing_port.specs.Queue.{Holds, Known, QueueId, WasFull, opened, with_put}
+use Rattle.queuing_port.specs.Queue.{Holds, Known, QueueId, MayBeFull, opened, with_put}
 use Rattle.link_receiver.specs.declared.change.Delivery.{Delivery}
 use Rattle.link_receiver.specs.declared.register.Register.{Register}
 use Rattle.link_receiver.specs.declared.outlet.Outlet.{Outlet}
@@ -25,7 +25,7 @@ newest_in None = None
 newest_in (Some (outlets.Sampling register)) = option_map (λ message. (register.published, message)) register.newest
 newest_in (Some (outlets.Queuing queue)) = None
 
--- the queue, where there is one
+-- the queue, if there is one
 abbrev pub queue_of : Outlet → Option QueueId
 queue_of (outlets.Sampling register) = None
 queue_of (outlets.Queuing queue) = Some queue.queue
@@ -63,12 +63,12 @@ HasNumberLeft (outlets.Sampling register) = register.published < most_samples
 HasNumberLeft (outlets.Queuing queue) = Unit {0}
 
 -- the outlet after a message, and whether there was room for it: a sampling port always has room, and a
--- queue without room was full
+-- queue without room may be full, by what its putter knows
 abbrev pub Accepts : Outlet → Message → Outlet → Bool → Type 0
 Accepts (outlets.Sampling register) message after room =
     (room ≡ true) × (after ≡ outlets.Sampling (after_publishing register message))
 Accepts (outlets.Queuing queue) message after true = after ≡ outlets.Queuing (with_put queue message)
-Accepts (outlets.Queuing queue) message after false = (after ≡ outlets.Queuing queue) × WasFull queue
+Accepts (outlets.Queuing queue) message after false = (after ≡ outlets.Queuing queue) × MayBeFull queue
 
 -- a delivery comes to its port, and nothing else changes
 abbrev pub Delivers : List Outlet → List Outlet → Option Delivery → Bool → Type 0

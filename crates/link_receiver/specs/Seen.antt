@@ -1,9 +1,6 @@
 -- What a frame comes to, as the code has it: without the octets of its payload.
-use Rattle.std.specs.Prelude.{◌≡◌, Bool, true, false, List, ℕ, length, nat_lt, slice_get, Some, Result, Ok, Err, if◌then◌else◌}
-use Rattle.es_base.specs.declared.place.PortNo.{PortNo}
+use Rattle.std.specs.Prelude.{◌≡◌, Bool, true, false, List, length, slice_get, Some, Result, Ok, Err}
 use Rattle.es_base.specs.declared.verdict.Verdict.{Verdict}
-use Rattle.es_base.specs.declared.verdict.Verdict.TheVariants as verdicts
-use Rattle.es_base.specs.Returns.{◌>>=◌}
 use Rattle.es_base.specs.Port.{Port}
 use Rattle.es_base.specs.Outcome as way
 use Rattle.link_receiver.specs.declared.outcome.Payload.{Payload}
@@ -28,18 +25,6 @@ Sees OutOfSequence outcome = outcome ≡ way.out_of_sequence
 Sees Redundant outcome = outcome ≡ way.redundant
 Sees (Refused verdict) outcome = outcome ≡ way.refused verdict
 Sees (Brings seen) outcome = (payload : way.Payload) × (outcome ≡ way.brings payload) × IsPayload seen payload
-
--- the payload of a datagram, if there is one
-abbrev pub payload_after : List Port → Result way.Datagram Verdict → Result way.Payload Verdict
-payload_after ports read = do
-  datagram ← read
-  way.payload_in ports datagram
-
--- a payload for the port that stands at this place, unless it is too long
-abbrev pub fitting_payload : PortNo → Port → Bool → List ℕ → Result way.Payload Verdict
-fitting_payload place port joined octets =
-    if nat_lt port.max (length octets) then Err (verdicts.TooLong place)
-    else Ok (record { port = place; kind = port.kind; joined = joined; octets = octets })
 
 -- a payload is for one of these ports, and of its kind
 abbrev pub IsForOneOf : List Port → Payload → Type 0

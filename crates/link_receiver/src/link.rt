@@ -1,34 +1,38 @@
 //! One link's state.
-ghost use Rattle.std.specs.Prelude.{◌≡◌, IfOk, OnErr, Some, length, slice_get, true};
+ghost use Rattle.std.specs.Prelude.{◌≡◌, ◌≤◌, IfOk, OnErr, Some, length, slice_get, true};
+ghost use Rattle.std.specs.List.{All};
 ghost use Rattle.std.specs.Option.{option_map};
+ghost use Rattle.es_base.specs.Limits.{most_events};
 ghost use Rattle.es_base.specs.Frame.{IsFrame, link_number_of};
 ghost use Rattle.es_base.specs.Past.{AreFramesOf, arrived, origin_of};
 ghost use Rattle.es_base.specs.Run.{IsRun, decided, decided_at};
 ghost use Rattle.es_base.specs.Tally.{HasCounts};
 ghost use Rattle.es_base.specs.Reassembly.{groups_in, offered};
 ghost use Rattle.es_base.specs.Deliveries.{takes_one_more};
-ghost use Rattle.es_base.specs.Outcome.{Outcome as OutcomeValue, brought_by};
+ghost use Rattle.es_base.specs.Outcome.{Outcome as OutcomeValue, brought, frame_payload};
 ghost use Rattle.frame_reader.specs.Parts.{packet_parts};
 ghost use Rattle.link_deliveries.specs.Told.{AreDeliveredBefore};
 ghost use Rattle.queuing_port.specs.Queue.{Holds};
 ghost use Rattle.link_receiver.specs.Change.{HasPlace, IsChange, RoomFor};
 ghost use Rattle.link_receiver.specs.Seen.{HasPort, IsForOneOf, Sees, counts_as_forwarded};
-ghost use Rattle.link_receiver.specs.Ends.{AreEndsOf, AreTakersOf, IsNewLink, IsWithinDepth};
+ghost use Rattle.link_receiver.specs.Ends.{AreEndsOf, AreTakersOf, IsNewLink, IsOfItsQueue, IsWithinDepth};
 ghost use Rattle.link_receiver.specs.Link.{Takes, past_of, deliveries_of, newest_at};
 ghost use Rattle.link_receiver.specs.Link.{outcome_after, decision_after};
 
 use crate::change::{Change, Room};
 use crate::checks::Checks;
 use crate::ends::{PortEnd, ends_of};
+use crate::history::reserve_event;
 use crate::offer::offer;
 use crate::outcome::{Outcome, Payload};
 use crate::outlet::{Outlet, deliver, open_outlets};
 use crate::register::MOST_SAMPLES;
 use crate::verdict::{sampled, settled};
-use crate::way::{brought, counts_as_forwarded, payload_by};
+use crate::way::{brought, counts_as_forwarded, packet_payload};
 use block_list::BlockList;
 use es_base::{
-    Arrival, Decision, Event, LinkSettings, Memory, Message, Net, Octets, PortNo, Tally, Verdict,
+    Arrival, Decision, Event, LinkSettings, Memory, Message, Net, Octets, PortNo, Verdict,
+    VerdictTally,
 };
 use frame_reader::{Frame, Packet, frame_in, read_packet};
 use ip_reassembly::Reassembly;
@@ -49,7 +53,7 @@ pub struct LinkState {
     checks: Checks,
     reassembly: Reassembly,
     outlets: Vec<Outlet>,
-    tally: Tally,
+    tally: VerdictTally,
 }
 
 impl Model for LinkState {
@@ -72,17 +76,19 @@ impl Model for LinkState {
 
 impl LinkState {
     /// The state of a link with these settings and no history; and the ends of its queuing ports, in the
-    /// order of the settings.
+    /// order of the settings, each of its own port's queue.
     pub fn new(alloc: Global, settings: &LinkSettings) -> Result<(LinkState, Vec<PortEnd>), Memory>
         ensures link { IfOk result (λ opened. IsNewLink settings.now opened.0) }
         ensures ends { IfOk result (λ opened. AreEndsOf settings.now.ports opened.0.queues opened.1.items) }
+        ensures queues { IfOk result (λ opened. All (IsOfItsQueue opened.0.queues) opened.1.items) }
     {
         let (state, takers) = LinkState::open(alloc, settings)?;
         let ends = ends_of(alloc, settings.ports(), takers)?;
         Ok((state, ends))
     }
 
-    /// The same with a taker, or none, at the place of each port.
+    /// The state of a link with these settings and no history; and for each port the taker of its queue, or
+    /// none if it samples.
     pub(crate) fn open(
         alloc: Global,
         settings: &LinkSettings,
@@ -97,7 +103,7 @@ impl LinkState {
             checks: Checks::opening(settings.skew_max()),
             reassembly: Reassembly::new(alloc, settings.reassembly())?,
             outlets,
-            tally: Tally::opening(),
+            tally: VerdictTally::opening(),
         };
         Ok((state, takers))
     }
@@ -109,16 +115,18 @@ impl LinkState {
         &self.settings
     }
 
-    /// The link's events in the order in which their frames came. Each has a frame of this link.
+    /// The link's events in the order in which their frames came. Each has a frame of this link. There are
+    /// at most `MOST_EVENTS`.
     pub fn history(&self) -> &BlockList<Event>
         ensures events { result.now.items ≡ self.now.history }
         ensures run { IsRun (origin_of self.now.settings) (past_of self.now) }
         ensures frames { AreFramesOf self.now.settings (past_of self.now) }
+        ensures few { length self.now.history ≤ most_events }
     {
         &self.history
     }
 
-    /// The newest message of a sampling port, and its message number, from 1. None where none was delivered, and where
+    /// The newest message of a sampling port, and its message number, from 1. None if none was delivered, and if
     /// the port isn't sampling.
     pub fn newest(&self, port: PortNo) -> Option<(u64, &Message)>
         ensures { option_map (λ newest. (newest.0, newest.1.now)) result ≡ newest_at self.now port }
@@ -130,7 +138,7 @@ impl LinkState {
     }
 
     /// How many events came on each network with each kind of verdict.
-    pub fn tally(&self) -> &Tally
+    pub fn tally(&self) -> &VerdictTally
         ensures { HasCounts result.now (past_of self.now) }
     {
         &self.tally
@@ -144,7 +152,8 @@ impl LinkState {
         deliveries(alloc, self.settings(), self.history(), port)
     }
 
-    /// The same where it is known that no event from this place on delivered a message to the port.
+    /// The messages that were delivered to a port, in order, for a caller who knows that no event from this
+    /// place on delivered one.
     pub(crate) fn deliveries_up_to(
         &self,
         alloc: Global,
@@ -160,19 +169,19 @@ impl LinkState {
     /// A queuing port of this link and the end that takes of it meet: the taker then knows all that was
     /// delivered to the port. Returns how many of these messages it hasn't taken: at most the depth of
     /// the queue. Nothing else changes.
-    pub fn meet<R: Wait>(&mut self, rt: &R, port: PortNo, taker: &mut Taker) -> usize
+    pub fn meet_taker<R: Wait>(&mut self, rt: &R, port: PortNo, taker: &mut Taker) -> usize
         requires { slice_get self.old.queues port.0 ≡ Some (Some taker.old.queue) }
         ensures link { self.new ≡ self.old }
         ensures taker { taker.new ≡ record taker.old { put = deliveries_of self.old port } }
         ensures held { Holds taker.new result }
         ensures depth { IsWithinDepth (slice_get self.old.settings.ports port.0) result }
     {
-        self.outlets[port.0 as usize].meet(rt, taker)
+        self.outlets[port.0 as usize].meet_taker(rt, taker)
     }
 
-    /// What would become of a frame that came now, at `now` microseconds. Nothing changes.
+    /// What would become of a frame of this link that came now, at `now` microseconds. Nothing changes. The
+    /// frame's link number isn't looked at: whose frame it is, is for the caller to know.
     pub fn decide(&self, net: Net, now: u64, frame: &Frame<'_>) -> Decision
-        requires { frame.now.vl ≡ self.now.settings.vl }
         ensures { result ≡ decision_after self.now (arrived net now frame.now.whole.now) }
     {
         let (outcome, _) = self.outcome(net, now, frame);
@@ -181,7 +190,8 @@ impl LinkState {
 
     /// Takes a frame that came at `now` microseconds: the history gains one event, and the frame's
     /// verdict is returned. A message for a queuing port is put into its queue, after all memory was
-    /// taken. Where memory runs out nothing has changed.
+    /// taken. If memory runs out nothing has changed; a history of `MOST_EVENTS` events is refused one more
+    /// as if it had (own).
     pub fn take<R: Wait>(
         &mut self,
         rt: &R,
@@ -203,7 +213,7 @@ impl LinkState {
     }
 
     /// Takes a frame as `take` does, and keeps its octets themselves in place of a copy. They are those
-    /// of a frame of this link, as `read_frame` returned it. Where memory runs out they are given up.
+    /// of a frame of this link, as `read_frame` returned it. If memory runs out they are given up.
     pub fn take_arrival<R: Wait>(
         &mut self,
         rt: &R,
@@ -216,7 +226,7 @@ impl LinkState {
         ensures err { OnErr result (self.new ≡ self.old) }
     {
         let change = self.change_by(alloc, &arrival)?;
-        self.history.reserve_one(alloc)?;
+        reserve_event(&mut self.history, alloc)?;
         let Change {
             sequence_number,
             forwarded,
@@ -243,7 +253,7 @@ impl LinkState {
         let frame = frame_in(arrival.frame.as_slice());
         let (outcome, packet) = self.outcome(arrival.net, arrival.time, &frame);
         Ok(Change {
-            sequence_number: frame.number,
+            sequence_number: frame.sequence_number,
             forwarded: counts_as_forwarded(&outcome),
             packet,
             decision: self.decision(&outcome),
@@ -252,31 +262,35 @@ impl LinkState {
     }
 
     /// How far a frame that comes at `now`, in microseconds, comes on its way to a port; and the packet
-    /// that reassembly is offered, where it is taken.
-    #[tactic(auto, unfolding(es_base::specs::Outcome::outcome_if))]
+    /// that reassembly is offered, if it is offered one.
+    #[tactic(auto, unfolding(es_base::specs::Outcome::outcome))]
     fn outcome<'a>(&self, net: Net, now: u64, frame: &Frame<'a>) -> (Outcome, Option<Packet<'a>>)
         ensures value { Sees result.0 (outcome_after self.now (arrived net now frame.now.whole.now)) }
         ensures packet { option_map packet_parts result.1 ≡ offered (counts_as_forwarded result.0) frame.now.whole.now }
         ensures port { HasPort result.0 self.now.settings.ports }
     {
-        if !self.checks.passes(net, frame.number) {
+        if !self.checks.passes(net, frame.sequence_number) {
             return (Outcome::OutOfSequence, None);
         }
         let managed = self.settings.redundancy();
-        if self.checks.is_redundant(managed, frame.number, now) {
+        if self
+            .checks
+            .is_redundant(managed, frame.sequence_number, now)
+        {
             return (Outcome::Redundant, None);
         }
         self.forwarded_outcome(net, now, frame)
     }
 
-    /// The same for a frame that is forwarded.
+    /// How far a frame that is forwarded, and comes at `now`, in microseconds, comes on its way to a port; and
+    /// the packet that reassembly is offered, if its header has no fault.
     fn forwarded_outcome<'a>(
         &self,
         net: Net,
         now: u64,
         frame: &Frame<'a>,
     ) -> (Outcome, Option<Packet<'a>>)
-        ensures value { Sees result.0 (brought_by self.now.settings (groups_in (origin_of self.now.settings) (past_of self.now)) (arrived net now frame.now.whole.now)) }
+        ensures value { Sees result.0 (brought (frame_payload self.now.settings (groups_in (origin_of self.now.settings) (past_of self.now)) (arrived net now frame.now.whole.now))) }
         ensures packet { option_map packet_parts result.1 ≡ offered true frame.now.whole.now }
         ensures forwarded { counts_as_forwarded result.0 ≡ true }
         ensures port { HasPort result.0 self.now.settings.ports }
@@ -285,7 +299,7 @@ impl LinkState {
             Ok(packet) => packet,
             Err(fault) => return (Outcome::Refused(Verdict::BadHeader(fault)), None),
         };
-        let payload = payload_by(&self.settings, &self.reassembly, &packet, now);
+        let payload = packet_payload(&self.settings, &self.reassembly, &packet, now);
         (brought(payload), Some(packet))
     }
 
@@ -315,7 +329,7 @@ impl LinkState {
         }
     }
 
-    /// Room for the message that a frame with this outcome delivers, where its queue has room.
+    /// Room for the message that a frame with this outcome delivers, if its queue has room.
     fn room_for(&self, alloc: Global, outcome: &Outcome) -> Result<Option<Room>, Memory>
         requires { HasPort outcome.now self.now.settings.ports }
         ensures room { IfOk result (λ room. (is : OutcomeValue) → Sees outcome.now is → RoomFor is self.now room) }
@@ -334,7 +348,7 @@ impl LinkState {
         }))
     }
 
-    /// Whether a payload's port takes one message more, where its queue has room.
+    /// Whether a payload's port takes one message more, if its queue has room.
     fn takes_one_more(&self, payload: &Payload) -> bool
         requires { IsForOneOf self.now.settings.ports payload.now }
         ensures { result ≡ takes_one_more payload.now.kind true (length (deliveries_of self.now payload.now.port)) }

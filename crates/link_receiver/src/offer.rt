@@ -2,6 +2,7 @@
 ghost use Rattle.std.specs.Prelude.{◌≡◌, ◌+◌, ◌≤◌, ℕ, List, length, slice_range};
 ghost use Rattle.std.specs.Option.{option_map};
 ghost use Rattle.es_base.specs.Groups.{Group};
+ghost use Rattle.es_base.specs.Udp.{udp_header_octets};
 ghost use Rattle.es_base.specs.Reassembly.{groups_by};
 ghost use Rattle.frame_reader.specs.Parts.{packet_parts};
 ghost use Rattle.ip_reassembly.specs.Kept.{StandsFor};
@@ -9,14 +10,11 @@ ghost use Rattle.link_receiver.specs.Offer.{Fills, IsRoomIn};
 
 use crate::change::{Delivery, Room};
 use es_base::{Message, Octets};
-use frame_reader::Packet;
+use frame_reader::{Packet, UDP_HEADER};
 use ip_reassembly::{Offered, Reassembly};
 
-/// Where a payload stands in its datagram: after a UDP header (RFC 768).
-const PAYLOAD: usize = 8;
-
 /// Offers a packet that came at `now`, in microseconds, to reassembly. Its datagram's payload fills the
-/// room, where there is one.
+/// room, if there is one.
 pub(crate) fn offer(
     reassembly: &mut Reassembly,
     packet: Option<Packet<'_>>,
@@ -36,14 +34,14 @@ pub(crate) fn offer(
     }
 }
 
-/// The message in a datagram, of this time in microseconds.
+/// The message in a UDP datagram, after its header, of this time in microseconds (RFC 768).
 fn filled(room: Room, datagram: &[u8], time: u64) -> Delivery
-    requires { 8 + room.len ≤ length datagram.now }
-    ensures { result ≡ record { port = room.port; message = record { time = time; octets = slice_range datagram.now 8 (8 + room.len) } } }
+    requires { udp_header_octets + room.len ≤ length datagram.now }
+    ensures { result ≡ record { port = room.port; message = record { time = time; octets = slice_range datagram.now udp_header_octets (udp_header_octets + room.len) } } }
 {
     let Room { port, len, octets } = room;
     let mut octets = octets;
-    let _ = octets.extend_from_slice(&datagram[PAYLOAD..PAYLOAD + len]);
+    let _ = octets.extend_from_slice(&datagram[UDP_HEADER..UDP_HEADER + len]);
     let octets = Octets::from(octets);
     Delivery {
         port,

@@ -1,4 +1,4 @@
-//! Where the messages of a port go.
+//! If the messages of a port go.
 ghost use Rattle.std.specs.Prelude.{◌≡◌, ◌<◌, IfOk, IfSome, Some, length, slice_get, true};
 ghost use Rattle.std.specs.Option.{option_map};
 ghost use Rattle.es_base.specs.Port.{is_kind_within_limits};
@@ -12,7 +12,7 @@ use queuing_port::{Putter, Taker, meet, open_queue};
 use std::alloc::Global;
 use std::sync::Wait;
 
-/// Where the messages of a port go.
+/// If the messages of a port go.
 #[derive(Drop)]
 pub(crate) enum Outlet {
     /// A sampling port shows the newest.
@@ -57,7 +57,7 @@ fn open_outlet(alloc: Global, kind: PortKind) -> Result<(Outlet, Option<Taker>),
     }
 }
 
-/// Gives a delivery's message to its port. Returns false where the port's queue was full.
+/// Gives a delivery's message to its port. Returns false if the port's queue was full.
 pub(crate) fn deliver<R: Wait>(
     rt: &R,
     outlets: &mut Vec<Outlet>,
@@ -88,7 +88,7 @@ impl Outlet {
         }
     }
 
-    /// Takes one message more. Returns false where the queue was full; then the message is lost.
+    /// Takes one message more. Returns false if the queue was full; then the message is lost.
     fn accept<R: Wait>(&mut self, rt: &R, message: Message) -> bool
         requires { HasNumberLeft self.old }
         ensures { Accepts self.old message self.new result }
@@ -104,8 +104,9 @@ impl Outlet {
             },
         }
     }
+
     /// The end of a queue and the end that takes of it meet. Returns how many messages the queue holds.
-    pub(crate) fn meet<R: Wait>(&mut self, rt: &R, taker: &mut Taker) -> usize
+    pub(crate) fn meet_taker<R: Wait>(&mut self, rt: &R, taker: &mut Taker) -> usize
         requires { queue_of self.old ≡ Some taker.old.queue }
         ensures { Meets self.old taker.old self.new taker.new result }
     {

@@ -1,7 +1,8 @@
 //! A link whose queuing ports nobody reads.
-ghost use Rattle.std.specs.Prelude.{◌≡◌, ◌+◌, ◌++◌, ◌∷◌, [], List, IfOk, OnErr, IfSome, IfNone, false, Some, length, slice_get};
+ghost use Rattle.std.specs.Prelude.{◌≡◌, ◌<◌, ◌≤◌, ◌+◌, ◌++◌, ◌∷◌, [], List, IfOk, OnErr, OnOk, IfSome, IfNone, false, Some, length, slice_get};
 ghost use Rattle.std.specs.Option.{option_map};
 ghost use Rattle.es_base.specs.declared.event.Event.{Event};
+ghost use Rattle.es_base.specs.Limits.{most_events};
 ghost use Rattle.es_base.specs.Frame.{IsFrame, link_number_of};
 ghost use Rattle.es_base.specs.Past.{AreFramesOf, origin_of};
 ghost use Rattle.es_base.specs.Tally.{HasCounts};
@@ -15,7 +16,7 @@ ghost use Rattle.link_receiver.specs.Unread.{AreEnds, AreUnreadTakers, IsTakerAt
 
 use crate::link::LinkState;
 use block_list::BlockList;
-use es_base::{Arrival, Event, LinkSettings, Memory, Message, PortNo, Tally, Verdict};
+use es_base::{Arrival, Event, LinkSettings, Memory, Message, PortNo, Verdict, VerdictTally};
 use queuing_port::Taker;
 use std::alloc::Global;
 use std::marker::Model;
@@ -66,11 +67,13 @@ impl UnreadLink {
         self.state.settings()
     }
 
-    /// The link's events in the order in which their frames came. Each has a frame of this link.
+    /// The link's events in the order in which their frames came. Each has a frame of this link. There are
+    /// at most `MOST_EVENTS`.
     pub fn history(&self) -> &BlockList<Event>
         ensures events { result.now.items ≡ self.now.history }
         ensures run { IsRun (origin_of self.now.settings) (past_of self.now) }
         ensures frames { AreFramesOf self.now.settings (past_of self.now) }
+        ensures few { length self.now.history ≤ most_events }
     {
         self.state.history()
     }
@@ -84,7 +87,7 @@ impl UnreadLink {
     }
 
     /// How many events came on each network with each kind of verdict.
-    pub fn tally(&self) -> &Tally
+    pub fn tally(&self) -> &VerdictTally
         ensures { HasCounts result.now (past_of self.now) }
     {
         self.state.tally()
@@ -111,6 +114,7 @@ impl UnreadLink {
         requires link { link_number_of arrival.frame ≡ self.old.settings.vl.0 }
         ensures event { IfOk result (λ verdict. self.new ≡ with_event self.old arrival (room_after self.old arrival) verdict) }
         ensures verdict { IfOk result (λ verdict. verdict ≡ verdict_after self.old arrival (room_after self.old arrival)) }
+        ensures few { OnOk result (length self.old.history < most_events) }
         ensures err { OnErr result (self.new ≡ self.old) }
     {
         let verdict = self.state.take_arrival(rt, alloc, arrival)?;
@@ -159,7 +163,7 @@ fn meet_at<R: Wait>(rt: &R, state: &mut LinkState, port: PortNo, takers: &mut Ve
     }
 }
 
-/// The same with the taker at that place, if there is one.
+/// The taker of the queue of this port, if there is one, meets the end that puts.
 fn meet_if<R: Wait>(rt: &R, state: &mut LinkState, port: PortNo, taker: &mut Option<Taker>)
     requires { IsTakerAt (slice_get state.old.settings.ports port.0) (slice_get state.old.queues port.0) (Some taker.old) }
     ensures state { state.new ≡ state.old }
@@ -167,6 +171,6 @@ fn meet_if<R: Wait>(rt: &R, state: &mut LinkState, port: PortNo, taker: &mut Opt
     ensures within { IsWithinAt state.old port }
 {
     if let Some(taker) = taker {
-        state.meet(rt, port, taker);
+        state.meet_taker(rt, port, taker);
     }
 }

@@ -4,13 +4,14 @@ use Rattle.std.specs.Fmt.{decimal}
 use Rattle.hex.specs.Hex.{encode_lower}
 use Rattle.es_base.specs.declared.place.Net.{Net}
 use Rattle.es_base.specs.declared.place.LinkNo.{LinkNo}
+use Rattle.es_base.specs.Limits.{filter_causes, verdict_kinds}
 use Rattle.es_base.specs.Word.{net_word}
 use Rattle.sampling_port.specs.declared.state.Freshness.{Freshness}
 use Rattle.sampling_port.specs.Age.{freshness_word}
 
 -- ---- ports
 
--- a message's octets after a space; nothing where there are none
+-- a message's octets after a space; nothing if there are none
 abbrev pub octets_text : List ℕ → List ℕ
 octets_text [] = []
 octets_text (octet ∷ octets) = codes " " ++ encode_lower (octet ∷ octets)
@@ -43,10 +44,10 @@ unfoldable pub counts_text : ℕ → (ℕ → ℕ) → List ℕ
 counts_text zero count = []
 counts_text (suc n) count = counts_text n count ++ codes " " ++ decimal (count (suc n))
 
--- the events of a link that came on a network, by the 13 kinds of their verdicts
-abbrev pub events_text : LinkNo → Net → (ℕ → ℕ) → List ℕ
-events_text vl net count = codes "count " ++ decimal vl.0 ++ codes " " ++ net_word net ++ counts_text 13 count
+-- the events of a link that came on a network, by the kinds of their verdicts
+abbrev pub event_counts_text : LinkNo → Net → (ℕ → ℕ) → List ℕ
+event_counts_text vl net count = codes "count " ++ decimal vl.0 ++ codes " " ++ net_word net ++ counts_text verdict_kinds count
 
--- the frames of a network that were filtered, by the 5 causes
-abbrev pub filtered_text : Net → (ℕ → ℕ) → List ℕ
-filtered_text net count = codes "filtered " ++ net_word net ++ counts_text 5 count
+-- the frames of a network that were filtered, by their causes
+abbrev pub filtered_counts_text : Net → (ℕ → ℕ) → List ℕ
+filtered_counts_text net count = codes "filtered " ++ net_word net ++ counts_text filter_causes count

@@ -16,7 +16,7 @@ use Rattle.es_base.specs.Past.{origin_of}
 use Rattle.es_base.specs.Deliveries.{deliveries, newest_of}
 use Rattle.es_base.specs.Tally.{count_of}
 use Rattle.sampling_port.specs.Age.{freshness}
-use Rattle.output_lines.specs.Line.{empty_text, sample_text, queue_text, message_text, events_text, filtered_text}
+use Rattle.output_lines.specs.Line.{empty_text, sample_text, queue_text, message_text, event_counts_text, filtered_counts_text}
 
 -- every line ends with the byte 0a
 abbrev pub line : List ℕ → List ℕ
@@ -55,7 +55,7 @@ link_lines at link past = ports_lines at (λ port. deliveries (origin_of link) p
 
 -- the counts of a link's events by network and kind, on A and then on B
 abbrev pub count_lines : LinkNo → (Net → ℕ → ℕ) → List ℕ
-count_lines vl count = line (events_text vl nets.A (count nets.A)) ++ line (events_text vl nets.B (count nets.B))
+count_lines vl count = line (event_counts_text vl nets.A (count nets.A)) ++ line (event_counts_text vl nets.B (count nets.B))
 
 -- ---- all links
 
@@ -69,7 +69,7 @@ all_count_lines past_of (link ∷ links) = count_lines link.vl (count_of (past_o
 
 -- the counts of filtered frames, by network and cause
 abbrev pub filtered_lines : (Net → ℕ → ℕ) → List ℕ
-filtered_lines filtered = line (filtered_text nets.A (filtered nets.A)) ++ line (filtered_text nets.B (filtered nets.B))
+filtered_lines filtered = line (filtered_counts_text nets.A (filtered nets.A)) ++ line (filtered_counts_text nets.B (filtered nets.B))
 
 -- the report on these links at a time in microseconds: for each link its ports; then for each link its
 -- counts; then the counts of filtered frames

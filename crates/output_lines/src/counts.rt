@@ -1,10 +1,10 @@
 //! The lines of counts.
 ghost use Rattle.std.specs.Prelude.{Some};
+ghost use Rattle.es_base.specs.Limits.{filter_causes, verdict_kinds};
 ghost use Rattle.es_base.specs.Tally.{count_in};
-ghost use Rattle.es_base.specs.FilterTally.{filtered_in};
-ghost use Rattle.output_lines.specs.Line.{counts_text, events_text, filtered_text};
+ghost use Rattle.output_lines.specs.Line.{counts_text, event_counts_text, filtered_counts_text};
 
-use es_base::{FilterTally, LinkNo, Net, Tally};
+use es_base::{FILTER_CAUSES, FilterTally, LinkNo, Net, VERDICT_KINDS, VerdictTally};
 use std::fmt;
 
 /// The line of the events of a link that came on a network, by the kinds of their verdicts.
@@ -12,11 +12,11 @@ use std::fmt;
 pub struct CountLine<'a> {
     pub vl: LinkNo,
     pub net: Net,
-    pub tally: &'a Tally,
+    pub tally: &'a VerdictTally,
 }
 
 impl fmt::Display for CountLine<'_> {
-    ghost output = { λ line. Some (events_text line.vl line.net (count_in line.tally.now line.net)) };
+    ghost output = { λ line. Some (event_counts_text line.vl line.net (count_in line.tally.now line.net)) };
 
     fn fmt<W: fmt::Write>(&self, f: &mut fmt::Formatter<W>) -> fmt::Result {
         let CountLine { vl, net, tally } = *self;
@@ -25,18 +25,18 @@ impl fmt::Display for CountLine<'_> {
     }
 }
 
-/// The counts of the 13 kinds, each after a space.
+/// The counts of all kinds of verdicts, each after a space.
 #[derive(Drop)]
 struct KindCounts<'a> {
     net: Net,
-    tally: &'a Tally,
+    tally: &'a VerdictTally,
 }
 
 impl fmt::Display for KindCounts<'_> {
-    ghost output = { λ counts. Some (counts_text 13 (count_in counts.tally.now counts.net)) };
+    ghost output = { λ counts. Some (counts_text verdict_kinds (count_in counts.tally.now counts.net)) };
 
     fn fmt<W: fmt::Write>(&self, f: &mut fmt::Formatter<W>) -> fmt::Result {
-        'kinds: for before in 0..13_u8 {
+        'kinds: for before in 0..VERDICT_KINDS {
             let count = self.tally.count(self.net, before + 1);
             write!(f, " {count}")?;
         }
@@ -52,7 +52,7 @@ pub struct FilteredCountLine<'a> {
 }
 
 impl fmt::Display for FilteredCountLine<'_> {
-    ghost output = { λ line. Some (filtered_text line.net (filtered_in line.tally.now line.net)) };
+    ghost output = { λ line. Some (filtered_counts_text line.net (count_in line.tally.now line.net)) };
 
     fn fmt<W: fmt::Write>(&self, f: &mut fmt::Formatter<W>) -> fmt::Result {
         let FilteredCountLine { net, tally } = *self;
@@ -61,7 +61,7 @@ impl fmt::Display for FilteredCountLine<'_> {
     }
 }
 
-/// The counts of the 5 causes, each after a space.
+/// The counts of all causes, each after a space.
 #[derive(Drop)]
 struct CauseCounts<'a> {
     net: Net,
@@ -69,10 +69,10 @@ struct CauseCounts<'a> {
 }
 
 impl fmt::Display for CauseCounts<'_> {
-    ghost output = { λ counts. Some (counts_text 5 (filtered_in counts.tally.now counts.net)) };
+    ghost output = { λ counts. Some (counts_text filter_causes (count_in counts.tally.now counts.net)) };
 
     fn fmt<W: fmt::Write>(&self, f: &mut fmt::Formatter<W>) -> fmt::Result {
-        'causes: for before in 0..5_u8 {
+        'causes: for before in 0..FILTER_CAUSES {
             let count = self.tally.count(self.net, before + 1);
             write!(f, " {count}")?;
         }

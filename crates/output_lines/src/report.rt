@@ -1,35 +1,15 @@
 //! The blocks of the report. Each function adds its lines to a text.
 ghost use Rattle.std.specs.Prelude.{◌≡◌, ◌++◌, OnOk, length, string_bytes};
 ghost use Rattle.std.specs.Option.{option_map};
-ghost use Rattle.es_base.specs.FilterTally.{filtered_in};
-ghost use Rattle.es_base.specs.Deliveries.{newest_of};
 ghost use Rattle.es_base.specs.Tally.{count_in};
 ghost use Rattle.output_lines.specs.Line.{queue_text};
-ghost use Rattle.output_lines.specs.Report.{line, newest_lines, message_lines, port_lines, count_lines, filtered_lines};
+ghost use Rattle.output_lines.specs.Report.{line, newest_lines, message_lines, count_lines, filtered_lines};
 
 use crate::counts::{CountLine, FilteredCountLine};
 use crate::port::{EmptyLine, MessageLine, QueueLine, SampleLine};
-use es_base::{FilterTally, LinkSettings, Memory, Message, Net, PortKind, PortSettings, Tally};
+use es_base::{FilterTally, LinkSettings, Memory, Message, Net, VerdictTally};
 use sampling_port::freshness;
 use std::fmt::Write;
-
-/// The lines of a port to which these messages were delivered, at a time in microseconds.
-pub fn write_port(
-    text: &mut String,
-    at: u64,
-    port: &PortSettings,
-    messages: &[Message],
-) -> Result<(), Memory>
-    ensures { OnOk result (string_bytes text.new ≡ string_bytes text.old ++ port_lines at port.now messages.now) }
-{
-    let name = port.name().as_str();
-    match port.kind() {
-        PortKind::Sampling { refresh } => {
-            write_newest(text, at, name, refresh, newest_of(messages))
-        }
-        PortKind::Queuing { depth: _ } => write_queue(text, name, messages),
-    }
-}
 
 /// The line of a sampling port, with its newest message and that message's number. Times are in
 /// microseconds.
@@ -85,18 +65,12 @@ fn write_messages(text: &mut String, name: &str, messages: &[Message]) -> Result
     Ok(())
 }
 
-/// The newest of a sampling port's messages, and its message number.
-fn newest_of(messages: &[Message]) -> Option<(u64, &Message)>
-    ensures { option_map (λ newest. (newest.0, newest.1.now)) result ≡ newest_of messages.now }
-{
-    match messages.last() {
-        Some(message) => Some((messages.len() as u64, message)),
-        None => None,
-    }
-}
-
 /// The counts of a link's events, on A and then on B.
-pub fn write_counts(text: &mut String, link: &LinkSettings, tally: &Tally) -> Result<(), Memory>
+pub fn write_counts(
+    text: &mut String,
+    link: &LinkSettings,
+    tally: &VerdictTally,
+) -> Result<(), Memory>
     ensures { OnOk result (string_bytes text.new ≡ string_bytes text.old ++ count_lines link.now.vl (count_in tally.now)) }
 {
     let vl = link.vl();
@@ -116,7 +90,7 @@ pub fn write_counts(text: &mut String, link: &LinkSettings, tally: &Tally) -> Re
 
 /// The counts of filtered frames, on A and then on B.
 pub fn write_filtered(text: &mut String, tally: &FilterTally) -> Result<(), Memory>
-    ensures { OnOk result (string_bytes text.new ≡ string_bytes text.old ++ filtered_lines (filtered_in tally.now)) }
+    ensures { OnOk result (string_bytes text.new ≡ string_bytes text.old ++ filtered_lines (count_in tally.now)) }
 {
     let a = FilteredCountLine { net: Net::A, tally };
     let b = FilteredCountLine { net: Net::B, tally };

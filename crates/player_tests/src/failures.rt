@@ -26,10 +26,8 @@ enum Trace {
     Empty,
     /// It is `5 00`.
     Whole,
-    /// It is `5 00`, after an interrupted call and before another.
-    Interrupted,
-    /// It is `5 00`, after two interrupted calls.
-    InterruptedTwice,
+    /// It is `5 00`, after this many interrupted calls and before another.
+    Interrupted(usize),
     /// It is `5 0`.
     Odd,
     /// A read fails at once.
@@ -44,8 +42,7 @@ fn calls_of(trace: Trace) -> [ReadCall<'static>; 3] {
     match trace {
         Trace::Empty => [Gives(b""), Ends, Ends],
         Trace::Whole => [Gives(b"5 00"), Ends, Ends],
-        Trace::Interrupted => [Interrupted, Gives(b"5 00"), Interrupted],
-        Trace::InterruptedTwice => [Interrupted, Interrupted, Gives(b"5 00")],
+        Trace::Interrupted(times) => [Interrupted(times), Gives(b"5 00"), Interrupted(1)],
         Trace::Odd => [Gives(b"5 0"), Ends, Ends],
         Trace::Broken => [Gives(b""), Fails, Ends],
         Trace::BrokenWhole => [Gives(b"5 00"), Fails, Ends],
@@ -66,13 +63,14 @@ const HEX: PlayFault = PlayFault::Trace {
     cause: TraceCause::Hex,
 };
 
-fn reads() -> [Reads; 7] {
+fn reads() -> [Reads; 8] {
     use Trace::{BrokenOdd, BrokenWhole, Empty, Whole};
     [
         (Whole, Empty, Ok(()), (false, false)),
         // An interrupted call is made again, however often.
-        (Trace::Interrupted, Empty, Ok(()), (false, false)),
-        (Trace::InterruptedTwice, Empty, Ok(()), (false, false)),
+        (Trace::Interrupted(1), Empty, Ok(()), (false, false)),
+        (Trace::Interrupted(4), Empty, Ok(()), (false, false)),
+        (Trace::Interrupted(1000), Empty, Ok(()), (false, false)),
         (BrokenWhole, Empty, Err(READ_A), (true, false)),
         // A failed read comes before the fault of the text.
         (BrokenOdd, Empty, Err(READ_A), (true, false)),

@@ -1,5 +1,6 @@
 //! Tests of the player, from the bytes of two traces to the bytes of the output: worked traces, with
-//! values worked out by hand from the rules.
+//! values worked out by hand from the rules. They show how traces are merged and told, and what the player
+//! does over devices that are interrupted or fail.
 #![tactic(auto)]
 
 #[cfg(test)]

@@ -99,7 +99,7 @@ fn add_frames(rt: &impl Abort, alloc: Global, trace: &mut String, time: u64, num
     }
 }
 
-/// Adds the lines of these frames to the output, where this many frames of each link came before.
+/// Adds the lines of these frames to the output, if this many frames of each link came before.
 fn add_lines(rt: &impl Abort, output: &mut String, time: u64, place: u8) {
     for vl in 1..65_u8 {
         writeln!(output, "{time} A vl {vl} {place} no-port").expect(rt, "memory");

@@ -17,7 +17,7 @@ fn long_trace(rt: &impl Abort, alloc: Global, count: u32) -> String {
     trace
 }
 
-/// The output where both networks bring these frames.
+/// The output if both networks bring these frames.
 fn long_output(rt: &impl Abort, alloc: Global, count: u32) -> String {
     let mut output = String::new(alloc);
     for place in 0..u64::from(count) {

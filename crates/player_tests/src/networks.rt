@@ -3,7 +3,7 @@ use crate::configurations::Document::BuiltIn;
 use crate::played::{SMALLEST, Step, check_steps};
 use es_base::Net::{A, B};
 
-/// Frames of both networks: A comes first on equal times, B where it was earlier.
+/// Frames of both networks: A comes first on equal times, B if it was earlier.
 fn merged() -> [Step; 8] {
     [
         (A, 1000, SMALLEST, 7),

@@ -49,7 +49,7 @@ pub(crate) enum Wanted<'a> {
     Fault(PlayFault),
 }
 
-/// A report begins with the lines of a port, or where there are none with counts.
+/// A report begins with the lines of a port, or, if there are none, with counts.
 fn is_lines_and_report(output: &[u8], lines: &str) -> bool {
     match output.strip_prefix(lines.as_bytes()) {
         Some(report) => report.starts_with(b"port ") || report.starts_with(b"count "),

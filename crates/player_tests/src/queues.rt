@@ -36,9 +36,14 @@ fn the_first_messages_are_queued_and_later_ones_lost(rt: HostRuntime) {
     check_depth(&rt, rt.alloc(), 4);
 }
 
-/// Two fragments of one message.
+/// Two fragments of one message, in their order.
 pub(crate) fn fragments() -> [Step; 2] {
     [(A, 1000, Packet(First), 1), (A, 1100, Packet(Last), 2)]
+}
+
+/// Two fragments of one message, the last of which comes first.
+pub(crate) fn last_fragment_first() -> [Step; 2] {
+    [(A, 1000, Packet(Last), 1), (A, 1100, Packet(First), 2)]
 }
 
 #[test]

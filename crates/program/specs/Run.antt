@@ -24,7 +24,7 @@ use Rattle.program.specs.Fault.{fault_line, status_of}
 use Rattle.program.specs.Configuration.{ConfiguresBy}
 
 -- The files and the standard output, before a run and after it: what reading and opening a file do, the
--- bytes of an open file, where they are known, and the bytes of the output and whether a write failed.
+-- bytes of an open file, if they are known, and the bytes of the output and whether a write failed.
 pub record World (F T S : Type 0) : Type 1 where
   pub reads : F → List ℕ → F → Result (List ℕ) ErrorKind → Type 0
   pub opens : F → List ℕ → F → Result T ErrorKind → Type 0
@@ -35,6 +35,21 @@ pub record World (F T S : Type 0) : Type 1 where
   pub files_after : F
   pub output : S
   pub output_after : S
+
+-- the world of a call, by what its files and its output are before it and after it
+abbrev pub world : {F T S : Type 0} → (F → List ℕ → F → Result (List ℕ) ErrorKind → Type 0) → (F → List ℕ → F → Result T ErrorKind → Type 0)
+    → (T → Option (List ℕ)) → (S → Option (List ℕ)) → (S → Bool) → F → F → S → S → World F T S
+world reads opens remaining contents has_failed files files_after output output_after = record {
+  reads = reads;
+  opens = opens;
+  remaining = remaining;
+  contents = contents;
+  has_failed = has_failed;
+  files = files;
+  files_after = files_after;
+  output = output;
+  output_after = output_after;
+}
 
 -- the run ends with this, and asks nothing more
 abbrev pub Stops : {F T S X : Type 0} → World F T S → Result X RunFault → Result X RunFault → Type 0
@@ -49,7 +64,7 @@ Plays contents has_failed old new c at a b (Ok x) = Played c at a b contents has
 Plays contents has_failed old new c at a b (Err (faults.Play fault)) = Played {X = Unit {0}} c at a b contents has_failed old new (Err fault)
 Plays contents has_failed old new c at a b (Err _) = ⊥
 
--- the same between the outputs of a world
+-- two traces are played, with their report, at the output of this world
 abbrev pub PlaysIn : {F T S X : Type 0} → World F T S → Configuration → Option ℕ → Given → Given → Result X RunFault → Type 0
 PlaysIn w c at a b result = Plays w.contents w.has_failed w.output w.output_after c at a b result
 

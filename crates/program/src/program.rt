@@ -3,7 +3,7 @@ ghost use Rattle.std.specs.Prelude.{◌≡◌, Ok, false};
 ghost use Rattle.std.specs.IoError.{error_kind};
 ghost use Rattle.program.specs.Files.{answered};
 ghost use Rattle.program.specs.Outside.{words_fault};
-ghost use Rattle.program.specs.Run.{PlaysLine, PlaysWords, PlaysBuiltIn, RunsWords, Runs};
+ghost use Rattle.program.specs.Run.{PlaysLine, PlaysWords, PlaysBuiltIn, RunsWords, Runs, world};
 
 use crate::configuration::config_at;
 use crate::streams::{show, tell};
@@ -16,13 +16,13 @@ use std::sync::Wait;
 use trace_player::{Device, Sink, Source};
 use vl_config::{BUILT_IN, read_config};
 
-/// The trace of network B where the program is called with no words.
+/// The trace of network B if the program is called with no words.
 const NOTHING: &[u8] = &[];
 
 /// How a run ended.
 #[derive(Debug, Drop)]
 pub struct Ending {
-    /// The exit status: 0 where the run is done, and else that of its fault.
+    /// The exit status: 0 if the run is done, and else that of its fault.
     pub status: u8,
     /// Whether the standard error took the line of the fault.
     pub told: io::Result<()>,
@@ -47,7 +47,7 @@ pub fn run<R: Wait, F: Files, I: Source, O: Sink, E: Write>(
     requires input { I.has_failed input.old ≡ false }
     requires output { O.has_failed output.old ≡ false }
     ensures { Runs
-        (record { reads = F.reads; opens = F.opens; remaining = F.Trace.remaining; contents = O.contents; has_failed = O.has_failed; files = files.old; files_after = files.new; output = output.old; output_after = output.new })
+        (world F.reads F.opens F.Trace.remaining O.contents O.has_failed files.old files.new output.old output.new)
         (record { bytes = I.remaining input.old; failed = I.has_failed input.new })
         (answered (λ words. words.items) words) E.contents errors.old errors.new result }
 {
@@ -75,7 +75,7 @@ fn run_words<R: Wait, F: Files, I: Source, O: Sink>(
     requires input { I.has_failed input.old ≡ false }
     requires output { O.has_failed output.old ≡ false }
     ensures { RunsWords
-        (record { reads = F.reads; opens = F.opens; remaining = F.Trace.remaining; contents = O.contents; has_failed = O.has_failed; files = files.old; files_after = files.new; output = output.old; output_after = output.new })
+        (world F.reads F.opens F.Trace.remaining O.contents O.has_failed files.old files.new output.old output.new)
         (record { bytes = I.remaining input.old; failed = I.has_failed input.new })
         (answered (λ words. words.items) words) result }
 {
@@ -97,7 +97,7 @@ fn run_given<R: Wait, F: Files, I: Source, O: Sink>(
     requires input { I.has_failed input.old ≡ false }
     requires output { O.has_failed output.old ≡ false }
     ensures { RunsWords
-        (record { reads = F.reads; opens = F.opens; remaining = F.Trace.remaining; contents = O.contents; has_failed = O.has_failed; files = files.old; files_after = files.new; output = output.old; output_after = output.new })
+        (world F.reads F.opens F.Trace.remaining O.contents O.has_failed files.old files.new output.old output.new)
         (record { bytes = I.remaining input.old; failed = I.has_failed input.new })
         (Ok words.now) result }
 {
@@ -116,7 +116,7 @@ fn play_words<R: Wait, F: Files, O: Sink>(
     output: &mut O,
 ) -> Result<(), RunFault>
     requires { O.has_failed output.old ≡ false }
-    ensures { PlaysWords (record { reads = F.reads; opens = F.opens; remaining = F.Trace.remaining; contents = O.contents; has_failed = O.has_failed; files = files.old; files_after = files.new; output = output.old; output_after = output.new }) words.now result }
+    ensures { PlaysWords (world F.reads F.opens F.Trace.remaining O.contents O.has_failed files.old files.new output.old output.new) words.now result }
 {
     match line_of(alloc, words) {
         Ok(line) => play_line(rt, alloc, &line, files, output),
@@ -161,7 +161,7 @@ fn play_line<R: Wait, F: Files, O: Sink>(
     output: &mut O,
 ) -> Result<(), RunFault>
     requires { O.has_failed output.old ≡ false }
-    ensures { PlaysLine (record { reads = F.reads; opens = F.opens; remaining = F.Trace.remaining; contents = O.contents; has_failed = O.has_failed; files = files.old; files_after = files.new; output = output.old; output_after = output.new }) line.now result }
+    ensures { PlaysLine (world F.reads F.opens F.Trace.remaining O.contents O.has_failed files.old files.new output.old output.new) line.now result }
 {
     let config = config_at(alloc, files, &line.config)?;
     play_files(rt, alloc, &config, line, files, output)

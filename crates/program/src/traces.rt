@@ -2,7 +2,7 @@
 ghost use Rattle.std.specs.Prelude.{◌≡◌, Result, IfOk, false};
 ghost use Rattle.std.specs.IoError.{error_kind};
 ghost use Rattle.program.specs.Outside.{open_fault};
-ghost use Rattle.program.specs.Run.{Plays, PlaysFiles, IsOpened};
+ghost use Rattle.program.specs.Run.{Plays, PlaysFiles, IsOpened, world};
 
 use crate::{Files, RunFault};
 use command_line::Line;
@@ -23,7 +23,7 @@ pub(crate) fn play_files<R: Wait, F: Files, O: Sink>(
     output: &mut O,
 ) -> Result<(), RunFault>
     requires { O.has_failed output.old ≡ false }
-    ensures { PlaysFiles (record { reads = F.reads; opens = F.opens; remaining = F.Trace.remaining; contents = O.contents; has_failed = O.has_failed; files = files.old; files_after = files.new; output = output.old; output_after = output.new }) config.now line.now result }
+    ensures { PlaysFiles (world F.reads F.opens F.Trace.remaining O.contents O.has_failed files.old files.new output.old output.new) config.now line.now result }
 {
     let mut a = open_trace(files, Net::A, &line.a)?;
     let mut b = open_trace(files, Net::B, &line.b)?;

@@ -1,5 +1,6 @@
 //! Tests of the whole program, in memory: what it prints and how it ends, for words, files and streams of
-//! all kinds.
+//! all kinds. They show the texts that no contract names, those of `clap` and of a configuration's faults, and
+//! that a run ends with the status of its fault.
 #![tactic(auto)]
 
 #[cfg(test)]

@@ -143,7 +143,7 @@ fn writer_of<'a>(alloc: Global, calls: &'a [WriteCall]) -> ScriptedWriter<'a> {
     }
 }
 
-/// A run with these words and with what is given comes to this. Where the standard error fails it is not
+/// A run with these words and with what is given comes to this. If the standard error fails it is not
 /// told.
 pub(crate) fn check_given(
     rt: &(impl Abort + Wait),

@@ -60,7 +60,7 @@ fn a_stream_that_fails_has_its_words_and_status(rt: HostRuntime) {
     }
 }
 
-/// The status is that of the fault also where its line can't be written.
+/// The status is that of the fault, even if its line can't be written.
 fn check_untold(rt: &(impl Abort + Wait), alloc: Global) {
     let words = Ok(Vec::new(alloc));
     let given = Given {

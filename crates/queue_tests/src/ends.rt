@@ -1,4 +1,4 @@
-//! The two ends of a queue: what they know when they meet, and where one of them is gone.
+//! The two ends of a queue: what they know when they meet, and what is left if one of them is gone.
 ghost use Rattle.std.specs.Prelude.{◌≡◌};
 
 use crate::messages::{open, put, put_each, take, take_each, take_nothing};

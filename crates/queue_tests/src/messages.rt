@@ -42,13 +42,13 @@ fn message_at(rt: &impl Abort, alloc: Global, time: u64) -> Message {
     message(rt, alloc, time, octet_of(time), 2)
 }
 
-/// The two messages are the same.
+/// The message has the time and the octets that are wanted.
 pub(crate) fn check_same(rt: &impl Abort, message: &Message, wanted: &Message) {
     let is_same = message.octets.as_slice() == wanted.octets.as_slice();
     assert!(rt; is_same && message.time == wanted.time, "{wanted:?}");
 }
 
-/// Puts a message. Where the queue is full it is handed back.
+/// Puts a message. If the queue is full it is handed back.
 pub(crate) fn put_message(rt: &impl Wait, putter: &mut Putter, message: Message) -> Option<Message>
     ensures { putter.new.queue ≡ putter.old.queue }
 {

@@ -35,7 +35,7 @@ fn a_queue_holds_as_many_messages_as_its_depth(rt: HostRuntime) {
     }
 }
 
-/// A message of this many octets is the same when it is taken.
+/// A message of this many octets comes out with its time and its octets.
 fn check_length(rt: &(impl Abort + Wait), alloc: Global, len: u16) {
     let (mut putter, mut taker) = open(rt, alloc, 1);
     let back = put_message(rt, &mut putter, message(rt, alloc, 7, 0xa5, len as usize));
@@ -54,12 +54,35 @@ fn check_refusal(rt: &(impl Abort + Wait), alloc: Global) {
     let (mut putter, mut taker) = open(rt, alloc, 1);
     put_each(rt, alloc, &mut putter, &[(1000, true), (1100, false)]);
     take(rt, alloc, &mut taker, 1000);
+    take_nothing(rt, &mut taker);
     put(rt, alloc, &mut putter, 1200, true);
+    take(rt, alloc, &mut taker, 1200);
+    take_nothing(rt, &mut taker);
 }
 
 #[test]
 fn a_message_is_refused_and_room_made_for_the_next(rt: HostRuntime) {
     check_refusal(&rt, rt.alloc());
+}
+
+/// How many messages a full queue refuses one after another.
+const MANY: u64 = 1000;
+
+/// Whatever was refused before, a message that is taken makes room, though the ends don't meet.
+fn check_refusals(rt: &(impl Abort + Wait), alloc: Global) {
+    let (mut putter, mut taker) = open(rt, alloc, 1);
+    put(rt, alloc, &mut putter, 1, true);
+    for refused in 0..MANY {
+        put(rt, alloc, &mut putter, 2 + refused, false);
+    }
+    take(rt, alloc, &mut taker, 1);
+    put(rt, alloc, &mut putter, 2, true);
+    take(rt, alloc, &mut taker, 2);
+}
+
+#[test]
+fn a_queue_that_refused_many_messages_takes_one_again(rt: HostRuntime) {
+    check_refusals(&rt, rt.alloc());
 }
 
 fn check_order(rt: &(impl Abort + Wait), alloc: Global) {

@@ -28,30 +28,32 @@ with_put putter message = record putter { put = putter.put ++ message ∷ [] }
 abbrev pub with_taken : Known → Message → Known
 with_taken taker message = record taker { taken = taker.taken ++ message ∷ [] }
 
--- ---- what the queue holds at one moment of a call
+-- ---- what the queue may hold at one moment of a call, as far as one end knows
 
 abbrev pub BeginsWith : List Message → List Message → Type 0
 BeginsWith messages first = (rest : List Message) × (messages ≡ first ++ rest)
 
--- what a putter finds that put these messages, and knows of these that they were taken
+-- a putter that put these messages, and knows of these that they were taken, may find these held
 abbrev pub PutterFinds : List Message → List Message → List Message → Type 0
 PutterFinds put known held = (taken : List Message) × (put ≡ taken ++ held) × BeginsWith taken known
 
--- what a taker finds that took these messages, and knows of these that they were put
+-- a taker that took these messages, and knows of these that they were put, may find these held
 abbrev pub TakerFinds : List Message → List Message → List Message → Type 0
 TakerFinds taken known held = (put : List Message) × (put ≡ taken ++ held) × BeginsWith put known
 
--- at one moment it was full
-abbrev pub WasFull : Known → Type 0
-WasFull putter = (held : List Message) × (length held ≡ putter.depth) × PutterFinds putter.put putter.taken held
+-- As far as this putter knows, the queue may be full: as many messages as its depth were put that it
+-- doesn't know to be taken. Whether the queue is full, it can't know.
+abbrev pub MayBeFull : Known → Type 0
+MayBeFull putter = (held : List Message) × (length held ≡ putter.depth) × PutterFinds putter.put putter.taken held
 
--- at one moment it was empty
-abbrev pub WasEmpty : Known → Type 0
-WasEmpty taker = TakerFinds taker.taken taker.put []
+-- As far as this taker knows, the queue may be empty: it took all messages that it knows to be put.
+abbrev pub MayBeEmpty : Known → Type 0
+MayBeEmpty taker = TakerFinds taker.taken taker.put []
 
--- at one moment this message was the oldest in it: the next of the put list
-abbrev pub WasOldest : Known → Message → Type 0
-WasOldest taker message = (later : List Message) × TakerFinds taker.taken taker.put (message ∷ later)
+-- As far as this taker knows, this message may be the oldest in the queue: it is the next of the put list
+-- after those that were taken, or that list isn't known so far.
+abbrev pub MayBeOldest : Known → Message → Type 0
+MayBeOldest taker message = (later : List Message) × TakerFinds taker.taken taker.put (message ∷ later)
 
 -- of one whose both lists are known: it holds so many messages, those that were put and not taken
 abbrev pub Holds : Known → ℕ → Type 0

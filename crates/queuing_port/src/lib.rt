@@ -18,7 +18,7 @@ mod rule;
 ghost use Rattle.std.specs.Prelude.{◌≡◌, ◌+◌, ◌<◌, ◌≤◌, true, length, slice_get, IfOk, OnOk, IfErr, OnErr, IfSome, IfNone, IsOk};
 ghost use Rattle.es_base.specs.Port.{is_kind_within_limits};
 ghost use Rattle.es_base.specs.declared.port.PortKind.TheVariants.{Queuing};
-ghost use Rattle.queuing_port.specs.Queue.{Holds, WasEmpty, WasFull, WasOldest, opened, with_put, with_taken};
+ghost use Rattle.queuing_port.specs.Queue.{Holds, MayBeEmpty, MayBeFull, MayBeOldest, opened, with_put, with_taken};
 
 use crate::rule::{Ends, Looks, Puts, Queue, Right, Spare, Takes};
 use es_base::{Memory, Message};
@@ -121,14 +121,16 @@ pub fn meet<R: Wait>(rt: &R, putter: &mut Putter, taker: &mut Taker) -> usize
 }
 
 impl Putter {
-    /// Puts a message at the end of the queue. `Err` hands the message back, and only where the queue was
-    /// full at one moment of the call: never in the first `depth` puts, and never where fewer than
-    /// `depth` messages were put and not taken when the ends met, with the puts since then.
+    /// Puts a message at the end of the queue. `Err` hands the message back. By the rule of the queue that
+    /// happens only if the queue was full at one moment of the call. The contract says the part of it that
+    /// this end can know: no message is handed back in the first `depth` puts, nor as long as fewer than
+    /// `depth` messages were put that this end doesn't know to be taken. What was taken it learns as the
+    /// ends meet.
     pub fn put<R: Wait>(&mut self, rt: &R, message: Message) -> Result<(), Message>
         ensures ok { OnOk result (self.new ≡ with_put self.old message) }
         ensures err { IfErr result (λ back. (back ≡ message) × (self.new ≡ self.old)) }
-        ensures full { OnErr result (WasFull self.old) }
-        ensures room { length self.old.put < length self.old.taken + self.old.depth → IsOk result }
+        ensures may_be_full { OnErr result (MayBeFull self.old) }
+        ensures room_is_known { length self.old.put < length self.old.taken + self.old.depth → IsOk result }
     {
         let Putter { queue, right } = self;
         queue.push_as::<Puts, R>(rt, right, message)
@@ -136,14 +138,16 @@ impl Putter {
 }
 
 impl Taker {
-    /// Takes the oldest message. None only where the queue was empty at one moment of the call: never
-    /// while this end knows of a message that was put and that it hasn't taken.
+    /// Takes the oldest message. By the rule of the queue there is none only if the queue was empty at one
+    /// moment of the call. The contract says the part of it that this end can know: there is one as long
+    /// as this end knows of a message that was put and that it hasn't taken, and then it is the next of
+    /// those. What was put it learns as the ends meet.
     pub fn take<R: Wait>(&mut self, rt: &R) -> Option<Message>
         ensures some { IfSome result (λ message. self.new ≡ with_taken self.old message) }
-        ensures oldest { IfSome result (WasOldest self.old) }
+        ensures may_be_oldest { IfSome result (MayBeOldest self.old) }
         ensures none { IfNone result (self.new ≡ self.old) }
-        ensures empty { IfNone result (WasEmpty self.old) }
-        ensures known { length self.old.taken < length self.old.put →
+        ensures may_be_empty { IfNone result (MayBeEmpty self.old) }
+        ensures next_is_known { length self.old.taken < length self.old.put →
             result ≡ slice_get self.old.put (length self.old.taken) }
     {
         let Taker { queue, right } = self;

@@ -1,4 +1,4 @@
-//! Bytes that are no digits, and odd numbers of digits: the fault is that of `hex`, at the same line.
+//! Bytes that are no digits, and odd numbers of digits: the fault is that of `hex`, at their line.
 use crate::patterns::{digits, fault_at, octets, read};
 use hex::FromHexError;
 use hex_trace::{TraceCause, decode_digits};
@@ -93,6 +93,20 @@ fn check_counts(rt: &impl Abort, alloc: Global) {
 #[test]
 fn an_odd_number_of_digits_is_refused(rt: HostRuntime) {
     check_counts(&rt, rt.alloc());
+}
+
+/// The second line of a trace is refused for this.
+fn check_second_line(rt: &impl Abort, alloc: Global, trace: &[u8], cause: TraceCause) {
+    let fault = read(alloc, trace, &mut Vec::new(alloc)).err();
+    assert!(rt; fault == Some(fault_at(2, cause)), "{trace:?}");
+}
+
+/// Each second line has a time below that of the first.
+#[test]
+fn bad_digits_come_before_a_time_that_falls(rt: HostRuntime) {
+    check_second_line(&rt, rt.alloc(), b"10 00\n5 0g", TraceCause::Hex);
+    check_second_line(&rt, rt.alloc(), b"10 00\n5 0", TraceCause::Hex);
+    check_second_line(&rt, rt.alloc(), b"10 00\n5 00", TraceCause::Falls);
 }
 
 /// The first of two faults is the one that is told: the odd number, and then the first bad byte.

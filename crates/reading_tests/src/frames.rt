@@ -83,7 +83,7 @@ fn frames_are_refused_by_their_first_fault(rt: HostRuntime) {
 
 fn check_smallest_frame(rt: &impl Abort, frame: &Frame<'_>) {
     check_field(rt, "link number", u64::from(frame.vl.0), 17);
-    check_field(rt, "sequence number", u64::from(frame.number), 7);
+    check_field(rt, "sequence number", u64::from(frame.sequence_number), 7);
     check_field(rt, "octets inside", frame.inner.len() as u64, 45);
     check_field(rt, "octets", frame.whole.len() as u64, 60);
 }

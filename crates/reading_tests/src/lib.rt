@@ -1,5 +1,6 @@
 //! Tests of how traces, frames, IPv4 packets and UDP datagrams are read, with values worked out by hand
-//! from the formats and the wire layouts.
+//! from the formats and the wire layouts. They show that the definitions read each field where the standards
+//! have it, and which of two faults is the first.
 #![tactic(auto)]
 
 #[cfg(test)]

@@ -52,7 +52,7 @@ fn the_smallest_packet_is_read_field_by_field(rt: HostRuntime) {
     check_smallest_datagram(&rt, &packet);
 }
 
-/// The first 8 octets, with zeros where there are fewer.
+/// The first 8 octets, with zeros if there are fewer.
 fn head_of(octets: &[u8]) -> [u8; 8] {
     let mut head = [0; 8];
     for i in 0..octets.len().min(8) {
@@ -82,7 +82,7 @@ fn a_udp_header_is_read_in_the_first_octets(rt: HostRuntime) {
 /// The IPv4 header of a fragment, and its offset in octets.
 type Fragment = (&'static str, u32);
 
-/// Identification 2, more fragments, offset 8; and the same at the greatest offset.
+/// Identification 2 and more fragments: at offset 8, and at the greatest offset.
 fn fragments() -> [Fragment; 2] {
     [
         ("45000020000220010111add70a010101e0e00011", 8),

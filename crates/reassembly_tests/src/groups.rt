@@ -60,6 +60,12 @@ fn touched_between() -> [Step; 3] {
     ]
 }
 
+/// The last fragment comes with a time that is earlier than that of the first one, by more than the limit:
+/// the age is 0.
+fn earlier_by_more_than_the_limit() -> [Step; 2] {
+    [(First, 100_000, Held), (Last, 49_999, Completed)]
+}
+
 /// A fragment of another key after the limit; the last piece comes with an earlier time.
 fn another_key_between() -> [Step; 3] {
     [
@@ -77,7 +83,7 @@ fn another_destination() -> [Step; 2] {
     [(First, 1000, Held), (LastToAnother, 1100, Held)]
 }
 
-/// A datagram that is whole has the same identification.
+/// A datagram that is whole comes between, with the identification of both.
 fn whole_between() -> [Step; 3] {
     let alone = "1389138a001900000102030405060708090a0b0c0d0e0f1011";
     [
@@ -99,6 +105,7 @@ fn the_age_is_that_of_the_first_piece(rt: HostRuntime) {
     check(&rt, rt.alloc(), &at_the_limit());
     check(&rt, rt.alloc(), &after_the_limit());
     check(&rt, rt.alloc(), &touched_between());
+    check(&rt, rt.alloc(), &earlier_by_more_than_the_limit());
 }
 
 #[test]

@@ -1,4 +1,8 @@
 //! Frames given to the receiver of a link, each with its verdict.
+ghost use Rattle.std.specs.Prelude.{◌≡◌};
+ghost use Rattle.std.specs.List.{All};
+ghost use Rattle.link_receiver.specs.Ends.{IsOfItsQueue};
+
 use es_base::{Decision, LinkSettings, Net, PortNo, Verdict};
 use frame_reader::read_frame;
 use link_receiver::{LinkState, PortEnd};
@@ -19,12 +23,16 @@ pub(crate) fn opened_with(
     rt: &impl Abort,
     alloc: Global,
     settings: &LinkSettings,
-) -> (LinkState, Vec<PortEnd>) {
+) -> (LinkState, Vec<PortEnd>)
+    ensures { All (IsOfItsQueue result.0.queues) result.1.items }
+{
     LinkState::new(alloc, settings).expect(rt, "memory")
 }
 
 /// A new receiver of this link, and the other ends of its queues.
-pub(crate) fn opened(rt: &impl Abort, alloc: Global, link: Link) -> (LinkState, Vec<PortEnd>) {
+pub(crate) fn opened(rt: &impl Abort, alloc: Global, link: Link) -> (LinkState, Vec<PortEnd>)
+    ensures { All (IsOfItsQueue result.0.queues) result.1.items }
+{
     let settings = link.settings(alloc).expect(rt, "settings");
     opened_with(rt, alloc, &settings)
 }
@@ -37,7 +45,9 @@ fn receive(
     net: Net,
     now: u64,
     octets: &[u8],
-) -> Verdict {
+) -> Verdict
+    ensures { state.new.queues ≡ state.old.queues }
+{
     let frame = read_frame(CONSTANT, octets).expect(rt, "a frame");
     assert!(rt; frame.vl == state.settings().vl());
     state.take(rt, alloc, net, now, &frame).expect(rt, "memory")
@@ -49,7 +59,6 @@ pub(crate) fn decision_of(rt: &impl Abort, alloc: Global, udp: &str) -> Decision
     let texts = [ETHERNET, IP, udp, PAYLOAD];
     let octets = frame_of(alloc, &texts, 1).expect(rt, "octets");
     let frame = read_frame(CONSTANT, &octets).expect(rt, "a frame");
-    assert!(rt; frame.vl == state.settings().vl());
     state.decide(Net::A, 1000, &frame)
 }
 
@@ -63,7 +72,9 @@ pub(crate) fn check_frame(
     alloc: Global,
     state: &mut LinkState,
     row: FrameRow<'_>,
-) {
+)
+    ensures { state.new.queues ≡ state.old.queues }
+{
     let (net, now, sequence_number, ip, udp, payload, verdict) = row;
     let texts = [ETHERNET, ip, udp, payload];
     let frame = frame_of(alloc, &texts, sequence_number).expect(rt, "octets");
@@ -117,7 +128,7 @@ pub(crate) fn check_steps_of(rt: &(impl Abort + Wait), alloc: Global, link: Link
     }
 }
 
-/// The same for the built-in configuration's link.
+/// A new receiver of the built-in configuration's link gives smallest frames these verdicts.
 pub(crate) fn check_steps(rt: &(impl Abort + Wait), alloc: Global, steps: &[Step]) {
     check_steps_of(rt, alloc, LINK, steps);
 }

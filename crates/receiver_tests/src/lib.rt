@@ -1,5 +1,6 @@
 //! Tests of the receiver of one link, from the octets of a frame to its verdict, the newest messages and
-//! what its history delivered: worked frames, with values worked out by hand from the rules.
+//! what its history delivered: worked frames, with values worked out by hand from the rules. They show that
+//! the definitions mean what the standards and this profile say, and that no link gives up after a while.
 #![tactic(auto)]
 
 #[cfg(test)]
@@ -18,6 +19,8 @@ mod histories;
 mod integrity;
 #[cfg(test)]
 mod many;
+#[cfg(test)]
+mod meetings;
 #[cfg(test)]
 mod messages;
 #[cfg(test)]

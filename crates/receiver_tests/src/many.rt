@@ -1,13 +1,14 @@
 //! Many frames of one link.
 use crate::frames::{POS, check_step, opened};
 use es_base::{Net, Verdict};
+use link_receiver::LinkState;
 use std::alloc::Global;
 use std::process::Abort;
 use std::sync::Wait;
 use test_inputs::{LINK, sequence_number_at};
 
-/// A new receiver takes this many frames, one a microsecond, and each becomes a message.
-fn check_many(rt: &(impl Abort + Wait), alloc: Global, count: u32) {
+/// A new receiver that took this many frames, one a microsecond, each of which became a message.
+fn taken(rt: &(impl Abort + Wait), alloc: Global, count: u32) -> LinkState {
     let (mut state, _) = opened(rt, alloc, LINK);
     for place in 0..count {
         let time = u64::from(place);
@@ -15,6 +16,11 @@ fn check_many(rt: &(impl Abort + Wait), alloc: Global, count: u32) {
         let step = (Net::A, time, sequence_number_at(place), verdict);
         check_step(rt, alloc, &mut state, step);
     }
+    state
+}
+
+fn check_many(rt: &(impl Abort + Wait), alloc: Global, count: u32) {
+    let state = taken(rt, alloc, count);
     assert!(rt; state.history().len() == count as usize);
     let last = state.history().last().expect(rt, "an event");
     assert!(rt; last.time == u64::from(count).wrapping_sub(1));
@@ -23,4 +29,19 @@ fn check_many(rt: &(impl Abort + Wait), alloc: Global, count: u32) {
 #[test]
 fn a_link_takes_a_hundred_thousand_frames(rt: HostRuntime) {
     check_many(&rt, rt.alloc(), 100_000);
+}
+
+/// A new receiver takes this many frames, and all their messages are among its deliveries.
+fn check_many_deliveries(rt: &(impl Abort + Wait), alloc: Global, count: u32) {
+    let state = taken(rt, alloc, count);
+    let messages = state.deliveries(alloc, POS).expect(rt, "memory");
+    assert!(rt; messages.len() == count as usize);
+    for (place, message) in messages.iter().enumerate() {
+        assert!(rt; message.time == place as u64);
+    }
+}
+
+#[test]
+fn a_history_of_a_thousand_frames_delivers_a_thousand_messages(rt: HostRuntime) {
+    check_many_deliveries(&rt, rt.alloc(), 1000);
 }

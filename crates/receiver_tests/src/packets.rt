@@ -43,7 +43,7 @@ pub(crate) fn check_packets_of(
     check_packets(rt, alloc, &mut state, rows);
 }
 
-/// The same for the built-in configuration's link.
+/// A new receiver of the built-in configuration's link gives these packets these verdicts.
 pub(crate) fn check_packet_rows(rt: &(impl Abort + Wait), alloc: Global, rows: &[PacketRow]) {
     check_packets_of(rt, alloc, LINK, rows);
 }

@@ -40,7 +40,8 @@ fn check_queued(
     check_taken(rt, alloc, &mut taker, time, payload);
 }
 
-/// The same for packets, each in a frame of 60 octets.
+/// A new receiver gives these packets, each in a frame of 60 octets, these verdicts, and then the taker of
+/// `nav` takes one message, of this time in microseconds and with this payload.
 fn check_joined(
     rt: &(impl Abort + Wait),
     alloc: Global,

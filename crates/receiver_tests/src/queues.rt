@@ -149,7 +149,7 @@ fn no_taker() -> [Step; 6] {
     ]
 }
 
-/// What is decided of a frame is final where no queue is asked.
+/// What is decided of a frame is final if no queue is asked.
 #[test]
 fn a_queue_is_asked_for_its_own_port_alone(rt: HostRuntime) {
     let sampled = decision_of(&rt, rt.alloc(), UDP);

@@ -1,5 +1,7 @@
-//! Redundancy management of one link: the first copy of each frame is forwarded (ARINC 664 Part 7,
-//! redundancy management; order and table own). No memory is taken.
+//! Redundancy management of one link: the first copy of each frame is forwarded, and the others are redundant
+//! (ARINC 664 Part 7, redundancy management; order and table own). A `Redundancy` stands for all frames that
+//! were forwarded, and keeps two numbers of them; what it says is what the definition says of the whole list.
+//! No memory is taken.
 #![tactic(auto)]
 
 ghost use Rattle.std.specs.Prelude.{◌≡◌, ℕ, List, [], ◌∷◌};

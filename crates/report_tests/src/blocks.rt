@@ -1,6 +1,6 @@
 //! Blocks of the report, each from what a link knows.
-use es_base::{FilterTally, Message, Octets, PortKind, PortName, PortSettings, Tally};
-use output_lines::{write_counts, write_filtered, write_port};
+use es_base::{FilterTally, Message, Octets, VerdictTally};
+use output_lines::{write_counts, write_filtered, write_newest, write_queue};
 use std::alloc::Global;
 use std::process::Abort;
 use test_inputs::LINK;
@@ -22,55 +22,49 @@ fn messages(rt: &impl Abort, alloc: Global) -> [Message; 3] {
     ]
 }
 
-/// A port of this kind for three octets at most.
-fn port_of(name: &str, kind: PortKind) -> Option<PortSettings> {
-    PortSettings::new(PortName::new(name)?, 0xe0e0_0011, 5000, 3, kind)
+/// The line at `at` microseconds of a sampling port that refreshes after 200 microseconds, after this number
+/// of messages.
+fn check_newest(rt: &impl Abort, alloc: Global, at: u64, count: usize, line: &str) {
+    let messages = messages(rt, alloc);
+    let newest = messages[..count.min(3)].last();
+    let newest = newest.map(|message| (count as u64, message));
+    let mut text = String::new(alloc);
+    let answer = write_newest(&mut text, at, "pos", 200, newest);
+    assert!(rt; answer.is_ok());
+    assert!(rt; text.as_str() == line, "{text}");
 }
 
-/// The lines of a port at `at` microseconds are these, after this number of messages.
-fn check_port(
-    rt: &impl Abort,
-    alloc: Global,
-    (name, kind): (&str, PortKind),
-    at: u64,
-    count: usize,
-    lines: &str,
-) {
-    let port = port_of(name, kind).expect(rt, "a port");
+#[test]
+fn a_sampling_port_shows_its_newest_message(rt: HostRuntime) {
+    check_newest(&rt, rt.alloc(), 0, 0, "port pos sampling empty\n");
+    let fresh = "port pos sampling 2 1100 0 fresh\n";
+    check_newest(&rt, rt.alloc(), 1300, 2, fresh);
+    let stale = "port pos sampling 3 1300 1 stale a0\n";
+    check_newest(&rt, rt.alloc(), 1501, 3, stale);
+}
+
+/// The lines of a queuing port, after this number of messages.
+fn check_queue(rt: &impl Abort, alloc: Global, count: usize, lines: &str) {
     let messages = messages(rt, alloc);
     let mut text = String::new(alloc);
-    let answer = write_port(&mut text, at, &port, &messages[..count.min(3)]);
+    let answer = write_queue(&mut text, "nav", &messages[..count.min(3)]);
     assert!(rt; answer.is_ok());
     assert!(rt; text.as_str() == lines, "{text}");
 }
 
-/// A sampling port that refreshes after 200 microseconds.
-const POS: (&str, PortKind) = ("pos", PortKind::Sampling { refresh: 200 });
-
-const NAV: (&str, PortKind) = ("nav", PortKind::Queuing { depth: 4 });
-
-#[test]
-fn a_sampling_port_shows_its_newest_message(rt: HostRuntime) {
-    check_port(&rt, rt.alloc(), POS, 0, 0, "port pos sampling empty\n");
-    let fresh = "port pos sampling 2 1100 0 fresh\n";
-    check_port(&rt, rt.alloc(), POS, 1300, 2, fresh);
-    let stale = "port pos sampling 3 1300 1 stale a0\n";
-    check_port(&rt, rt.alloc(), POS, 1501, 3, stale);
-}
-
 #[test]
 fn a_queuing_port_shows_all_its_messages_in_order(rt: HostRuntime) {
-    check_port(&rt, rt.alloc(), NAV, 0, 0, "port nav queuing 0\n");
+    check_queue(&rt, rt.alloc(), 0, "port nav queuing 0\n");
     let lines =
         "port nav queuing 3\nmessage nav 1000 2 0102\nmessage nav 1100 0\nmessage nav 1300 1 a0\n";
-    check_port(&rt, rt.alloc(), NAV, 0, 3, lines);
+    check_queue(&rt, rt.alloc(), 3, lines);
 }
 
-/// The counts of link 17 and the filtered frames, where there were none, are these four lines.
+/// The counts of link 17 and of filtered frames, before any frame came, are these four lines.
 fn check_zeros(rt: &impl Abort, alloc: Global) {
     let link = LINK.settings(alloc).expect(rt, "settings");
     let mut text = String::new(alloc);
-    let counts = write_counts(&mut text, &link, &Tally::opening());
+    let counts = write_counts(&mut text, &link, &VerdictTally::opening());
     let filtered = write_filtered(&mut text, &FilterTally::opening());
     assert!(rt; counts.is_ok() && filtered.is_ok());
     assert!(rt; text.as_str() == ZEROS, "{text}");

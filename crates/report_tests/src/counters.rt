@@ -1,43 +1,34 @@
 //! Counts of events and of filtered frames.
 use es_base::Net::{A, B};
-use es_base::{FilterCause, FilterTally, Net, Tally};
+use es_base::{FILTER_CAUSES, FilterCause, FilterTally, Net, VERDICT_KINDS, VerdictTally};
 use std::process::Abort;
 
 /// One more event on this network with a verdict of this kind.
-fn add(rt: &impl Abort, tally: &mut Tally, net: Net, kind: u8) {
-    assert!(rt; 1 <= kind && kind <= 13);
-    assert!(rt; tally.count(net, kind) < u64::MAX);
+fn add(rt: &impl Abort, tally: &mut VerdictTally, net: Net, kind: usize) {
+    assert!(rt; 1 <= kind && kind <= VERDICT_KINDS);
     tally.add(net, kind);
 }
 
 /// The network and the kind of each event.
-fn events() -> [(Net, u8); 6] {
+fn events() -> [(Net, usize); 6] {
     [(A, 10), (B, 2), (A, 10), (A, 1), (B, 13), (A, 13)]
 }
 
-/// How many of these events there are of each kind, from kind 1 on.
-fn events_of(net: Net) -> [u64; 13] {
-    match net {
-        A => [1, 0, 0, 0, 0, 0, 0, 0, 0, 2, 0, 0, 1],
-        B => [0, 1, 0, 0, 0, 0, 0, 0, 0, 0, 0, 0, 1],
-    }
-}
-
-fn check_counts(rt: &impl Abort, tally: &Tally, net: Net) {
-    let wanted = events_of(net);
-    for place in 0..13_u8 {
-        let count = tally.count(net, place + 1);
-        assert!(rt; count == wanted[place as usize], "{net:?} {place}");
+/// The tally has these counts of events on a network, from kind 1 on.
+fn check_counts(rt: &impl Abort, tally: &VerdictTally, net: Net, wanted: [u64; VERDICT_KINDS]) {
+    for before in 0..VERDICT_KINDS {
+        let count = tally.count(net, before + 1);
+        assert!(rt; count == wanted[before], "{net:?} {before}");
     }
 }
 
 fn check_events(rt: &impl Abort) {
-    let mut tally = Tally::opening();
+    let mut tally = VerdictTally::opening();
     for (net, kind) in events() {
         add(rt, &mut tally, net, kind);
     }
-    check_counts(rt, &tally, A);
-    check_counts(rt, &tally, B);
+    check_counts(rt, &tally, A, [1, 0, 0, 0, 0, 0, 0, 0, 0, 2, 0, 0, 1]);
+    check_counts(rt, &tally, B, [0, 1, 0, 0, 0, 0, 0, 0, 0, 0, 0, 0, 1]);
 }
 
 #[test]
@@ -55,29 +46,21 @@ fn filtered() -> [(Net, FilterCause); 4] {
     ]
 }
 
-/// How many of these frames there are with a cause of each kind, from kind 1 on.
-fn filtered_of(net: Net) -> [u64; 5] {
-    match net {
-        A => [2, 0, 1, 0, 0],
-        B => [0, 0, 0, 0, 1],
-    }
-}
-
-fn check_filtered(rt: &impl Abort, tally: &FilterTally, net: Net) {
-    let wanted = filtered_of(net);
-    for place in 0..5_u8 {
-        let count = tally.count(net, place + 1);
-        assert!(rt; count == wanted[place as usize], "{net:?} {place}");
+/// The tally has these counts of filtered frames on a network, from kind 1 on.
+fn check_filtered(rt: &impl Abort, tally: &FilterTally, net: Net, wanted: [u64; FILTER_CAUSES]) {
+    for before in 0..FILTER_CAUSES {
+        let count = tally.count(net, before + 1);
+        assert!(rt; count == wanted[before], "{net:?} {before}");
     }
 }
 
 fn check_causes(rt: &impl Abort) {
     let mut tally = FilterTally::opening();
     for (net, cause) in filtered() {
-        tally.add(net, cause);
+        tally.add(net, cause.kind());
     }
-    check_filtered(rt, &tally, A);
-    check_filtered(rt, &tally, B);
+    check_filtered(rt, &tally, A, [2, 0, 1, 0, 0]);
+    check_filtered(rt, &tally, B, [0, 0, 0, 0, 1]);
 }
 
 #[test]

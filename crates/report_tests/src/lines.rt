@@ -1,16 +1,43 @@
-//! Each line of the report, printed.
+//! Lines of the output, printed.
 use es_base::Net::{A, B};
-use es_base::{FilterTally, LinkNo, Tally};
-use output_lines::{CountLine, EmptyLine, FilteredCountLine, MessageLine, QueueLine, SampleLine};
+use es_base::{FilterTally, LinkNo, PortNo, Verdict, VerdictTally};
+use output_lines::{
+    CountLine, EmptyLine, EventLine, FilteredCountLine, MessageLine, QueueLine, SampleLine,
+    VerdictText,
+};
 use sampling_port::Freshness;
 use std::alloc::Global;
 use std::fmt::Display;
 use std::process::Abort;
+use test_inputs::LINK;
 
 /// The line is printed as this text.
 fn check_line<L: Display + Drop>(rt: &impl Abort, alloc: Global, line: L, text: &str) {
     let printed = format!(in alloc; "{line}").expect(rt, "memory");
     assert!(rt; printed.as_str() == text, "{printed}");
+}
+
+/// The fourth event of link 17, with this verdict, is printed as this text.
+fn check_event(rt: &impl Abort, alloc: Global, verdict: Verdict, text: &str) {
+    let ports = LINK.ports(alloc).expect(rt, "ports");
+    let line = EventLine {
+        time: 7,
+        net: A,
+        vl: LinkNo(17),
+        place: 3,
+        verdict: VerdictText {
+            verdict,
+            ports: ports.as_slice(),
+        },
+    };
+    check_line(rt, alloc, line, text);
+}
+
+/// No trace of a test is long enough to come to this verdict.
+#[test]
+fn a_port_that_has_used_up_its_message_numbers_is_named(rt: HostRuntime) {
+    let exhausted = Verdict::Exhausted(PortNo(0));
+    check_event(&rt, rt.alloc(), exhausted, "7 A vl 17 3 exhausted pos");
 }
 
 fn check_empty_port(rt: &impl Abort, alloc: Global) {
@@ -97,7 +124,7 @@ fn a_long_message_is_printed_whole(rt: HostRuntime) {
 }
 
 fn check_no_counts(rt: &impl Abort, alloc: Global) {
-    let tally = Tally::opening();
+    let tally = VerdictTally::opening();
     let line = CountLine {
         vl: LinkNo(17),
         net: A,

@@ -4,7 +4,7 @@ use Rattle.es_base.specs.Redundancy.{elapsed}
 use Rattle.sampling_port.specs.declared.state.Freshness.{Freshness}
 use Rattle.sampling_port.specs.declared.state.Freshness.TheVariants.{Fresh, Stale}
 
--- fresh as long as its age is at most the refresh period; the age is 0 where now is earlier; all are in
+-- fresh as long as its age is at most the refresh period; the age is 0 if now is earlier; all are in
 -- microseconds
 abbrev pub freshness : ℕ → ℕ → ℕ → Freshness
 freshness now time refresh = if nat_le (elapsed now time) refresh then Fresh else Stale

@@ -7,7 +7,7 @@ use Rattle.slot_core.specs.declared.machine.Core.TheInside.{Inside}
 use Rattle.slot_core.specs.declared.reader.Reader.{Reader}
 use Rattle.slot_core.specs.declared.view.Phase.TheVariants.{Idle}
 use Rattle.slot_core.specs.declared.view.ReaderView.{ReaderView}
-use Rattle.slot_core.specs.declared.view.TheConstants.{READERS}
+use Rattle.slot_core.specs.Limits.{port_readers}
 use Rattle.slot_core.specs.State.{newcomer, view_at}
 use Rattle.slot_core.specs.Steps.{after_announce, after_clear, after_load_first, after_load_second, after_store_latest, announces, begins, clears, looks_again, with_announcement, with_view, word_to_show}
 use Rattle.slot_core.specs.Stored.{HasSeen, IsStored, state_of, view_of, writer_of}
@@ -16,7 +16,7 @@ use Rattle.slot_core.specs.Stored.{HasSeen, IsStored, state_of, view_of, writer_
 abbrev pub idle : Reader
 idle = record { phase = Idle; own = 0; seen = 0 }
 
--- what is seen of a list stays where the list grows
+-- what is seen of a list stays if the list grows
 pub views_stay : (published : List (List ℕ)) (message : List ℕ) (readers : List Reader) → All (HasSeen published) readers
     → map (view_of (published ++ message ∷ [])) readers ≡ map (view_of published) readers
 views_stay published message [] seen = refl
@@ -25,7 +25,7 @@ views_stay published message (reader ∷ readers) seen =
     take-append-le reader.seen published (message ∷ []) (All-head (HasSeen published) reader readers seen) in
     rw (first, views_stay published message readers (All-tail (HasSeen published) reader readers seen)) refl
 
-module _ (f : Inside) (stored : IsStored f) (reader : ℕ) (within : reader < READERS) where
+module _ (f : Inside) (stored : IsStored f) (reader : ℕ) (within : reader < port_readers) where
   abbrev published : List (List ℕ)
   published = f.published.items
 

@@ -7,6 +7,7 @@ use Rattle.slot_core.specs.declared.event.CoreEvent.TheVariants.{Scan, StoreWord
 use Rattle.slot_core.specs.declared.view.Phase.{Phase}
 use Rattle.slot_core.specs.declared.view.Phase.TheVariants.{Idle, Loaded, Announced, Holding}
 use Rattle.slot_core.specs.declared.view.ReaderView.{ReaderView}
+use Rattle.slot_core.specs.Limits.{most_slots}
 use Rattle.slot_core.specs.Words.{latest, slot_of, table_words}
 use Rattle.slot_core.specs.Message.{IsMessage}
 use Rattle.slot_core.specs.State.{State, first_writer, last_of, newcomer, opening, view_at, word_of}
@@ -57,7 +58,7 @@ module _ (readers slots : ℕ) where
 
   -- ---- a list of events
 
-  pub step_keeps : (c : State) (event : CoreEvent) → slots ≤ 16 → Lawful readers slots c → Allowed readers slots c event → Lawful readers slots (after readers c event)
+  pub step_keeps : (c : State) (event : CoreEvent) → slots ≤ most_slots → Lawful readers slots c → Allowed readers slots c event → Lawful readers slots (after readers c event)
   step_keeps c (Scan reader) few l may = scan_keeps readers slots c l reader may
   step_keeps c (StoreWord slot index word) few l may = store_word_keeps readers slots c l slot index word may
   step_keeps c StoreLatest few l may = store_latest_keeps readers slots c l few may
@@ -67,7 +68,7 @@ module _ (readers slots : ℕ) where
   step_keeps c (LoadWord reader index) few l may = l
   step_keeps c (Clear reader) few l may = clear_keeps readers slots c l reader may.0
 
-  pub events_keep : (c : State) (events : List CoreEvent) → slots ≤ 16 → Lawful readers slots c → AreAllowed readers slots c events → Lawful readers slots (after_all readers c events)
+  pub events_keep : (c : State) (events : List CoreEvent) → slots ≤ most_slots → Lawful readers slots c → AreAllowed readers slots c events → Lawful readers slots (after_all readers c events)
   events_keep c [] few l may = l
   events_keep c (event ∷ events) few l may = events_keep (after readers c event) events few (step_keeps c event few l may.0) may.1
 
@@ -78,7 +79,7 @@ module _ (readers slots : ℕ) where
       let rest = one_more (after readers c first) events event may.1 here in
       ((may.0, rest.0), rest.1)
 
-  pub reached_is_lawful : (c : State) → slots ≤ 16 → IsReached readers slots c → Lawful readers slots c
+  pub reached_is_lawful : (c : State) → slots ≤ most_slots → IsReached readers slots c → Lawful readers slots c
   reached_is_lawful c few reached =
       subst (λ (s : State). Lawful readers slots s) reached.1.1 (events_keep (opening readers slots) reached.0 few opening_is_lawful reached.1.0)
 
@@ -137,7 +138,7 @@ module _ (readers slots : ℕ) where
       let e = hold_outlasts c reader word event holds may.0 lasts.0 in
       holds_outlast (after readers c event) reader word events (holds.0, ap (λ (v : ReaderView). v.phase) e ∙ holds.1) may.1 lasts.1 ∙ e
 
-  pub held_stays_whole : (c : State) (reader word : ℕ) (events : List CoreEvent) → slots ≤ 16 → Lawful readers slots c → Holds readers c reader word
+  pub held_stays_whole : (c : State) (reader word : ℕ) (events : List CoreEvent) → slots ≤ most_slots → Lawful readers slots c → Holds readers c reader word
       → AreAllowed readers slots c events → Outlasts reader events
       → HasMessage readers (after_all readers c events) word (last_of (view_at c.views reader).seen)
   held_stays_whole c reader word events few l holds may lasts =
@@ -178,7 +179,7 @@ module _ (readers slots : ℕ) where
         message = (l.newest.messages _ (omega (arith, some_published)), rw again.1 at (l.newest.stands some_published));
       }
 
-  -- where it finds another word, a newer message was published
+  -- if it finds another word, a newer message was published
   pub failed_look_is_later : (c : State) (reader : ℕ) → Lawful readers slots c → Allowed readers slots c (LoadSecond reader)
       → latest c.words ≢ word_of (view_at c.views reader).phase → length (view_at c.views reader).seen < length c.writer.published
   failed_look_is_later c reader l may differ =
@@ -191,7 +192,7 @@ module _ (readers slots : ℕ) where
 
 -- ---- a hold, from the opening on
 
-module _ (readers slots : ℕ) (c : State) (reader word : ℕ) (events : List CoreEvent) (few : slots ≤ 16) (hold : IsHold readers slots c reader word events) where
+module _ (readers slots : ℕ) (c : State) (reader word : ℕ) (events : List CoreEvent) (few : slots ≤ most_slots) (hold : IsHold readers slots c reader word events) where
   abbrev looked : State
   looked = after readers c (LoadSecond reader)
 

@@ -2,6 +2,7 @@
 use Rattle.std.proofs.Common.{◌≡◌, ℕ, ◌+◌, ◌-◌, ◌<◌, ◌≤◌, List, [], ◌∷◌, ◌++◌, length, get_or, sym, ap, ◌∙◌, arith, subst, length-append, append-nil, ⊎_elim}
 use Rattle.std.proofs.lemmas.Bool.{cases_lt}
 use Rattle.std.proofs.lemmas.List.{append_assoc, get_or_append_left, get_or_push, length_push}
+use Rattle.slot_core.specs.Limits.{longest_message}
 use Rattle.slot_core.specs.Message.{words_for, octets_after_end, IsPadded, IsStart}
 use Rattle.slot_core.specs.State.{StartsWith, last_of}
 
@@ -21,7 +22,7 @@ no_octets_before octets word =
     let e : octets_after_end octets 0 ≡ 0 = omega arith in
     rw e (omega arith)
 
-pub start_first : (word : ℕ) → word ≤ 1471 → IsStart (word ∷ [])
+pub start_first : (word : ℕ) → word ≤ longest_message → IsStart (word ∷ [])
 start_first word short = record {
   one = omega arith;
   short = short;

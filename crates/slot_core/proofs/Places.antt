@@ -2,6 +2,7 @@
 use Rattle.std.proofs.Common.{◌≡◌, ◌≢◌, ℕ, ◌+◌, ◌<◌, List, length, set, Some, refl, ◌∙◌, arith}
 use Rattle.std.proofs.lemmas.Bool.{ne_eqb}
 use Rattle.std.proofs.lemmas.List.{get_or-set_other}
+use Rattle.slot_core.specs.Limits.{most_slots, slot_words}
 use Rattle.slot_core.specs.Words.{latest, announcement, place_of, slot_of, slot_shown, word_for, Begins, Shows}
 
 -- a word that shows a message isn't 0, and its slot is found
@@ -11,17 +12,17 @@ shown_is word h = rw (ne_eqb word 0 (λ e. absurd (omega (arith, e, h)))) refl
 pub has_word : (slots word message_number : ℕ) → Shows slots word message_number → 0 < message_number → 0 < word
 has_word slots word message_number shows h = let e = shows.0 in omega (arith, e, h)
 
-pub slot_of-word_for : (message_number slot : ℕ) → slot < 16 → slot_of (word_for message_number slot) ≡ slot
+pub slot_of-word_for : (message_number slot : ℕ) → slot < most_slots → slot_of (word_for message_number slot) ≡ slot
 slot_of-word_for message_number slot h = omega arith
 
 module _ (readers : ℕ) (words : List ℕ) (x : ℕ) where
   -- a store in another slot
-  pub begins_elsewhere : (slot index other : ℕ) (message : List ℕ) → slot ≢ other → index < 186
+  pub begins_elsewhere : (slot index other : ℕ) (message : List ℕ) → slot ≢ other → index < slot_words
       → Begins readers words other message → Begins readers (set words (place_of readers slot index) x) other message
   begins_elsewhere slot index other message apart within begins = (
     begins.0,
     λ i h.
-        let short : length message < 187 = begins.0 in
+        let short : length message < slot_words + 1 = begins.0 in
         let differ : place_of readers other i ≢ place_of readers slot index = λ e. apart (omega (arith, e, short, h, within)) in
         get_or-set_other words (place_of readers slot index) (place_of readers other i) x 0 differ ∙ begins.1 i h,
   )

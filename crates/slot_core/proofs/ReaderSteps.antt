@@ -87,7 +87,7 @@ module _ (readers slots : ℕ) (c : State) (l : Lawful readers slots c) (reader 
     own_shown : announcement words' reader ≡ v'.own
     own_shown = get_or-set_same c.words (1 + reader) v'.own 0 (omega (arith, within, l.words))
 
-  -- where the announcement stays
+  -- if the announcement stays
   pub view_changes : (v' : ReaderView) → v'.own ≡ v.own → IsReader readers slots c.words w reader v' → Lawful readers slots (with_view c reader v')
   view_changes v' e now =
       let stay : set c.words (1 + reader) v'.own ≡ c.words =

@@ -1,4 +1,4 @@
--- No step is refused exactly where it is allowed.
+-- A step is allowed exactly if there is no refusal of it.
 use Rattle.std.proofs.Common.{◌≡◌, ◌≢◌, ℕ, zero, suc, ◌<◌, Bool, true, false, not, ◌&&◌, ◌||◌, List, [], ◌∷◌, length, get_or, Option, None, Some, refl, ap, arith, subst, inl, inr, ⊎_elim, ◌==◌, if◌then◌else◌, nat_lt, nat_le}
 use Rattle.std.specs.List.{list_any}
 use Rattle.std.proofs.lemmas.Bool.{and_from, and_left, and_parts, and_right, cases_eq, eq-eqb, eqb-true, le-leb, leb-true, lt-ltb, ltb-true, ne_eqb, not-true}
@@ -7,6 +7,7 @@ use Rattle.slot_core.specs.declared.event.CoreEvent.TheVariants.{Scan, StoreWord
 use Rattle.slot_core.specs.declared.view.Phase.{Phase}
 use Rattle.slot_core.specs.declared.view.Phase.TheVariants.{Idle, Loaded, Announced, Holding}
 use Rattle.slot_core.specs.declared.view.WriterView.{WriterView}
+use Rattle.slot_core.specs.Limits.{longest_message, most_messages, slot_words}
 use Rattle.slot_core.specs.Words.{slot_of}
 use Rattle.slot_core.specs.Message.{words_for}
 use Rattle.slot_core.specs.State.{State, last_of, view_at, word_of}
@@ -77,24 +78,24 @@ module _ (readers slots : ℕ) (c : State) where
   abbrev w : WriterView
   w = c.writer
 
-  -- ---- allowed where not refused
+  -- ---- allowed if not refused
 
   module _ (slot index word : ℕ) (h : refusal_of readers slots c (StoreWord slot index word) ≡ None) where
-    tests : ((nat_lt slot slots && nat_lt index 186) ≡ true) × (may_store readers w slot index word ≡ true)
+    tests : ((nat_lt slot slots && nat_lt index slot_words) ≡ true) × (may_store readers w slot index word ≡ true)
         × ((index == 0 && is_latest w slot) ≡ false) × ((index == 0 && is_announced w slot) ≡ false)
     tests = passes _ _ _ _ h
 
     ready : ((length w.scanned == readers && index == length w.stored) ≡ true)
-        × ((if index == 0 then nat_le word 1471 else may_continue w slot word) ≡ true)
-    ready = and_parts (length w.scanned == readers && index == length w.stored) (if index == 0 then nat_le word 1471 else may_continue w slot word) tests.1
+        × ((if index == 0 then nat_le word longest_message else may_continue w slot word) ≡ true)
+    ready = and_parts (length w.scanned == readers && index == length w.stored) (if index == 0 then nat_le word longest_message else may_continue w slot word) tests.1
 
     chooses : index ≡ 0 → MayChoose w slot word
     chooses first =
         let e = eq-eqb index 0 first in
-        let short : nat_le word 1471 ≡ true = rw e at ready.1 in
+        let short : nat_le word longest_message ≡ true = rw e at ready.1 in
         let not_latest : is_latest w slot ≡ false = rw e at tests.2 in
         record {
-          short = leb-true word 1471 short;
+          short = leb-true word longest_message short;
           apart = λ there same.
               let shown : is_latest w slot ≡ true = and_from (not (w.last == 0)) (slot == slot_of w.last) (nonzero_from w.last there) (eq-eqb slot (slot_of w.last) same) in
               cc;
@@ -116,11 +117,11 @@ module _ (readers slots : ℕ) (c : State) where
 
     store_allowed : MayStore readers slots w slot index word
     store_allowed =
-        let place = and_parts (nat_lt slot slots) (nat_lt index 186) tests.0 in
+        let place = and_parts (nat_lt slot slots) (nat_lt index slot_words) tests.0 in
         let turn = and_parts (length w.scanned == readers) (index == length w.stored) ready.0 in
         record {
           exists = ltb-true slot slots place.0;
-          within = ltb-true index 186 place.1;
+          within = ltb-true index slot_words place.1;
           all = eqb-true (length w.scanned) readers turn.0;
           next = eqb-true index (length w.stored) turn.1;
           first = chooses;
@@ -136,9 +137,9 @@ module _ (readers slots : ℕ) (c : State) where
   publish_allowed : refusal_of readers slots c StoreLatest ≡ None → MayPublish w
   publish_allowed h =
       let tests = passes true (may_publish w) false false h in
-      let both = and_parts (nat_lt 0 (length w.stored) && length w.stored == words_for (get_or w.stored 0 0)) (nat_lt (length w.published) 1152921504606846975) tests.1 in
+      let both = and_parts (nat_lt 0 (length w.stored) && length w.stored == words_for (get_or w.stored 0 0)) (nat_lt (length w.published) most_messages) tests.1 in
       let first = and_parts (nat_lt 0 (length w.stored)) (length w.stored == words_for (get_or w.stored 0 0)) both.0 in
-      record { begun = ltb-true 0 (length w.stored) first.0; whole = eqb-true (length w.stored) (words_for (get_or w.stored 0 0)) first.1; few = ltb-true (length w.published) 1152921504606846975 both.1 }
+      record { begun = ltb-true 0 (length w.stored) first.0; whole = eqb-true (length w.stored) (words_for (get_or w.stored 0 0)) first.1; few = ltb-true (length w.published) most_messages both.1 }
 
   pub allowed_if : (event : CoreEvent) → refusal_of readers slots c event ≡ None → Allowed readers slots c event
   allowed_if (Scan reader) h = scan_allowed reader h
@@ -159,29 +160,29 @@ module _ (readers slots : ℕ) (c : State) where
       (ltb-true reader readers tests.0, announced_is v.phase tests.1)
   allowed_if (LoadWord reader index) h =
       let v = view_at c.views reader in
-      let tests = passes (nat_lt reader readers && nat_lt index 186) (may_load_word v index) false false h in
-      let place = and_parts (nat_lt reader readers) (nat_lt index 186) tests.0 in
+      let tests = passes (nat_lt reader readers && nat_lt index slot_words) (may_load_word v index) false false h in
+      let place = and_parts (nat_lt reader readers) (nat_lt index slot_words) tests.0 in
       let turn = and_parts (is_holding v.phase) (nat_lt index (length (last_of v.seen))) tests.1 in
-      (ltb-true reader readers place.0, ltb-true index 186 place.1, (holding_is v.phase turn.0, ltb-true index (length (last_of v.seen)) turn.1))
+      (ltb-true reader readers place.0, ltb-true index slot_words place.1, (holding_is v.phase turn.0, ltb-true index (length (last_of v.seen)) turn.1))
   allowed_if (Clear reader) h =
       let v = view_at c.views reader in
       let tests = passes (nat_lt reader readers) (may_clear v) false false h in
       (ltb-true reader readers tests.0, not_zero v.own tests.1)
 
-  -- ---- not refused where allowed
+  -- ---- not refused if allowed
 
   passed : (exists turn latest announced : Bool) → exists ≡ true → turn ≡ true → latest ≡ false → announced ≡ false → first_refusal exists turn latest announced ≡ None
   passed exists turn latest announced a b d e = rw (a, b, d, e) refl
 
   store_passes : (slot index word : ℕ) → MayStore readers slots w slot index word → refusal_of readers slots c (StoreWord slot index word) ≡ None
   store_passes slot index word may =
-      let place = and_from _ _ (lt-ltb slot slots may.exists) (lt-ltb index 186 may.within) in
+      let place = and_from _ _ (lt-ltb slot slots may.exists) (lt-ltb index slot_words may.within) in
       let turn = and_from _ _ (eq-eqb (length w.scanned) readers may.all) (eq-eqb index (length w.stored) may.next) in
       ⊎_elim
       (λ (first : index ≡ 0).
       let chosen = may.first first in
       let e : (index == 0) ≡ true = eq-eqb index 0 first in
-      let short : nat_le word 1471 ≡ true = le-leb word 1471 chosen.short in
+      let short : nat_le word longest_message ≡ true = le-leb word longest_message chosen.short in
       let ready : may_store readers w slot index word ≡ true = and_from _ _ turn (rw e short) in
       let unshown : is_latest w slot ≡ false =
       ⊎_elim
@@ -218,7 +219,7 @@ module _ (readers slots : ℕ) (c : State) where
       passed (nat_lt reader readers) (has_announced v.phase) false false (lt-ltb reader readers may.0) (ap has_announced may.1) refl refl
   passes_if (LoadWord reader index) may =
       let v = view_at c.views reader in
-      passed (nat_lt reader readers && nat_lt index 186) (may_load_word v index) false false (and_from _ _ (lt-ltb reader readers may.0) (lt-ltb index 186 may.1))
+      passed (nat_lt reader readers && nat_lt index slot_words) (may_load_word v index) false false (and_from _ _ (lt-ltb reader readers may.0) (lt-ltb index slot_words may.1))
       (and_from _ _ (ap is_holding may.2.0) (lt-ltb index (length (last_of v.seen)) may.2.1)) refl refl
   passes_if (Clear reader) may =
       let v = view_at c.views reader in

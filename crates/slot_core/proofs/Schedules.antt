@@ -3,6 +3,7 @@ use Rattle.std.proofs.Common.{◌≡◌, ℕ, zero, suc, ◌<◌, Bool, true, �
 use Rattle.std.proofs.lemmas.Bool.{and_parts, ltb-true}
 use Rattle.slot_core.specs.declared.event.CoreEvent.{CoreEvent}
 use Rattle.slot_core.specs.declared.event.CoreEvent.TheVariants.{Scan, StoreWord, StoreLatest, LoadFirst, Announce, LoadSecond}
+use Rattle.slot_core.specs.Words.{word_for}
 use Rattle.slot_core.specs.State.{State, opening}
 use Rattle.slot_core.specs.Steps.{after, after_all}
 use Rattle.slot_core.specs.Allowed.{Allowed, AreAllowed}
@@ -62,7 +63,7 @@ fails_in_haste =
       after_all_by step start in_haste,
       (
         (in_haste, (allowed_by (Allowed 4 6) step (is_allowed 4 6) (allowed_is 4 6) start in_haste refl, refl)),
-        (0, 16, 0, 0, (lit< tt, refl), allowed_is 4 6 (after_all_by step start in_haste) (StoreWord 0 0 0) refl, refl),
+        (0, word_for 1 0, 0, 0, (lit< tt, refl), allowed_is 4 6 (after_all_by step start in_haste) (StoreWord 0 0 0) refl, refl),
       ),
     )
 
@@ -87,7 +88,7 @@ fails_early =
       after_all_by (after 4) start early,
       (
         (early, (allowed_by (AllowedEarly 4 6) (after 4) is_early early_is start early refl, refl)),
-        (0, 16, (lit< tt, refl), λ has. let whole : 1 ≡ 2 = has.0.whole in absurd (omega (arith, whole))),
+        (0, word_for 1 0, (lit< tt, refl), λ has. let whole : 1 ≡ 2 = has.0.whole in absurd (omega (arith, whole))),
       ),
     )
 

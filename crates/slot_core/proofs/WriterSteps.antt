@@ -4,6 +4,7 @@ use Rattle.std.proofs.lemmas.Bool.{cases_eq, cases_lt}
 use Rattle.std.proofs.lemmas.List.{get_or-set_other, get_or-set_same, get_or_append_left, get_or_push, length-set, length_push, nil_from_length}
 use Rattle.slot_core.specs.declared.view.Phase.TheVariants.{Holding}
 use Rattle.slot_core.specs.declared.view.WriterView.{WriterView}
+use Rattle.slot_core.specs.Limits.{most_slots}
 use Rattle.slot_core.specs.Words.{latest, announcement, place_of, slot_of, slot_shown}
 use Rattle.slot_core.specs.Message.{IsMessage, IsStart}
 use Rattle.slot_core.specs.State.{State, view_at}
@@ -164,7 +165,7 @@ module _ (readers slots : ℕ) (c : State) (l : Lawful readers slots c) where
 
   -- ---- a publication
 
-  module _ (few_slots : slots ≤ 16) (may : MayPublish w) where
+  module _ (few_slots : slots ≤ most_slots) (may : MayPublish w) where
     pub store_latest_keeps : Lawful readers slots (after_store_latest c)
     store_latest_keeps =
         let x = word_to_show w in

@@ -6,7 +6,7 @@ use Rattle.slot_core.specs.declared.view.Phase.{Phase}
 use Rattle.slot_core.specs.declared.view.Phase.TheVariants.{Idle, Loaded, Announced, Holding}
 use Rattle.slot_core.specs.declared.view.ReaderView.{ReaderView}
 use Rattle.slot_core.specs.declared.view.WriterView.{WriterView}
-use Rattle.slot_core.specs.declared.view.TheConstants.{LONGEST_MESSAGE, MOST_MESSAGES, WORDS}
+use Rattle.slot_core.specs.Limits.{longest_message, most_messages, slot_words}
 use Rattle.slot_core.specs.Words.{slot_of}
 use Rattle.slot_core.specs.Message.{words_for, IsPadded}
 use Rattle.slot_core.specs.State.{State, last_of, view_at, word_of}
@@ -22,7 +22,7 @@ pub record MayScan (readers : ℕ) (w : WriterView) (reader : ℕ) : Type 0 wher
 
 -- the word begins a message in this slot
 pub record MayChoose (w : WriterView) (slot word : ℕ) : Type 0 where
-  pub short : word ≤ LONGEST_MESSAGE
+  pub short : word ≤ longest_message
   -- not the slot that `latest` shows
   pub apart : w.last ≢ 0 → slot ≢ slot_of w.last
   -- and none that was found announced
@@ -36,7 +36,7 @@ pub record MayContinue (w : WriterView) (slot word : ℕ) : Type 0 where
 
 pub record MayStore (readers slots : ℕ) (w : WriterView) (slot index word : ℕ) : Type 0 where
   pub exists : slot < slots
-  pub within : index < WORDS
+  pub within : index < slot_words
   pub all : length w.scanned ≡ readers
   pub next : index ≡ length w.stored
   pub first : index ≡ 0 → MayChoose w slot word
@@ -46,7 +46,7 @@ pub record MayStore (readers slots : ℕ) (w : WriterView) (slot index word : �
 pub record MayPublish (w : WriterView) : Type 0 where
   pub begun : 0 < length w.stored
   pub whole : length w.stored ≡ words_for (slice_index w.stored 0)
-  pub few : length w.published < MOST_MESSAGES
+  pub few : length w.published < most_messages
 
 -- ---- a reader's steps, by its view
 
@@ -78,7 +78,7 @@ Allowed readers slots c StoreLatest = MayPublish c.writer
 Allowed readers slots c (LoadFirst reader) = (reader < readers) × MayBegin (view_at c.views reader)
 Allowed readers slots c (Announce reader) = (reader < readers) × MayAnnounce (view_at c.views reader)
 Allowed readers slots c (LoadSecond reader) = (reader < readers) × MayLookAgain (view_at c.views reader)
-Allowed readers slots c (LoadWord reader index) = (reader < readers) × (index < WORDS) × MayLoadWord (view_at c.views reader) index
+Allowed readers slots c (LoadWord reader index) = (reader < readers) × (index < slot_words) × MayLoadWord (view_at c.views reader) index
 Allowed readers slots c (Clear reader) = (reader < readers) × MayClear (view_at c.views reader)
 
 -- each event, after those before it

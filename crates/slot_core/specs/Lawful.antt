@@ -1,8 +1,9 @@
 -- What holds of every state that a sampling port comes to.
-use Rattle.std.specs.Prelude.{◌≡◌, ◌≢◌, ℕ, ◌^◌, ◌<◌, ◌⊎◌, List, [], length, slice_index_or, None, Some}
+use Rattle.std.specs.Prelude.{◌≡◌, ◌≢◌, ℕ, ◌<◌, ◌≤◌, ◌⊎◌, List, [], length, slice_index_or, None, Some}
 use Rattle.slot_core.specs.declared.view.Phase.TheVariants.{Idle, Announced, Holding}
 use Rattle.slot_core.specs.declared.view.ReaderView.{ReaderView}
 use Rattle.slot_core.specs.declared.view.WriterView.{WriterView}
+use Rattle.slot_core.specs.Limits.{most_messages}
 use Rattle.slot_core.specs.Words.{latest, announcement, slot_of, table_words, Begins, Shows}
 use Rattle.slot_core.specs.Message.{IsMessage, IsStart}
 use Rattle.slot_core.specs.State.{State, HasWord, StartsWith, last_of, view_at}
@@ -11,7 +12,7 @@ use Rattle.slot_core.specs.State.{State, HasWord, StartsWith, last_of, view_at}
 pub record IsNewest (readers slots : ℕ) (words : List ℕ) (w : WriterView) : Type 0 where
   pub none : length w.published ≡ 0 → latest words ≡ 0
   pub shown : 0 < length w.published → Shows slots (latest words) (length w.published)
-  pub few : length w.published < 2 ^ 60
+  pub few : length w.published ≤ most_messages
   pub kept : w.last ≡ latest words
   -- its slot begins with the words of the newest message
   pub stands : 0 < length w.published → Begins readers words (slot_of (latest words)) (last_of w.published)
@@ -35,7 +36,7 @@ pub record IsReader (readers slots : ℕ) (words : List ℕ) (w : WriterView) (r
   pub seen : StartsWith w.published v.seen
   -- its word shows the last message that it has seen
   pub shows : (word : ℕ) → HasWord v.phase word → (0 < length v.seen) × Shows slots word (length v.seen)
-  -- and is `latest` where it has seen all that is published
+  -- and is `latest` if it has seen all that is published
   pub newest : (word : ℕ) → HasWord v.phase word → length v.seen ≡ length w.published → word ≡ latest words
   -- a held slot begins with the words of that message
   pub held : (word : ℕ) → v.phase ≡ Holding word → Begins readers words (slot_of word) (last_of v.seen)

@@ -4,7 +4,7 @@ use Rattle.slot_core.specs.declared.event.CoreEvent.{CoreEvent}
 use Rattle.slot_core.specs.declared.event.CoreEvent.TheVariants.{Clear, LoadSecond, StoreWord}
 use Rattle.slot_core.specs.declared.view.Phase.TheVariants.{Holding}
 use Rattle.slot_core.specs.declared.view.ReaderView.{ReaderView}
-use Rattle.slot_core.specs.declared.view.TheConstants.{LONGEST_MESSAGE}
+use Rattle.slot_core.specs.Limits.{longest_message}
 use Rattle.slot_core.specs.Words.{latest, slot_of, Begins, Shows}
 use Rattle.slot_core.specs.Message.{IsMessage}
 use Rattle.slot_core.specs.State.{State, last_of, opening, view_at}
@@ -31,7 +31,7 @@ HasMessage readers c word message = IsMessage message × Begins readers c.words 
 
 -- a message can begin in some slot
 abbrev pub HasFreeSlot : ℕ → ℕ → State → Type 0
-HasFreeSlot readers slots c = (slot : ℕ) × ((word : ℕ) → word ≤ LONGEST_MESSAGE → Allowed readers slots c (StoreWord slot 0 word))
+HasFreeSlot readers slots c = (slot : ℕ) × ((word : ℕ) → word ≤ longest_message → Allowed readers slots c (StoreWord slot 0 word))
 
 -- what is held is the message that is the newest now, and all that is published is seen
 pub record HoldsNewest (readers slots : ℕ) (c : State) (v : ReaderView) (word : ℕ) : Type 0 where

@@ -1,7 +1,7 @@
 -- The words of a message (own): its length in octets, its time in microseconds, and its octets, eight to
 -- a word, most significant first, with zeros after the end.
 use Rattle.std.specs.Prelude.{◌≡◌, ℕ, ◌+◌, ◌-◌, ◌*◌, ◌/◌, ◌%◌, ◌^◌, ◌<◌, ◌≤◌, List, length, slice_index}
-use Rattle.slot_core.specs.declared.view.TheConstants.{LONGEST_MESSAGE}
+use Rattle.slot_core.specs.Limits.{longest_message}
 
 -- how many words a message of this many octets has
 abbrev pub words_for : ℕ → ℕ
@@ -18,7 +18,7 @@ IsPadded octets index word = word % 256 ^ octets_after_end octets index ≡ 0
 -- the words begin those of a message
 pub record IsStart (words : List ℕ) : Type 0 where
   pub one : 0 < length words
-  pub short : slice_index words 0 ≤ LONGEST_MESSAGE
+  pub short : slice_index words 0 ≤ longest_message
   pub within : length words ≤ words_for (slice_index words 0)
   pub padded : (i : ℕ) → i < length words → IsPadded (slice_index words 0) i (slice_index words i)
 

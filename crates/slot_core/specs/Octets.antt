@@ -1,7 +1,7 @@
 -- The octets of a message in its words (own).
 use Rattle.std.specs.Prelude.{ℕ, ◌+◌, ◌-◌, ◌*◌, ◌/◌, ◌%◌, ◌^◌, ◌<◌, ◌≤◌, List, ◌∷◌, length, map, slice_index}
 use Rattle.std.specs.List.{All, range_with_len}
-use Rattle.slot_core.specs.declared.view.TheConstants.{LONGEST_MESSAGE}
+use Rattle.slot_core.specs.Limits.{longest_message}
 
 -- eight octets in one word, the first one most significant
 abbrev pub word_of_eight : (ℕ → ℕ) → ℕ
@@ -22,7 +22,7 @@ octet_at words place = slice_index words (2 + place / 8) / 256 ^ (7 - place % 8)
 
 -- octets that a message can have
 abbrev pub AreOctets : List ℕ → Type 0
-AreOctets octets = (length octets ≤ LONGEST_MESSAGE) × All (λ octet. octet < 256) octets
+AreOctets octets = (length octets ≤ longest_message) × All (λ octet. octet < 256) octets
 
 -- all octets of a message with these words
 abbrev pub octets_of : List ℕ → List ℕ

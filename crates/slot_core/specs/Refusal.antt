@@ -9,7 +9,7 @@ use Rattle.slot_core.specs.declared.view.Phase.{Phase}
 use Rattle.slot_core.specs.declared.view.Phase.TheVariants.{Idle, Loaded, Announced, Holding}
 use Rattle.slot_core.specs.declared.view.ReaderView.{ReaderView}
 use Rattle.slot_core.specs.declared.view.WriterView.{WriterView}
-use Rattle.slot_core.specs.declared.view.TheConstants.{LONGEST_MESSAGE, MOST_MESSAGES, WORDS}
+use Rattle.slot_core.specs.Limits.{longest_message, most_messages, slot_words}
 use Rattle.slot_core.specs.Words.{slot_of}
 use Rattle.slot_core.specs.Message.{octets_after_end, words_for}
 use Rattle.slot_core.specs.State.{State, last_of, view_at}
@@ -27,15 +27,15 @@ abbrev pub may_continue : WriterView → ℕ → ℕ → Bool
 may_continue w slot word =
     slot == w.chosen && nat_lt (length w.stored) (words_for (slice_index w.stored 0)) && is_padded (slice_index w.stored 0) (length w.stored) word
 
--- where all of this many readers were scanned, the word begins a message or continues it
+-- all of this many readers were scanned, and the word begins a message or continues it
 abbrev pub may_store : ℕ → WriterView → ℕ → ℕ → ℕ → Bool
 may_store readers w slot index word =
     length w.scanned == readers && index == length w.stored
-    && (if index == 0 then nat_le word LONGEST_MESSAGE else may_continue w slot word)
+    && (if index == 0 then nat_le word longest_message else may_continue w slot word)
 
 abbrev pub may_publish : WriterView → Bool
 may_publish w =
-    nat_lt 0 (length w.stored) && length w.stored == words_for (slice_index w.stored 0) && nat_lt (length w.published) MOST_MESSAGES
+    nat_lt 0 (length w.stored) && length w.stored == words_for (slice_index w.stored 0) && nat_lt (length w.published) most_messages
 
 -- `latest` shows the slot
 abbrev pub is_latest : WriterView → ℕ → Bool
@@ -99,10 +99,10 @@ turn_of exists turn = first_refusal exists turn false false
 
 abbrev pub refusal_to_store : ℕ → ℕ → WriterView → ℕ → ℕ → ℕ → Option StepRefusal
 refusal_to_store readers slots w slot index word =
-    first_refusal (nat_lt slot slots && nat_lt index WORDS) (may_store readers w slot index word)
+    first_refusal (nat_lt slot slots && nat_lt index slot_words) (may_store readers w slot index word)
     (index == 0 && is_latest w slot) (index == 0 && is_announced w slot)
 
--- None where the step is allowed
+-- None if the step is allowed
 abbrev pub refusal_of : ℕ → ℕ → State → CoreEvent → Option StepRefusal
 refusal_of readers slots c (Scan reader) = turn_of (nat_lt reader readers) (may_scan c.writer reader)
 refusal_of readers slots c (StoreWord slot index word) = refusal_to_store readers slots c.writer slot index word
@@ -111,10 +111,10 @@ refusal_of readers slots c (LoadFirst reader) = turn_of (nat_lt reader readers) 
 refusal_of readers slots c (Announce reader) = turn_of (nat_lt reader readers) (has_loaded (view_at c.views reader).phase)
 refusal_of readers slots c (LoadSecond reader) = turn_of (nat_lt reader readers) (has_announced (view_at c.views reader).phase)
 refusal_of readers slots c (LoadWord reader index) =
-    turn_of (nat_lt reader readers && nat_lt index WORDS) (may_load_word (view_at c.views reader) index)
+    turn_of (nat_lt reader readers && nat_lt index slot_words) (may_load_word (view_at c.views reader) index)
 refusal_of readers slots c (Clear reader) = turn_of (nat_lt reader readers) (may_clear (view_at c.views reader))
 
--- the step is refused for this reason: the first that there is; or memory ran out, where a message was to be published
+-- the step is refused for this reason: the first that there is; or memory ran out, and a message was to be published
 abbrev pub IsRefusedBy : ℕ → ℕ → State → CoreEvent → StepRefusal → Type 0
 IsRefusedBy readers slots c event refusal =
     (refusal_of readers slots c event ≡ Some refusal) ⊎ ((refusal ≡ Memory) × (event ≡ StoreLatest) × (refusal_of readers slots c event ≡ None))

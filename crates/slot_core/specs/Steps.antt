@@ -45,7 +45,7 @@ begins v found all = record { phase = first_phase found; own = v.own; seen = all
 abbrev pub announces : ReaderView → ReaderView
 announces v = record { phase = Announced (word_of v.phase); own = word_of v.phase; seen = v.seen }
 
--- the reader holds where it finds the word again, and else goes on with what it found
+-- the reader holds if it finds the word again, and else goes on with what it found
 abbrev pub second_phase : ℕ → ℕ → Phase
 second_phase word found = if found == word then Holding word else Loaded found
 

@@ -5,7 +5,8 @@ use Rattle.slot_core.specs.declared.machine.Core.TheInside.{Inside}
 use Rattle.slot_core.specs.declared.reader.Reader.{Reader}
 use Rattle.slot_core.specs.declared.view.ReaderView.{ReaderView}
 use Rattle.slot_core.specs.declared.view.WriterView.{WriterView}
-use Rattle.slot_core.specs.declared.view.TheConstants.{LONGEST_MESSAGE, READERS, SLOTS, TABLE_WORDS}
+use Rattle.slot_core.specs.Limits.{longest_message, port_readers, port_slots}
+use Rattle.slot_core.specs.Words.{table_words}
 use Rattle.slot_core.specs.State.{State}
 
 -- what a reader knows has the messages that it has seen, of all published
@@ -28,8 +29,8 @@ abbrev pub HasSeen : List (List ℕ) → Reader → Type 0
 HasSeen published reader = reader.seen ≤ length published
 
 pub record IsStored (c : Inside) : Type 0 where
-  pub words : length c.words ≡ TABLE_WORDS
-  pub readers : length c.readers ≡ READERS
-  pub chosen : c.chosen < SLOTS
-  pub short : slice_index c.stored.items 0 ≤ LONGEST_MESSAGE
+  pub words : length c.words ≡ table_words port_readers port_slots
+  pub readers : length c.readers ≡ port_readers
+  pub chosen : c.chosen < port_slots
+  pub short : slice_index c.stored.items 0 ≤ longest_message
   pub seen : All (HasSeen c.published.items) c.readers

@@ -1,7 +1,7 @@
 -- The words of a sampling port's table, by their places (own): `latest`, then the announcement of each
 -- reader, then the slots.
 use Rattle.std.specs.Prelude.{◌≡◌, ℕ, ◌+◌, ◌*◌, ◌%◌, ◌<◌, ◌==◌, List, length, slice_index, Option, None, Some, if◌then◌else◌}
-use Rattle.slot_core.specs.declared.view.TheConstants.{WORDS}
+use Rattle.slot_core.specs.Limits.{most_slots, slot_words}
 
 abbrev pub latest : List ℕ → ℕ
 latest words = slice_index words 0
@@ -11,20 +11,20 @@ announcement words reader = slice_index words (1 + reader)
 
 -- the place of a word of a slot, in a table with this many readers
 abbrev pub place_of : ℕ → ℕ → ℕ → ℕ
-place_of readers slot index = 1 + readers + (WORDS * slot + index)
+place_of readers slot index = 1 + readers + (slot_words * slot + index)
 
 -- how many words a table has
 abbrev pub table_words : ℕ → ℕ → ℕ
-table_words readers slots = 1 + readers + WORDS * slots
+table_words readers slots = 1 + readers + slot_words * slots
 
 -- ---- what `latest` and the announcements show
 
 -- a message number and a slot in one word; 0 shows none
 abbrev pub word_for : ℕ → ℕ → ℕ
-word_for message_number slot = 16 * message_number + slot
+word_for message_number slot = most_slots * message_number + slot
 
 abbrev pub slot_of : ℕ → ℕ
-slot_of word = word % 16
+slot_of word = word % most_slots
 
 -- the slot that a word shows, if any
 abbrev pub slot_shown : ℕ → Option ℕ
@@ -39,4 +39,4 @@ Shows slots word message_number = (word ≡ word_for message_number (slot_of wor
 -- the slot begins with these words
 abbrev pub Begins : ℕ → List ℕ → ℕ → List ℕ → Type 0
 Begins readers words slot message =
-    (length message < WORDS + 1) × ((i : ℕ) → i < length message → slice_index words (place_of readers slot i) ≡ slice_index message i)
+    (length message < slot_words + 1) × ((i : ℕ) → i < length message → slice_index words (place_of readers slot i) ≡ slice_index message i)

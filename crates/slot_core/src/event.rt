@@ -24,7 +24,7 @@ pub enum CoreEvent {
     Announce {
         reader: usize,
     },
-    /// Loads `latest` again: the reader holds the message where it finds the announced word.
+    /// Loads `latest` again: the reader holds the message if it finds the announced word.
     LoadSecond {
         reader: usize,
     },
@@ -46,7 +46,7 @@ pub enum StepRefusal {
     /// There is no such reader, slot or word of a slot.
     NoSuchPlace,
     /// The writer or the reader is at another step; or the word is none of a message: a length above
-    /// 1471 octets, or one with an octet other than 0 after the message's end.
+    /// `LONGEST_MESSAGE`, or a word with an octet other than 0 after the message's end.
     NotItsTurn,
     /// `latest` shows the slot.
     SlotLatest,

@@ -1,5 +1,6 @@
 //! What can be seen of a core.
 ghost use Rattle.std.specs.Prelude.{◌≡◌, ◌<◌, length, slice_index};
+ghost use Rattle.slot_core.specs.Limits.{port_readers, port_slots, slot_words};
 ghost use Rattle.slot_core.specs.Words.{announcement, latest, place_of};
 ghost use Rattle.slot_core.specs.State.{view_at};
 ghost use Rattle.slot_core.specs.Look.{IsWriterPhase};
@@ -23,8 +24,8 @@ pub enum WriterPhase<'a> {
 }
 
 impl Core {
-    /// The word `latest`: 0 where nothing was published, or else the message number times 16, plus the
-    /// slot.
+    /// The word `latest`: 0 if nothing was published; else the message number times `MOST_SLOTS`, plus
+    /// the slot.
     pub fn latest(&self) -> u64
         ensures { result ≡ latest self.now.words }
     {
@@ -33,7 +34,7 @@ impl Core {
 
     /// The announcement of a reader: 0, or a value that `latest` had.
     pub fn announcement(&self, reader: usize) -> u64
-        requires { reader < READERS }
+        requires { reader < port_readers }
         ensures { result ≡ announcement self.now.words reader }
     {
         self.words[1 + reader]
@@ -41,9 +42,9 @@ impl Core {
 
     /// A word of a slot.
     pub fn word(&self, slot: usize, index: usize) -> u64
-        requires slot { slot < SLOTS }
-        requires index { index < WORDS }
-        ensures { result ≡ slice_index self.now.words (place_of READERS slot index) }
+        requires slot { slot < port_slots }
+        requires index { index < slot_words }
+        ensures { result ≡ slice_index self.now.words (place_of port_readers slot index) }
     {
         self.words[place_of(slot, index)]
     }
@@ -58,7 +59,7 @@ impl Core {
     /// How many messages were published when the reader last loaded `latest`: it has seen that many of
     /// `published`, from the first on.
     pub fn seen(&self, reader: usize) -> u64
-        requires { reader < READERS }
+        requires { reader < port_readers }
         ensures { result ≡ length (view_at self.now.views reader).seen }
     {
         self.reader(reader).seen as u64
@@ -82,7 +83,7 @@ impl Core {
 
     /// Where a reader is.
     pub fn reader_phase(&self, reader: usize) -> Phase
-        requires { reader < READERS }
+        requires { reader < port_readers }
         ensures { result ≡ (view_at self.now.views reader).phase }
     {
         self.reader(reader).phase

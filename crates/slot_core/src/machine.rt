@@ -1,9 +1,10 @@
 //! The machine: a port's words, and what its writer and its readers know, stepped by events.
-ghost use Rattle.std.specs.Prelude.{◌≡◌, ◌<◌, IfErr, IfOk, OnErr, replicate};
-ghost use Rattle.slot_core.specs.Words.{latest, announcement};
+ghost use Rattle.std.specs.Prelude.{◌≡◌, IfErr, IfOk, OnErr, replicate};
+ghost use Rattle.slot_core.specs.Limits.{port_readers, port_slots};
+ghost use Rattle.slot_core.specs.Words.{table_words};
 ghost use Rattle.slot_core.specs.State.{opening};
-ghost use Rattle.slot_core.specs.Steps.{after, after_all};
-ghost use Rattle.slot_core.specs.Allowed.{Allowed, AreAllowed};
+ghost use Rattle.slot_core.specs.Steps.{after};
+ghost use Rattle.slot_core.specs.Allowed.{Allowed};
 ghost use Rattle.slot_core.specs.Refusal.{IsRefusedBy};
 
 use crate::reader::Reader;
@@ -43,7 +44,7 @@ impl Core {
     /// A port at which nothing was published, whose writer scans and whose readers are idle. It takes
     /// no memory.
     pub fn opening(alloc: Global) -> Core
-        ensures { result ≡ opening READERS SLOTS }
+        ensures { result ≡ opening port_readers port_slots }
     {
         Core {
             words: zeros(),
@@ -55,9 +56,9 @@ impl Core {
         }
     }
 
-    /// Takes one step. Ok exactly where the step is allowed, or else Memory where it stores `latest` and
-    /// memory ran out. Any other refusal is the first in the order place, turn, latest, announced. After
-    /// a refusal the core is as before. Only the store of `latest` takes memory.
+    /// Takes one step. Ok exactly if the step is allowed and there is memory for it; only the store of
+    /// `latest` takes memory. The refusal is the first in the order place, turn, latest, announced,
+    /// memory. After a refusal the core is as before.
     ///
     /// ```text
     /// let mut core = Core::opening(alloc);
@@ -65,9 +66,9 @@ impl Core {
     /// core.step(alloc, &CoreEvent::Scan { reader: 0 }) // Ok(())
     /// ```
     pub fn step(&mut self, alloc: Global, event: &CoreEvent) -> Result<(), StepRefusal>
-        ensures allowed { IfOk result (λ _. Allowed READERS SLOTS self.old event.now) }
-        ensures state { IfOk result (λ _. self.new ≡ after READERS self.old event.now) }
-        ensures refusal { IfErr result (λ refusal. IsRefusedBy READERS SLOTS self.old event.now refusal) }
+        ensures allowed { IfOk result (λ _. Allowed port_readers port_slots self.old event.now) }
+        ensures state { IfOk result (λ _. self.new ≡ after port_readers self.old event.now) }
+        ensures refusal { IfErr result (λ refusal. IsRefusedBy port_readers port_slots self.old event.now refusal) }
         ensures unchanged { OnErr result (self.new ≡ self.old) }
     {
         match self.refusal_of(event) {
@@ -81,8 +82,8 @@ impl Core {
 
     /// Takes a step that is allowed.
     fn take(&mut self, alloc: Global, event: &CoreEvent) -> Result<(), AllocError>
-        requires { Allowed READERS SLOTS self.old event.now }
-        ensures ok { IfOk result (λ _. self.new ≡ after READERS self.old event.now) }
+        requires { Allowed port_readers port_slots self.old event.now }
+        ensures ok { IfOk result (λ _. self.new ≡ after port_readers self.old event.now) }
         ensures err { OnErr result (event.now ≡ CoreEvent.StoreLatest) }
         ensures unchanged { OnErr result (self.new ≡ self.old) }
     {
@@ -102,14 +103,14 @@ impl Core {
 
 /// The words of a table in which nothing was stored.
 fn zeros() -> [u64; TABLE_WORDS]
-    ensures { result ≡ replicate TABLE_WORDS 0 }
+    ensures { result ≡ replicate (table_words port_readers port_slots) 0 }
 {
     [0; TABLE_WORDS]
 }
 
 /// Readers that have loaded nothing.
 fn newcomers() -> [Reader; READERS]
-    ensures { result ≡ replicate READERS (record { phase = Phase.Idle; own = 0; seen = 0 }) }
+    ensures { result ≡ replicate port_readers (record { phase = Phase.Idle; own = 0; seen = 0 }) }
 {
     [Reader::newcomer(); READERS]
 }

@@ -1,10 +1,10 @@
 //! The words of a message: its length in octets, its time in microseconds, and its octets, eight to a
 //! word, most significant first, with zeros after the end (own).
 ghost use Rattle.std.specs.Prelude.{◌≡◌, ◌==◌, ◌≤◌, ◌<◌, ◌^◌, IfOk, length};
+ghost use Rattle.slot_core.specs.Limits.{longest_message};
 ghost use Rattle.slot_core.specs.Message.{octets_after_end, words_for};
 ghost use Rattle.slot_core.specs.Refusal.{is_padded};
 
-use crate::LONGEST_MESSAGE;
 use std::alloc::{AllocError, Global};
 use std::marker::Model;
 
@@ -38,7 +38,7 @@ impl MessageWords {
         self.words.as_slice()
     }
 
-    /// How many words there are: 2 to 186.
+    /// How many words there are: 2 to `WORDS`.
     pub fn len(&self) -> usize
         ensures { result ≡ length self.now }
     {
@@ -54,7 +54,7 @@ impl MessageWords {
 
 /// How many words a message of this many octets has.
 pub(crate) fn words_for(octets: u64) -> usize
-    requires { octets ≤ LONGEST_MESSAGE }
+    requires { octets ≤ longest_message }
     ensures { result ≡ words_for octets }
 {
     2 + (octets as usize + 7) / 8
@@ -62,7 +62,7 @@ pub(crate) fn words_for(octets: u64) -> usize
 
 /// Whether the word at this index has zeros after the end of a message of this many octets.
 pub(crate) fn is_padded(octets: u64, index: usize, word: u64) -> bool
-    requires short { octets ≤ LONGEST_MESSAGE }
+    requires short { octets ≤ longest_message }
     requires within { index < words_for octets }
     ensures { result ≡ is_padded octets index word }
 {

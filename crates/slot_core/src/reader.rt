@@ -62,7 +62,7 @@ impl Reader {
         matches!(self.phase, Phase::Holding(_))
     }
 
-    // ---- what each step makes of it, where this many messages are published
+    // ---- what each step makes of it, if this many messages are published
 
     /// It loaded `latest`, and found this word.
     pub(crate) fn begins(&self, found: u64, published: usize) -> Reader

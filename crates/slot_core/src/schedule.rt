@@ -1,8 +1,9 @@
 //! A list of events from the opening on.
 ghost use Rattle.std.specs.Prelude.{IfErr, IfOk};
+ghost use Rattle.slot_core.specs.Limits.{port_readers, port_slots};
 ghost use Rattle.slot_core.specs.Runs.{IsFirstRefused, LeadTo};
 
-use crate::{Core, CoreEvent, READERS, SLOTS, StepRefusal};
+use crate::{Core, CoreEvent, StepRefusal};
 use std::alloc::Global;
 
 /// The core after these events, from the opening on. The error names the place of the first event that
@@ -12,8 +13,8 @@ use std::alloc::Global;
 /// run(alloc, &[CoreEvent::Scan { reader: 0 }, CoreEvent::StoreLatest]) // Err((1, NotItsTurn))
 /// ```
 pub fn run(alloc: Global, events: &[CoreEvent]) -> Result<Core, (usize, StepRefusal)>
-    ensures core { IfOk result (λ core. LeadTo READERS SLOTS events.now core) }
-    ensures refused { IfErr result (λ refused. IsFirstRefused READERS SLOTS events.now refused.0 refused.1) }
+    ensures core { IfOk result (λ core. LeadTo port_readers port_slots events.now core) }
+    ensures refused { IfErr result (λ refused. IsFirstRefused port_readers port_slots events.now refused.0 refused.1) }
 {
     let mut core = Core::opening(alloc);
     for (place, event) in events.iter().enumerate() {

@@ -1,24 +1,26 @@
-//! What each step does, where it is allowed.
+//! What each step does, if it is allowed.
 ghost use Rattle.std.specs.Prelude.{◌≡◌, ◌<◌, ◌≤◌, [], IfOk, OnErr};
-ghost use Rattle.slot_core.specs.Words.{place_of, slot_shown, word_for};
+ghost use Rattle.slot_core.specs.Limits.{most_messages, most_slots, port_readers, port_slots, slot_words};
+ghost use Rattle.slot_core.specs.Words.{place_of, slot_shown, table_words, word_for};
 ghost use Rattle.slot_core.specs.Steps.{after_announce, after_clear, after_load_first, after_load_second, after_scan, after_store_latest, after_store_word};
 ghost use Rattle.slot_core.specs.Allowed.{MayPublish, MayScan, MayStore};
 
-use crate::{Core, MOST_MESSAGES, MessageWords, READERS, SLOTS, TABLE_WORDS, WORDS};
+use crate::view::MOST_SLOTS;
+use crate::{Core, MessageWords, READERS, WORDS};
 use arrayvec::ArrayVec;
 use std::alloc::{AllocError, Global};
 
 impl Core {
     pub(crate) fn scan(&mut self, reader: usize)
-        requires { MayScan READERS self.old.writer reader }
+        requires { MayScan port_readers self.old.writer reader }
         ensures { self.new ≡ after_scan self.old reader }
     {
         self.scanned.push(slot_shown(self.words[1 + reader]));
     }
 
     pub(crate) fn store_word(&mut self, slot: usize, index: usize, word: u64)
-        requires { MayStore READERS SLOTS self.old.writer slot index word }
-        ensures { self.new ≡ after_store_word READERS self.old slot index word }
+        requires { MayStore port_readers port_slots self.old.writer slot index word }
+        ensures { self.new ≡ after_store_word port_readers self.old slot index word }
     {
         self.words[place_of(slot, index)] = word;
         self.chosen = slot as u64;
@@ -38,7 +40,7 @@ impl Core {
     }
 
     pub(crate) fn load_first(&mut self, reader: usize)
-        requires { reader < READERS }
+        requires { reader < port_readers }
         ensures { self.new ≡ after_load_first self.old reader }
     {
         let before = self.readers[reader];
@@ -47,7 +49,7 @@ impl Core {
     }
 
     pub(crate) fn announce(&mut self, reader: usize)
-        requires { reader < READERS }
+        requires { reader < port_readers }
         ensures { self.new ≡ after_announce self.old reader }
     {
         let now = self.readers[reader].announces();
@@ -56,7 +58,7 @@ impl Core {
     }
 
     pub(crate) fn load_second(&mut self, reader: usize)
-        requires { reader < READERS }
+        requires { reader < port_readers }
         ensures { self.new ≡ after_load_second self.old reader }
     {
         let before = self.readers[reader];
@@ -65,7 +67,7 @@ impl Core {
     }
 
     pub(crate) fn clear(&mut self, reader: usize)
-        requires { reader < READERS }
+        requires { reader < port_readers }
         ensures { self.new ≡ after_clear self.old reader }
     {
         let now = self.readers[reader].clears();
@@ -76,28 +78,32 @@ impl Core {
 
 /// The place of a word of a slot in the table.
 pub(crate) fn place_of(slot: usize, index: usize) -> usize
-    requires slot { slot < SLOTS }
-    requires index { index < WORDS }
-    ensures value { result ≡ place_of READERS slot index }
-    ensures bound { result < TABLE_WORDS }
+    requires slot { slot < port_slots }
+    requires index { index < slot_words }
+    ensures value { result ≡ place_of port_readers slot index }
+    ensures bound { result < table_words port_readers port_slots }
 {
     1 + READERS + (WORDS * slot + index)
 }
 
 /// The word that shows a message number and a slot.
 fn word_for(message_number: u64, slot: u64) -> u64
-    requires number { message_number ≤ MOST_MESSAGES }
-    requires slot { slot < 16 }
+    requires number { message_number ≤ most_messages }
+    requires slot { slot < most_slots }
     ensures { result ≡ word_for message_number slot }
 {
-    16 * message_number + slot
+    MOST_SLOTS * message_number + slot
 }
 
 /// The slot that a word of `latest` or of an announcement shows.
 fn slot_shown(word: u64) -> Option<u64>
     ensures { result ≡ slot_shown word }
 {
-    if word == 0 { None } else { Some(word % 16) }
+    if word == 0 {
+        None
+    } else {
+        Some(word % MOST_SLOTS)
+    }
 }
 
 /// After a publication no reader is scanned and no word stored.

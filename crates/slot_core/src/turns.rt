@@ -1,5 +1,6 @@
 //! Whose turn it is, and why a step is refused.
 ghost use Rattle.std.specs.Prelude.{◌≡◌, ◌≤◌, ◌<◌, ◌==◌, Some, length, slice_index};
+ghost use Rattle.slot_core.specs.Limits.{longest_message, port_readers, port_slots};
 ghost use Rattle.slot_core.specs.Message.{words_for};
 ghost use Rattle.slot_core.specs.State.{last_of, view_at};
 ghost use Rattle.slot_core.specs.Refusal.{first_refusal, is_announced, is_found, is_latest, may_begin, may_clear, may_continue, may_load_word, may_publish, may_scan, may_store, refusal_of, refusal_to_store, turn_of};
@@ -7,12 +8,13 @@ ghost use Rattle.slot_core.specs.Stored.{view_of};
 
 use crate::message::{is_padded, words_for};
 use crate::reader::Reader;
+use crate::view::MOST_SLOTS;
 use crate::{Core, CoreEvent, LONGEST_MESSAGE, MOST_MESSAGES, READERS, SLOTS, StepRefusal, WORDS};
 
 impl Core {
     /// Why the step is refused, if it is: the first of place, turn, latest and announced.
     pub(crate) fn refusal_of(&self, event: &CoreEvent) -> Option<StepRefusal>
-        ensures { result ≡ refusal_of READERS SLOTS self.now event.now }
+        ensures { result ≡ refusal_of port_readers port_slots self.now event.now }
     {
         match *event {
             CoreEvent::Scan { reader } => turn_of(reader < READERS, self.may_scan(reader)),
@@ -34,7 +36,7 @@ impl Core {
     }
 
     fn refusal_to_store(&self, slot: usize, index: usize, word: u64) -> Option<StepRefusal>
-        ensures { result ≡ refusal_to_store READERS SLOTS self.now.writer slot index word }
+        ensures { result ≡ refusal_to_store port_readers port_slots self.now.writer slot index word }
     {
         first_refusal(
             slot < SLOTS && index < WORDS,
@@ -53,7 +55,7 @@ impl Core {
     }
 
     fn may_store(&self, slot: usize, index: usize, word: u64) -> bool
-        ensures { result ≡ may_store READERS self.now.writer slot index word }
+        ensures { result ≡ may_store port_readers self.now.writer slot index word }
     {
         let next = self.scanned.len() == READERS && index == self.stored.len();
         if index == 0 {
@@ -79,10 +81,10 @@ impl Core {
             && (self.published.len() as u64) < MOST_MESSAGES
     }
 
-    /// How many octets the message has that is being written. 0 where none is.
+    /// How many octets the message has that is being written. 0 if none is.
     fn octets(&self) -> u64
         ensures value { result ≡ slice_index self.now.writer.stored 0 }
-        ensures short { result ≤ LONGEST_MESSAGE }
+        ensures short { result ≤ longest_message }
     {
         match self.stored.as_slice().first() {
             Some(octets) => *octets,
@@ -93,7 +95,7 @@ impl Core {
     fn is_latest(&self, slot: usize) -> bool
         ensures { result ≡ is_latest self.now.writer slot }
     {
-        self.words[0] != 0 && slot as u64 == self.words[0] % 16
+        self.words[0] != 0 && slot as u64 == self.words[0] % MOST_SLOTS
     }
 
     fn is_announced(&self, slot: usize) -> bool
@@ -107,7 +109,7 @@ impl Core {
 
     // ---- the readers
 
-    /// A reader, or one that has loaded nothing where there is no such reader.
+    /// A reader, or one that has loaded nothing if there is no such reader.
     pub(crate) fn reader(&self, reader: usize) -> Reader
         ensures view { view_of self.now.writer.published result ≡ view_at self.now.views reader }
         ensures seen { result.seen ≤ length self.now.writer.published }

@@ -6,15 +6,17 @@ use std::collections::LinkedList;
 pub const READERS: usize = 4;
 /// Its slots, each of which holds one message: one for each reader, one for the message that `latest`
 /// shows, and one to write (own).
-pub const SLOTS: usize = 6;
-/// The words of a slot: those of the longest message.
-pub const WORDS: usize = 186;
-/// All words of a port's table: `latest`, the announcements, the slots.
-pub const TABLE_WORDS: usize = 1 + READERS + WORDS * SLOTS;
+pub const SLOTS: usize = READERS + 2;
 /// The longest message, in octets (ARINC 664 Part 7, sampling ports: one frame).
 pub const LONGEST_MESSAGE: u64 = 1471;
-/// How many messages a sampling port numbers: 2^60 - 1 (own).
+/// The words of a slot, those of the longest message: its length, its time, its octets, eight to a word.
+pub const WORDS: usize = 2 + (LONGEST_MESSAGE as usize + 7) / 8;
+/// All words of a port's table: `latest`, the announcements, the slots.
+pub const TABLE_WORDS: usize = 1 + READERS + WORDS * SLOTS;
+/// How many messages a sampling port numbers, from 1: 2^60 - 1 (own).
 pub const MOST_MESSAGES: u64 = (1 << 60) - 1;
+/// How many slots a word of `latest` can name; what is left of the word is the message number (own).
+pub(crate) const MOST_SLOTS: u64 = 16;
 
 /// Where a reader is. The word is the one of `latest` that it loaded.
 #[derive(Clone, Copy, Debug, PartialEq, Eq)]
@@ -30,7 +32,7 @@ pub enum Phase {
     Holding(u64),
 }
 
-/// What the writer knows. It writes where `stored` is not empty, and scans else. Contracts speak of
+/// What the writer knows. It writes if `stored` isn't empty, and scans else. Contracts speak of
 /// such a view; no program makes one.
 #[derive(Drop)]
 pub struct WriterView {

@@ -1,5 +1,5 @@
-//! Steps that name a reader, a slot or a word that there isn't, where the writer and the readers are at
-//! each of their steps.
+//! Steps that name a reader, a slot or a word that there isn't, at each step of the writer and of the
+//! readers.
 use crate::schedule::Move::{Publishes, Reads, Refused, Scans, Step};
 use crate::schedule::{Move, check_refused, core_after};
 use slot_core::CoreEvent;

@@ -1,16 +1,19 @@
 //! Publications while readers look and hold.
 use crate::schedule::Move::{Latest, Publishes, Reader, Reads, Refused, Scans, Step, Writes};
-use crate::schedule::{Move, check, check_phase, check_word, core_after};
+use crate::schedule::{
+    Move, Outcome, check, check_list, check_outcome, check_phase, check_word, core_after, play,
+    steps_of,
+};
 use slot_core::CoreEvent::{
     Announce, Clear, LoadFirst, LoadSecond, LoadWord, Scan, StoreLatest, StoreWord,
 };
 use slot_core::Phase::{Announced, Holding, Idle, Loaded};
 use slot_core::StepRefusal::{NoSuchPlace, NotItsTurn, SlotAnnounced, SlotLatest};
-use slot_core::{Core, CoreEvent, StepRefusal, run};
+use slot_core::{Core, CoreEvent};
 use std::alloc::Global;
 use std::process::Abort;
 
-/// Messages 1 to 6 in slots 0, 1, 0, 1, 0, 1; reader 0 looks after the first.
+/// Messages 1 to 6 in slots 0, 1, 0, 1, 0, 1; reader 0 looks after the first, and again after the last.
 fn six_messages() -> [Move; 15] {
     [
         Publishes(0),
@@ -34,6 +37,23 @@ fn six_messages() -> [Move; 15] {
 #[test]
 fn a_look_that_fails_sees_newer_messages(rt: HostRuntime) {
     check(&rt, rt.alloc(), &six_messages());
+    check_list(&rt, rt.alloc(), &six_messages(), 46, 97);
+}
+
+/// Messages 1 to 20, in slots 0 and 1 by turns.
+fn twenty_messages() -> [Move; 20] {
+    let mut moves = [Publishes(0); 20];
+    for place in 0..20 {
+        moves[place] = Publishes(place % 2);
+    }
+    moves
+}
+
+/// No step is refused: each message takes memory, and there is enough.
+#[test]
+fn many_messages_follow_one_another(rt: HostRuntime) {
+    check(&rt, rt.alloc(), &twenty_messages());
+    check_list(&rt, rt.alloc(), &twenty_messages(), 140, 321);
 }
 
 /// The first word of a message of 0 octets.
@@ -65,8 +85,9 @@ fn a_held_slot_and_the_newest_one_are_not_written(rt: HostRuntime) {
     check(&rt, rt.alloc(), &one_held_and_one_newer());
 }
 
-/// Each reader holds a message of its own, in the slot of its number; one more is the newest, in slot 4.
-fn four_held() -> [Move; 18] {
+/// Each reader holds a message of its own, in the slot of its number; one more is the newest, in slot 4; and
+/// all readers are scanned.
+fn four_held() -> [Move; 10] {
     [
         Publishes(0),
         Reads(0),
@@ -78,20 +99,46 @@ fn four_held() -> [Move; 18] {
         Reads(3),
         Publishes(4),
         Scans,
+    ]
+}
+
+/// The next message: slot 5 is left for it.
+fn begun_in_each_slot() -> [Move; 8] {
+    [
+        Latest(84, 5),
         Refused(first_word(0), SlotAnnounced),
         Refused(first_word(1), SlotAnnounced),
         Refused(first_word(2), SlotAnnounced),
         Refused(first_word(3), SlotAnnounced),
         Refused(first_word(4), SlotLatest),
-        Latest(84, 5),
         Writes(5),
         Latest(84, 5),
     ]
 }
 
+fn check_one_left(rt: &impl Abort, alloc: Global) {
+    let mut core = core_after(rt, alloc, &four_held());
+    play(rt, alloc, &mut core, &begun_in_each_slot());
+}
+
+/// The steps of `four_held` and the first word of a message in this slot, as one list.
+fn check_begun(rt: &impl Abort, alloc: Global, slot: usize, wanted: Outcome) {
+    let mut steps = steps_of(rt, alloc, &four_held());
+    steps.push(first_word(slot)).expect(rt, "memory");
+    check_outcome(rt, alloc, steps.as_slice(), wanted);
+}
+
 #[test]
 fn one_slot_is_left_where_every_reader_holds_another(rt: HostRuntime) {
-    check(&rt, rt.alloc(), &four_held());
+    let alloc = rt.alloc();
+    check_one_left(&rt, alloc);
+    check_list(&rt, alloc, &four_held(), 51, 84);
+    check_begun(&rt, alloc, 0, Err((51, SlotAnnounced)));
+    check_begun(&rt, alloc, 1, Err((51, SlotAnnounced)));
+    check_begun(&rt, alloc, 2, Err((51, SlotAnnounced)));
+    check_begun(&rt, alloc, 3, Err((51, SlotAnnounced)));
+    check_begun(&rt, alloc, 4, Err((51, SlotLatest)));
+    check_begun(&rt, alloc, 5, Ok(84));
 }
 
 /// A message of 1 octet, 11 hexadecimal, of time 5, in slot 3, which reader 2 holds and loads.
@@ -157,21 +204,6 @@ fn first_message() -> [CoreEvent; 7] {
         },
         StoreLatest,
     ]
-}
-
-/// What these steps lead to: the word `latest`, or the place of the first refused step and why.
-fn outcome_of(alloc: Global, steps: &[CoreEvent]) -> Result<u64, (usize, StepRefusal)> {
-    Ok(run(alloc, steps)?.latest())
-}
-
-fn check_outcome(
-    rt: &impl Abort,
-    alloc: Global,
-    steps: &[CoreEvent],
-    wanted: Result<u64, (usize, StepRefusal)>,
-) {
-    let outcome = outcome_of(alloc, steps);
-    assert!(rt; outcome == wanted, "{outcome:?}");
 }
 
 #[test]

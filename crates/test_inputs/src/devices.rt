@@ -8,7 +8,8 @@ use std::io::{Error, ErrorKind, Read, Result, Write};
 pub enum ReadCall<'a> {
     /// It gives these bytes, or as many as there is room for, and the others at the next calls.
     Gives(&'a [u8]),
-    Interrupted,
+    /// It is interrupted at this many calls, one after another, and at least at one.
+    Interrupted(usize),
     Fails,
     /// It is at its end.
     Ends,
@@ -20,7 +21,7 @@ pub struct ScriptedReader<'a> {
     pub calls: [ReadCall<'a>; 3],
     /// The place of the next call.
     pub next: usize,
-    /// How many of its bytes were given before.
+    /// How many of that call's bytes were given, or how many of its interruptions were made, before.
     pub given: usize,
 }
 
@@ -46,13 +47,18 @@ impl<'a> ScriptedReader<'a> {
         let rest = &bytes[self.given.min(bytes.len())..];
         let count = rest.len().min(buffer.len());
         buffer[..count].copy_from_slice(&rest[..count]);
-        if count == rest.len() {
+        self.count_to(rest.len(), count);
+        count
+    }
+
+    /// This many more were given or made, of as many as are left: after all of them the next call comes.
+    fn count_to(&mut self, left: usize, count: usize) {
+        if count >= left {
             self.next = self.next.wrapping_add(1);
             self.given = 0;
         } else {
             self.given = self.given.wrapping_add(count);
         }
-        count
     }
 }
 
@@ -61,14 +67,20 @@ impl Read for ScriptedReader<'_> {
         let Some(call) = self.calls.get(self.next).copied() else {
             return Ok(0);
         };
-        if let ReadCall::Gives(bytes) = call {
-            return Ok(self.give(bytes, buffer));
-        }
-        self.next = self.next.wrapping_add(1);
         match call {
-            ReadCall::Interrupted => Err(Error::from(ErrorKind::Interrupted)),
-            ReadCall::Fails => Err(Error::from(ErrorKind::BrokenPipe)),
-            _ => Ok(0),
+            ReadCall::Gives(bytes) => Ok(self.give(bytes, buffer)),
+            ReadCall::Interrupted(times) => {
+                self.count_to(times.saturating_sub(self.given), 1);
+                Err(Error::from(ErrorKind::Interrupted))
+            }
+            ReadCall::Fails => {
+                self.count_to(1, 1);
+                Err(Error::from(ErrorKind::BrokenPipe))
+            }
+            ReadCall::Ends => {
+                self.count_to(1, 1);
+                Ok(0)
+            }
         }
     }
 }

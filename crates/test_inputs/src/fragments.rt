@@ -165,8 +165,7 @@ pub const JOINED: &str = "1389138a00200000a0a1a2a3a4a5a6a7b0b1b2b3b4b5b6b7b8b9ba
 /// 25 octets.
 const ZEROS: &str = "00000000000000000000000000000000000000000000000000";
 
-/// The octets 0 that make the frame of a packet 60 octets long, where `octets` are those after its IPv4
-/// header.
+/// The octets 0 that make the frame of a packet 60 octets long; `octets` are those after its IPv4 header.
 pub fn padding_after(octets: &str) -> &'static str {
     ZEROS.get(octets.len()..).unwrap_or("")
 }

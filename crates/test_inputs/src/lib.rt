@@ -1,5 +1,5 @@
 //! What the tests of several crates are given: frames, links, readers and writers, and the
-//! words of a command line. There are no tests here.
+//! words of a command line. There are no tests here, and nothing is promised.
 #![tactic(auto)]
 
 mod devices;

@@ -51,7 +51,7 @@ pub fn sampling_port(name: &str, udp: u16, max: u16) -> Option<PortSettings> {
 }
 
 impl Link {
-    /// The ports `pos` and `nav`. None where memory runs out or a limit is broken.
+    /// The ports `pos` and `nav`. None if memory runs out or a limit is broken.
     pub fn ports(&self, alloc: Global) -> Option<Vec<PortSettings>> {
         let depth = self.nav_depth;
         let pos = sampling_port("pos", 5000, self.pos_max)?;
@@ -62,12 +62,12 @@ impl Link {
         Some(ports)
     }
 
-    /// This link with these ports. None where a limit is broken.
+    /// This link with these ports. None if a limit is broken.
     pub fn with_ports(&self, ports: Vec<PortSettings>) -> Option<LinkSettings> {
         LinkSettings::new(LinkNo(17), 1000, self.redundancy, 50_000, ports)
     }
 
-    /// The settings of this link. None where memory runs out or a limit is broken.
+    /// The settings of this link. None if memory runs out or a limit is broken.
     pub fn settings(&self, alloc: Global) -> Option<LinkSettings> {
         self.with_ports(self.ports(alloc)?)
     }

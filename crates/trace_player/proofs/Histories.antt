@@ -12,11 +12,12 @@ use Rattle.es_base.specs.declared.event.Arrival.{Arrival}
 use Rattle.es_base.specs.declared.event.Event.{Event}
 use Rattle.es_base.specs.Frame.{FrameParts, frame_of, link_number_of, parts_of}
 use Rattle.es_base.specs.Settings.{Settings}
-use Rattle.es_base.specs.Config.{Configuration, link_number, has_link_number}
+use Rattle.es_base.specs.Config.{AreLinks, Configuration, link_number, has_link_number}
 use Rattle.es_base.specs.Addressing.{ComesToPlace, comes_if, comes_to, addressed_if, addressed_link, or_unknown}
 use Rattle.es_base.specs.Past.{origin_of}
 use Rattle.es_base.specs.Run.{room_unread}
-use Rattle.es_base.proofs.Firsts.{IsOnly, first_at, found_at, passes_found, nothing_found, map_none, map_one}
+use Rattle.es_base.proofs.Addressed.{IsAddressee, link_at}
+use Rattle.es_base.proofs.Firsts.{IsOnly, first_at, passes_found, nothing_found, map_none, map_one}
 use Rattle.link_receiver.specs.Link.{Link, past_of, room_after, verdict_after, with_event}
 use Rattle.trace_player.specs.Histories.{event_at, past_after, state_after, states_after, verdict_at}
 use Rattle.trace_player.specs.Output.{line_after, line_if, line_of}
@@ -100,17 +101,15 @@ unfolding comes_to
 comes_by_number constant octets is_frame link = ap (comes_if link) is_frame
 
 -- the state at that place alone gains an event
-moved_states : (c : Configuration) (earlier : List Arrival) (a : Arrival) (place : ℕ) → (comes : ComesToPlace c a.frame place)
-    → set (states_after c earlier) place (with_frame (state_after c.constant earlier comes.link) a) ≡ states_after c (a ∷ earlier)
-moved_states c earlier a place comes =
+moved_states : (c : Configuration) (earlier : List Arrival) (a : Arrival) (place : ℕ) (link : Settings) → AreLinks c.links → ComesToPlace c a.frame place → IsAddressee c a.frame place link
+    → set (states_after c earlier) place (with_frame (state_after c.constant earlier link) a) ≡ states_after c (a ∷ earlier)
+moved_states c earlier a place link are comes is =
     let vl = link_number_of a.frame in
     let number = has_link_number vl in
-    let link = comes.link in
     let named = comes_by_number c.constant a.frame comes.is_frame in
-    let found : find number c.links ≡ Some link = found_at number c.links place comes.first ∙ comes.there in
-    let more = moved c.constant earlier a link (named link ∙ passes_found number c.links link found) in
-    let apart = λ (other : Settings) (is : number other ≡ false). unmoved c.constant earlier a other (named other ∙ is) in
-    let one = map_one number (state_after c.constant (a ∷ earlier)) (state_after c.constant earlier) c.links link apart (only_one vl c.links comes.links.numbers) found in
+    let more = moved c.constant earlier a link (named link ∙ passes_found number c.links link is.found) in
+    let apart = λ (other : Settings) (not : number other ≡ false). unmoved c.constant earlier a other (named other ∙ not) in
+    let one = map_one number (state_after c.constant (a ∷ earlier)) (state_after c.constant earlier) c.links link apart (only_one vl c.links are.numbers) is.found in
     rw (first_at number c.links place comes.first, more) at one
 
 state_is : (c : Configuration) (earlier : List Arrival) (states : List Link) (place : ℕ) (link : Settings) (d : Link)
@@ -119,26 +118,29 @@ state_is c earlier states place link d there same =
     let view = state_after c.constant earlier in
     get_or_from_slice_get states place (view link) d (rw same (slice_get-map view c.links place ∙ ap (option_map view) there))
 
--- what a frame leaves of all states, where its link's takes it
+-- what a frame leaves of all states, once its link's state takes it
 pub taken_states : (c : Configuration) (earlier : List Arrival) (a : Arrival) (states : List Link) (place : ℕ) (d after : Link)
-    → ComesToPlace c a.frame place → after ≡ with_frame (get_or states place d) a
+    → AreLinks c.links → ComesToPlace c a.frame place → after ≡ with_frame (get_or states place d) a
     → states ≡ states_after c earlier → set states place after ≡ states_after c (a ∷ earlier)
-taken_states c earlier a states place d after comes took same =
-    let is = state_is c earlier states place comes.link d comes.there same in
-    let after_is : after ≡ with_frame (state_after c.constant earlier comes.link) a = subst (λ (s : Link). after ≡ with_frame s a) is took in
-    rw (same, after_is) (moved_states c earlier a place comes)
+taken_states c earlier a states place d after are comes took same =
+    let addressee = link_at c a.frame place comes in
+    let link = addressee.0 in
+    let is = state_is c earlier states place link d addressee.1.there same in
+    let after_is : after ≡ with_frame (state_after c.constant earlier link) a = subst (λ (s : Link). after ≡ with_frame s a) is took in
+    rw (same, after_is) (moved_states c earlier a place link are comes addressee.1)
 
 -- the line that is written of it
 pub taken_line : (c : Configuration) (earlier : List Arrival) (a : Arrival) (states : List Link) (place : ℕ) (d : Link) (before after : List ℕ)
     → ComesToPlace c a.frame place → after ≡ before ++ (line_after (get_or states place d).settings (past_of (get_or states place d)) a ++ 10 ∷ [])
     → states ≡ states_after c earlier → after ≡ before ++ line_of c earlier a
 taken_line c earlier a states place d before after comes wrote same =
-    let link = comes.link in
+    let addressee = link_at c a.frame place comes in
+    let link = addressee.0 in
     let past = past_after c.constant link earlier in
-    let is = state_is c earlier states place link d comes.there same in
+    let is = state_is c earlier states place link d addressee.1.there same in
     let line : Settings → List Event → List ℕ = λ s p. before ++ (line_after s p a ++ 10 ∷ []) in
     let line_to : Result Settings FilterCause → List ℕ = λ to. before ++ (line_if c earlier a to ++ 10 ∷ []) in
-    wrote ∙ ap (λ (s : Link). line s.settings (past_of s)) is ∙ ap (line link) (reverse-reverse past) ∙ sym (ap line_to comes.comes)
+    wrote ∙ ap (λ (s : Link). line s.settings (past_of s)) is ∙ ap (line link) (reverse-reverse past) ∙ sym (ap line_to addressee.1.comes)
 
 -- ---- all links
 

@@ -5,8 +5,8 @@ use Rattle.es_base.specs.declared.event.Arrival.{Arrival}
 use Rattle.es_base.specs.declared.event.Event.{Event}
 use Rattle.es_base.specs.Settings.{Settings}
 use Rattle.es_base.specs.Config.{Configuration}
-use Rattle.es_base.specs.FilterTally.{FilterCounts, HasFiltered, filtered_count, filtered_in}
-use Rattle.es_base.specs.Tally.{count_of}
+use Rattle.es_base.specs.FilterTally.{HasFiltered, filtered_count}
+use Rattle.es_base.specs.Tally.{Counts, count_in, count_of}
 use Rattle.link_receiver.specs.Link.{Link}
 use Rattle.output_lines.specs.Report.{all_count_lines, all_link_lines, count_lines, filtered_lines, link_lines}
 use Rattle.output_lines.proofs.SameCounts.{counts_of_frames}
@@ -28,9 +28,9 @@ same_counts constant frames (link ∷ links) =
     let past = past_after constant link frames in
     rw (same_counts constant frames links) (ap (λ (p : List Event). count_lines link.vl (count_of p) ++ all_count_lines (λ l. past_after constant l frames) links) (reverse-reverse past))
 
-pub report_is : (c : Configuration) (frames : List Arrival) (at : ℕ) (states : List Link) (filtered : FilterCounts) (text one two more : List ℕ)
+pub report_is : (c : Configuration) (frames : List Arrival) (at : ℕ) (states : List Link) (filtered : Counts) (text one two more : List ℕ)
     → states ≡ states_after c frames → HasFiltered filtered c frames
-    → one ≡ text ++ lines_of_ports at states → two ≡ one ++ lines_of_counts states → more ≡ two ++ filtered_lines (filtered_in filtered)
+    → one ≡ text ++ lines_of_ports at states → two ≡ one ++ lines_of_counts states → more ≡ two ++ filtered_lines (count_in filtered)
     → more ≡ text ++ report_after c frames at
 report_is c frames at states filtered text one two more same has first second third =
     let ports : lines_of_ports at states ≡ all_link_lines at (λ link. past_after c.constant link frames) c.links = ap (lines_of_ports at) same ∙ same_ports c.constant frames at c.links in

@@ -11,8 +11,7 @@ use Rattle.es_base.specs.Past.{event_of, origin_of}
 use Rattle.es_base.specs.Run.{room_unread, verdict_of}
 use Rattle.link_receiver.specs.Link.{Link}
 
--- the verdict of a frame that comes to the link after this past, where no message is ever taken from a
--- queue
+-- the verdict of a frame that comes to the link after this past, if no message is ever taken from a queue
 abbrev pub verdict_at : Settings → List Event → Arrival → Verdict
 verdict_at link past a = verdict_of (origin_of link) past a (room_unread (origin_of link) past a)
 

@@ -5,4 +5,3 @@ pub mod Output
 pub mod Play
 pub mod Report
 pub mod Sink
-pub mod Text

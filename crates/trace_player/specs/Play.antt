@@ -38,7 +38,7 @@ WritesWhole bytes old new failed (Err Memory) = ⊥
 
 -- ---- a run
 
--- trace B is looked at where trace A says frames
+-- trace B is looked at if trace A says frames
 abbrev pub FirstFault : Given → Given → Net → TraceFault → Type 0
 FirstFault a b nets.A fault = ReadsTrace a (Err fault)
 FirstFault a b nets.B fault = ((frames : List TimedFrame) × ReadsTrace a (Ok frames)) × ReadsTrace b (Err fault)
@@ -54,6 +54,21 @@ IsFaultOfTrace net Memory = ⊥
 abbrev pub PlaysTraces : Given → Given → (List TimedFrame → List TimedFrame → Type 0) → Type 0
 PlaysTraces a b Holds = (frames_a : List TimedFrame) × ((frames_b : List TimedFrame) × ReadsTrace a (Ok frames_a) × ReadsTrace b (Ok frames_b) × Holds frames_a frames_b)
 
+-- the links' states are those after the frames of both traces
+abbrev pub AreAfter : Configuration → List TimedFrame → List TimedFrame → List Link → Type 0
+AreAfter c frames_a frames_b states = states ≡ states_after c (reverse (merged frames_a frames_b))
+
+-- what a run over two traces makes, whose report is asked for at a time: the links' states, and the output
+abbrev pub Runs : Configuration → Option ℕ → Given → Given → List Link → List ℕ → Type 0
+Runs c at a b states output = PlaysTraces a b (λ frames_a frames_b. (output ≡ output_of c frames_a frames_b at) × AreAfter c frames_a frames_b states)
+
+-- the fault of a run over two traces that comes before anything is written
+abbrev pub IsFaultBeforeOutput : Given → Given → PlayFault → Type 0
+IsFaultBeforeOutput a b (Trace net line cause) = FirstFault a b net (of_trace.Line line cause)
+IsFaultBeforeOutput a b (Read net) = FirstFault a b net of_trace.Read
+IsFaultBeforeOutput a b Write = ⊥
+IsFaultBeforeOutput a b Memory = (a.failed ≡ false) × (b.failed ≡ false)
+
 -- what a run over two traces did, whose report is asked for at a time; `contents` and `has_failed` are what the sink says, from `old` to `new`
 abbrev pub Played : {S X : Type 0} → Configuration → Option ℕ → Given → Given → (S → Option (List ℕ)) → (S → Bool) → S → S → Result X PlayFault → Type 0
 Played c at a b contents has_failed old new (Ok x) =
@@ -64,11 +79,7 @@ Played c at a b contents has_failed old new (Err Write) =
     (has_failed new ≡ true) × PlaysTraces a b (λ frames_a frames_b. (count : ℕ) × Appends (contents old) (contents new) (take count (output_of c frames_a frames_b at)))
 Played c at a b contents has_failed old new (Err Memory) = (a.failed ≡ false) × (b.failed ≡ false) × (new ≡ old)
 
--- the links' states are those after the frames of both traces
-abbrev pub AreAfter : Configuration → List TimedFrame → List TimedFrame → List Link → Type 0
-AreAfter c frames_a frames_b states = states ≡ states_after c (reverse (merged frames_a frames_b))
-
--- what `Played` says, where a run returns the links' states, seen through `view`
+-- what a run that returns the links' states did; the states are seen through `view`
 abbrev pub Replayed : {S X : Type 0} → (X → List Link) → Configuration → Option ℕ → Given → Given → (S → Option (List ℕ)) → (S → Bool) → S → S → Result X PlayFault → Type 0
 Replayed view c at a b contents has_failed old new (Ok x) =
     (has_failed new ≡ false)
@@ -82,10 +93,11 @@ abbrev pub IsOutputOf : Configuration → Option ℕ → List ℕ → List ℕ �
 IsOutputOf c at a b output =
     (frames_a : List TimedFrame) × ((frames_b : List TimedFrame) × (frames_in a ≡ Ok frames_a) × (frames_in b ≡ Ok frames_b) × (output ≡ output_of c frames_a frames_b at))
 
--- the fault is the first of these texts: that of A, or that of B where A is a trace
+-- the fault is the first of these texts, that of A, or that of B if A is a trace; or memory ran out. Texts in
+-- memory can always be read, and nothing is written
 abbrev pub IsFaultOf : List ℕ → List ℕ → PlayFault → Type 0
 IsFaultOf a b (Trace nets.A line cause) = frames_in a ≡ Err (line, cause)
 IsFaultOf a b (Trace nets.B line cause) = ((frames : List TimedFrame) × (frames_in a ≡ Ok frames)) × (frames_in b ≡ Err (line, cause))
-IsFaultOf a b (Read net) = ⊤
-IsFaultOf a b Write = ⊤
+IsFaultOf a b (Read net) = ⊥
+IsFaultOf a b Write = ⊥
 IsFaultOf a b Memory = ⊤

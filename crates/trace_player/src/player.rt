@@ -1,12 +1,13 @@
 //! A whole run: from the bytes of a trace to the bytes of the output.
-ghost use Rattle.std.specs.Prelude.{◌≡◌, IfErr, IfOk, false};
+ghost use Rattle.std.specs.Prelude.{◌≡◌, IfErr, IfOk, false, string_bytes};
 ghost use Rattle.es_base.specs.declared.place.Net.TheVariants.{A as net_a};
-ghost use Rattle.trace_player.specs.Play.{ReadsTraceOf, WritesWhole, Played, Replayed, IsFaultOf, IsFaultOfTrace, IsOutputOf};
+ghost use Rattle.trace_player.specs.Play.{ReadsTraceOf, WritesWhole, Played, Replayed, Runs, IsFaultBeforeOutput, IsFaultOf, IsFaultOfTrace, IsOutputOf};
 
 use crate::run::{new_states, output_of};
+use crate::text::Text;
 use crate::{PlayFault, Sink};
 use es_base::{Config, Net};
-use hex_trace::{Device, Frames, Source, TraceFault, read_trace};
+use hex_trace::{Frames, Source, TraceFault, read_trace};
 use link_receiver::UnreadLink;
 use std::alloc::Global;
 use std::sync::Wait;
@@ -40,7 +41,8 @@ pub fn play<R: Wait, A: Source, B: Source, W: Sink>(
     Ok(())
 }
 
-/// Plays two texts that are in memory, and returns the output, or the first fault of the two.
+/// Plays two texts that are in memory, and returns the output, or the first fault of the two. Nothing is
+/// read or written, so the fault is never Read or Write.
 pub fn play_texts<R: Wait>(
     rt: &R,
     alloc: Global,
@@ -52,11 +54,10 @@ pub fn play_texts<R: Wait>(
     ensures output { IfOk result (λ output. IsOutputOf config.now at a.now b.now output.items) }
     ensures fault { IfErr result (λ fault. IsFaultOf a.now b.now fault) }
 {
-    let mut a = Device::new(a);
-    let mut b = Device::new(b);
-    let mut out = Device::new(Vec::new(alloc));
-    play(rt, alloc, config, &mut a, &mut b, &mut out, at)?;
-    Ok(out.inner)
+    let mut a = Text { rest: a };
+    let mut b = Text { rest: b };
+    let (_, output) = run_traces(rt, alloc, config, &mut a, &mut b, at)?;
+    Ok(output.into_bytes())
 }
 
 /// Plays as `play` does, and returns the links' states, in the order of the configuration: each has the
@@ -79,14 +80,40 @@ pub fn replay<R: Wait, A: Source, B: Source, W: Sink>(
         W.contents W.has_failed out.old out.new result }
     ensures b_untouched { IfErr result (λ fault. IsFaultOfTrace net_a fault → b.new ≡ b.old) }
 {
+    let (states, output) = run_traces(rt, alloc, config, a, b, at)?;
+    write_whole(out, output.as_bytes())?;
+    Ok(states)
+}
+
+/// Reads the traces of both networks, and gives their frames to the links: the links' states after them,
+/// and the output.
+fn run_traces<R: Wait, A: Source, B: Source>(
+    rt: &R,
+    alloc: Global,
+    config: &Config,
+    a: &mut A,
+    b: &mut B,
+    at: Option<u64>,
+) -> Result<(Vec<UnreadLink>, String), PlayFault>
+    requires source_a { A.has_failed a.old ≡ false }
+    requires source_b { B.has_failed b.old ≡ false }
+    ensures run { IfOk result (λ run. Runs config.now at
+        (record { bytes = A.remaining a.old; failed = A.has_failed a.new })
+        (record { bytes = B.remaining b.old; failed = B.has_failed b.new })
+        run.0.items (string_bytes run.1)) }
+    ensures fault { IfErr result (λ fault. IsFaultBeforeOutput
+        (record { bytes = A.remaining a.old; failed = A.has_failed a.new })
+        (record { bytes = B.remaining b.old; failed = B.has_failed b.new })
+        fault) }
+    ensures b_untouched { IfErr result (λ fault. IsFaultOfTrace net_a fault → b.new ≡ b.old) }
+{
     let mut text = Vec::new(alloc);
     let frames_a = trace_of(alloc, Net::A, a, &mut text)?;
     let frames_b = trace_of(alloc, Net::B, b, &mut text)?;
     drop(text);
     let mut states = new_states(alloc, config)?;
     let output = output_of(rt, alloc, config, &mut states, frames_a, frames_b, at)?;
-    write_whole(out, output.as_bytes())?;
-    Ok(states)
+    Ok((states, output))
 }
 
 /// The frames of the trace of one network. `text` is where it is read to: one text serves for both
@@ -108,8 +135,8 @@ fn trace_of<S: Source>(
     }
 }
 
-/// Writes all the bytes. Write is returned where a write failed, or took nothing; then a beginning of
-/// them was written.
+/// Writes all the bytes. Write is returned if a write failed, or took nothing; then a beginning of them
+/// was written.
 pub fn write_whole<W: Sink>(out: &mut W, bytes: &[u8]) -> Result<(), PlayFault>
     requires { W.has_failed out.old ≡ false }
     ensures { WritesWhole bytes.now (W.contents out.old) (W.contents out.new) (W.has_failed out.new) result }

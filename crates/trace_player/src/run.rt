@@ -11,11 +11,11 @@ ghost use Rattle.trace_player.specs.Output.{line_after, line_of, output_of};
 
 use crate::merge::Merge;
 use crate::report::write_report;
-use crate::text::{EventLine, FilteredLine, VerdictText};
 use es_base::{Arrival, Config, FilterTally, Memory};
 use frame_reader::read_addressed;
 use hex_trace::Frames;
 use link_receiver::UnreadLink;
+use output_lines::{EventLine, FilteredLine, VerdictText};
 use std::alloc::Global;
 use std::sync::Wait;
 
@@ -81,7 +81,7 @@ fn play_frame<R: Wait>(
         Ok((place, _)) => take_frame(rt, alloc, &mut states[place], arrival, text),
         Err(cause) => {
             let (time, net) = (arrival.time, arrival.net);
-            filtered.add(net, cause);
+            filtered.add(net, cause.kind());
             let line = FilteredLine { time, net, cause };
             writeln!(text, "{line}")
         }

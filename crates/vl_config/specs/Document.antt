@@ -52,6 +52,6 @@ abbrev pub config_if : Option Members → Result Configuration ConfigFault
 config_if None = Err Text
 config_if (Some document) = config_from document
 
--- the configuration in a text, or its first fault; Text where the text is no TOML document
+-- the configuration in a text, or its first fault; Text if the text is no TOML document
 unfoldable pub config_in : List ℕ → Result Configuration ConfigFault
 config_in text = config_if (parse_document text)

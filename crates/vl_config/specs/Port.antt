@@ -39,7 +39,7 @@ service_at table = do
   text ← text_at keys.Kind table
   service_from text
 
--- the four octets as one number, where nothing follows them
+-- the four octets as one number, if nothing follows them
 abbrev pub whole_address : List ℕ × List ℕ → Option ℕ
 whole_address (octets, []) = Some (from_be_bytes w32 octets)
 whole_address (octets, _ ∷ _) = None

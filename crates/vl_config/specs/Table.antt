@@ -37,7 +37,7 @@ abbrev pub integer_if : Key → ℕ → ℕ → ℕ → Option Data → Result �
 integer_if key least greatest default None = Ok default
 integer_if key least greatest default (Some value) = integer_from key least greatest value
 
--- the same, or the default where there is no such key
+-- the integer at a key, or the default if there is no such key
 abbrev pub integer_or : Key → ℕ → ℕ → ℕ → Members → Result ℕ ConfigFault
 integer_or key least greatest default table = integer_if key least greatest default (value_at key table)
 

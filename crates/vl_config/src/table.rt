@@ -37,7 +37,7 @@ pub(crate) fn integer_at(
     integer_from(required(table, key)?, key, least, greatest)
 }
 
-/// The integer at this key, from `least` to `greatest`, or the default where there is no such key.
+/// The integer at this key, from `least` to `greatest`, or the default if there is no such key.
 pub(crate) fn integer_or(
     table: &Table,
     key: Key,
@@ -97,7 +97,7 @@ pub(crate) fn text_from<'a>(value: &'a Value, key: Key) -> Result<&'a str, Confi
     value.as_str().ok_or(ConfigFault::Kind(key))
 }
 
-/// The truth value at this key, or the default where there is no such key.
+/// The truth value at this key, or the default if there is no such key.
 pub(crate) fn flag_or(table: &Table, key: Key, default: bool) -> Result<bool, ConfigFault>
     ensures { result ≡ flag_or key default (table_view table.now) }
 {
@@ -139,7 +139,7 @@ fn table_from(value: &Value, key: Key) -> Result<&Table, ConfigFault>
     value.as_table().ok_or(ConfigFault::Kind(key))
 }
 
-/// These tables, where there are up to `most`.
+/// These tables, if there are up to `most`.
 fn at_most(tables: Vec<&Table>, most: usize) -> Result<Vec<&Table>, ConfigFault>
     ensures value { Gives (λ tables. map (λ table. table_view table.now) tables.items) result
         (at_most most (map (λ table. table_view table.now) tables.entry.items)) }

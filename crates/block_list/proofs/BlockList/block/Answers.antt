@@ -1,6 +1,6 @@
 use Rattle.std.proofs.Common.{◌≡◌, ◌∙◌, ◌<◌, length, get_or, sym, ap, rules}
 use Rattle.std.proofs.lemmas.Bool.{ltb-true}
-use Rattle.block_list.specs.BlockList.{block_at}
+use Rattle.block_list.specs.Kept.{block_at}
 use Rattle.block_list.proofs.Blocks.{block_of, last_block, no_block}
 use Rattle.block_list.proofs.BlockList.block.Goals as goal
 
@@ -23,7 +23,7 @@ returns-in-None g c =
     let last = c.self.inside.last.items in
     let number : c.args.number ≡ length full = search rules in
     let view = ap (λ v. block_at c.args.number v.items) c.self.view_is in
-    c.as_slice-in-None.ensures.value ∙ sym (rw number (last_block (λ b. b.items) full last c.self.invariant.0.0 c.self.invariant.1)) ∙ view
+    c.as_slice-in-None.ensures.value ∙ sym (rw number (last_block (λ b. b.items) full last c.self.invariant.0.0 c.self.invariant.1.0)) ∙ view
 
 pub returns-in-None-2 : goal.returns-in-None-2
 returns-in-None-2 g c =
@@ -31,4 +31,4 @@ returns-in-None-2 g c =
     let last = c.self.inside.last.items in
     let after : length full < c.args.number = search rules in
     let view = ap (λ v. block_at c.args.number v.items) c.self.view_is in
-    sym (no_block (λ b. b.items) full last c.args.number c.self.invariant.0.0 c.self.invariant.1 after) ∙ view
+    sym (no_block (λ b. b.items) full last c.args.number c.self.invariant.0.0 c.self.invariant.1.0 after) ∙ view

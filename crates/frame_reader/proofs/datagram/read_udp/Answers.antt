@@ -6,4 +6,4 @@ pub returns : goal.returns
 returns c =
     let count = length c.args.octets.now in
     let long = c.u16_at-length.result in
-    rw (le-ltb count 8 c.if-octets-lt-HEADER.false, ← c.u16_at-length.ensures, le-ltb long 8 c.if-length-lt-HEADER.false, le-ltb count long c.if-octets-length.false, ← c.u16_at.ensures, ← c.u16_at-2.ensures) refl
+    rw (le-ltb count 8 c.if-octets-lt-UDP_HEADER.false, ← c.u16_at-length.ensures, le-ltb long 8 c.if-length-lt-UDP_HEADER.false, le-ltb count long c.if-octets-length.false, ← c.u16_at.ensures, ← c.u16_at-2.ensures) refl

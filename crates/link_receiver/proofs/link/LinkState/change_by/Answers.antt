@@ -16,7 +16,7 @@ returns c =
     let sees : Sees seen (outcome_after link a) = rw whole at c.outcome-outcome.ensures.value in
     let forwarded : counts_as_forwarded seen ≡ is_forwarded (origin_of link.settings) (past_of link) a = counts_forwarded (origin_of link.settings) (past_of link) a seen sees in
     record {
-      numbered = c.frame_in-frame.result.number_is ∙ ap sequence_number_of whole;
+      numbered = c.frame_in-frame.result.sequence_number_is ∙ ap sequence_number_of whole;
       forwarded = c.counts_as_forwarded.ensures ∙ forwarded;
       packet = rw (whole, forwarded) at c.outcome-outcome.ensures.packet;
       decision = c.decision.ensures (outcome_after link a) sees;

@@ -23,4 +23,4 @@ returns-clause-value c =
     let groups = groups_in (origin_of settings) (reverse c.self.inside.history.items) in
     let packet = packet_parts c.in-Ok.packet in
     let is : packet_in frame.whole.now ≡ Ok packet = sym (ap packet_of frame.inner_is) ∙ c.in-Ok.ensures in
-    rw (← c.self.view_is) (c.brought.ensures.value _ (rw (payload_of_packet settings groups a packet is) (c.payload_by-payload.ensures.value settings.reassembly groups c.self.invariant.waiting)))
+    rw (← c.self.view_is) (c.brought.ensures.value _ (rw (payload_of_packet settings groups a packet is) (c.packet_payload-payload.ensures.value settings.reassembly groups c.self.invariant.waiting)))

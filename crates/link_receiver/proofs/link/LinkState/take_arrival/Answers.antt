@@ -6,7 +6,7 @@ use Rattle.es_base.specs.declared.event.Event.{Event}
 use Rattle.es_base.specs.Past.{event_of, origin_of}
 use Rattle.es_base.specs.Reassembly.{groups_in}
 use Rattle.es_base.specs.Run.{settled}
-use Rattle.es_base.proofs.Counted.{room_for_one}
+use Rattle.es_base.proofs.Counted.{one_event_more}
 use Rattle.link_receiver.specs.declared.outlet.Outlet.{Outlet}
 use Rattle.link_receiver.specs.Link.{Link, Takes}
 use Rattle.link_receiver.specs.Outlet.{HasNumberLeft, queue_of}
@@ -24,10 +24,10 @@ unchanged (Ok value) P same = tt
 unchanged (Err error) P same = same
 
 pub invariant_of-self : goal.invariant_of-self
-invariant_of-self g c = rw c.in_err-reserve_one.ensures.items c.self.invariant
+invariant_of-self g c = rw c.in_err-reserve_event.ensures.items c.self.invariant
 
-pub returns-in_err-reserve_one-clause-err : goal.returns-in_err-reserve_one-clause-err
-returns-in_err-reserve_one-clause-err g c = rw c.in_err-reserve_one.ensures.items (unchanged _ _ c.self.view_is)
+pub returns-in_err-reserve_event-clause-err : goal.returns-in_err-reserve_event-clause-err
+returns-in_err-reserve_event-clause-err g c = rw c.in_err-reserve_event.ensures.items (unchanged _ _ c.self.view_is)
 
 -- one more event
 
@@ -63,7 +63,9 @@ invariant_of-self-2 g c =
     let outlets = c.self.inside.outlets.items in
     let had = c.deliver-had_room.result in
     let e : Event = event_of c.args.arrival had c.settled-verdict.result in
-    let more = rw (c.of.ensures, c.in_ok-reserve_one.ensures.items) at c.push_reserved.ensures in
+    let more = rw (c.of.ensures, c.in_ok-reserve_event.ensures.items) at c.push_reserved.ensures.items in
+    let short : length (reverse history) < 2 ^ 64 - 1 = omega (arith, length-reverse history, c.in_ok-reserve_event.ensures.few) in
+    let one = rw c.kind.ensures.kind at c.add.ensures in
     let link : Link = record { settings = settings; history = history; queues = map queue_of outlets } in
     let change = rw (← c.self.view_is) at c.in_ok-change.ensures in
     let room = c.in_ok-change.change.room in
@@ -75,9 +77,9 @@ invariant_of-self-2 g c =
     let within = holds_at_port link c.args.arrival room delivery (λ port. port.0 < length outlets) change.room fills (has_outlet link room outlets change.has_place c.self.invariant.as_many) in
     let may = may_answer link c.args.arrival room delivery outlets c.deliver-had_room.new.outlets.items had change.room fills c.deliver-had_room.ensures within c.self.invariant.kinds c.self.invariant.shown in
     kept_more settings history c.push_reserved.new.self.items c.self.inside.checks c.note.new.self c.self.inside.reassembly c.offer-delivery.new.reassembly outlets c.deliver-had_room.new.outlets.items c.self.inside.tally c.add.new.self e delivery
-    more c.self.invariant (c.settled-verdict.ensures ∙ ap (λ d. settled d had) change.decision) may stand waits c.deliver-had_room.ensures within
+    more c.in_ok-reserve_event.ensures.few c.self.invariant (c.settled-verdict.ensures ∙ ap (λ d. settled d had) change.decision) may stand waits c.deliver-had_room.ensures within
     (delivers_if link c.args.arrival room delivery had change.room fills may)
-    (c.add.ensures.past (reverse history) e c.self.invariant.counted refl (sym c.kind.ensures.kind)) c.requires.frame (rw (← c.self.view_is) at c.requires.link)
+    (one_event_more c.self.inside.tally c.add.new.self (reverse history) e c.self.invariant.counted short one) c.requires.frame (rw (← c.self.view_is) at c.requires.link)
 
 pub returns-clause-ok : goal.returns-clause-ok
 returns-clause-ok g c =
@@ -92,8 +94,9 @@ returns-clause-ok g c =
     let fills = rw change.packet at (c.offer-delivery.ensures.fills settings.reassembly (groups_in (origin_of settings) (reverse history)) c.self.invariant.waiting) in
     let within = holds_at_port link c.args.arrival room delivery (λ port. port.0 < length outlets) change.room fills (has_outlet link room outlets change.has_place c.self.invariant.as_many) in
     let may = may_answer link c.args.arrival room delivery outlets c.deliver-had_room.new.outlets.items had change.room fills c.deliver-had_room.ensures within c.self.invariant.kinds c.self.invariant.shown in
-    let more = rw (c.of.ensures, c.in_ok-reserve_one.ensures.items) at c.push_reserved.ensures in
+    let more = rw (c.of.ensures, c.in_ok-reserve_event.ensures.items) at c.push_reserved.ensures.items in
     let taken : Takes link c.args.arrival c.settled-verdict.result (record { settings = settings; history = c.push_reserved.new.self.items; queues = map queue_of c.deliver-had_room.new.outlets.items }) = record {
+      few = c.in_ok-reserve_event.ensures.few;
       room = had;
       may = may;
       becomes = c.settled-verdict.ensures ∙ ap (λ d. settled d had) change.decision;
@@ -101,10 +104,3 @@ returns-clause-ok g c =
           (queues_stay delivery had outlets c.deliver-had_room.new.outlets.items c.deliver-had_room.ensures within);
     } in
     rw (← c.self.view_is) taken
-
-pub add-requires-clause-room : goal.add-requires-clause-room
-add-requires-clause-room g c =
-    let past = reverse c.self.inside.history.items in
-    let few = rw c.in_ok-reserve_one.ensures.items at c.in_ok-reserve_one.ensures.few in
-    let short : length past < 2 ^ 64 - 1 = omega (arith, length-reverse c.self.inside.history.items, few) in
-    room_for_one c.self.inside.tally past c.args.arrival.net c.kind.result c.self.invariant.counted (record { low = c.kind.ensures.low; high = c.kind.ensures.high }) short

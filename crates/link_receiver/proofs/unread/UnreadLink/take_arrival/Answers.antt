@@ -55,5 +55,6 @@ returns-in_default g c =
     record {
       event = rw (← c.self.view_is) (ap view event);
       verdict = rw (← c.self.view_is) (unread_verdict old c.args.arrival verdict new takes (λ port is. absurd (c.in_default.not-Queued port is)));
+      few = rw (← c.self.view_is) takes.few;
       err = tt;
     }
