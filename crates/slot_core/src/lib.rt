@@ -23,6 +23,6 @@ pub use machine::Core;
 pub use message::MessageWords;
 pub use schedule::run;
 pub use view::{
-    LONGEST_MESSAGE, MOST_MESSAGES, Phase, READERS, ReaderView, SLOTS, TABLE_WORDS, WORDS,
-    WriterView,
+    LONGEST_MESSAGE, MOST_MESSAGES, MOST_SLOTS, Phase, READERS, ReaderView, SLOTS, TABLE_WORDS,
+    WORDS, WriterView,
 };

@@ -16,7 +16,7 @@ pub const TABLE_WORDS: usize = 1 + READERS + WORDS * SLOTS;
 /// How many messages a sampling port numbers, from 1: 2^60 - 1 (own).
 pub const MOST_MESSAGES: u64 = (1 << 60) - 1;
 /// How many slots a word of `latest` can name; what is left of the word is the message number (own).
-pub(crate) const MOST_SLOTS: u64 = 16;
+pub const MOST_SLOTS: u64 = 16;
 
 /// Where a reader is. The word is the one of `latest` that it loaded.
 #[derive(Clone, Copy, Debug, PartialEq, Eq)]

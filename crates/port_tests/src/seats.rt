@@ -1,0 +1,137 @@
+//! The seats of a port's ends, and the ends that are made of them.
+ghost use Rattle.std.specs.Prelude.{◌≡◌, ◌<◌, ◌≤◌, [], ◌∷◌};
+ghost use Rattle.slot_core.specs.Allowed.{MayBegin};
+ghost use Rattle.slot_core.specs.Message.{IsMessage};
+ghost use Rattle.slot_core.specs.State.{last_of};
+ghost use Rattle.slot_core.specs.declared.view.Phase.TheVariants.{Holding, Loaded};
+ghost use Rattle.sampling_port.specs.Reads.{IsIdle};
+ghost use Rattle.sampling_port.specs.Rule.{first_reader, first_writer};
+
+use crate::messages::{check_read, publish};
+use sampling_port::steps::{ReaderSeat, WriterSeat, open_seats};
+use sampling_port::{Read, Reader, Writer};
+use std::process::Abort;
+
+// ---- a reader's steps
+
+/// LoadFirst finds this word.
+pub(crate) fn load_first<const READERS: usize>(
+    rt: &impl Abort,
+    reader: &mut ReaderSeat<READERS>,
+    wanted: u64,
+)
+    requires turn { MayBegin reader.old.knows.view }
+    requires some { 0 < wanted }
+    ensures { reader.new.knows.view.phase ≡ Loaded wanted }
+{
+    let found = reader.load_first();
+    assert!(rt; found == wanted, "{found}");
+}
+
+/// Announce, and LoadSecond finds this other word.
+pub(crate) fn look_again<const READERS: usize>(
+    rt: &impl Abort,
+    reader: &mut ReaderSeat<READERS>,
+    word: u64,
+    wanted: u64,
+)
+    requires turn { reader.old.knows.view.phase ≡ Loaded word }
+    ensures { reader.new.knows.view.own ≡ word }
+{
+    reader.announce(word);
+    let found = reader.load_second();
+    assert!(rt; found == wanted, "{found}");
+}
+
+// ---- publications by a writer of a seat
+
+fn publish_five_more<const READERS: usize>(rt: &impl Abort, writer: &mut Writer<READERS>) {
+    for number in 2..7 {
+        publish(rt, writer, 0, &[], number);
+    }
+}
+
+/// A reader that comes late with its announcement finds the newest message, and so does its next look.
+fn check_late_look<const READERS: usize>(
+    rt: &impl Abort,
+    writer: WriterSeat<READERS>,
+    seat: &mut ReaderSeat<READERS>,
+)
+    requires few { READERS ≤ 14 }
+    requires writer { writer.knows ≡ first_writer }
+    requires reader { seat.old.knows ≡ first_reader }
+{
+    let mut writer = Writer::from_seat(writer);
+    publish(rt, &mut writer, 0, &[], 1);
+    load_first(rt, seat, 16);
+    publish_five_more(rt, &mut writer);
+    look_again(rt, seat, 16, 97);
+    seat.clear();
+    load_first(rt, seat, 97);
+}
+
+#[test]
+fn a_late_look_finds_the_newest_message(rt: HostRuntime) {
+    let (writer, mut seats) = open_seats::<4>(rt.alloc()).expect(&rt, "memory");
+    check_late_look(&rt, writer, &mut seats[0]);
+    let (writer, mut seats) = open_seats::<8>(rt.alloc()).expect(&rt, "memory");
+    check_late_look(&rt, writer, &mut seats[0]);
+}
+
+// ---- ends of seats
+
+/// The seats of the readers of a port with four.
+fn apart(seats: [ReaderSeat<4>; 4]) -> (ReaderSeat<4>, ReaderSeat<4>, ReaderSeat<4>, ReaderSeat<4>)
+    ensures { seats ≡ result.0 ∷ result.1 ∷ result.2 ∷ result.3 ∷ [] }
+{
+    let [first, second, third, last] = seats;
+    (first, second, third, last)
+}
+
+/// LoadFirst, Announce and LoadSecond find this word, so the message that it shows is held.
+fn hold(rt: &impl Abort, seat: &mut ReaderSeat<4>, word: u64)
+    requires turn { MayBegin seat.old.knows.view }
+    requires some { 0 < word }
+    ensures holds { (seat.new.knows.view.phase ≡ Holding word) × (seat.new.knows.view.own ≡ word) }
+    ensures message { IsMessage (last_of seat.new.knows.view.seen) }
+{
+    load_first(rt, seat, word);
+    seat.announce(word);
+    let found = seat.load_second();
+    assert!(rt; found == word, "{found}");
+}
+
+/// The words of message 1 in slot 0, of the octets 7, 8 and 9 and the time 1000, are loaded one by one.
+fn check_held_words(rt: &impl Abort, mut seat: ReaderSeat<4>)
+    requires { MayBegin seat.knows.view }
+{
+    hold(rt, &mut seat, 16);
+    assert_eq!(rt; seat.load_word(16, 0), 3);
+    assert_eq!(rt; seat.load_word(16, 1), 1000);
+    assert_eq!(rt; seat.load_word(16, 2), 0x0708_0900_0000_0000);
+    seat.clear();
+}
+
+/// A reader of a seat reads, and hands the seat back. By the seat the message is held.
+fn check_seat_again(rt: &impl Abort, writer: WriterSeat<4>, seat: ReaderSeat<4>)
+    requires writer { writer.knows ≡ first_writer }
+    requires reader { IsIdle seat.knows.view }
+{
+    let mut writer = Writer::from_seat(writer);
+    let mut reader = Reader::from_seat(seat);
+    publish(rt, &mut writer, 1000, &[7, 8, 9], 1);
+    let message = Read::Message {
+        number: 1,
+        time: 1000,
+        len: 3,
+    };
+    check_read(rt, &mut reader, &mut [0; 1471], message);
+    check_held_words(rt, reader.into_seat());
+}
+
+#[test]
+fn an_end_is_made_of_a_seat_and_hands_it_back(rt: HostRuntime) {
+    let (writer, seats) = open_seats::<4>(rt.alloc()).expect(&rt, "memory");
+    let (seat, _, _, _) = apart(seats);
+    check_seat_again(&rt, writer, seat);
+}

@@ -1,0 +1,65 @@
+//! What holds of a running port in every state that keeps the rule of its table, and so at every moment,
+//! whatever its threads do. Each law is a function without work: its contract is the statement.
+ghost use Rattle.std.specs.Prelude.{◌≡◌, ◌≢◌, ℕ, ◌+◌, ◌/◌, ◌<◌, ◌≤◌, List, length, slice_index};
+ghost use Rattle.slot_core.specs.Allowed.{MayStore};
+ghost use Rattle.slot_core.specs.Limits.{most_slots};
+ghost use Rattle.slot_core.specs.Message.{IsMessage};
+ghost use Rattle.slot_core.specs.Octets.{AreOctets, words_of};
+ghost use Rattle.slot_core.specs.State.{HasWord, StartsWith, last_of};
+ghost use Rattle.slot_core.specs.Words.{latest, slot_of, table_words, Begins};
+ghost use Rattle.slot_core.specs.declared.view.Phase.TheVariants.{Holding};
+ghost use Rattle.sampling_port.specs.declared.reader.Read.{Read};
+ghost use Rattle.sampling_port.specs.declared.rule.ReaderLog.{ReaderLog};
+ghost use Rattle.sampling_port.specs.declared.rule.WriterLog.{WriterLog};
+ghost use Rattle.sampling_port.specs.declared.rule.SeatView.TheVariants.{Reads, Writes};
+ghost use Rattle.sampling_port.specs.Ends.{IsCopy, IsLastOf, ReadAnswer, ReaderEnd};
+ghost use Rattle.sampling_port.specs.Moments.{PortState, SeatKnows};
+ghost use Rattle.sampling_port.specs.Rule.{Kept, slots_for};
+ghost use Rattle.sampling_port.specs.Writes.{steps_to_publish};
+
+/// No slot is written while a reader holds it: no StoreWord that the writer may make names it.
+pub fn a_held_slot_is_not_written()
+    ensures { (readers slots : ℕ) (s : PortState) (writer reader place word slot index stored : ℕ) (w : WriterLog) (v : ReaderLog) →
+        Kept readers slots s → SeatKnows s writer (Writes w) → SeatKnows s reader (Reads place v) →
+        v.view.phase ≡ Holding word → MayStore readers slots w.view slot index stored → slot ≢ slot_of word }
+{}
+
+/// What a reader holds is a message, and all of it stands in the words of its slot.
+pub fn a_held_message_is_whole()
+    ensures { (readers slots : ℕ) (s : PortState) (reader place word : ℕ) (v : ReaderLog) →
+        Kept readers slots s → SeatKnows s reader (Reads place v) → v.view.phase ≡ Holding word →
+        IsMessage (last_of v.view.seen) × Begins readers s.words (slot_of word) (last_of v.view.seen) }
+{}
+
+/// A reader that has the word which stands in `latest` has seen all that is published. So what a look finds
+/// is the newest message at that look, and what it holds too.
+pub fn who_has_the_newest_word_has_seen_all()
+    ensures { (readers slots : ℕ) (s : PortState) (writer reader place : ℕ) (w : WriterLog) (v : ReaderLog) →
+        Kept readers slots s → SeatKnows s writer (Writes w) → SeatKnows s reader (Reads place v) →
+        HasWord v.view.phase (latest s.words) → v.view.seen ≡ w.view.published }
+{}
+
+/// What a reader reads that was told all before and has seen no more than that after: the last message, or
+/// none if none was published, and never that it was overtaken. So a thread with both ends, which meets,
+/// reads, and meets again, knows what it read.
+pub fn what_is_read_between_two_meetings_is_the_last()
+    ensures { (published : List (List ℕ)) (v w : ReaderEnd) (tries : ℕ) (before out : List ℕ) (answer : Read) →
+        v.seen ≡ published → 0 < tries → ReadAnswer v w tries before out answer → StartsWith published w.seen →
+        IsLastOf published before out answer }
+{}
+
+/// A copy of the words of a message has the octets of which these words were made.
+pub fn what_was_published_is_what_is_read()
+    ensures { (octets before out : List ℕ) (time place : ℕ) → AreOctets octets →
+        IsCopy (words_of octets time) before out (length octets) → place < length octets →
+        slice_index out place ≡ slice_index octets place }
+{}
+
+/// The steps of a publication and the words of a table, with four readers and with eight.
+pub fn sizes_with_four_readers_and_with_eight()
+    ensures steps_of_four { (octets : ℕ) → steps_to_publish 4 octets ≡ 7 + (octets + 7) / 8 }
+    ensures steps_of_eight { (octets : ℕ) → steps_to_publish 8 octets ≡ 11 + (octets + 7) / 8 }
+    ensures words_of_four { table_words 4 (slots_for 4) ≡ 1121 }
+    ensures words_of_eight { table_words 8 (slots_for 8) ≡ 1869 }
+    ensures fourteen { slots_for 14 ≡ most_slots }
+{}
