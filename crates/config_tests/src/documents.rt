@@ -57,9 +57,14 @@ fn links_are_tables_of_an_array(rt: HostRuntime) {
     }
 }
 
-fn keys_of_a_link() -> [Row; 4] {
+fn keys_of_a_link() -> [Row; 6] {
     [
         ("port = 3", Missing(Key::ReassemblyUs)),
+        ("window = 0", Missing(Key::ReassemblyUs)),
+        (
+            "reassembly_us = 0, window = 0, port = 3",
+            Range(Key::Window),
+        ),
         ("reassembly_us = 0, port = 3", Kind(Key::Port)),
         ("reassembly_us = 0, port = [3]", Kind(Key::Port)),
         ("reassembly_us = 0, port = [{}]", Missing(Key::Name)),

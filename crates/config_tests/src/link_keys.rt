@@ -3,7 +3,7 @@ use crate::checks::{Refused, Taken, check_refused, check_taken};
 use vl_config::ConfigFault::{Kind, Missing, Range};
 use vl_config::Key;
 
-fn faults() -> [Refused; 14] {
+fn faults() -> [Refused; 17] {
     [
         ("vl = 17\n", "", Missing(Key::Vl)),
         ("vl = 17", "vl = \"17\"", Kind(Key::Vl)),
@@ -19,10 +19,13 @@ fn faults() -> [Refused; 14] {
         ("50000", "[]", Kind(Key::ReassemblyUs)),
         ("50000", "10000001", Range(Key::ReassemblyUs)),
         ("50000", "-1", Range(Key::ReassemblyUs)),
+        ("= 17", "= 17\nwindow = \"2\"", Kind(Key::Window)),
+        ("= 17", "= 17\nwindow = 0", Range(Key::Window)),
+        ("= 17", "= 17\nwindow = 5", Range(Key::Window)),
     ]
 }
 
-fn ends() -> [Taken; 10] {
+fn ends() -> [Taken; 12] {
     [
         ("vl = 17", "vl = 0"),
         ("vl = 17", "vl = 65535"),
@@ -33,6 +36,8 @@ fn ends() -> [Taken; 10] {
         ("vl = 17", "vl = 17\nredundancy = true"),
         ("50000", "0"),
         ("50000", "10000000"),
+        ("vl = 17", "vl = 17\nwindow = 1"),
+        ("vl = 17", "vl = 17\nwindow = 4"),
         // A key that has no meaning is ignored.
         ("vl = 17", "vl = 17\ncolour = \"red\""),
     ]

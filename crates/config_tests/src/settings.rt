@@ -14,6 +14,7 @@ fn check_link_settings(rt: &impl Abort, link: &LinkSettings) {
     check_setting(rt, "vl", u64::from(link.vl().0), 17);
     check_setting(rt, "skew_max", link.skew_max(), 1000);
     check_setting(rt, "reassembly", link.reassembly(), 50_000);
+    check_setting(rt, "window", u64::from(link.window()), 2);
     assert!(rt; link.redundancy());
 }
 
@@ -93,6 +94,17 @@ fn redundancy_management_may_be_switched_off(rt: HostRuntime) {
     let off = BUILT_IN.replace(rt.alloc(), "vl = 17", "vl = 17\nredundancy = false");
     let off = off.expect(&rt, "memory");
     check_off(&rt, &config_of(&rt, rt.alloc(), off.as_str()));
+}
+
+fn check_window(rt: &impl Abort, config: &Config, window: u64) {
+    check_setting(rt, "window", u64::from(config.links()[0].window()), window);
+}
+
+#[test]
+fn the_window_may_be_given(rt: HostRuntime) {
+    let wide = BUILT_IN.replace(rt.alloc(), "vl = 17", "vl = 17\nwindow = 3");
+    let wide = wide.expect(&rt, "memory");
+    check_window(&rt, &config_of(&rt, rt.alloc(), wide.as_str()), 3);
 }
 
 fn check_links_found(rt: &impl Abort, config: &Config) {

@@ -1,6 +1,6 @@
 -- Integrity checking, on each network: which frames pass (ARINC 664 Part 7, integrity checking; the
 -- window is own).
-use Rattle.std.specs.Prelude.{ℕ, ◌+◌, ◌==◌, Bool, true, false, ◌||◌, List, [], ◌∷◌, Option, None, Some, if◌then◌else◌}
+use Rattle.std.specs.Prelude.{ℕ, zero, suc, ◌+◌, ◌==◌, Bool, true, false, ◌||◌, List, [], ◌∷◌, Option, None, Some, if◌then◌else◌}
 use Rattle.es_base.specs.declared.place.Net.{Net}
 use Rattle.es_base.specs.declared.place.Net.TheVariants as nets
 use Rattle.es_base.specs.declared.event.Arrival.{Arrival}
@@ -19,12 +19,16 @@ abbrev pub latest : List ℕ → Option ℕ
 latest [] = None
 latest (sequence_number ∷ earlier) = Some sequence_number
 
+-- whether a sequence number is among the first `window` that follow n
+abbrev pub is_among_next : ℕ → ℕ → ℕ → Bool
+is_among_next zero n sequence_number = false
+is_among_next (suc window) n sequence_number = sequence_number == next_number n || is_among_next window (next_number n) sequence_number
+
 -- whether a frame passes after the frame before it on its network, if there was one: its sequence
--- number is a reset, the next one, or the one after the next
-abbrev pub may_follow : Option ℕ → ℕ → Bool
-may_follow None sequence_number = true
-may_follow (Some before) sequence_number =
-    sequence_number == 0 || sequence_number == next_number before || sequence_number == next_number (next_number before)
+-- number is a reset, or among the first `window` that follow
+abbrev pub may_follow : ℕ → Option ℕ → ℕ → Bool
+may_follow window None sequence_number = true
+may_follow window (Some before) sequence_number = sequence_number == 0 || is_among_next window before sequence_number
 
 -- ---- the frames of a link
 
@@ -42,4 +46,4 @@ sequence_numbers_on o (e ∷ past) net =
 
 -- whether a frame that comes after this past passes
 abbrev pub passes : Origin → List Event → Arrival → Bool
-passes o past a = may_follow (latest (sequence_numbers_on o past a.net)) (sequence_number_of a.frame)
+passes o past a = may_follow o.settings.window (latest (sequence_numbers_on o past a.net)) (sequence_number_of a.frame)

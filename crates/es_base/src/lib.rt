@@ -30,7 +30,9 @@ pub use place::{LinkNo, Net, PortNo};
 pub use port::{
     DEEPEST_QUEUE, LONGEST_QUEUED, LONGEST_REFRESH, LONGEST_SAMPLE, PortKind, PortSettings,
 };
-pub use settings::{LONGEST_REASSEMBLY, LONGEST_SKEW, LinkSettings, MOST_PORTS, any_accepts};
+pub use settings::{
+    LONGEST_REASSEMBLY, LONGEST_SKEW, LinkSettings, MOST_PORTS, WIDEST_WINDOW, any_accepts,
+};
 pub use tally::{FilterTally, Tally, VerdictTally};
 pub use verdict::{Decision, VERDICT_KINDS, Verdict};
 

@@ -3,8 +3,9 @@ use Rattle.std.specs.Prelude.{◌≡◌, ℕ, List, Option}
 use Rattle.es_base.specs.Integrity.{latest}
 
 pub record Kept : Type 0 where
+  pub window : ℕ
   pub last : Option ℕ
 
--- what is kept is the latest of these sequence numbers
-abbrev pub StandsFor : Kept → List ℕ → Type 0
-StandsFor kept sequence_numbers = kept.last ≡ latest sequence_numbers
+-- what is kept is the window, and the latest of these sequence numbers
+abbrev pub StandsFor : Kept → ℕ → List ℕ → Type 0
+StandsFor kept window sequence_numbers = (kept.window ≡ window) × (kept.last ≡ latest sequence_numbers)

@@ -1,19 +1,20 @@
 //! Integrity checking of one link on one network: which frames pass, by their sequence numbers (ARINC 664
 //! Part 7, integrity checking; the window is own). A `Sequence` stands for all sequence numbers that it was
-//! told of, and keeps the latest alone; what it says is what the definition says of the whole list. No memory
-//! is taken.
+//! told of, and keeps the window and the latest of them; what it says is what the definition says of the
+//! whole list. No memory is taken.
 #![tactic(auto)]
 
 ghost use Rattle.std.specs.Prelude.{◌≡◌, ℕ, List, [], ◌∷◌};
-ghost use Rattle.es_base.specs.Integrity.{next_number, latest, may_follow};
+ghost use Rattle.es_base.specs.Integrity.{next_number, is_among_next, latest, may_follow};
 ghost use Rattle.integrity_check.specs.Kept.{StandsFor};
 
 use std::marker::Model;
 
 /// Stands for the sequence numbers of all frames of one link on one network, whether or not they
-/// passed. It keeps the latest of them.
+/// passed. It keeps the window and the latest of them.
 #[derive(Debug, Drop)]
 pub struct Sequence {
+    window: u8,
     last: Option<u8>,
 }
 
@@ -22,41 +23,49 @@ impl Model for Sequence {
 
     ghost Value = { Kept };
 
-    ghost view = { λ s. record { last = s.last } };
+    ghost view = { λ s. record { window = s.window; last = s.last } };
 }
 
 impl Sequence {
-    /// Before the first frame.
-    pub fn opening() -> Sequence
-        ensures { StandsFor result [] }
+    /// Before the first frame. `window` says how many sequence numbers after the latest pass.
+    pub fn opening(window: u8) -> Sequence
+        ensures { StandsFor result window [] }
     {
-        Sequence { last: None }
+        Sequence { window, last: None }
     }
 
-    /// Whether a frame with this sequence number, 0 to 255, passes: it is the first, a reset, the next
-    /// number, or the one after the next.
+    /// Whether a frame with this sequence number, 0 to 255, passes: it is the first, a reset, or among
+    /// the first numbers after the latest, as many as the window says.
     pub fn check(&self, sequence_number: u8) -> bool
-        ensures { (sequence_numbers : List ℕ) → StandsFor self.now sequence_numbers →
-            result ≡ may_follow (latest sequence_numbers) sequence_number }
+        ensures { (window : ℕ) (sequence_numbers : List ℕ) → StandsFor self.now window sequence_numbers →
+            result ≡ may_follow window (latest sequence_numbers) sequence_number }
     {
         match self.last {
             None => true,
             Some(last) => {
-                let next = next_number(last);
-                sequence_number == 0
-                    || sequence_number == next
-                    || sequence_number == next_number(next)
+                sequence_number == 0 || is_among_next(self.window, last, sequence_number)
             }
         }
     }
 
     /// One more frame, whether or not it passed.
     pub fn note(&mut self, sequence_number: u8)
-        ensures { (sequence_numbers : List ℕ) → StandsFor self.old sequence_numbers →
-            StandsFor self.new (sequence_number ∷ sequence_numbers) }
+        ensures { (window : ℕ) (sequence_numbers : List ℕ) → StandsFor self.old window sequence_numbers →
+            StandsFor self.new window (sequence_number ∷ sequence_numbers) }
     {
         self.last = Some(sequence_number);
     }
+}
+
+/// Whether a sequence number is among the first `window` that follow `before`.
+fn is_among_next(window: u8, before: u8, sequence_number: u8) -> bool
+    ensures { result ≡ is_among_next window before sequence_number }
+{
+    if window == 0 {
+        return false;
+    }
+    let next = next_number(before);
+    sequence_number == next || is_among_next(window - 1, next, sequence_number)
 }
 
 /// The sequence number that follows: 1 follows 255, since 0 stands for a sender's reset.

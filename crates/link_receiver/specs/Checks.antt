@@ -11,6 +11,6 @@ use Rattle.link_receiver.specs.declared.checks.Checks.{Checks}
 
 -- each network's sequence stands for the numbers on it, and redundancy management for what was forwarded
 pub record HavePast (checks : Checks) (o : Origin) (past : List Event) : Type 0 where
-  pub a : sequence.StandsFor checks.a (sequence_numbers_on o past nets.A)
-  pub b : sequence.StandsFor checks.b (sequence_numbers_on o past nets.B)
+  pub a : sequence.StandsFor checks.a o.settings.window (sequence_numbers_on o past nets.A)
+  pub b : sequence.StandsFor checks.b o.settings.window (sequence_numbers_on o past nets.B)
   pub redundancy : redundancy.StandsFor checks.redundancy o.settings.skew_max (forwarded o past)

@@ -24,15 +24,16 @@ pub(crate) struct Checks {
 impl Checks {
     ghost use Rattle.link_receiver.specs.Checks.{HavePast};
 
-    /// Before the first frame. `skew_max` is SkewMax, in microseconds.
-    pub(crate) fn opening(skew_max: u64) -> Checks
-        ensures a { sequence.StandsFor result.a [] }
-        ensures b { sequence.StandsFor result.b [] }
+    /// Before the first frame. `window` says how many sequence numbers after the latest pass; `skew_max`
+    /// is SkewMax, in microseconds.
+    pub(crate) fn opening(window: u8, skew_max: u64) -> Checks
+        ensures a { sequence.StandsFor result.a window [] }
+        ensures b { sequence.StandsFor result.b window [] }
         ensures redundancy { redundancy.StandsFor result.redundancy skew_max [] }
     {
         Checks {
-            a: Sequence::opening(),
-            b: Sequence::opening(),
+            a: Sequence::opening(window),
+            b: Sequence::opening(window),
             redundancy: Redundancy::opening(skew_max),
         }
     }
@@ -72,10 +73,10 @@ impl Checks {
     }
 
     fn note_number(&mut self, net: Net, sequence_number: u8)
-        ensures a { (numbers : List ℕ) → sequence.StandsFor self.old.a numbers →
-            sequence.StandsFor self.new.a (if is_same_net net Net.A then sequence_number ∷ numbers else numbers) }
-        ensures b { (numbers : List ℕ) → sequence.StandsFor self.old.b numbers →
-            sequence.StandsFor self.new.b (if is_same_net net Net.B then sequence_number ∷ numbers else numbers) }
+        ensures a { (window : ℕ) (numbers : List ℕ) → sequence.StandsFor self.old.a window numbers →
+            sequence.StandsFor self.new.a window (if is_same_net net Net.A then sequence_number ∷ numbers else numbers) }
+        ensures b { (window : ℕ) (numbers : List ℕ) → sequence.StandsFor self.old.b window numbers →
+            sequence.StandsFor self.new.b window (if is_same_net net Net.B then sequence_number ∷ numbers else numbers) }
         ensures redundancy { self.new.redundancy ≡ self.old.redundancy }
     {
         match net {

@@ -100,7 +100,7 @@ impl LinkState {
         let state = LinkState {
             settings: settings.copy(alloc)?,
             history: BlockList::new(alloc),
-            checks: Checks::opening(settings.skew_max()),
+            checks: Checks::opening(settings.window(), settings.skew_max()),
             reassembly: Reassembly::new(alloc, settings.reassembly())?,
             outlets,
             tally: VerdictTally::opening(),

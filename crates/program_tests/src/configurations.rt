@@ -40,7 +40,7 @@ fn a_file_that_is_no_document_is_refused(rt: HostRuntime) {
 /// A text of the built-in configuration, another in its place, and the words of the fault.
 type Changed = (&'static str, &'static str, &'static str);
 
-fn changes() -> [Changed; 20] {
+fn changes() -> [Changed; 21] {
     [
         ("vl = 17", "", "missing vl"),
         ("vl = 17", "vl = true", "wrong kind of vl"),
@@ -52,6 +52,7 @@ fn changes() -> [Changed; 20] {
             "wrong kind of redundancy",
         ),
         ("reassembly_us = 50000", "", "missing reassembly_us"),
+        ("vl = 17", "vl = 17\nwindow = 5", "window out of range"),
         ("[[link.port]]", "[link.port]", "not TOML"),
         ("vl = 17", "vl = 17\nport = 3", "not TOML"),
         ("name = \"pos\"", "name = \"Pos\"", "name out of range"),

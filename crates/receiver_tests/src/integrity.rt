@@ -1,7 +1,11 @@
 //! Which sequence numbers pass on one network.
-use crate::frames::{POS, Step, check_steps};
+use crate::frames::{POS, Step, check_steps, check_steps_of};
 use es_base::Net::A;
 use es_base::Verdict::{OutOfSequence, Sampled};
+use std::alloc::Global;
+use std::process::Abort;
+use std::sync::Wait;
+use test_inputs::{LINK, Link};
 
 /// A discarded sequence number counts as the one before: 0c follows 0b.
 fn window() -> [Step; 5] {
@@ -65,6 +69,56 @@ fn next_but_one_of_254() -> [Step; 5] {
         (A, 30_000, 0x01, Sampled(POS, 3)),
         (A, 40_000, 0xff, OutOfSequence),
     ]
+}
+
+/// With a window of 1 none may be lost: 08 is out of sequence after 06, and 0b after 08.
+fn window_of_1() -> [Step; 5] {
+    [
+        (A, 10_000, 0x05, Sampled(POS, 1)),
+        (A, 20_000, 0x06, Sampled(POS, 2)),
+        (A, 30_000, 0x08, OutOfSequence),
+        (A, 40_000, 0x0b, OutOfSequence),
+        (A, 50_000, 0x0c, Sampled(POS, 3)),
+    ]
+}
+
+/// With a window of 3 two may be lost: 0b passes after 08.
+fn window_of_3() -> [Step; 4] {
+    [
+        (A, 10_000, 0x05, Sampled(POS, 1)),
+        (A, 20_000, 0x06, Sampled(POS, 2)),
+        (A, 30_000, 0x08, Sampled(POS, 3)),
+        (A, 40_000, 0x0b, Sampled(POS, 4)),
+    ]
+}
+
+/// With a window of 4 the last that passes after 253 is 2: 254, 255, 1, 2.
+fn last_in_a_window_of_4() -> [Step; 2] {
+    [
+        (A, 1000, 0xfd, Sampled(POS, 1)),
+        (A, 20_000, 0x02, Sampled(POS, 2)),
+    ]
+}
+
+/// 3 is one number further.
+fn after_a_window_of_4() -> [Step; 2] {
+    [
+        (A, 1000, 0xfd, Sampled(POS, 1)),
+        (A, 20_000, 0x03, OutOfSequence),
+    ]
+}
+
+/// A new receiver of a link with this window gives smallest frames these verdicts.
+fn check_window(rt: &(impl Abort + Wait), alloc: Global, window: u8, steps: &[Step]) {
+    check_steps_of(rt, alloc, Link { window, ..LINK }, steps);
+}
+
+#[test]
+fn as_many_sequence_numbers_pass_as_the_window_says(rt: HostRuntime) {
+    check_window(&rt, rt.alloc(), 1, &window_of_1());
+    check_window(&rt, rt.alloc(), 3, &window_of_3());
+    check_window(&rt, rt.alloc(), 4, &last_in_a_window_of_4());
+    check_window(&rt, rt.alloc(), 4, &after_a_window_of_4());
 }
 
 #[test]

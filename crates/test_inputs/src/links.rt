@@ -24,6 +24,8 @@ refresh_us = 20000
 pub struct Link {
     /// Whether redundancy management is on.
     pub redundancy: bool,
+    /// How many sequence numbers after another pass.
+    pub window: u8,
     /// The largest payload of `pos`, in octets.
     pub pos_max: u16,
     /// How many messages the queue of `nav` holds.
@@ -35,6 +37,7 @@ pub struct Link {
 /// The link of the built-in configuration.
 pub const LINK: Link = Link {
     redundancy: true,
+    window: 2,
     pos_max: LONGEST_SAMPLE,
     nav_depth: 4,
     nav_max: LONGEST_QUEUED,
@@ -64,7 +67,14 @@ impl Link {
 
     /// This link with these ports. None if a limit is broken.
     pub fn with_ports(&self, ports: Vec<PortSettings>) -> Option<LinkSettings> {
-        LinkSettings::new(LinkNo(17), 1000, self.redundancy, 50_000, ports)
+        LinkSettings::new(
+            LinkNo(17),
+            1000,
+            self.redundancy,
+            50_000,
+            self.window,
+            ports,
+        )
     }
 
     /// The settings of this link. None if memory runs out or a limit is broken.

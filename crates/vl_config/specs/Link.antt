@@ -3,7 +3,7 @@ use Rattle.std.specs.Prelude.{ℕ, true, List, [], Option, Some, None, Result, O
 use Rattle.std.specs.List.{list_any}
 use Rattle.toml.specs.Data.{Data, Members}
 use Rattle.es_base.specs.Returns.{◌>>=◌}
-use Rattle.es_base.specs.Limits.{most_ports, longest_skew, longest_reassembly}
+use Rattle.es_base.specs.Limits.{most_ports, longest_skew, longest_reassembly, widest_window}
 use Rattle.es_base.specs.Port.{Port}
 use Rattle.es_base.specs.Settings.{Settings}
 use Rattle.es_base.specs.Config.{has_link_number, ports_in}
@@ -11,7 +11,7 @@ use Rattle.vl_config.specs.declared.fault.ConfigFault.{ConfigFault}
 use Rattle.vl_config.specs.declared.fault.ConfigFault.TheVariants.{DoubleLink}
 use Rattle.vl_config.specs.declared.fault.Key.TheVariants as keys
 use Rattle.vl_config.specs.Collected.{collected}
-use Rattle.vl_config.specs.Table.{value_at, integer_at, u16_value_at, flag_or, tables_from}
+use Rattle.vl_config.specs.Table.{value_at, integer_at, integer_or, u16_value_at, flag_or, tables_from}
 use Rattle.vl_config.specs.Port.{port_from, unless}
 
 -- ---- its ports
@@ -35,6 +35,13 @@ link_number_from links table = do
   vl ← u16_value_at keys.Vl table
   unless (list_any (has_link_number vl) links) DoubleLink vl
 
+-- how many sequence numbers after another pass if the link's table doesn't say (own)
+abbrev pub default_window : ℕ
+default_window = 2
+
+abbrev pub window_from : Members → Result ℕ ConfigFault
+window_from table = integer_or keys.Window 1 widest_window default_window table
+
 -- the link of this table, after these links
 abbrev pub link_from : List Settings → Members → Result Settings ConfigFault
 link_from links table = do
@@ -42,9 +49,10 @@ link_from links table = do
   skew_max ← integer_at keys.SkewMaxUs 0 longest_skew table
   redundancy ← flag_or keys.Redundancy true table
   reassembly ← integer_at keys.ReassemblyUs 0 longest_reassembly table
+  window ← window_from table
   tables ← port_tables table
   ports ← ports_from (ports_in links) tables
-  Ok (record { vl = record { 0 = vl }; skew_max = skew_max; redundancy = redundancy; reassembly = reassembly; ports = ports })
+  Ok (record { vl = record { 0 = vl }; skew_max = skew_max; redundancy = redundancy; reassembly = reassembly; window = window; ports = ports })
 
 abbrev pub links_from : List Members → Result (List Settings) ConfigFault
 links_from = collected link_from []

@@ -23,9 +23,9 @@ const DEFAULT_CONSTANT: [u8; 4] = [3, 0, 0, 0];
 
 /// Reads a configuration from the text of a TOML document. The first fault is returned, in the order
 /// of the keys: `constant`, then `link`; then link by link `vl`, `skew_max_us`, `redundancy`,
-/// `reassembly_us` and `port`; port by port `name`, `kind`, `address`, `udp`, `max` and `refresh_us` or
-/// `depth`. Keys that have no meaning are ignored. The fault is Text if the text is no TOML document.
-/// The keys, their ranges and their order are this profile's own.
+/// `reassembly_us`, `window` and `port`; port by port `name`, `kind`, `address`, `udp`, `max` and
+/// `refresh_us` or `depth`. Keys that have no meaning are ignored. The fault is Text if the text is no
+/// TOML document. The keys, their ranges and their order are this profile's own.
 #[tactic(auto, unfolding(crate::specs::Document::config_in))]
 pub fn read_config(alloc: Global, text: &str) -> Result<Config, ConfigFault>
     ensures { GivesOrMemory (λ config. config) result (config_in text.now) }

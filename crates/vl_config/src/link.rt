@@ -3,18 +3,23 @@ ghost use Rattle.std.specs.Prelude.{◌≡◌, ◌≤◌, ◌++◌, map, length,
 ghost use Rattle.std.specs.List.{list_any, IsDistinct};
 ghost use Rattle.toml.specs.View.{table_view};
 ghost use Rattle.es_base.specs.Returns.{Gives};
-ghost use Rattle.es_base.specs.Limits.{most_ports};
+ghost use Rattle.es_base.specs.Limits.{most_ports, widest_window};
 ghost use Rattle.es_base.specs.Port.{are_apart};
 ghost use Rattle.es_base.specs.Config.{has_link_number, same_name, ports_in};
 ghost use Rattle.vl_config.specs.Fault.{GivesOrMemory};
-ghost use Rattle.vl_config.specs.Link.{link_from, link_number_from, port_tables, ports_from};
+ghost use Rattle.vl_config.specs.Link.{link_from, link_number_from, window_from, port_tables, ports_from};
 
 use crate::port::port_from;
-use crate::table::{flag_or, integer_at, tables_from, u16_value_at, value_at};
+use crate::table::{flag_or, integer_at, integer_or, tables_from, u16_value_at, value_at};
 use crate::{ConfigFault, Key};
-use es_base::{LONGEST_REASSEMBLY, LONGEST_SKEW, LinkNo, LinkSettings, MOST_PORTS, PortSettings};
+use es_base::{
+    LONGEST_REASSEMBLY, LONGEST_SKEW, LinkNo, LinkSettings, MOST_PORTS, PortSettings, WIDEST_WINDOW,
+};
 use std::alloc::Global;
 use toml::Table;
+
+/// How many sequence numbers after another pass if the link's table doesn't say (own).
+const DEFAULT_WINDOW: u64 = 2;
 
 /// The link of this table. `links` are the links of the document that were read before it.
 pub(crate) fn link_from(
@@ -31,9 +36,20 @@ pub(crate) fn link_from(
     let skew_max = integer_at(table, Key::SkewMaxUs, 0, LONGEST_SKEW)?;
     let redundancy = flag_or(table, Key::Redundancy, true)?;
     let reassembly = integer_at(table, Key::ReassemblyUs, 0, LONGEST_REASSEMBLY)?;
+    let window = window_from(table)?;
     let tables = port_tables(alloc, table)?;
     let ports = ports_from(alloc, &tables, links)?;
-    Ok(LinkSettings::new(vl, skew_max, redundancy, reassembly, ports).unwrap())
+    Ok(LinkSettings::new(vl, skew_max, redundancy, reassembly, window, ports).unwrap())
+}
+
+/// The window of integrity checking, 1 to 4 sequence numbers.
+fn window_from(table: &Table) -> Result<u8, ConfigFault>
+    ensures value { result ≡ window_from (table_view table.now) }
+    ensures limits { IfOk result (λ window. (1 ≤ window) × (window ≤ widest_window)) }
+{
+    let widest = u64::from(WIDEST_WINDOW);
+    let window = integer_or(table, Key::Window, DEFAULT_WINDOW, 1, widest)?;
+    Ok(window as u8)
 }
 
 /// The link number, 0 to 65,535, which no earlier link has.
