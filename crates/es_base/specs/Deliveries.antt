@@ -6,6 +6,7 @@ use Rattle.es_base.specs.declared.port.PortKind.{PortKind}
 use Rattle.es_base.specs.declared.port.PortKind.TheVariants.{Sampling, Queuing}
 use Rattle.es_base.specs.declared.event.Event.{Event}
 use Rattle.es_base.specs.declared.event.Message.{Message}
+use Rattle.es_base.specs.declared.event.Sample.{Sample}
 use Rattle.es_base.specs.Limits.{most_samples}
 use Rattle.es_base.specs.Past.{Origin, arrival_of}
 use Rattle.es_base.specs.Outcome.{Outcome, out_of_sequence, redundant, refused, brings, outcome}
@@ -39,3 +40,7 @@ deliveries o (e ∷ past) port =
 -- the newest of a port's messages, and its message number
 abbrev pub newest_of : List Message → Option (ℕ × Message)
 newest_of messages = option_map (λ message. (length messages, message)) (slice_get messages (length messages - 1))
+
+-- a message as it was read, and its message number
+abbrev pub read_as : Sample → ℕ × Message
+read_as sample = (sample.number, record { time = sample.time; octets = sample.octets.now })

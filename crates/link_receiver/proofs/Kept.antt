@@ -17,12 +17,11 @@ use Rattle.es_base.specs.Run.{MayAnswer, verdict_of}
 use Rattle.es_base.specs.Limits.{verdict_kinds}
 use Rattle.es_base.specs.Tally.{Counts, HasCounts, IsZero}
 use Rattle.ip_reassembly.specs.Kept as pieces
-use Rattle.queuing_port.specs.Queue as queues
-use Rattle.link_receiver.specs.declared.change.Delivery.{Delivery}
+use Rattle.link_receiver.specs.declared.ends.PortEnd.{PortEnd}
 use Rattle.link_receiver.specs.declared.checks.Checks.{Checks}
 use Rattle.link_receiver.specs.declared.outlet.Outlet.{Outlet}
 use Rattle.link_receiver.specs.Change.{messages_for}
-use Rattle.link_receiver.specs.Outlet.{AreOpened, Delivers, Fits, Shows}
+use Rattle.link_receiver.specs.Outlet.{AreOpened, Delivers, Delivery, Fits, Shows}
 use Rattle.link_receiver.specs.Checks.{HavePast}
 use Rattle.link_receiver.specs.Kept.{IsKept}
 use Rattle.link_receiver.proofs.Outlets.{accepted_fits, accepted_shows, messages_if, opened_many, opened_fit, opened_show}
@@ -30,18 +29,18 @@ use Rattle.link_receiver.proofs.Places.{reverse-push, slice_get-set_same, slice_
 
 -- ---- before the first event
 
-pub kept_new : (settings : Settings) (history : List Event) (checks : Checks) (waiting : pieces.Kept) (outlets : List Outlet) (takers : List (Option queues.Known)) (tally : Counts)
+pub kept_new : (settings : Settings) (history : List Event) (checks : Checks) (waiting : pieces.Kept) (outlets : List Outlet) (ends : List PortEnd) (tally : Counts)
     → history ≡ [] → HavePast checks (origin_of settings) [] → pieces.StandsFor waiting settings.reassembly []
-    → AreOpened settings.ports outlets takers → IsZero verdict_kinds tally
+    → AreOpened 0 settings.ports outlets ends → IsZero verdict_kinds tally
     → IsKept settings history checks waiting outlets tally
-kept_new settings history checks waiting outlets takers tally none stand waits are zeros = rw none (record {
+kept_new settings history checks waiting outlets ends tally none stand waits are zeros = rw none (record {
   few = omega arith;
   run = tt;
   checked = stand;
   waiting = waits;
-  as_many = opened_many settings.ports outlets takers are;
-  kinds = opened_fit settings.ports outlets takers are;
-  shown = opened_show settings.ports outlets takers are;
+  as_many = opened_many 0 settings.ports outlets ends are;
+  kinds = opened_fit 0 settings.ports outlets ends are;
+  shown = opened_show 0 settings.ports outlets ends are;
   counted = zeros;
   frames = tt;
 })

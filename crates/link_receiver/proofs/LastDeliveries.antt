@@ -13,7 +13,7 @@ use Rattle.es_base.specs.declared.event.Arrival.{Arrival}
 use Rattle.es_base.specs.declared.verdict.Verdict.{Verdict}
 use Rattle.es_base.specs.Past.{event_of}
 use Rattle.link_receiver.specs.Link.{Link, Takes}
-use Rattle.link_receiver.specs.Unread.{AreEnds}
+use Rattle.link_receiver.specs.Unread.{AreUpToLast}
 
 -- an event that delivered nothing to the port
 end_kept : (history : List Event) (e : Event) (port : PortNo) (end : ℕ) → tells_delivered e.verdict port ≡ false → AreDeliveredBefore end port history → AreDeliveredBefore end port (history ++ e ∷ [])
@@ -31,7 +31,7 @@ end_here history e port end is =
     (omega (arith, is, length-append history (e ∷ [])), rw none (All-nil told))
 
 -- an event that delivered nothing to any port
-pub ends_kept : (history : List Event) (e : Event) (ends : List ℕ) → ((port : PortNo) → tells_delivered e.verdict port ≡ false) → AreEnds history ends → AreEnds (history ++ e ∷ []) ends
+pub ends_kept : (history : List Event) (e : Event) (ends : List ℕ) → ((port : PortNo) → tells_delivered e.verdict port ≡ false) → AreUpToLast history ends → AreUpToLast (history ++ e ∷ []) ends
 ends_kept history e ends none before port end there = end_kept history e (record { 0 = port }) end (none (record { 0 = port })) (before port end there)
 
 set_same : (xs : List ℕ) (i x y : ℕ) → slice_get (slice_set xs i x) i ≡ Some y → x ≡ y
@@ -48,7 +48,7 @@ set_other (z ∷ zs) (suc i) (suc j) x other = set_other zs i j x (λ e. other (
 
 -- an event that delivered a message to this port: at another port
 elsewhere : (history : List Event) (e : Event) (ends : List ℕ) (at : PortNo) (port found : ℕ)
-    → ((port : PortNo) → tells_delivered e.verdict port ≡ is_same_port at port) → AreEnds history ends → is_same_port at (record { 0 = port }) ≡ false
+    → ((port : PortNo) → tells_delivered e.verdict port ≡ is_same_port at port) → AreUpToLast history ends → is_same_port at (record { 0 = port }) ≡ false
     → slice_get ends port ≡ Some found → AreDeliveredBefore found (record { 0 = port }) (history ++ e ∷ [])
 elsewhere history e ends at port found told before other there =
     let none : tells_delivered e.verdict (record { 0 = port }) ≡ false = told (record { 0 = port }) ∙ other in
@@ -59,7 +59,7 @@ differ at port other same = let is : is_same_port at (record { 0 = port }) ≡ t
 
 -- at a port whose end is noted
 pub ends_more : (history : List Event) (e : Event) (ends : List ℕ) (at : PortNo) (end : ℕ) → length history + 1 ≡ end
-    → ((port : PortNo) → tells_delivered e.verdict port ≡ is_same_port at port) → AreEnds history ends → AreEnds (history ++ e ∷ []) (slice_set ends at.0 end)
+    → ((port : PortNo) → tells_delivered e.verdict port ≡ is_same_port at port) → AreUpToLast history ends → AreUpToLast (history ++ e ∷ []) (slice_set ends at.0 end)
 ends_more history e ends at end is told before port found there =
     ⊎_elim
     (λ (same : is_same_port at (record { 0 = port }) ≡ true).
@@ -71,7 +71,7 @@ ends_more history e ends at end is told before port found there =
 
 -- at a port that has no end
 pub ends_outside : (history : List Event) (e : Event) (ends : List ℕ) (at : PortNo) → length ends ≤ at.0
-    → ((port : PortNo) → tells_delivered e.verdict port ≡ is_same_port at port) → AreEnds history ends → AreEnds (history ++ e ∷ []) ends
+    → ((port : PortNo) → tells_delivered e.verdict port ≡ is_same_port at port) → AreUpToLast history ends → AreUpToLast (history ++ e ∷ []) ends
 ends_outside history e ends at outside told before port found there =
     ⊎_elim
     (λ (same : is_same_port at (record { 0 = port }) ≡ true). absurd (omega (arith, outside, eqb-true at.0 port same, slice_get_within ends port found there)))
@@ -79,7 +79,7 @@ ends_outside history e ends at outside told before port found there =
     (cases_Bool (is_same_port at (record { 0 = port })))
 
 -- before any event
-pub no_ends : (count : ℕ) → AreEnds [] (replicate count 0)
+pub no_ends : (count : ℕ) → AreUpToLast [] (replicate count 0)
 no_ends count port end there =
     let told = λ (e : Event). tells_delivered e.verdict (record { 0 = port }) ≡ false in
     let zero_end : end ≡ 0 = all_zero count port end there in
@@ -91,9 +91,9 @@ no_ends count port end there =
     all_zero (suc count) (suc port) end there = all_zero count port end there
 
 -- after one event more
-pub ends_taken : (link : Link) (a : Arrival) (verdict : Verdict) (new : Link) (before after : List ℕ) → Takes link a verdict new → AreEnds link.history before
-    → ((history : List Event) (e : Event) → e.verdict ≡ verdict → length history + 1 ≡ length new.history → AreEnds history before → AreEnds (history ++ e ∷ []) after)
-    → AreEnds new.history after
+pub ends_taken : (link : Link) (a : Arrival) (verdict : Verdict) (new : Link) (before after : List ℕ) → Takes link a verdict new → AreUpToLast link.history before
+    → ((history : List Event) (e : Event) → e.verdict ≡ verdict → length history + 1 ≡ length new.history → AreUpToLast history before → AreUpToLast (history ++ e ∷ []) after)
+    → AreUpToLast new.history after
 ends_taken link a verdict new before after takes are noted =
     let e = event_of a takes.room verdict in
     let grown : new.history ≡ link.history ++ e ∷ [] = ap (λ (l : Link). l.history) takes.event in

@@ -4,6 +4,7 @@ pub mod HandedOut
 pub mod Forwarded
 pub mod Kept
 pub mod Meetings
+pub mod Newest
 pub mod Offers
 pub mod Outlets
 pub mod Places

@@ -14,11 +14,11 @@ use Rattle.es_base.specs.Reassembly.{groups_in, offered}
 use Rattle.es_base.specs.Outcome as way
 use Rattle.es_base.specs.Deliveries.{delivered, is_same_port}
 use Rattle.ip_reassembly.specs.Kept as pieces
-use Rattle.link_receiver.specs.declared.change.Delivery.{Delivery}
 use Rattle.link_receiver.specs.declared.change.Room.{Room}
 use Rattle.link_receiver.specs.Link.{Link, past_of, deliveries_of, outcome_after}
 use Rattle.link_receiver.specs.Change.{RoomFor, messages_for}
 use Rattle.link_receiver.specs.Offer.{Fills, IsRoomIn}
+use Rattle.link_receiver.specs.Outlet.{Delivery}
 use Rattle.link_receiver.proofs.Brings.{IsBroughtBy, is_brought}
 
 -- where there is room, the packet that is offered will fill it

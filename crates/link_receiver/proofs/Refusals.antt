@@ -16,16 +16,15 @@ use Rattle.es_base.specs.Deliveries as deliveries
 use Rattle.es_base.specs.Deliveries.{delivered, is_same_port}
 use Rattle.es_base.specs.Run.{MayAnswer, may_be_full, may_refuse_with}
 use Rattle.queuing_port.specs.Queue.{Known, MayBeFull}
-use Rattle.link_receiver.specs.declared.change.Delivery.{Delivery}
 use Rattle.link_receiver.specs.declared.change.Room.{Room}
 use Rattle.link_receiver.specs.declared.outlet.Outlet.{Outlet}
 use Rattle.link_receiver.specs.declared.outlet.Outlet.TheVariants as outlets
 use Rattle.link_receiver.specs.Link.{Link, past_of, deliveries_of, outcome_after}
 use Rattle.link_receiver.specs.Change.{HasPlace, RoomFor, messages_for}
 use Rattle.link_receiver.specs.Offer.{Fills}
-use Rattle.link_receiver.specs.Outlet.{Accepts, Delivers, Fits, HasNumberLeft, IsOfKind, Shows}
+use Rattle.link_receiver.specs.Outlet.{Accepts, Delivers, Delivery, Fits, HasSpaceAt, IsOfKind, Shows}
 use Rattle.link_receiver.proofs.Offers.{delivers_it, holds_at_port}
-use Rattle.link_receiver.proofs.Outlets.{full_after, has_number_left, messages_if}
+use Rattle.link_receiver.proofs.Outlets.{full_after, has_space_left, messages_if}
 use Rattle.link_receiver.proofs.Places.{there}
 
 -- ---- where a message has a place
@@ -35,13 +34,17 @@ pub has_outlet : (link : Link) (room : Option Room) (opened : List Outlet) → H
 has_outlet link None opened place as_many = tt
 has_outlet link (Some room) opened place as_many = omega (arith, as_many, slice_get_within link.settings.ports room.port.0 place.0 place.1)
 
-pub has_number : (link : Link) (room : Option Room) (opened : List Outlet) → HasPlace link room
+pub has_space : (link : Link) (room : Option Room) (opened : List Outlet) → HasPlace link room → length opened ≡ length link.settings.ports
     → ((place : ℕ) → Fits (slice_get link.settings.ports place) (slice_get opened place))
     → ((port : ℕ) → Shows (slice_get opened port) (deliveries_of link (record { 0 = port })))
-    → IfSome room (λ r. (outlet : Outlet) → slice_get opened r.port.0 ≡ Some outlet → HasNumberLeft outlet)
-has_number link None opened place fits shown = tt
-has_number link (Some room) opened place fits shown = λ outlet is.
-    has_number_left place.0 (slice_get link.settings.ports room.port.0) outlet (deliveries_of link room.port) place.1 (rw is at (fits room.port.0)) (rw is at (shown room.port.0)) place.2
+    → HasSpaceAt opened room
+has_space link None opened place as_many fits shown = tt
+has_space link (Some room) opened place as_many fits shown =
+    let at = there opened room.port.0 (has_outlet link (Some room) opened place as_many) in (
+      at.0,
+      at.1,
+      has_space_left place.0 (slice_get link.settings.ports room.port.0) at.0 (deliveries_of link room.port) room place.1 (rw at.1 at (fits room.port.0)) (rw at.1 at (shown room.port.0)) place.2 place.3,
+    )
 
 -- ---- a queue that may be full
 

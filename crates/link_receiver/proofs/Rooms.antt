@@ -1,5 +1,5 @@
 -- The rooms of queues that nobody reads.
-use Rattle.std.proofs.Common.{◌≡◌, ◌∙◌, ap, subst, ℕ, ◌≤◌, Bool, true, false, not, ◌&&◌, nat_lt, List, [], ◌∷◌, ◌++◌, length, Option, None, Some, Result, Ok, Err, if◌then◌else◌, zero, suc, refl, arith, length-append, append-nil, ⊎_elim}
+use Rattle.std.proofs.Common.{◌≡◌, ◌∙◌, ap, sym, subst, ℕ, ◌+◌, ◌≤◌, Bool, true, false, not, ◌&&◌, nat_lt, List, [], ◌∷◌, ◌++◌, length, Option, None, Some, Result, Ok, Err, if◌then◌else◌, zero, suc, refl, arith, length-append, append-nil, ⊎_elim}
 use Rattle.std.specs.List.{slice_get}
 use Rattle.std.specs.Option.{ok_or}
 use Rattle.std.proofs.lemmas.Bool.{cases_Bool, eq-eqb, eqb-true, lt-leb}
@@ -22,10 +22,13 @@ use Rattle.es_base.specs.Reassembly.{groups_in, packet_in}
 use Rattle.es_base.specs.Outcome as way
 use Rattle.es_base.specs.Deliveries.{delivered, is_same_port}
 use Rattle.es_base.specs.Run.{MayAnswer, decided, may_refuse_with, settled}
-use Rattle.queuing_port.specs.Queue.{Known, QueueId, opened}
-use Rattle.link_receiver.specs.Ends.{AreTakersOf, IsNewLink, IsTakerOf, IsWithin, IsWithinDepth}
-use Rattle.link_receiver.specs.Link.{Link, Takes, deliveries_of, outcome_after, past_of, room_after, verdict_after, with_event}
-use Rattle.link_receiver.specs.Unread.{AreUnreadTakers, IsTakerAt, IsUnread, IsUnreadTaker, IsWithinAt}
+use Rattle.slot_core.specs.Limits.{port_readers}
+use Rattle.sampling_port.specs.Ends.{PortId, ReaderEnd, end_of, new_readers}
+use Rattle.sampling_port.specs.Seats.{new_seat}
+use Rattle.link_receiver.specs.declared.ends.PortEnd.{PortEnd}
+use Rattle.link_receiver.specs.Ends.{AreEndsOf, IsEndOf, IsNewLink, IsWithin, IsWithinDepth}
+use Rattle.link_receiver.specs.Link.{Channel, Link, Takes, samples, deliveries_of, outcome_after, past_of, room_after, verdict_after, with_event}
+use Rattle.link_receiver.specs.Unread.{AreUnreadEnds, IsUnread, IsUnreadAt, IsUnreadEnd, IsWithinAt}
 use Rattle.link_receiver.proofs.Places.{reverse-push}
 
 -- ---- a payload is of the kind of its port
@@ -187,25 +190,30 @@ pub within_more : (link : Link) (a : Arrival) (verdict : Verdict) (new : Link) �
 within_more link a verdict new takes within queued place =
     rw takes.event (within_one link a (outcome_after link a) takes.room verdict (record { 0 = place }) refl (brings_of_port link a) takes.becomes (within place) (rw takes.event at queued))
 
--- ---- the takers
+-- ---- the ends
 
-pub takers_stay : (link : Link) (a : Arrival) (verdict : Verdict) (new : Link) (takers : List (Option Known)) → Takes link a verdict new → AreUnreadTakers link takers → AreUnreadTakers new takers
-takers_stay link a verdict new takers takes are = λ place. rw takes.event (are place)
+pub ends_stay : (link : Link) (a : Arrival) (verdict : Verdict) (new : Link) (ends : List PortEnd) → Takes link a verdict new → AreUnreadEnds link ends → AreUnreadEnds new ends
+ends_stay link a verdict new ends takes are = λ place. rw takes.event (are place)
 
 -- ---- before any event
 
-unread_taker : (kind : PortKind) (queue : Option QueueId) (taker : Option Known) → IsTakerOf kind queue taker → IsUnreadTaker kind (Some queue) taker
-unread_taker (Sampling refresh) queue taker is = is.1
-unread_taker (Queuing depth) queue taker is = (opened is.0 depth, is.2, ap Some is.1, refl)
+first_reader : (id : PortId) → (reader : ReaderEnd) × (slice_get (new_readers id port_readers) 0 ≡ Some reader) × (reader.port ≡ id)
+first_reader id = (end_of (new_seat id 0), refl, refl)
 
-takers_at : (ports : List Port) (queues : List (Option QueueId)) (takers : List (Option Known)) → AreTakersOf ports queues takers → (place : ℕ) → IsTakerAt (slice_get ports place) (slice_get queues place) (slice_get takers place)
-takers_at [] [] [] are place = tt
-takers_at (port ∷ ports) (queue ∷ queues) (taker ∷ takers) are zero = unread_taker port.kind queue taker are.0
-takers_at (port ∷ ports) (queue ∷ queues) (taker ∷ takers) are (suc place) = takers_at ports queues takers are.1 place
-takers_at (port ∷ ports) (queue ∷ queues) [] are place = absurd are
-takers_at (port ∷ ports) [] takers are place = absurd are
-takers_at [] (queue ∷ queues) takers are place = absurd are
-takers_at [] [] (taker ∷ takers) are place = absurd are
+unread_end : (place : ℕ) (name : List ℕ) (kind : PortKind) (channel : Channel) (end : PortEnd) → IsEndOf place name kind channel end → IsUnreadEnd kind (Some channel) end
+unread_end place name (Sampling refresh) channel end is =
+    let first = first_reader is.0 in
+    rw is.2 (first.0, first.1, ap Some (is.1 ∙ ap samples (sym first.2)))
+unread_end place name (Queuing depth) channel end is = rw is.2 (ap Some is.1, refl)
+
+ends_at : (first : ℕ) (ports : List Port) (channels : List Channel) (ends : List PortEnd) → AreEndsOf first ports channels ends → (place : ℕ) → IsUnreadAt (slice_get ports place) (slice_get channels place) (slice_get ends place)
+ends_at first [] [] [] are place = tt
+ends_at first (port ∷ ports) (channel ∷ channels) (end ∷ ends) are zero = unread_end first port.name port.kind channel end are.0
+ends_at first (port ∷ ports) (channel ∷ channels) (end ∷ ends) are (suc place) = ends_at (first + 1) ports channels ends are.1 place
+ends_at first (port ∷ ports) (channel ∷ channels) [] are place = absurd are
+ends_at first (port ∷ ports) [] ends are place = absurd are
+ends_at first [] (channel ∷ channels) ends are place = absurd are
+ends_at first [] [] (end ∷ ends) are place = absurd are
 
 none_within : (port : Option Port) → IsWithinDepth port 0
 none_within None = tt
@@ -215,16 +223,16 @@ none_within (Some port) = go port.kind
     go (Sampling refresh) = tt
     go (Queuing depth) = omega arith
 
-pub unread_new : (settings : Settings) (link : Link) (takers : List (Option Known)) → IsNewLink settings link → AreTakersOf settings.ports link.queues takers → IsUnread link takers
-unread_new settings link takers new are = record {
-  takers_are = rw new.0 (takers_at settings.ports link.queues takers are);
+pub unread_new : (settings : Settings) (link : Link) (ends : List PortEnd) → IsNewLink settings link → AreEndsOf 0 settings.ports link.channels ends → IsUnread link ends
+unread_new settings link ends new are = record {
+  ends_are = rw new.0 (ends_at 0 settings.ports link.channels ends are);
   within = λ place. rw new.1 (none_within (slice_get link.settings.ports place));
 }
 
 -- ---- after one
 
-pub unread_more : (link : Link) (a : Arrival) (verdict : Verdict) (new : Link) (takers : List (Option Known)) → Takes link a verdict new → IsUnread link takers → IfQueued verdict (IsWithinAt new) → IsUnread new takers
-unread_more link a verdict new takers takes unread queued = record {
-  takers_are = takers_stay link a verdict new takers takes unread.takers_are;
+pub unread_more : (link : Link) (a : Arrival) (verdict : Verdict) (new : Link) (ends : List PortEnd) → Takes link a verdict new → IsUnread link ends → IfQueued verdict (IsWithinAt new) → IsUnread new ends
+unread_more link a verdict new ends takes unread queued = record {
+  ends_are = ends_stay link a verdict new ends takes unread.ends_are;
   within = within_more link a verdict new takes unread.within queued;
 }

@@ -1,10 +1,14 @@
 -- What an arrival changes at its link.
-use Rattle.std.specs.Prelude.{◌≡◌, Bool, true, false, List, [], ◌∷◌, length, slice_get, Option, None, Some, IfSome, if◌then◌else◌}
+use Rattle.std.specs.Prelude.{◌≡◌, ◌≤◌, ℕ, Bool, true, false, List, [], ◌∷◌, length, slice_get, Option, None, Some, IfSome, if◌then◌else◌}
 use Rattle.std.specs.Option.{option_map}
+use Rattle.std.specs.Vec.{vec_capacity}
 use Rattle.es_base.specs.declared.place.PortNo.{PortNo}
 use Rattle.es_base.specs.declared.event.Arrival.{Arrival}
 use Rattle.es_base.specs.declared.event.Message.{Message}
 use Rattle.es_base.specs.Frame.{sequence_number_of}
+use Rattle.es_base.specs.declared.port.PortKind.{PortKind}
+use Rattle.es_base.specs.declared.port.PortKind.TheVariants.{Sampling, Queuing}
+use Rattle.es_base.specs.Limits.{longest_sample}
 use Rattle.es_base.specs.Port.{Port}
 use Rattle.es_base.specs.Past.{origin_of}
 use Rattle.es_base.specs.Redundancy.{is_forwarded}
@@ -13,8 +17,8 @@ use Rattle.es_base.specs.Outcome.{Outcome, Payload, out_of_sequence, redundant, 
 use Rattle.es_base.specs.Deliveries.{is_same_port, takes_one_more}
 use Rattle.frame_reader.specs.Parts.{packet_parts}
 use Rattle.link_receiver.specs.declared.change.Change.{Change}
-use Rattle.link_receiver.specs.declared.change.Delivery.{Delivery}
 use Rattle.link_receiver.specs.declared.change.Room.{Room}
+use Rattle.link_receiver.specs.Outlet.{Delivery}
 use Rattle.link_receiver.specs.Link.{Link, past_of, deliveries_of, decision_after, outcome_after}
 
 -- the messages of a delivery for this port
@@ -22,10 +26,16 @@ abbrev pub messages_for : PortNo → Option Delivery → List Message
 messages_for port None = []
 messages_for port (Some delivery) = if is_same_port delivery.port port then delivery.message ∷ [] else []
 
+-- a message of this length finds room at a port of this kind: a sampling port has words enough for its longest
+abbrev pub IsEnough : PortKind → ℕ → ℕ → Type 0
+IsEnough (Sampling refresh) len capacity = len ≤ longest_sample
+IsEnough (Queuing depth) len capacity = len ≤ capacity
+
 -- a message goes to a port of the link that takes one more, if its queue has room
 abbrev pub HasPlace : Link → Option Room → Type 0
 HasPlace link room =
-    IfSome room (λ r. (port : Port) × (slice_get link.settings.ports r.port.0 ≡ Some port) × (takes_one_more port.kind true (length (deliveries_of link r.port)) ≡ true))
+    IfSome room (λ r. (port : Port) × (slice_get link.settings.ports r.port.0 ≡ Some port) × (takes_one_more port.kind true (length (deliveries_of link r.port)) ≡ true)
+    × IsEnough port.kind r.len (vec_capacity r.octets))
 
 -- whether a payload's port takes it, if its queue has room
 abbrev pub is_taken : Link → Payload → Bool

@@ -1,49 +1,45 @@
 -- The ends of a link's ports that partitions hold.
-use Rattle.std.specs.Prelude.{◌≡◌, ◌≤◌, ℕ, ◌+◌, List, [], ◌∷◌, ◌++◌, slice_get, Option, None, Some}
+use Rattle.std.specs.Prelude.{◌≡◌, ◌≤◌, ℕ, ◌+◌, List, [], ◌∷◌, slice_get, Option, None, Some}
+use Rattle.std.specs.List.{All}
+use Rattle.es_base.specs.declared.place.PortNo.{PortNo}
 use Rattle.es_base.specs.declared.port.PortKind.{PortKind}
 use Rattle.es_base.specs.declared.port.PortKind.TheVariants.{Sampling, Queuing}
 use Rattle.es_base.specs.Port.{Port}
 use Rattle.es_base.specs.Settings.{Settings}
-use Rattle.queuing_port.specs.Queue.{Known, QueueId, opened}
+use Rattle.slot_core.specs.Limits.{port_readers}
+use Rattle.sampling_port.specs.Ends.{PortId, ReaderEnd, new_readers}
+use Rattle.queuing_port.specs.Queue.{QueueId, opened}
 use Rattle.link_receiver.specs.declared.ends.PortEnd.{PortEnd}
 use Rattle.link_receiver.specs.declared.ends.PortEnd.TheVariants as ends
-use Rattle.link_receiver.specs.Link.{Link}
+use Rattle.link_receiver.specs.Link.{Channel, Link, queues, samples}
 
--- ---- the takers, by the places of their ports
-
--- a port's queue, if it has one, and its taker before any message
-abbrev pub IsTakerOf : PortKind → Option QueueId → Option Known → Type 0
-IsTakerOf (Sampling refresh) queue taker = (queue ≡ None) × (taker ≡ None)
-IsTakerOf (Queuing depth) queue taker = (id : QueueId) × (queue ≡ Some id) × (taker ≡ Some (opened id depth))
-
-abbrev pub AreTakersOf : List Port → List (Option QueueId) → List (Option Known) → Type 0
-AreTakersOf [] [] [] = Unit {0}
-AreTakersOf (port ∷ ports) (queue ∷ queues) (taker ∷ takers) = IsTakerOf port.kind queue taker × AreTakersOf ports queues takers
-AreTakersOf (port ∷ ports) (queue ∷ queues) [] = ⊥
-AreTakersOf (port ∷ ports) [] takers = ⊥
-AreTakersOf [] (queue ∷ queues) takers = ⊥
-AreTakersOf [] [] (taker ∷ takers) = ⊥
+abbrev pub port_no : ℕ → PortNo
+port_no place = record { 0 = place }
 
 -- ---- the ends that are handed out, in the order of the ports
 
--- the end of the port at this place, where it has a taker
-abbrev pub end_at : ℕ → Port → Option Known → List PortEnd
-end_at place port None = []
-end_at place port (Some taker) = ends.Queuing (record { 0 = place }) port.name taker ∷ []
+-- where the messages of the port at this place go, and its end before any message
+abbrev pub IsEndOf : ℕ → List ℕ → PortKind → Channel → PortEnd → Type 0
+IsEndOf place name (Sampling refresh) channel end =
+    (id : PortId) × (channel ≡ samples id) × (end ≡ ends.Sampling (port_no place) name (new_readers id port_readers))
+IsEndOf place name (Queuing depth) channel end =
+    (id : QueueId) × (channel ≡ queues id) × (end ≡ ends.Queuing (port_no place) name (opened id depth))
 
--- the ends of the ports from this place on
-abbrev pub ends_from : ℕ → List Port → List (Option Known) → List PortEnd
-ends_from place (port ∷ ports) (taker ∷ takers) = end_at place port taker ++ ends_from (place + 1) ports takers
-ends_from place (port ∷ ports) [] = []
-ends_from place [] takers = []
+-- the ends of these ports, the first of which stands at this place
+abbrev pub AreEndsOf : ℕ → List Port → List Channel → List PortEnd → Type 0
+AreEndsOf place [] [] [] = Unit {0}
+AreEndsOf place (port ∷ ports) (channel ∷ channels) (end ∷ ends) =
+    IsEndOf place port.name port.kind channel end × AreEndsOf (place + 1) ports channels ends
+AreEndsOf place (port ∷ ports) (channel ∷ channels) [] = ⊥
+AreEndsOf place (port ∷ ports) [] ends = ⊥
+AreEndsOf place [] (channel ∷ channels) ends = ⊥
+AreEndsOf place [] [] (end ∷ ends) = ⊥
 
--- these are the ends of ports with these queues
-abbrev pub AreEndsOf : List Port → List (Option QueueId) → List PortEnd → Type 0
-AreEndsOf ports queues ends = (takers : List (Option Known)) × AreTakersOf ports queues takers × (ends ≡ ends_from 0 ports takers)
-
--- an end takes from the queue of its port
-abbrev pub IsOfItsQueue : List (Option QueueId) → PortEnd → Type 0
-IsOfItsQueue queues (ends.Queuing port name taker) = slice_get queues port.0 ≡ Some (Some taker.queue)
+-- an end is of the port at its place: each of its readers finds what is published there, and its taker takes
+-- what is put there
+abbrev pub IsOfItsPort : List Channel → PortEnd → Type 0
+IsOfItsPort channels (ends.Sampling port name readers) = All (λ (reader : ReaderEnd). slice_get channels port.0 ≡ Some (samples reader.port)) readers
+IsOfItsPort channels (ends.Queuing port name taker) = slice_get channels port.0 ≡ Some (queues taker.queue)
 
 -- a link before any event
 abbrev pub IsNewLink : Settings → Link → Type 0

@@ -1,5 +1,5 @@
 -- A link's state, as callers see it.
-use Rattle.std.specs.Prelude.{◌≡◌, ◌<◌, ℕ, Bool, List, [], ◌∷◌, ◌++◌, length, reverse, Option, None, if◌then◌else◌}
+use Rattle.std.specs.Prelude.{◌≡◌, ◌<◌, ℕ, Bool, List, [], ◌∷◌, ◌++◌, length, map, reverse, Option, None, if◌then◌else◌}
 use Rattle.es_base.specs.declared.place.PortNo.{PortNo}
 use Rattle.es_base.specs.declared.verdict.Verdict.{Verdict}
 use Rattle.es_base.specs.declared.verdict.Decision.{Decision}
@@ -13,14 +13,20 @@ use Rattle.es_base.specs.Past.{event_of, origin_of}
 use Rattle.es_base.specs.Outcome.{Outcome, outcome}
 use Rattle.es_base.specs.Deliveries.{deliveries, newest_of}
 use Rattle.es_base.specs.Run.{MayAnswer, decision_of, room_unread, verdict_of}
+use Rattle.slot_core.specs.Octets.{words_of}
+use Rattle.sampling_port.specs.Ends.{PortId}
 use Rattle.queuing_port.specs.Queue.{QueueId}
 
--- its settings, its events in the order in which their frames came, and for each port which queue it
--- has, if any
+-- where the messages of a port go: to the readers of this sampling port, or into this queue
+pub data Channel : Type 0 where
+  samples : PortId → Channel
+  queues : QueueId → Channel
+
+-- its settings, its events in the order in which their frames came, and where the messages of each port go
 pub record Link : Type 0 where
   pub settings : Settings
   pub history : List Event
-  pub queues : List (Option QueueId)
+  pub channels : List Channel
 
 -- the latest event first
 abbrev pub past_of : Link → List Event
@@ -31,6 +37,14 @@ past_of link = reverse link.history
 -- the messages that were delivered to a port
 abbrev pub deliveries_of : Link → PortNo → List Message
 deliveries_of link port = deliveries (origin_of link.settings) (past_of link) port
+
+-- the words of a message, as a sampling port publishes it
+abbrev pub message_words : Message → List ℕ
+message_words message = words_of message.octets message.time
+
+-- what was published at a sampling port: the words of each message that was delivered to it
+abbrev pub published_at : Link → PortNo → List (List ℕ)
+published_at link port = map message_words (deliveries_of link port)
 
 -- the newest message of a sampling port, and its message number
 abbrev pub newest_at : Link → PortNo → Option (ℕ × Message)

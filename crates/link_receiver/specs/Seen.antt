@@ -1,7 +1,7 @@
 -- What a frame comes to, as the code has it: without the octets of its payload.
-use Rattle.std.specs.Prelude.{◌≡◌, Bool, true, false, List, length, slice_get, Some, Result, Ok, Err}
+use Rattle.std.specs.Prelude.{◌≡◌, ◌≤◌, Bool, true, false, List, length, slice_get, Some, Result, Ok, Err}
 use Rattle.es_base.specs.declared.verdict.Verdict.{Verdict}
-use Rattle.es_base.specs.Port.{Port}
+use Rattle.es_base.specs.Port.{Port, largest_payload}
 use Rattle.es_base.specs.Outcome as way
 use Rattle.link_receiver.specs.declared.outcome.Payload.{Payload}
 use Rattle.link_receiver.specs.declared.outcome.Outcome.{Outcome}
@@ -26,9 +26,10 @@ Sees Redundant outcome = outcome ≡ way.redundant
 Sees (Refused verdict) outcome = outcome ≡ way.refused verdict
 Sees (Brings seen) outcome = (payload : way.Payload) × (outcome ≡ way.brings payload) × IsPayload seen payload
 
--- a payload is for one of these ports, and of its kind
+-- a payload is for one of these ports, of its kind, and no longer than a port of this kind may take
 abbrev pub IsForOneOf : List Port → Payload → Type 0
-IsForOneOf ports payload = (port : Port) × (slice_get ports payload.port.0 ≡ Some port) × (port.kind ≡ payload.kind)
+IsForOneOf ports payload =
+    (port : Port) × (slice_get ports payload.port.0 ≡ Some port) × (port.kind ≡ payload.kind) × (payload.len ≤ largest_payload payload.kind)
 
 abbrev pub HasPort : Outcome → List Port → Type 0
 HasPort OutOfSequence ports = Unit {0}

@@ -1,4 +1,4 @@
--- A link whose queuing ports nobody reads.
+-- A link from whose queues nobody takes.
 use Rattle.std.specs.Prelude.{◌≡◌, ℕ, List, [], length, slice_get, Option, None, Some}
 use Rattle.es_base.specs.declared.place.PortNo.{PortNo}
 use Rattle.es_base.specs.declared.port.PortKind.{PortKind}
@@ -6,34 +6,40 @@ use Rattle.es_base.specs.declared.port.PortKind.TheVariants.{Sampling, Queuing}
 use Rattle.es_base.specs.Port.{Port}
 use Rattle.es_base.specs.declared.event.Event.{Event}
 use Rattle.link_deliveries.specs.Told.{AreDeliveredBefore}
-use Rattle.queuing_port.specs.Queue.{Known, QueueId}
+use Rattle.sampling_port.specs.Ends.{ReaderEnd}
+use Rattle.link_receiver.specs.declared.ends.PortEnd.{PortEnd}
+use Rattle.link_receiver.specs.declared.ends.PortEnd.TheVariants as ends
 use Rattle.link_receiver.specs.Ends.{IsWithinDepth}
-use Rattle.link_receiver.specs.Link.{Link, deliveries_of}
+use Rattle.link_receiver.specs.Link.{Channel, Link, deliveries_of, queues, samples}
 
--- the taker of a port of this kind, which has taken nothing from the port's queue
-abbrev pub IsUnreadTaker : PortKind → Option (Option QueueId) → Option Known → Type 0
-IsUnreadTaker (Sampling refresh) queue taker = taker ≡ None
-IsUnreadTaker (Queuing depth) queue taker =
-    (unread : Known) × (taker ≡ Some unread) × (queue ≡ Some (Some unread.queue)) × (unread.taken ≡ [])
+-- the end of a port of this kind: its first reader is of the port, and its taker has taken nothing from the
+-- port's queue
+abbrev pub IsUnreadEnd : PortKind → Option Channel → PortEnd → Type 0
+IsUnreadEnd (Sampling refresh) channel (ends.Sampling port name readers) =
+    (reader : ReaderEnd) × (slice_get readers 0 ≡ Some reader) × (channel ≡ Some (samples reader.port))
+IsUnreadEnd (Queuing depth) channel (ends.Queuing port name taker) = (channel ≡ Some (queues taker.queue)) × (taker.taken ≡ [])
+IsUnreadEnd (Sampling refresh) channel (ends.Queuing port name taker) = ⊥
+IsUnreadEnd (Queuing depth) channel (ends.Sampling port name readers) = ⊥
 
--- what stands at a place: a port, which queue it has, and its taker
-abbrev pub IsTakerAt : Option Port → Option (Option QueueId) → Option (Option Known) → Type 0
-IsTakerAt (Some port) queue (Some taker) = IsUnreadTaker port.kind queue taker
-IsTakerAt None queue None = Unit {0}
-IsTakerAt (Some port) queue None = ⊥
-IsTakerAt None queue (Some taker) = ⊥
+-- what stands at a place: a port, where its messages go, and its end
+abbrev pub IsUnreadAt : Option Port → Option Channel → Option PortEnd → Type 0
+IsUnreadAt (Some port) channel (Some end) = IsUnreadEnd port.kind channel end
+IsUnreadAt None channel None = Unit {0}
+IsUnreadAt (Some port) channel None = ⊥
+IsUnreadAt None channel (Some end) = ⊥
 
-abbrev pub AreUnreadTakers : Link → List (Option Known) → Type 0
-AreUnreadTakers link takers = (place : ℕ) → IsTakerAt (slice_get link.settings.ports place) (slice_get link.queues place) (slice_get takers place)
+abbrev pub AreUnreadEnds : Link → List PortEnd → Type 0
+AreUnreadEnds link ends = (place : ℕ) → IsUnreadAt (slice_get link.settings.ports place) (slice_get link.channels place) (slice_get ends place)
 
 -- no more messages were delivered to the port at this place than its queue holds
 abbrev pub IsWithinAt : Link → PortNo → Type 0
 IsWithinAt link port = IsWithinDepth (slice_get link.settings.ports port.0) (length (deliveries_of link port))
 
-pub record IsUnread (link : Link) (takers : List (Option Known)) : Type 0 where
-  pub takers_are : AreUnreadTakers link takers
+pub record IsUnread (link : Link) (ends : List PortEnd) : Type 0 where
+  pub ends_are : AreUnreadEnds link ends
   pub within : (place : ℕ) → IsWithinAt link (record { 0 = place })
 
--- no event from its end on delivered a message to a port
-abbrev pub AreEnds : List Event → List ℕ → Type 0
-AreEnds history ends = (port end : ℕ) → slice_get ends port ≡ Some end → AreDeliveredBefore end (record { 0 = port }) history
+-- each port's last delivery is among the first so many events
+abbrev pub AreUpToLast : List Event → List ℕ → Type 0
+AreUpToLast history up_to_last =
+    (port end : ℕ) → slice_get up_to_last port ≡ Some end → AreDeliveredBefore end (record { 0 = port }) history

@@ -1,8 +1,8 @@
 //! What an arrival changes at its link.
-ghost use Rattle.std.specs.Prelude.{◌≡◌, ◌≤◌, []};
+ghost use Rattle.std.specs.Prelude.{◌≡◌, ◌≤◌, [], length};
 ghost use Rattle.std.specs.Vec.{vec_capacity};
 
-use es_base::{Decision, Message, PortNo};
+use es_base::{Decision, Message, Octets, PortNo};
 use frame_reader::Packet;
 
 /// What an arrival changes, beside the history.
@@ -20,7 +20,8 @@ pub(crate) struct Change<'a> {
     pub room: Option<Room>,
 }
 
-/// Room for the message of a port, which was taken before anything changed.
+/// Room for the message of a port, which was taken before anything changed. A sampling port has the words
+/// of its slots: for it nothing is taken.
 #[derive(Drop)]
 pub(crate) struct Room {
     pub port: PortNo,
@@ -28,12 +29,22 @@ pub(crate) struct Room {
     pub len: usize,
     pub octets: Vec<u8>,
     pub ghost empty: { octets.items ≡ [] },
-    pub ghost enough: { len ≤ vec_capacity octets },
 }
 
-/// A message for a port.
-#[derive(Drop)]
-pub(crate) struct Delivery {
-    pub port: PortNo,
-    pub message: Message,
+impl Room {
+    /// The message of this payload and this time, in microseconds.
+    pub(crate) fn filled(self, payload: &[u8], time: u64) -> Message
+        requires { length payload.now ≤ vec_capacity self.octets }
+        ensures { result ≡ record { time = time; octets = payload.now } }
+    {
+        let Room {
+            port: _,
+            len: _,
+            octets,
+        } = self;
+        let mut octets = octets;
+        let _ = octets.extend_from_slice(payload);
+        let octets = Octets::from(octets);
+        Message { time, octets }
+    }
 }

@@ -1,8 +1,9 @@
 //! The receiver of one virtual link: integrity checking, redundancy management, IPv4 and its reassembly,
 //! UDP and the link's ports. It keeps the link's history, every verdict of which is what the rules say of the
-//! events before it, looked up afresh in all of them. What was put into a port's queue is what was delivered
-//! to the port. If memory runs out, nothing has changed. `UnreadLink` is a link from whose queues nobody
-//! takes, so that what becomes of each frame follows from the frames before it alone.
+//! events before it, looked up afresh in all of them. What was published at a sampling port, and what was put
+//! into a port's queue, is what was delivered to the port. If memory runs out, nothing has changed.
+//! `UnreadLink` is a link from whose queues nobody takes, so that what becomes of each frame follows from the
+//! frames before it alone.
 #![tactic(auto)]
 
 mod change;
@@ -14,13 +15,14 @@ mod link;
 mod offer;
 mod outcome;
 mod outlet;
-mod register;
 mod unread;
 mod verdict;
 mod way;
 
 pub use ends::PortEnd;
-pub use es_base::{Arrival, Decision, Event, LinkSettings, Memory, Message, Net, PortNo, Verdict};
+pub use es_base::{
+    Arrival, Decision, Event, LinkSettings, Memory, Message, Net, PortNo, Sample, Verdict,
+};
 pub use history::MOST_EVENTS;
 pub use link::LinkState;
 pub use unread::UnreadLink;

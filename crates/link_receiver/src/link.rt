@@ -1,9 +1,11 @@
 //! One link's state.
-ghost use Rattle.std.specs.Prelude.{◌≡◌, ◌≤◌, IfOk, OnErr, Some, length, slice_get, true};
+ghost use Rattle.std.specs.Prelude.{◌≡◌, ◌≤◌, IfOk, OnErr, Some, [], length, slice_get, true};
 ghost use Rattle.std.specs.List.{All};
 ghost use Rattle.std.specs.Option.{option_map};
+ghost use Rattle.std.specs.Vec.{vec_capacity};
 ghost use Rattle.es_base.specs.Limits.{most_events};
 ghost use Rattle.es_base.specs.Frame.{IsFrame, link_number_of};
+ghost use Rattle.es_base.specs.Port.{largest_payload};
 ghost use Rattle.es_base.specs.Past.{AreFramesOf, arrived, origin_of};
 ghost use Rattle.es_base.specs.Run.{IsRun, decided, decided_at};
 ghost use Rattle.es_base.specs.Tally.{HasCounts};
@@ -12,40 +14,44 @@ ghost use Rattle.es_base.specs.Deliveries.{takes_one_more};
 ghost use Rattle.es_base.specs.Outcome.{Outcome as OutcomeValue, brought, frame_payload};
 ghost use Rattle.frame_reader.specs.Parts.{packet_parts};
 ghost use Rattle.link_deliveries.specs.Told.{AreDeliveredBefore};
+ghost use Rattle.slot_core.specs.Octets.{AreOctets};
+ghost use Rattle.slot_core.specs.State.{StartsWith};
+ghost use Rattle.sampling_port.specs.Ends.{is_told};
 ghost use Rattle.queuing_port.specs.Queue.{Holds};
-ghost use Rattle.link_receiver.specs.Change.{HasPlace, IsChange, RoomFor};
+ghost use Rattle.link_receiver.specs.Change.{HasPlace, IsChange, IsEnough, RoomFor};
 ghost use Rattle.link_receiver.specs.Seen.{HasPort, IsForOneOf, Sees, counts_as_forwarded};
-ghost use Rattle.link_receiver.specs.Ends.{AreEndsOf, AreTakersOf, IsNewLink, IsOfItsQueue, IsWithinDepth};
-ghost use Rattle.link_receiver.specs.Link.{Takes, past_of, deliveries_of, newest_at};
+ghost use Rattle.link_receiver.specs.Ends.{AreEndsOf, IsNewLink, IsOfItsPort, IsWithinDepth};
+ghost use Rattle.link_receiver.specs.Link.{Takes, past_of, deliveries_of, published_at, queues, samples};
 ghost use Rattle.link_receiver.specs.Link.{outcome_after, decision_after};
 
 use crate::change::{Change, Room};
 use crate::checks::Checks;
-use crate::ends::{PortEnd, ends_of};
+use crate::ends::PortEnd;
 use crate::history::reserve_event;
 use crate::offer::offer;
 use crate::outcome::{Outcome, Payload};
-use crate::outlet::{Outlet, deliver, open_outlets};
-use crate::register::MOST_SAMPLES;
+use crate::outlet::{Outlet, open_outlets};
 use crate::verdict::{sampled, settled};
 use crate::way::{brought, counts_as_forwarded, packet_payload};
 use block_list::BlockList;
 use es_base::{
-    Arrival, Decision, Event, LinkSettings, Memory, Message, Net, Octets, PortNo, Verdict,
-    VerdictTally,
+    Arrival, Decision, Event, LinkSettings, Memory, Message, Net, Octets, PortKind, PortNo,
+    Verdict, VerdictTally,
 };
 use frame_reader::{Frame, Packet, frame_in, read_packet};
 use ip_reassembly::Reassembly;
 use link_deliveries::{deliveries, deliveries_up_to};
 use queuing_port::Taker;
+use sampling_port::Reader;
+use slot_core::{MOST_MESSAGES, READERS};
 use std::alloc::Global;
 use std::marker::Model;
 use std::sync::Wait;
 
 /// The state of one link: its settings and its history. What it keeps beside them follows from these
 /// two: for each network a sequence number, what redundancy management compares with, the pieces of
-/// datagrams that aren't complete, and for each port the newest message or the end of its queue into
-/// which messages are put.
+/// datagrams that aren't complete, and for each port the end that publishes its messages or puts them
+/// into its queue.
 #[derive(Drop)]
 pub struct LinkState {
     settings: LinkSettings,
@@ -63,40 +69,26 @@ impl Model for LinkState {
     ghost Value = { Link };
 
     ghost use Rattle.link_receiver.specs.Kept.{IsKept};
-    ghost use Rattle.link_receiver.specs.Outlet.{queue_of};
+    ghost use Rattle.link_receiver.specs.Outlet.{channel_of};
 
     ghost view = { λ s. record {
       settings = s.settings;
       history = s.history.items;
-      queues = map queue_of s.outlets.items;
+      channels = map channel_of s.outlets.items;
     } };
 
     ghost invariant = { λ s. IsKept s.settings s.history.items s.checks s.reassembly s.outlets.items s.tally };
 }
 
 impl LinkState {
-    /// The state of a link with these settings and no history; and the ends of its queuing ports, in the
-    /// order of the settings, each of its own port's queue.
+    /// The state of a link with these settings and no history; and the ends of its ports, in the order of the
+    /// settings, each of its own port. All memory of the ports is taken here.
     pub fn new(alloc: Global, settings: &LinkSettings) -> Result<(LinkState, Vec<PortEnd>), Memory>
         ensures link { IfOk result (λ opened. IsNewLink settings.now opened.0) }
-        ensures ends { IfOk result (λ opened. AreEndsOf settings.now.ports opened.0.queues opened.1.items) }
-        ensures queues { IfOk result (λ opened. All (IsOfItsQueue opened.0.queues) opened.1.items) }
+        ensures ends { IfOk result (λ opened. AreEndsOf 0 settings.now.ports opened.0.channels opened.1.items) }
+        ensures ports { IfOk result (λ opened. All (IsOfItsPort opened.0.channels) opened.1.items) }
     {
-        let (state, takers) = LinkState::open(alloc, settings)?;
-        let ends = ends_of(alloc, settings.ports(), takers)?;
-        Ok((state, ends))
-    }
-
-    /// The state of a link with these settings and no history; and for each port the taker of its queue, or
-    /// none if it samples.
-    pub(crate) fn open(
-        alloc: Global,
-        settings: &LinkSettings,
-    ) -> Result<(LinkState, Vec<Option<Taker>>), Memory>
-        ensures link { IfOk result (λ opened. IsNewLink settings.now opened.0) }
-        ensures takers { IfOk result (λ opened. AreTakersOf settings.now.ports opened.0.queues opened.1.items) }
-    {
-        let (outlets, takers) = open_outlets(alloc, settings.ports())?;
+        let (outlets, ends) = open_outlets(alloc, settings.ports())?;
         let state = LinkState {
             settings: settings.copy(alloc)?,
             history: BlockList::new(alloc),
@@ -105,7 +97,7 @@ impl LinkState {
             outlets,
             tally: VerdictTally::opening(),
         };
-        Ok((state, takers))
+        Ok((state, ends))
     }
 
     /// The link's settings.
@@ -124,17 +116,6 @@ impl LinkState {
         ensures few { length self.now.history ≤ most_events }
     {
         &self.history
-    }
-
-    /// The newest message of a sampling port, and its message number, from 1. None if none was delivered, and if
-    /// the port isn't sampling.
-    pub fn newest(&self, port: PortNo) -> Option<(u64, &Message)>
-        ensures { option_map (λ newest. (newest.0, newest.1.now)) result ≡ newest_at self.now port }
-    {
-        match self.outlets.get(port.0 as usize) {
-            Some(outlet) => outlet.newest(),
-            None => None,
-        }
     }
 
     /// How many events came on each network with each kind of verdict.
@@ -166,11 +147,24 @@ impl LinkState {
         deliveries_up_to(alloc, self.settings(), self.history(), end, port)
     }
 
+    /// A sampling port of this link and a reader of it meet: the reader then knows all that was delivered to
+    /// the port, so no later read returns an earlier message than the last of that. What it had seen is a
+    /// beginning of it. It takes no memory and waits for nobody, and nothing else changes.
+    pub fn meet(&mut self, port: PortNo, reader: &mut Reader<READERS>)
+        requires { slice_get self.old.channels port.0 ≡ Some (samples reader.old.port) }
+        ensures link { self.new ≡ self.old }
+        ensures reader { reader.new ≡ is_told reader.old (published_at self.old port) }
+        ensures before { StartsWith (published_at self.old port) reader.old.seen }
+        ensures octets { All (λ message. AreOctets message.octets) (deliveries_of self.old port) }
+    {
+        self.outlets[port.0 as usize].meet_reader(reader);
+    }
+
     /// A queuing port of this link and the end that takes of it meet: the taker then knows all that was
     /// delivered to the port. Returns how many of these messages it hasn't taken: at most the depth of
     /// the queue. Nothing else changes.
     pub fn meet_taker<R: Wait>(&mut self, rt: &R, port: PortNo, taker: &mut Taker) -> usize
-        requires { slice_get self.old.queues port.0 ≡ Some (Some taker.old.queue) }
+        requires { slice_get self.old.channels port.0 ≡ Some (queues taker.old.queue) }
         ensures link { self.new ≡ self.old }
         ensures taker { taker.new ≡ record taker.old { put = deliveries_of self.old port } }
         ensures held { Holds taker.new result }
@@ -189,7 +183,7 @@ impl LinkState {
     }
 
     /// Takes a frame that came at `now` microseconds: the history gains one event, and the frame's
-    /// verdict is returned. A message for a queuing port is put into its queue, after all memory was
+    /// verdict is returned. A message for a port is published, or put into its queue, after all memory was
     /// taken. If memory runs out nothing has changed; a history of `MOST_EVENTS` events is refused one more
     /// as if it had (own).
     pub fn take<R: Wait>(
@@ -236,8 +230,14 @@ impl LinkState {
         } = change;
         let (net, time) = (arrival.net, arrival.time);
         self.checks.note(net, sequence_number, time, forwarded);
-        let delivery = offer(&mut self.reassembly, packet, time, room);
-        let had_room = deliver(rt, &mut self.outlets, delivery);
+        let had_room = offer(
+            rt,
+            &mut self.reassembly,
+            &mut self.outlets,
+            packet,
+            time,
+            room,
+        );
         let verdict = settled(decision, had_room);
         self.tally.add(net, verdict.kind());
         self.history
@@ -322,8 +322,8 @@ impl LinkState {
         ensures { result ≡ decided_at payload.now.kind payload.now.port (length (deliveries_of self.now payload.now.port)) }
     {
         match &self.outlets[payload.port.0 as usize] {
-            Outlet::Sampling(register) => {
-                Decision::Final(sampled(payload.port, register.published))
+            Outlet::Sampling(writer) => {
+                Decision::Final(sampled(payload.port, writer.published()))
             }
             Outlet::Queuing(_) => Decision::ByQueue(payload.port),
         }
@@ -344,7 +344,7 @@ impl LinkState {
         Ok(Some(Room {
             port: payload.port,
             len: payload.len,
-            octets: Vec::with_capacity(alloc, payload.len)?,
+            octets: octets_for(alloc, payload)?,
         }))
     }
 
@@ -354,8 +354,20 @@ impl LinkState {
         ensures { result ≡ takes_one_more payload.now.kind true (length (deliveries_of self.now payload.now.port)) }
     {
         match &self.outlets[payload.port.0 as usize] {
-            Outlet::Sampling(register) => register.published < MOST_SAMPLES,
+            Outlet::Sampling(writer) => writer.published() < MOST_MESSAGES,
             Outlet::Queuing(_) => true,
         }
+    }
+}
+
+/// Room for the octets of a payload. None is taken for a sampling port, which has its own.
+fn octets_for(alloc: Global, payload: &Payload) -> Result<Vec<u8>, Memory>
+    requires { payload.now.len ≤ largest_payload payload.now.kind }
+    ensures empty { IfOk result (λ octets. octets.items ≡ []) }
+    ensures enough { IfOk result (λ octets. IsEnough payload.now.kind payload.now.len (vec_capacity octets)) }
+{
+    match payload.kind {
+        PortKind::Sampling { refresh: _ } => Ok(Vec::new(alloc)),
+        PortKind::Queuing { depth: _ } => Vec::with_capacity(alloc, payload.len),
     }
 }

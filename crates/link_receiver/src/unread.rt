@@ -1,4 +1,4 @@
-//! A link whose queuing ports nobody reads.
+//! A link from whose queues nobody takes.
 ghost use Rattle.std.specs.Prelude.{◌≡◌, ◌<◌, ◌≤◌, ◌+◌, ◌++◌, ◌∷◌, [], List, IfOk, OnErr, OnOk, IfSome, IfNone, false, Some, length, slice_get};
 ghost use Rattle.std.specs.Option.{option_map};
 ghost use Rattle.es_base.specs.declared.event.Event.{Event};
@@ -8,29 +8,33 @@ ghost use Rattle.es_base.specs.Past.{AreFramesOf, origin_of};
 ghost use Rattle.es_base.specs.Tally.{HasCounts};
 ghost use Rattle.es_base.specs.Run.{IsRun};
 ghost use Rattle.es_base.specs.declared.place.PortNo.{PortNo};
-ghost use Rattle.es_base.specs.Deliveries.{is_same_port};
+ghost use Rattle.es_base.specs.Deliveries.{is_same_port, newest_of, read_as};
 ghost use Rattle.link_deliveries.specs.Told.{tells_delivered};
 ghost use Rattle.link_receiver.specs.Ends.{IsNewLink};
-ghost use Rattle.link_receiver.specs.Link.{deliveries_of, newest_at, past_of, room_after, verdict_after, with_event};
-ghost use Rattle.link_receiver.specs.Unread.{AreEnds, AreUnreadTakers, IsTakerAt, IsWithinAt};
+ghost use Rattle.link_receiver.specs.Link.{deliveries_of, newest_at, past_of, room_after, samples, verdict_after, with_event};
+ghost use Rattle.link_receiver.specs.Unread.{AreUnreadEnds, AreUpToLast, IsUnreadAt, IsWithinAt};
 
+use crate::ends::PortEnd;
 use crate::link::LinkState;
 use block_list::BlockList;
-use es_base::{Arrival, Event, LinkSettings, Memory, Message, PortNo, Verdict, VerdictTally};
-use queuing_port::Taker;
+use es_base::{
+    Arrival, Event, LinkSettings, Memory, Message, PortNo, Sample, Verdict, VerdictTally,
+};
+use sampling_port::{MOST_TRIES, Read, Reader};
+use slot_core::READERS;
 use std::alloc::Global;
 use std::marker::Model;
 use std::sync::Wait;
 
-/// A link that keeps the takers of its queuing ports itself, and takes nothing. So each queue has room
+/// A link that keeps the ends of its ports itself, and takes nothing from a queue. So each queue has room
 /// until as many messages were delivered to its port as it holds, and has none after that: what becomes
 /// of a frame follows from the settings and the frames before it.
 #[derive(Drop)]
 pub struct UnreadLink {
     state: LinkState,
-    takers: Vec<Option<Taker>>,
+    ends: Vec<PortEnd>,
     /// For each port how many events there are up to the last one that delivered a message to it.
-    ends: Vec<usize>,
+    up_to_last: Vec<usize>,
 }
 
 impl Model for UnreadLink {
@@ -39,11 +43,11 @@ impl Model for UnreadLink {
 
     ghost Value = { Link };
 
-    ghost use Rattle.link_receiver.specs.Unread.{AreEnds, IsUnread};
+    ghost use Rattle.link_receiver.specs.Unread.{AreUpToLast, IsUnread};
 
-    ghost view = { λ u. record { settings = u.state.settings; history = u.state.history; queues = [] } };
+    ghost view = { λ u. record { settings = u.state.settings; history = u.state.history; channels = [] } };
 
-    ghost invariant = { λ u. IsUnread u.state u.takers.items × AreEnds u.state.history u.ends.items };
+    ghost invariant = { λ u. IsUnread u.state u.ends.items × AreUpToLast u.state.history u.up_to_last.items };
 }
 
 impl UnreadLink {
@@ -51,12 +55,12 @@ impl UnreadLink {
     pub fn new(alloc: Global, settings: &LinkSettings) -> Result<UnreadLink, Memory>
         ensures { IfOk result (IsNewLink settings.now) }
     {
-        let (state, takers) = LinkState::open(alloc, settings)?;
-        let ends = vec![in alloc; 0; settings.ports().len()]?;
+        let (state, ends) = LinkState::new(alloc, settings)?;
+        let up_to_last = vec![in alloc; 0; settings.ports().len()]?;
         Ok(UnreadLink {
             state,
-            takers,
             ends,
+            up_to_last,
         })
     }
 
@@ -78,12 +82,13 @@ impl UnreadLink {
         self.state.history()
     }
 
-    /// The newest message of a sampling port, and its message number, from 1, as `LinkState::newest`
-    /// returns it.
-    pub fn newest(&self, port: PortNo) -> Option<(u64, &Message)>
-        ensures { option_map (λ newest. (newest.0, newest.1.now)) result ≡ newest_at self.now port }
+    /// The newest message of a sampling port, read by one of its readers into `out`. None if none was
+    /// delivered, and if the port isn't sampling. Nothing changes.
+    pub fn newest<'a>(&mut self, port: PortNo, out: &'a mut [u8; 1471]) -> Option<Sample<'a>>
+        ensures link { self.new ≡ self.old }
+        ensures newest { option_map read_as result ≡ newest_at self.old port }
     {
-        self.state.newest(port)
+        newest_at(&mut self.state, port, &mut self.ends, out)
     }
 
     /// How many events came on each network with each kind of verdict.
@@ -97,7 +102,7 @@ impl UnreadLink {
     pub fn deliveries(&self, alloc: Global, port: PortNo) -> Result<Vec<Message>, Memory>
         ensures { IfOk result (λ messages. messages.items ≡ deliveries_of self.now port) }
     {
-        match self.ends.get(port.0 as usize) {
+        match self.up_to_last.get(port.0 as usize) {
             Some(end) => self.state.deliveries_up_to(alloc, *end, port),
             None => self.state.deliveries(alloc, port),
         }
@@ -118,23 +123,23 @@ impl UnreadLink {
         ensures err { OnErr result (self.new ≡ self.old) }
     {
         let verdict = self.state.take_arrival(rt, alloc, arrival)?;
-        note_end(&mut self.ends, verdict, self.state.history().len());
+        note_last(&mut self.up_to_last, verdict, self.state.history().len());
         if let Verdict::Queued(port) = verdict {
-            meet_at(rt, &mut self.state, port, &mut self.takers);
+            meet_at(rt, &mut self.state, port, &mut self.ends);
         }
         Ok(verdict)
     }
 }
 
 /// Notes where a history ends whose last event has this verdict, if it delivered a message.
-fn note_end(ends: &mut Vec<usize>, verdict: Verdict, end: usize)
+fn note_last(up_to_last: &mut Vec<usize>, verdict: Verdict, end: usize)
     ensures { (history : List Event) (e : Event) → e.verdict ≡ verdict → length history + 1 ≡ end →
-        AreEnds history ends.old.items → AreEnds (history ++ e ∷ []) ends.new.items }
+        AreUpToLast history up_to_last.old.items → AreUpToLast (history ++ e ∷ []) up_to_last.new.items }
 {
     let Some(port) = delivered_at(verdict) else {
         return;
     };
-    if let Some(place) = ends.get_mut(port.0 as usize) {
+    if let Some(place) = up_to_last.get_mut(port.0 as usize) {
         *place = end;
     }
 }
@@ -152,25 +157,100 @@ fn delivered_at(verdict: Verdict) -> Option<PortNo>
 
 /// The ends of the queue of the port at this place meet, if it has one. So it is seen that no more
 /// messages were delivered to the port than its queue holds.
-fn meet_at<R: Wait>(rt: &R, state: &mut LinkState, port: PortNo, takers: &mut Vec<Option<Taker>>)
-    requires { AreUnreadTakers state.old takers.old.items }
+fn meet_at<R: Wait>(rt: &R, state: &mut LinkState, port: PortNo, ends: &mut Vec<PortEnd>)
+    requires { AreUnreadEnds state.old ends.old.items }
     ensures state { state.new ≡ state.old }
-    ensures takers { AreUnreadTakers state.old takers.new.items }
+    ensures ends { AreUnreadEnds state.old ends.new.items }
     ensures within { IsWithinAt state.old port }
 {
-    if let Some(taker) = takers.get_mut(port.0 as usize) {
-        meet_if(rt, state, port, taker);
+    if let Some(end) = ends.get_mut(port.0 as usize) {
+        meet_end(rt, state, port, end);
     }
 }
 
-/// The taker of the queue of this port, if there is one, meets the end that puts.
-fn meet_if<R: Wait>(rt: &R, state: &mut LinkState, port: PortNo, taker: &mut Option<Taker>)
-    requires { IsTakerAt (slice_get state.old.settings.ports port.0) (slice_get state.old.queues port.0) (Some taker.old) }
+/// The taker of this port's queue, if it has one, meets the end that puts.
+fn meet_end<R: Wait>(rt: &R, state: &mut LinkState, port: PortNo, end: &mut PortEnd)
+    requires { IsUnreadAt (slice_get state.old.settings.ports port.0) (slice_get state.old.channels port.0) (Some end.old) }
     ensures state { state.new ≡ state.old }
-    ensures taker { IsTakerAt (slice_get state.old.settings.ports port.0) (slice_get state.old.queues port.0) (Some taker.new) }
+    ensures end { IsUnreadAt (slice_get state.old.settings.ports port.0) (slice_get state.old.channels port.0) (Some end.new) }
     ensures within { IsWithinAt state.old port }
 {
-    if let Some(taker) = taker {
+    if let PortEnd::Queuing {
+        port: _,
+        name: _,
+        taker,
+    } = end
+    {
         state.meet_taker(rt, port, taker);
+    }
+}
+
+/// The newest message of the port at this place, if it samples and has one.
+fn newest_at<'a>(
+    state: &mut LinkState,
+    port: PortNo,
+    ends: &mut Vec<PortEnd>,
+    out: &'a mut [u8; 1471],
+) -> Option<Sample<'a>>
+    requires { AreUnreadEnds state.old ends.old.items }
+    ensures state { state.new ≡ state.old }
+    ensures ends { AreUnreadEnds state.old ends.new.items }
+    ensures newest { option_map read_as result ≡ newest_at state.old port }
+{
+    match ends.get_mut(port.0 as usize) {
+        Some(end) => newest_of(state, port, end, out),
+        None => None,
+    }
+}
+
+/// The newest message of this port, read with its first reader, if it samples and has one.
+fn newest_of<'a>(
+    state: &mut LinkState,
+    port: PortNo,
+    end: &mut PortEnd,
+    out: &'a mut [u8; 1471],
+) -> Option<Sample<'a>>
+    requires { IsUnreadAt (slice_get state.old.settings.ports port.0) (slice_get state.old.channels port.0) (Some end.old) }
+    ensures state { state.new ≡ state.old }
+    ensures end { IsUnreadAt (slice_get state.old.settings.ports port.0) (slice_get state.old.channels port.0) (Some end.new) }
+    ensures newest { option_map read_as result ≡ newest_at state.old port }
+{
+    match end {
+        PortEnd::Sampling {
+            port: _,
+            name: _,
+            readers,
+        } => newest_read(state, port, &mut readers[0], out),
+        PortEnd::Queuing {
+            port: _,
+            name: _,
+            taker: _,
+        } => None,
+    }
+}
+
+/// Reads the newest message of a sampling port with a reader of it. The two meet before and after: so nothing
+/// newer was published while it read.
+fn newest_read<'a>(
+    state: &mut LinkState,
+    port: PortNo,
+    reader: &mut Reader<READERS>,
+    out: &'a mut [u8; 1471],
+) -> Option<Sample<'a>>
+    requires { slice_get state.old.channels port.0 ≡ Some (samples reader.old.port) }
+    ensures state { state.new ≡ state.old }
+    ensures reader { reader.new.port ≡ reader.old.port }
+    ensures newest { option_map read_as result ≡ newest_of (deliveries_of state.old port) }
+{
+    state.meet(port, reader);
+    let answer = reader.read(MOST_TRIES, out);
+    state.meet(port, reader);
+    match answer {
+        Read::Message { number, time, len } => Some(Sample {
+            number,
+            time,
+            octets: &out[..len],
+        }),
+        Read::Empty | Read::Busy { number: _ } => None,
     }
 }

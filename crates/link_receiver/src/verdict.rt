@@ -2,14 +2,14 @@
 ghost use Rattle.std.specs.Prelude.{◌≡◌};
 ghost use Rattle.es_base.specs.Run.{sampled, settled};
 
-use crate::register::MOST_SAMPLES;
 use es_base::{Decision, PortNo, Verdict};
+use slot_core::MOST_MESSAGES;
 
 /// The verdict of a message that comes to a sampling port after this number of others.
 pub(crate) fn sampled(port: PortNo, published: u64) -> Verdict
     ensures { result ≡ sampled port published }
 {
-    if published < MOST_SAMPLES {
+    if published < MOST_MESSAGES {
         Verdict::Sampled(port, published + 1)
     } else {
         Verdict::Exhausted(port)

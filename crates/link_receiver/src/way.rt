@@ -1,7 +1,7 @@
 //! The way of a forwarded frame to a port, after its packet was read.
-ghost use Rattle.std.specs.Prelude.{◌≡◌, ℕ, List, IfOk, Result, length, true};
+ghost use Rattle.std.specs.Prelude.{◌≡◌, ◌≤◌, ℕ, List, IfOk, Result, length, true};
 ghost use Rattle.es_base.specs.Udp.{head_of};
-ghost use Rattle.es_base.specs.Port.{Port};
+ghost use Rattle.es_base.specs.Port.{Port, largest_payload};
 ghost use Rattle.es_base.specs.Groups.{Group};
 ghost use Rattle.es_base.specs.declared.verdict.Verdict.{Verdict as VerdictValue};
 ghost use Rattle.es_base.specs.Outcome.{Payload as PayloadValue, admitted, brought, datagram_payload, packet_payload};
@@ -88,6 +88,7 @@ fn admitted(
         SeesPayload result (admitted port.now (record { port = place; kind = port.now.kind; joined = joined; octets = octets })) }
     ensures port { IfOk result (λ payload. payload.port ≡ place) }
     ensures kind { IfOk result (λ payload. payload.kind ≡ port.now.kind) }
+    ensures short { IfOk result (λ payload. payload.len ≤ largest_payload payload.kind) }
 {
     let kind = port.kind();
     if kind.is_sampling() && joined {

@@ -1,38 +1,38 @@
 //! The blocks of the report. Each function adds its lines to a text.
 ghost use Rattle.std.specs.Prelude.{◌≡◌, ◌++◌, OnOk, length, string_bytes};
 ghost use Rattle.std.specs.Option.{option_map};
+ghost use Rattle.es_base.specs.Deliveries.{read_as};
 ghost use Rattle.es_base.specs.Tally.{count_in};
 ghost use Rattle.output_lines.specs.Line.{queue_text};
 ghost use Rattle.output_lines.specs.Report.{line, newest_lines, message_lines, count_lines, filtered_lines};
 
 use crate::counts::{CountLine, FilteredCountLine};
 use crate::port::{EmptyLine, MessageLine, QueueLine, SampleLine};
-use es_base::{FilterTally, LinkSettings, Memory, Message, Net, VerdictTally};
+use es_base::{FilterTally, LinkSettings, Memory, Message, Net, Sample, VerdictTally};
 use sampling_port::freshness;
 use std::fmt::Write;
 
-/// The line of a sampling port, with its newest message and that message's number. Times are in
-/// microseconds.
+/// The line of a sampling port, with its newest message as it was read. Times are in microseconds.
 pub fn write_newest(
     text: &mut String,
     at: u64,
     name: &str,
     refresh: u64,
-    newest: Option<(u64, &Message)>,
+    newest: Option<Sample<'_>>,
 ) -> Result<(), Memory>
     ensures { OnOk result (string_bytes text.new ≡ string_bytes text.old
-        ++ newest_lines at name.now refresh (option_map (λ newest. (newest.0, newest.1.now)) newest.entry)) }
+        ++ newest_lines at name.now refresh (option_map read_as newest.entry)) }
 {
-    let Some((message_number, message)) = newest else {
+    let Some(newest) = newest else {
         let line = EmptyLine { name };
         return writeln!(text, "{line}");
     };
     let line = SampleLine {
         name,
-        message_number,
-        time: message.time,
-        state: freshness(at, message.time, refresh),
-        octets: message.octets.as_slice(),
+        message_number: newest.number,
+        time: newest.time,
+        state: freshness(at, newest.time, refresh),
+        octets: newest.octets,
     };
     writeln!(text, "{line}")
 }

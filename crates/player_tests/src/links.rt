@@ -66,19 +66,20 @@ fn states_after(rt: &(impl Abort + Wait), alloc: Global, a: &str, b: &str) -> Ve
 }
 
 /// Link 17 has three events and the message 2 of `pos`, and link 18 has nothing.
-fn check_states(rt: &impl Abort, link_17: &UnreadLink, link_18: &UnreadLink) {
+fn check_states(rt: &impl Abort, link_17: &mut UnreadLink, link_18: &UnreadLink) {
     assert_eq!(rt; link_17.history().len(), 3);
     assert!(rt; link_18.history().is_empty());
-    let (message_number, message) = link_17.newest(PortNo(0)).expect(rt, "a message");
-    assert_eq!(rt; message_number, 2);
-    assert_eq!(rt; message.time, 2000);
+    let mut out = [0; 1471];
+    let newest = link_17.newest(PortNo(0), &mut out).expect(rt, "a message");
+    assert_eq!(rt; (newest.number, newest.time), (2, 2000));
+    assert_eq!(rt; newest.octets.len(), 17);
 }
 
 fn check_replay(rt: &(impl Abort + Wait), alloc: Global) {
     let a = trace_of(rt, alloc, A, &frames_of_a_replay());
     let b = trace_of(rt, alloc, B, &frames_of_a_replay());
-    let states = states_after(rt, alloc, a.as_str(), b.as_str());
-    let [link_17, link_18] = states.as_slice() else {
+    let mut states = states_after(rt, alloc, a.as_str(), b.as_str());
+    let [link_17, link_18] = states.as_mut_slice() else {
         panic!(rt; "two states")
     };
     check_states(rt, link_17, link_18);

@@ -1,5 +1,5 @@
-//! A schedule of the slot core, played with the seats of a running port. What is loaded is what the core has at
-//! that place at that moment. Each message has no octets and the time 0.
+//! A schedule of the slot core, played with the seats of a running port with as many readers, eight. What is
+//! loaded is what the core has at that place at that moment. Each message has no octets and the time 0.
 ghost use Rattle.std.specs.Prelude.{◌≡◌, ◌≢◌, ◌+◌, ◌*◌, ◌<◌, ◌≤◌, [], ◌∷◌, length, None};
 ghost use Rattle.slot_core.specs.Allowed.{MayScan};
 ghost use Rattle.slot_core.specs.Steps.{scans};
@@ -22,8 +22,8 @@ fn take(rt: &impl Abort, alloc: Global, core: &mut Core, event: CoreEvent) {
 }
 
 /// Scan finds no announcement of this reader, in the core and on the port.
-fn scan(rt: &impl Abort, alloc: Global, core: &mut Core, writer: &mut WriterSeat<4>, reader: usize)
-    requires { MayScan 4 writer.old.knows.view reader }
+fn scan(rt: &impl Abort, alloc: Global, core: &mut Core, writer: &mut WriterSeat<8>, reader: usize)
+    requires { MayScan 8 writer.old.knows.view reader }
     ensures { writer.new ≡ writer_with writer.old (writes writer.old.knows (scans writer.old.knows.view 0)) }
 {
     take(rt, alloc, core, Scan { reader });
@@ -33,14 +33,18 @@ fn scan(rt: &impl Abort, alloc: Global, core: &mut Core, writer: &mut WriterSeat
 }
 
 /// Scan of each reader.
-fn scan_each(rt: &impl Abort, alloc: Global, core: &mut Core, writer: &mut WriterSeat<4>)
+fn scan_each(rt: &impl Abort, alloc: Global, core: &mut Core, writer: &mut WriterSeat<8>)
     requires { IsAtRest writer.old.knows.view }
-    ensures { writer.new.knows.view ≡ record writer.old.knows.view { scanned = None ∷ None ∷ None ∷ None ∷ [] } }
+    ensures { writer.new.knows.view ≡ record writer.old.knows.view { scanned = None ∷ None ∷ None ∷ None ∷ None ∷ None ∷ None ∷ None ∷ [] } }
 {
     scan(rt, alloc, core, writer, 0);
     scan(rt, alloc, core, writer, 1);
     scan(rt, alloc, core, writer, 2);
     scan(rt, alloc, core, writer, 3);
+    scan(rt, alloc, core, writer, 4);
+    scan(rt, alloc, core, writer, 5);
+    scan(rt, alloc, core, writer, 6);
+    scan(rt, alloc, core, writer, 7);
 }
 
 /// StoreWord of both words, in the core and on the port.
@@ -48,12 +52,12 @@ fn store_words(
     rt: &impl Abort,
     alloc: Global,
     core: &mut Core,
-    writer: &mut WriterSeat<4>,
+    writer: &mut WriterSeat<8>,
     slot: usize,
 )
-    requires scanned { writer.old.knows.view.scanned ≡ None ∷ None ∷ None ∷ None ∷ [] }
+    requires scanned { writer.old.knows.view.scanned ≡ None ∷ None ∷ None ∷ None ∷ None ∷ None ∷ None ∷ None ∷ [] }
     requires stored { writer.old.knows.view.stored ≡ [] }
-    requires slot { slot < 6 }
+    requires slot { slot < 10 }
     requires apart { writer.old.knows.view.last ≢ 0 → slot ≢ slot_of writer.old.knows.view.last }
     ensures { writer.new.knows.view ≡ record writer.old.knows.view { chosen = slot; stored = 0 ∷ 0 ∷ [] } }
 {
@@ -86,13 +90,13 @@ fn publish_in(
     rt: &impl Abort,
     alloc: Global,
     core: &mut Core,
-    writer: &mut WriterSeat<4>,
+    writer: &mut WriterSeat<8>,
     number: u64,
     slot: usize,
 )
     requires rest { IsAtRest writer.old.knows.view }
     requires number { (number ≡ length writer.old.knows.view.published + 1) × (number ≤ 100) }
-    requires slot { slot < 6 }
+    requires slot { slot < 10 }
     requires apart { writer.old.knows.view.last ≢ 0 → slot ≢ slot_of writer.old.knows.view.last }
     ensures rest { IsAtRest writer.new.knows.view }
     ensures number { length writer.new.knows.view.published ≡ number }
@@ -107,7 +111,7 @@ fn publish_in(
 }
 
 /// Messages 2 to 6, in slots 1 and 0 by turns.
-fn publish_five(rt: &impl Abort, alloc: Global, core: &mut Core, writer: &mut WriterSeat<4>)
+fn publish_five(rt: &impl Abort, alloc: Global, core: &mut Core, writer: &mut WriterSeat<8>)
     requires rest { IsAtRest writer.old.knows.view }
     requires one { (length writer.old.knows.view.published ≡ 1) × (writer.old.knows.view.last ≡ 16) }
     ensures rest { IsAtRest writer.new.knows.view }
@@ -124,8 +128,8 @@ fn publish_five(rt: &impl Abort, alloc: Global, core: &mut Core, writer: &mut Wr
 fn check_beside_core(
     rt: &impl Abort,
     alloc: Global,
-    mut writer: WriterSeat<4>,
-    reader: &mut ReaderSeat<4>,
+    mut writer: WriterSeat<8>,
+    reader: &mut ReaderSeat<8>,
 )
     requires writer { writer.knows ≡ first_writer }
     requires reader { reader.old.knows ≡ first_reader }
@@ -148,6 +152,6 @@ fn check_beside_core(
 
 #[test]
 fn a_running_port_loads_what_the_core_loads(rt: HostRuntime) {
-    let (writer, mut seats) = open_seats::<4>(rt.alloc()).expect(&rt, "memory");
+    let (writer, mut seats) = open_seats::<8>(rt.alloc()).expect(&rt, "memory");
     check_beside_core(&rt, rt.alloc(), writer, &mut seats[0]);
 }

@@ -2,7 +2,7 @@
 ghost use Rattle.std.specs.Prelude.{◌≡◌, ◌<◌, length};
 
 use crate::messages::{
-    apart, check_read, check_words, hold, open, publish, seventeen, words_of_seventeen,
+    apart, apart_eight, check_read, check_words, hold, open, publish, seventeen, words_of_seventeen,
 };
 use sampling_port::{NotHeld, PublishFault, Read, Reader, Writer, meet, read_last};
 use std::process::Abort;
@@ -107,6 +107,10 @@ fn check_holds<const READERS: usize>(
 fn a_message_is_held_word_by_word_and_given_back(rt: HostRuntime) {
     let (writer, readers) = open::<4>(&rt, rt.alloc());
     let (reader, _, _, _) = apart(readers);
+    check_holds(&rt, writer, reader);
+    let (writer, readers) = open::<8>(&rt, rt.alloc());
+    let (_, readers) = apart_eight(readers);
+    let (_, _, _, reader) = readers;
     check_holds(&rt, writer, reader);
 }
 

@@ -2,7 +2,7 @@
 ghost use Rattle.std.specs.Prelude.{◌≤◌};
 
 use crate::messages::{
-    apart, check_read, check_words, hold, open, publish, seventeen, words_of_seventeen,
+    apart, apart_eight, check_read, check_words, hold, open, publish, seventeen, words_of_seventeen,
 };
 use sampling_port::{Held, Read, Reader, Writer};
 use std::alloc::Global;
@@ -53,6 +53,10 @@ fn a_message_that_is_held_stays_while_others_are_published(rt: HostRuntime) {
     let (writer, readers) = open::<4>(&rt, rt.alloc());
     let (reader, _, _, _) = apart(readers);
     check_one(&rt, writer, reader);
+    let (writer, readers) = open::<8>(&rt, rt.alloc());
+    let (_, readers) = apart_eight(readers);
+    let (_, _, _, reader) = readers;
+    check_one(&rt, writer, reader);
 }
 
 // ---- ends that are dropped
@@ -72,6 +76,10 @@ fn check_left<const READERS: usize>(
 fn a_writer_that_is_dropped_leaves_its_last_message(rt: HostRuntime) {
     let (writer, readers) = open::<4>(&rt, rt.alloc());
     let (_, _, reader, _) = apart(readers);
+    check_left(&rt, writer, reader);
+    let (writer, readers) = open::<8>(&rt, rt.alloc());
+    let (_, readers) = apart_eight(readers);
+    let (_, reader, _, _) = readers;
     check_left(&rt, writer, reader);
 }
 

@@ -1,6 +1,7 @@
 //! Messages of a port, each published, read or held with its result compared.
-ghost use Rattle.std.specs.Prelude.{◌≡◌, ◌<◌, ◌≤◌, length};
+ghost use Rattle.std.specs.Prelude.{◌≡◌, ◌+◌, ◌<◌, ◌≤◌, length};
 ghost use Rattle.sampling_port.specs.Ends.{new_readers};
+ghost use Rattle.sampling_port.specs.Writes.{steps_to_publish};
 
 use sampling_port::{Held, Read, Reader, Writer, open_port};
 use std::alloc::Global;
@@ -31,6 +32,12 @@ pub(crate) fn apart(readers: [Reader<4>; 4]) -> Four<4> {
     (first, second, third, last)
 }
 
+/// The readers of a port with eight.
+pub(crate) fn apart_eight(readers: [Reader<8>; 8]) -> (Four<8>, Four<8>) {
+    let [a, b, c, d, e, f, g, h] = readers;
+    ((a, b, c, d), (e, f, g, h))
+}
+
 /// The message of 17 octets, 1 to 17. It comes at 1000 microseconds.
 pub(crate) fn seventeen() -> [u8; 17] {
     [1, 2, 3, 4, 5, 6, 7, 8, 9, 10, 11, 12, 13, 14, 15, 16, 17]
@@ -55,6 +62,7 @@ pub(crate) fn publish<const READERS: usize>(
 )
     ensures port { writer.new.port ≡ writer.old.port }
     ensures some { 0 < length writer.new.published }
+    ensures steps { writer.new.steps ≡ writer.old.steps + steps_to_publish READERS (length octets.now) }
 {
     let answer = writer.publish(time, octets);
     assert!(rt; answer == Ok(number), "{number}: {answer:?}");

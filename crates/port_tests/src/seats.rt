@@ -1,5 +1,5 @@
 //! The seats of a port's ends, and the ends that are made of them.
-ghost use Rattle.std.specs.Prelude.{◌≡◌, ◌<◌, ◌≤◌, [], ◌∷◌};
+ghost use Rattle.std.specs.Prelude.{◌≡◌, ◌<◌, ◌≤◌, [], ◌∷◌, Some, slice_get};
 ghost use Rattle.slot_core.specs.Allowed.{MayBegin};
 ghost use Rattle.slot_core.specs.Message.{IsMessage};
 ghost use Rattle.slot_core.specs.State.{last_of};
@@ -80,16 +80,32 @@ fn a_late_look_finds_the_newest_message(rt: HostRuntime) {
 
 // ---- ends of seats
 
+/// The seats of four readers, each by itself.
+type FourSeats<const READERS: usize> = (
+    ReaderSeat<READERS>,
+    ReaderSeat<READERS>,
+    ReaderSeat<READERS>,
+    ReaderSeat<READERS>,
+);
+
 /// The seats of the readers of a port with four.
-fn apart(seats: [ReaderSeat<4>; 4]) -> (ReaderSeat<4>, ReaderSeat<4>, ReaderSeat<4>, ReaderSeat<4>)
+fn apart(seats: [ReaderSeat<4>; 4]) -> FourSeats<4>
     ensures { seats ≡ result.0 ∷ result.1 ∷ result.2 ∷ result.3 ∷ [] }
 {
     let [first, second, third, last] = seats;
     (first, second, third, last)
 }
 
+/// The seats of the first four readers of a port with eight, and of the others.
+fn apart_eight(seats: [ReaderSeat<8>; 8]) -> (FourSeats<8>, FourSeats<8>)
+    ensures last { slice_get seats 7 ≡ Some result.1.3 }
+{
+    let [a, b, c, d, e, f, g, h] = seats;
+    ((a, b, c, d), (e, f, g, h))
+}
+
 /// LoadFirst, Announce and LoadSecond find this word, so the message that it shows is held.
-fn hold(rt: &impl Abort, seat: &mut ReaderSeat<4>, word: u64)
+fn hold<const READERS: usize>(rt: &impl Abort, seat: &mut ReaderSeat<READERS>, word: u64)
     requires turn { MayBegin seat.old.knows.view }
     requires some { 0 < word }
     ensures holds { (seat.new.knows.view.phase ≡ Holding word) × (seat.new.knows.view.own ≡ word) }
@@ -102,7 +118,7 @@ fn hold(rt: &impl Abort, seat: &mut ReaderSeat<4>, word: u64)
 }
 
 /// The words of message 1 in slot 0, of the octets 7, 8 and 9 and the time 1000, are loaded one by one.
-fn check_held_words(rt: &impl Abort, mut seat: ReaderSeat<4>)
+fn check_held_words<const READERS: usize>(rt: &impl Abort, mut seat: ReaderSeat<READERS>)
     requires { MayBegin seat.knows.view }
 {
     hold(rt, &mut seat, 16);
@@ -113,7 +129,12 @@ fn check_held_words(rt: &impl Abort, mut seat: ReaderSeat<4>)
 }
 
 /// A reader of a seat reads, and hands the seat back. By the seat the message is held.
-fn check_seat_again(rt: &impl Abort, writer: WriterSeat<4>, seat: ReaderSeat<4>)
+fn check_seat_again<const READERS: usize>(
+    rt: &impl Abort,
+    writer: WriterSeat<READERS>,
+    seat: ReaderSeat<READERS>,
+)
+    requires few { READERS ≤ 14 }
     requires writer { writer.knows ≡ first_writer }
     requires reader { IsIdle seat.knows.view }
 {
@@ -133,5 +154,9 @@ fn check_seat_again(rt: &impl Abort, writer: WriterSeat<4>, seat: ReaderSeat<4>)
 fn an_end_is_made_of_a_seat_and_hands_it_back(rt: HostRuntime) {
     let (writer, seats) = open_seats::<4>(rt.alloc()).expect(&rt, "memory");
     let (seat, _, _, _) = apart(seats);
+    check_seat_again(&rt, writer, seat);
+    let (writer, seats) = open_seats::<8>(rt.alloc()).expect(&rt, "memory");
+    let (_, seats) = apart_eight(seats);
+    let (_, _, _, seat) = seats;
     check_seat_again(&rt, writer, seat);
 }

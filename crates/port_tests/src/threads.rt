@@ -1,5 +1,5 @@
 //! A thread that publishes and threads that read, each of which ends by itself.
-use crate::messages::{Four, apart, check_words, open, publish};
+use crate::messages::{Four, apart, apart_eight, check_words, open, publish};
 use sampling_port::{Held, MOST_TRIES, NotHeld, Read, Reader, Writer};
 use std::alloc::Global;
 use std::process::Abort;
@@ -132,11 +132,6 @@ fn look_many<const READERS: usize>(
 }
 
 // ---- many readers
-
-fn apart_eight(readers: [Reader<8>; 8]) -> (Four<8>, Four<8>) {
-    let [a, b, c, d, e, f, g, h] = readers;
-    ((a, b, c, d), (e, f, g, h))
-}
 
 /// Two readers look, each in a thread of its own.
 fn two_look<R: Abort + Threads + Sync, const READERS: usize>(

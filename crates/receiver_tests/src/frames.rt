@@ -1,7 +1,7 @@
 //! Frames given to the receiver of a link, each with its verdict.
 ghost use Rattle.std.specs.Prelude.{◌≡◌};
 ghost use Rattle.std.specs.List.{All};
-ghost use Rattle.link_receiver.specs.Ends.{IsOfItsQueue};
+ghost use Rattle.link_receiver.specs.Ends.{IsOfItsPort};
 
 use es_base::{Decision, LinkSettings, Net, PortNo, Verdict};
 use frame_reader::read_frame;
@@ -18,27 +18,27 @@ pub(crate) const NAV: PortNo = PortNo(1);
 /// The verdict of a good datagram for `nav`, whose queue has room.
 pub(crate) const FOR_NAV: Verdict = Verdict::Queued(NAV);
 
-/// A new receiver with these settings, and the other ends of its queues.
+/// A new receiver with these settings, and the ends of its ports.
 pub(crate) fn opened_with(
     rt: &impl Abort,
     alloc: Global,
     settings: &LinkSettings,
 ) -> (LinkState, Vec<PortEnd>)
-    ensures { All (IsOfItsQueue result.0.queues) result.1.items }
+    ensures { All (IsOfItsPort result.0.channels) result.1.items }
 {
     LinkState::new(alloc, settings).expect(rt, "memory")
 }
 
-/// A new receiver of this link, and the other ends of its queues.
+/// A new receiver of this link, and the ends of its ports.
 pub(crate) fn opened(rt: &impl Abort, alloc: Global, link: Link) -> (LinkState, Vec<PortEnd>)
-    ensures { All (IsOfItsQueue result.0.queues) result.1.items }
+    ensures { All (IsOfItsPort result.0.channels) result.1.items }
 {
     let settings = link.settings(alloc).expect(rt, "settings");
     opened_with(rt, alloc, &settings)
 }
 
 /// The verdict of a frame of this link that came at `now` microseconds.
-fn receive(
+pub(crate) fn receive(
     rt: &(impl Abort + Wait),
     alloc: Global,
     state: &mut LinkState,
@@ -46,7 +46,7 @@ fn receive(
     now: u64,
     octets: &[u8],
 ) -> Verdict
-    ensures { state.new.queues ≡ state.old.queues }
+    ensures { state.new.channels ≡ state.old.channels }
 {
     let frame = read_frame(CONSTANT, octets).expect(rt, "a frame");
     assert!(rt; frame.vl == state.settings().vl());
@@ -73,7 +73,7 @@ pub(crate) fn check_frame(
     state: &mut LinkState,
     row: FrameRow<'_>,
 )
-    ensures { state.new.queues ≡ state.old.queues }
+    ensures { state.new.channels ≡ state.old.channels }
 {
     let (net, now, sequence_number, ip, udp, payload, verdict) = row;
     let texts = [ETHERNET, ip, udp, payload];

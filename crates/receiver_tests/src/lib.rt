@@ -6,6 +6,8 @@
 #[cfg(test)]
 mod bad_fragments;
 #[cfg(test)]
+mod beside;
+#[cfg(test)]
 mod datagrams;
 #[cfg(test)]
 mod frames;
@@ -25,6 +27,8 @@ mod meetings;
 mod messages;
 #[cfg(test)]
 mod packets;
+#[cfg(test)]
+mod partitions;
 #[cfg(test)]
 mod queued;
 #[cfg(test)]

@@ -1,7 +1,7 @@
 //! A link and the taker of its queuing port meet; and how many events of each kind the link counts.
-ghost use Rattle.std.specs.Prelude.{◌≡◌, List, Option, Some, slice_get};
-ghost use Rattle.queuing_port.specs.Queue.{QueueId};
-ghost use Rattle.link_receiver.specs.Ends.{IsOfItsQueue};
+ghost use Rattle.std.specs.Prelude.{◌≡◌, List, Some, slice_get};
+ghost use Rattle.link_receiver.specs.Ends.{IsOfItsPort};
+ghost use Rattle.link_receiver.specs.Link.{Channel, queues};
 
 use crate::frames::{NAV, POS, check_frame, opened};
 use crate::queues::NAV_UDP;
@@ -17,8 +17,8 @@ use test_inputs::{IP, LINK, Link, PAYLOAD, UDP};
 
 /// The taker of the end of `nav`.
 fn taker_in(rt: &impl Abort, end: PortEnd) -> Taker
-    ensures { (queues : List (Option QueueId)) → IsOfItsQueue queues end →
-        slice_get queues 1 ≡ Some (Some result.queue) }
+    ensures { (channels : List Channel) → IsOfItsPort channels end →
+        slice_get channels 1 ≡ Some (queues result.queue) }
 {
     match end {
         PortEnd::Queuing {
@@ -29,12 +29,17 @@ fn taker_in(rt: &impl Abort, end: PortEnd) -> Taker
             assert!(rt; port.0 == 1);
             taker
         }
+        PortEnd::Sampling {
+            port: _,
+            name: _,
+            readers: _,
+        } => panic!(rt; "a queuing port"),
     }
 }
 
 /// A new receiver whose queue of `nav` has this depth, and the taker of that queue.
 fn opened_with_taker(rt: &impl Abort, alloc: Global, nav_depth: u8) -> (LinkState, Taker)
-    ensures { slice_get result.0.queues 1 ≡ Some (Some result.1.queue) }
+    ensures { slice_get result.0.channels 1 ≡ Some (queues result.1.queue) }
 {
     let (state, mut ends) = opened(rt, alloc, Link { nav_depth, ..LINK });
     let end = ends.pop().expect(rt, "an end");
@@ -44,8 +49,8 @@ fn opened_with_taker(rt: &impl Abort, alloc: Global, nav_depth: u8) -> (LinkStat
 
 /// The link and the taker meet while the taker hasn't taken this many messages.
 fn check_meeting(rt: &(impl Abort + Wait), state: &mut LinkState, taker: &mut Taker, held: usize)
-    requires { slice_get state.old.queues 1 ≡ Some (Some taker.old.queue) }
-    ensures state { state.new.queues ≡ state.old.queues }
+    requires { slice_get state.old.channels 1 ≡ Some (queues taker.old.queue) }
+    ensures state { state.new.channels ≡ state.old.channels }
     ensures taker { taker.new.queue ≡ taker.old.queue }
 {
     assert_eq!(rt; state.meet_taker(rt, NAV, taker), held);
@@ -59,7 +64,7 @@ fn bring(
     number: u8,
     verdict: Verdict,
 )
-    ensures { state.new.queues ≡ state.old.queues }
+    ensures { state.new.channels ≡ state.old.channels }
 {
     let row = (A, u64::from(number), number, IP, NAV_UDP, PAYLOAD, verdict);
     check_frame(rt, alloc, state, row);

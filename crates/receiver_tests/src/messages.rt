@@ -1,17 +1,14 @@
 //! Messages at the ports: which are taken, and the newest of each port.
-use crate::frames::{FrameRow, NAV, POS, check_frames, check_rows, opened, opened_with};
+use crate::frames::{FrameRow, POS, check_frames, check_rows, opened_with};
+use crate::partitions::{check_read, opened_with_readers};
 use es_base::Net::A;
 use es_base::Verdict::{Sampled, TooLong};
 use es_base::{LinkSettings, Message, PortNo, Verdict};
-use link_receiver::LinkState;
+use link_receiver::PortEnd;
 use std::alloc::Global;
 use std::process::Abort;
 use std::sync::Wait;
 use test_inputs::{IP, LINK, LONGEST_IP, LONGEST_UDP, Link, PAYLOAD, UDP, fives, sampling_port};
-
-/// The newest message of a port: its message number, its time in microseconds and its payload as a
-/// hexadecimal text.
-type Newest<'a> = (u64, u64, &'a str);
 
 /// The message has this time in microseconds and this payload.
 pub(crate) fn check_message(
@@ -26,41 +23,6 @@ pub(crate) fn check_message(
     assert!(rt; message.octets.as_slice() == octets.as_slice(), "{time}");
 }
 
-/// The newest message of a port. It has no clause: a test doesn't need what the history says of it.
-fn newest_of(state: &LinkState, port: PortNo) -> Option<(u64, &Message)> {
-    state.newest(port)
-}
-
-/// The port has this newest message.
-fn check_newest(
-    rt: &impl Abort,
-    alloc: Global,
-    state: &LinkState,
-    port: PortNo,
-    wanted: Newest<'_>,
-) {
-    let (wanted_number, time, payload) = wanted;
-    let (message_number, message) = newest_of(state, port).expect(rt, "a message");
-    assert!(rt; message_number == wanted_number);
-    check_message(rt, alloc, message, time, payload);
-}
-
-/// The port has no newest message.
-fn check_none(rt: &impl Abort, state: &LinkState, port: PortNo) {
-    assert!(rt; newest_of(state, port).is_none());
-}
-
-fn check_new(rt: &impl Abort, alloc: Global) {
-    let (state, _) = opened(rt, alloc, LINK);
-    check_none(rt, &state, POS);
-    check_none(rt, &state, NAV);
-}
-
-#[test]
-fn a_port_has_no_newest_message_before_the_first(rt: HostRuntime) {
-    check_new(&rt, rt.alloc());
-}
-
 /// A first frame becomes message 1 of `pos`, with this payload, and comes to no other port. The frame
 /// has these headers, and `padded`: the payload and what follows it.
 fn check_delivered(
@@ -70,16 +32,15 @@ fn check_delivered(
     padded: &str,
     payload: &str,
 ) {
-    let (mut state, _) = opened(rt, alloc, LINK);
+    let (mut state, mut readers) = opened_with_readers(rt, alloc);
     let frame = (A, 1000, 0, ip, udp, padded, Sampled(POS, 1));
     check_frames(rt, alloc, &mut state, &[frame]);
-    check_newest(rt, alloc, &state, POS, (1, 1000, payload));
-    check_none(rt, &state, NAV);
-    check_none(rt, &state, PortNo(2));
+    let octets = hex::decode(alloc, payload).expect(rt, "octets");
+    check_read(rt, &mut readers[0], (1, 1000), &octets);
 }
 
 #[test]
-fn the_newest_message_of_a_port_is_shown(rt: HostRuntime) {
+fn the_newest_message_of_a_port_is_read(rt: HostRuntime) {
     check_delivered(&rt, rt.alloc(), (IP, UDP), PAYLOAD, PAYLOAD);
 }
 
@@ -119,6 +80,28 @@ fn three_ports(rt: &impl Abort, alloc: Global) -> LinkSettings {
     LINK.with_ports(ports).expect(rt, "settings")
 }
 
+/// A reader of this end reads this message.
+fn check_newest(
+    rt: &impl Abort,
+    alloc: Global,
+    end: Option<PortEnd>,
+    message: (u64, u64),
+    payload: &str,
+) {
+    let Some(
+        PortEnd::Sampling {
+            port: _,
+            name: _,
+            mut readers,
+        },
+    ) = end
+    else {
+        panic!(rt; "a sampling port")
+    };
+    let octets = hex::decode(alloc, payload).expect(rt, "octets");
+    check_read(rt, &mut readers[0], message, &octets);
+}
+
 /// After these frames the newest message of `pos` has this message number and time, and that of `aux`
 /// is its first.
 fn check_two_ports(
@@ -128,10 +111,11 @@ fn check_two_ports(
     message_number: u64,
     time: u64,
 ) {
-    let (mut state, _) = opened_with(rt, alloc, &three_ports(rt, alloc));
+    let (mut state, mut ends) = opened_with(rt, alloc, &three_ports(rt, alloc));
     check_frames(rt, alloc, &mut state, frames);
-    check_newest(rt, alloc, &state, POS, (message_number, time, PAYLOAD));
-    check_newest(rt, alloc, &state, AUX, (1, 2000, AUX_PAYLOAD));
+    check_newest(rt, alloc, ends.pop(), (1, 2000), AUX_PAYLOAD);
+    let _ = ends.pop();
+    check_newest(rt, alloc, ends.pop(), (message_number, time), PAYLOAD);
 }
 
 #[test]

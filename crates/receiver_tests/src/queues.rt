@@ -13,10 +13,12 @@ use test_inputs::{IP, LINK, Link, PAYLOAD, UDP};
 /// The UDP header of the smallest frame, for `nav`.
 pub(crate) const NAV_UDP: &str = "1389138a00190000";
 
-/// The taker of `nav`, the one queuing port of its link.
+/// The taker of `nav`, the last port of its link.
 pub(crate) fn taker_of(rt: &impl Abort, mut ends: Vec<PortEnd>) -> Taker {
-    let PortEnd::Queuing { port, name, taker } = ends.pop().expect(rt, "an end");
-    assert!(rt; ends.is_empty() && port == NAV && name.as_str() == "nav");
+    let Some(PortEnd::Queuing { port, name, taker }) = ends.pop() else {
+        panic!(rt; "a queuing port")
+    };
+    assert!(rt; ends.len() == 1 && port == NAV && name.as_str() == "nav");
     taker
 }
 

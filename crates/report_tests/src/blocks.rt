@@ -1,5 +1,5 @@
 //! Blocks of the report, each from what a link knows.
-use es_base::{FilterTally, Message, Octets, VerdictTally};
+use es_base::{FilterTally, Message, Octets, Sample, VerdictTally};
 use output_lines::{write_counts, write_filtered, write_newest, write_queue};
 use std::alloc::Global;
 use std::process::Abort;
@@ -27,7 +27,11 @@ fn messages(rt: &impl Abort, alloc: Global) -> [Message; 3] {
 fn check_newest(rt: &impl Abort, alloc: Global, at: u64, count: usize, line: &str) {
     let messages = messages(rt, alloc);
     let newest = messages[..count.min(3)].last();
-    let newest = newest.map(|message| (count as u64, message));
+    let newest = newest.map(|message| Sample {
+        number: count as u64,
+        time: message.time,
+        octets: message.octets.as_slice(),
+    });
     let mut text = String::new(alloc);
     let answer = write_newest(&mut text, at, "pos", 200, newest);
     assert!(rt; answer.is_ok());

@@ -14,6 +14,10 @@ use Rattle.sampling_port.specs.declared.reader.Read.TheVariants.{Message, Empty,
 use Rattle.sampling_port.specs.declared.reader.NotHeld.{NotHeld}
 use Rattle.sampling_port.specs.declared.reader.NotHeld.TheVariants.{Empty as NoMessage, Busy as Overtaken}
 
+-- which port it is
+abbrev pub PortId : Type 0
+PortId = TableId
+
 -- ---- a writer: the words of each message that it published, and how many steps it made
 
 pub record WriterEnd : Type 0 where

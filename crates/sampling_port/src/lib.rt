@@ -3,7 +3,7 @@
 //! memory after the opening, and nothing that a reader does can refuse or delay a publication.
 //!
 //! ```text
-//! let (mut writer, mut readers) = open_port::<4>(alloc)?;
+//! let (mut writer, mut readers) = open_port::<8>(alloc)?;
 //! let mut out = [0; 1471];
 //! readers[0].read(8, &mut out)         // Read::Empty
 //! writer.publish(1000, &[7, 8, 9])     // Ok(1)

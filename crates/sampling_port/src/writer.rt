@@ -1,5 +1,6 @@
 //! The end that publishes.
 ghost use Rattle.std.specs.Prelude.{◌≡◌, ◌+◌, ◌≤◌, None, Some, length, IfErr, IfOk};
+ghost use Rattle.slot_core.specs.Limits.{most_messages};
 ghost use Rattle.sampling_port.specs.Ends.{IsPublished, new_writer, publish_fault};
 ghost use Rattle.sampling_port.specs.Rule.{first_writer, slots_for};
 
@@ -60,6 +61,14 @@ impl<const READERS: usize> Writer<READERS> {
             last: 0,
             count: 0,
         }
+    }
+
+    /// How many messages it published: at most 2^60 - 1.
+    pub fn published(&self) -> u64
+        ensures value { result ≡ length self.now.published }
+        ensures few { result ≤ most_messages }
+    {
+        self.count
     }
 
     /// Publishes a message of these octets that came at `time` microseconds, and returns its number: 1, 2,

@@ -38,7 +38,7 @@ module _ (readers slots : ℕ) where
 -- ---- parts of schedules
 
 abbrev scans : List CoreEvent
-scans = Scan 0 ∷ Scan 1 ∷ Scan 2 ∷ Scan 3 ∷ []
+scans = Scan 0 ∷ Scan 1 ∷ Scan 2 ∷ Scan 3 ∷ Scan 4 ∷ Scan 5 ∷ Scan 6 ∷ Scan 7 ∷ []
 
 -- a message of 0 octets and time 0
 abbrev writes : ℕ → List CoreEvent
@@ -55,15 +55,15 @@ reads reader = LoadFirst reader ∷ Announce reader ∷ LoadSecond reader ∷ []
 in_haste : List CoreEvent
 in_haste = publishes 0 ++ scans ++ writes 1 ++ LoadFirst 0 ∷ StoreLatest ∷ [] ++ scans ++ Announce 0 ∷ []
 
-pub fails_in_haste : FailsInHaste 4 6
+pub fails_in_haste : FailsInHaste 8 10
 unfolding in_haste is_allowed
 fails_in_haste =
-    let start : State = opening 4 6 in
-    let step : State → CoreEvent → State = after_in_haste 4 in (
+    let start : State = opening 8 10 in
+    let step : State → CoreEvent → State = after_in_haste 8 in (
       after_all_by step start in_haste,
       (
-        (in_haste, (allowed_by (Allowed 4 6) step (is_allowed 4 6) (allowed_is 4 6) start in_haste refl, refl)),
-        (0, word_for 1 0, 0, 0, (lit< tt, refl), allowed_is 4 6 (after_all_by step start in_haste) (StoreWord 0 0 0) refl, refl),
+        (in_haste, (allowed_by (Allowed 8 10) step (is_allowed 8 10) (allowed_is 8 10) start in_haste refl, refl)),
+        (0, word_for 1 0, 0, 0, (lit< tt, refl), allowed_is 8 10 (after_all_by step start in_haste) (StoreWord 0 0 0) refl, refl),
       ),
     )
 
@@ -71,62 +71,75 @@ fails_in_haste =
 
 is_early : State → CoreEvent → Bool
 is_early c StoreLatest = nat_lt 0 (length c.writer.stored)
-is_early c event = is_allowed 4 6 c event
+is_early c event = is_allowed 8 10 c event
 
-early_is : (c : State) (event : CoreEvent) → is_early c event ≡ true → AllowedEarly 4 6 c event
+early_is : (c : State) (event : CoreEvent) → is_early c event ≡ true → AllowedEarly 8 10 c event
 unfolding is_early
 early_is c StoreLatest e = inr (refl, ltb-true 0 (length c.writer.stored) e)
-early_is c event e = inl (allowed_is 4 6 c event e)
+early_is c event e = inl (allowed_is 8 10 c event e)
 
 early : List CoreEvent
 early = scans ++ StoreWord 0 0 0 ∷ StoreLatest ∷ [] ++ reads 0
 
-pub fails_early : FailsEarly 4 6
+pub fails_early : FailsEarly 8 10
 unfolding early is_early is_allowed
 fails_early =
-    let start : State = opening 4 6 in (
-      after_all_by (after 4) start early,
+    let start : State = opening 8 10 in (
+      after_all_by (after 8) start early,
       (
-        (early, (allowed_by (AllowedEarly 4 6) (after 4) is_early early_is start early refl, refl)),
+        (early, (allowed_by (AllowedEarly 8 10) (after 8) is_early early_is start early refl, refl)),
         (0, word_for 1 0, (lit< tt, refl), λ has. let whole : 1 ≡ 2 = has.0.whole in absurd (omega (arith, whole))),
       ),
     )
 
--- ---- with five slots
+-- ---- with nine slots
 
 all_hold : List CoreEvent
-all_hold = publishes 0 ++ reads 0 ++ publishes 1 ++ reads 1 ++ publishes 2 ++ reads 2 ++ publishes 3 ++ reads 3 ++ publishes 4 ++ scans
+all_hold =
+    publishes 0 ++ reads 0
+    ++ publishes 1 ++ reads 1
+    ++ publishes 2 ++ reads 2
+    ++ publishes 3 ++ reads 3
+    ++ publishes 4 ++ reads 4
+    ++ publishes 5 ++ reads 5
+    ++ publishes 6 ++ reads 6
+    ++ publishes 7 ++ reads 7
+    ++ publishes 8 ++ scans
 
-are_allowed : (c : State) (events : List CoreEvent) → pass (is_allowed 4 5) (after 4) c events ≡ true → AreAllowed 4 5 c events
+are_allowed : (c : State) (events : List CoreEvent) → pass (is_allowed 8 9) (after 8) c events ≡ true → AreAllowed 8 9 c events
 are_allowed c [] e = tt
 are_allowed c (event ∷ events) e =
-    let parts = and_parts (is_allowed 4 5 c event) (pass (is_allowed 4 5) (after 4) (after 4 c event) events) e in
-    (allowed_is 4 5 c event parts.0, are_allowed (after 4 c event) events parts.1)
+    let parts = and_parts (is_allowed 8 9 c event) (pass (is_allowed 8 9) (after 8) (after 8 c event) events) e in
+    (allowed_is 8 9 c event parts.0, are_allowed (after 8 c event) events parts.1)
 
 all_held : State
-all_held = after_all 4 (opening 4 5) all_hold
+all_held = after_all 8 (opening 8 9) all_hold
 
-none_free : (slot : ℕ) → slot < 5 → refusal_of 4 5 all_held (StoreWord slot 0 0) ≡ None → ⊥
+none_free : (slot : ℕ) → slot < 9 → refusal_of 8 9 all_held (StoreWord slot 0 0) ≡ None → ⊥
 unfolding all_held all_hold
 none_free zero h e = cc
 none_free (suc zero) h e = cc
 none_free (suc (suc zero)) h e = cc
 none_free (suc (suc (suc zero))) h e = cc
 none_free (suc (suc (suc (suc zero)))) h e = cc
-none_free (suc (suc (suc (suc (suc slot))))) h e = absurd (omega (arith, h))
+none_free (suc (suc (suc (suc (suc zero))))) h e = cc
+none_free (suc (suc (suc (suc (suc (suc zero)))))) h e = cc
+none_free (suc (suc (suc (suc (suc (suc (suc zero))))))) h e = cc
+none_free (suc (suc (suc (suc (suc (suc (suc (suc zero)))))))) h e = cc
+none_free (suc (suc (suc (suc (suc (suc (suc (suc (suc slot))))))))) h e = absurd (omega (arith, h))
 
-pub gets_stuck : GetsStuck 4 5
+pub gets_stuck : GetsStuck 8 9
 unfolding all_held all_hold is_allowed
 gets_stuck = (
   all_held,
   (
-    (all_hold, (are_allowed (opening 4 5) all_hold refl, refl)),
+    (all_hold, (are_allowed (opening 8 9) all_hold refl, refl)),
     (
       refl,
       refl,
       λ free.
           let may = free.1 0 (omega arith) in
-          none_free free.0 may.exists (passes_if 4 5 all_held (StoreWord free.0 0 0) may),
+          none_free free.0 may.exists (passes_if 8 9 all_held (StoreWord free.0 0 0) may),
     ),
   ),
 )

@@ -5,11 +5,11 @@ use Rattle.std.specs.Prelude.{ℕ, ◌-◌, ◌^◌}
 
 -- its readers
 abbrev pub port_readers : ℕ
-port_readers = 4
+port_readers = 8
 
 -- its slots: one for each reader, one for the message that `latest` shows, and one to write
 abbrev pub port_slots : ℕ
-port_slots = 6
+port_slots = 10
 
 -- ---- messages
 

@@ -3,7 +3,7 @@
 use std::collections::LinkedList;
 
 /// The readers of a sampling port (own).
-pub const READERS: usize = 4;
+pub const READERS: usize = 8;
 /// Its slots, each of which holds one message: one for each reader, one for the message that `latest`
 /// shows, and one to write (own).
 pub const SLOTS: usize = READERS + 2;

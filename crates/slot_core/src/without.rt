@@ -1,18 +1,18 @@
 //! Why each rule is needed: without it some schedule goes wrong. The contract of each function says so
-//! of a port with four readers and, but for the last, six slots.
+//! of a port with eight readers and, but for the last, ten slots.
 ghost use Rattle.slot_core.specs.Without.{FailsEarly, FailsInHaste, GetsStuck};
 
 /// If a reader held what it announces, with no second look, a slot that it holds could be written.
 pub fn the_second_look()
-    ensures { FailsInHaste 4 6 }
+    ensures { FailsInHaste 8 10 }
 {}
 
 /// If `latest` were stored before the last word of a message, a reader could hold what is no message.
 pub fn the_last_word()
-    ensures { FailsEarly 4 6 }
+    ensures { FailsEarly 8 10 }
 {}
 
-/// With five slots for four readers the writer could find none free, and would have to wait.
-pub fn the_sixth_slot()
-    ensures { GetsStuck 4 5 }
+/// With nine slots for eight readers the writer could find none free, and would have to wait.
+pub fn the_tenth_slot()
+    ensures { GetsStuck 8 9 }
 {}

@@ -74,7 +74,7 @@ fn cleared() -> [Move; 6] {
     ]
 }
 
-fn scanned_one_by_one() -> [Move; 9] {
+fn scanned_one_by_one() -> [Move; 17] {
     [
         Refused(WRITE_SLOT_0, NotItsTurn),
         Step(Scan { reader: 0 }),
@@ -84,6 +84,14 @@ fn scanned_one_by_one() -> [Move; 9] {
         Step(Scan { reader: 2 }),
         Refused(WRITE_SLOT_0, NotItsTurn),
         Step(Scan { reader: 3 }),
+        Refused(WRITE_SLOT_0, NotItsTurn),
+        Step(Scan { reader: 4 }),
+        Refused(WRITE_SLOT_0, NotItsTurn),
+        Step(Scan { reader: 5 }),
+        Refused(WRITE_SLOT_0, NotItsTurn),
+        Step(Scan { reader: 6 }),
+        Refused(WRITE_SLOT_0, NotItsTurn),
+        Step(Scan { reader: 7 }),
         Writes(0),
     ]
 }

@@ -11,10 +11,10 @@ use std::process::Abort;
 /// The first reader, slot and index that there isn't, and the greatest.
 fn nowhere() -> [CoreEvent; 14] {
     [
-        Scan { reader: 4 },
+        Scan { reader: 8 },
         Scan { reader: usize::MAX },
         StoreWord {
-            slot: 6,
+            slot: 10,
             index: 0,
             word: 0,
         },
@@ -28,12 +28,12 @@ fn nowhere() -> [CoreEvent; 14] {
             index: 186,
             word: 0,
         },
-        LoadFirst { reader: 4 },
+        LoadFirst { reader: 8 },
         LoadFirst { reader: usize::MAX },
-        Announce { reader: 4 },
-        LoadSecond { reader: 4 },
+        Announce { reader: 8 },
+        LoadSecond { reader: 8 },
         LoadWord {
-            reader: 4,
+            reader: 8,
             index: 0,
         },
         LoadWord {
@@ -44,7 +44,7 @@ fn nowhere() -> [CoreEvent; 14] {
             reader: usize::MAX,
             index: usize::MAX,
         },
-        Clear { reader: 4 },
+        Clear { reader: 8 },
         Clear { reader: usize::MAX },
     ]
 }
@@ -57,8 +57,10 @@ fn check_nowhere(rt: &impl Abort, alloc: Global, moves: &[Move]) {
     }
 }
 
-fn at_the_opening() -> [Move; 2] {
+fn at_the_opening() -> [Move; 4] {
     [
+        Refused(Scan { reader: 4 }, NotItsTurn),
+        Refused(Scan { reader: 7 }, NotItsTurn),
         Refused(Scan { reader: 1 }, NotItsTurn),
         Refused(Clear { reader: 0 }, NotItsTurn),
     ]

@@ -37,7 +37,7 @@ fn six_messages() -> [Move; 15] {
 #[test]
 fn a_look_that_fails_sees_newer_messages(rt: HostRuntime) {
     check(&rt, rt.alloc(), &six_messages());
-    check_list(&rt, rt.alloc(), &six_messages(), 46, 97);
+    check_list(&rt, rt.alloc(), &six_messages(), 70, 97);
 }
 
 /// Messages 1 to 20, in slots 0 and 1 by turns.
@@ -53,7 +53,7 @@ fn twenty_messages() -> [Move; 20] {
 #[test]
 fn many_messages_follow_one_another(rt: HostRuntime) {
     check(&rt, rt.alloc(), &twenty_messages());
-    check_list(&rt, rt.alloc(), &twenty_messages(), 140, 321);
+    check_list(&rt, rt.alloc(), &twenty_messages(), 220, 321);
 }
 
 /// The first word of a message of 0 octets.
@@ -74,8 +74,8 @@ fn one_held_and_one_newer() -> [Move; 9] {
         Scans,
         Refused(first_word(0), SlotAnnounced),
         Refused(first_word(1), SlotLatest),
-        Refused(first_word(6), NoSuchPlace),
-        Writes(2),
+        Refused(first_word(10), NoSuchPlace),
+        Writes(6),
         Reader(Holding(16), 16, 1),
     ]
 }
@@ -85,9 +85,9 @@ fn a_held_slot_and_the_newest_one_are_not_written(rt: HostRuntime) {
     check(&rt, rt.alloc(), &one_held_and_one_newer());
 }
 
-/// Each reader holds a message of its own, in the slot of its number; one more is the newest, in slot 4; and
+/// Each reader holds a message of its own, in the slot of its number; one more is the newest, in slot 8; and
 /// all readers are scanned.
-fn four_held() -> [Move; 10] {
+fn eight_held() -> [Move; 18] {
     [
         Publishes(0),
         Reads(0),
@@ -98,32 +98,45 @@ fn four_held() -> [Move; 10] {
         Publishes(3),
         Reads(3),
         Publishes(4),
+        Reads(4),
+        Publishes(5),
+        Reads(5),
+        Publishes(6),
+        Reads(6),
+        Publishes(7),
+        Reads(7),
+        Publishes(8),
         Scans,
     ]
 }
 
-/// The next message: slot 5 is left for it.
-fn begun_in_each_slot() -> [Move; 8] {
+/// The next message: slot 9 is left for it.
+fn begun_in_each_slot() -> [Move; 13] {
     [
-        Latest(84, 5),
+        Latest(152, 9),
         Refused(first_word(0), SlotAnnounced),
         Refused(first_word(1), SlotAnnounced),
         Refused(first_word(2), SlotAnnounced),
         Refused(first_word(3), SlotAnnounced),
-        Refused(first_word(4), SlotLatest),
-        Writes(5),
-        Latest(84, 5),
+        Refused(first_word(4), SlotAnnounced),
+        Refused(first_word(5), SlotAnnounced),
+        Refused(first_word(6), SlotAnnounced),
+        Refused(first_word(7), SlotAnnounced),
+        Refused(first_word(8), SlotLatest),
+        Refused(first_word(10), NoSuchPlace),
+        Writes(9),
+        Latest(152, 9),
     ]
 }
 
 fn check_one_left(rt: &impl Abort, alloc: Global) {
-    let mut core = core_after(rt, alloc, &four_held());
+    let mut core = core_after(rt, alloc, &eight_held());
     play(rt, alloc, &mut core, &begun_in_each_slot());
 }
 
-/// The steps of `four_held` and the first word of a message in this slot, as one list.
+/// The steps of `eight_held` and the first word of a message in this slot, as one list.
 fn check_begun(rt: &impl Abort, alloc: Global, slot: usize, wanted: Outcome) {
-    let mut steps = steps_of(rt, alloc, &four_held());
+    let mut steps = steps_of(rt, alloc, &eight_held());
     steps.push(first_word(slot)).expect(rt, "memory");
     check_outcome(rt, alloc, steps.as_slice(), wanted);
 }
@@ -132,13 +145,12 @@ fn check_begun(rt: &impl Abort, alloc: Global, slot: usize, wanted: Outcome) {
 fn one_slot_is_left_where_every_reader_holds_another(rt: HostRuntime) {
     let alloc = rt.alloc();
     check_one_left(&rt, alloc);
-    check_list(&rt, alloc, &four_held(), 51, 84);
-    check_begun(&rt, alloc, 0, Err((51, SlotAnnounced)));
-    check_begun(&rt, alloc, 1, Err((51, SlotAnnounced)));
-    check_begun(&rt, alloc, 2, Err((51, SlotAnnounced)));
-    check_begun(&rt, alloc, 3, Err((51, SlotAnnounced)));
-    check_begun(&rt, alloc, 4, Err((51, SlotLatest)));
-    check_begun(&rt, alloc, 5, Ok(84));
+    check_list(&rt, alloc, &eight_held(), 131, 152);
+    for slot in 0..8 {
+        check_begun(&rt, alloc, slot, Err((131, SlotAnnounced)));
+    }
+    check_begun(&rt, alloc, 8, Err((131, SlotLatest)));
+    check_begun(&rt, alloc, 9, Ok(152));
 }
 
 /// A message of 1 octet, 11 hexadecimal, of time 5, in slot 3, which reader 2 holds and loads.
@@ -190,12 +202,16 @@ fn a_held_message_is_read_word_by_word(rt: HostRuntime) {
 }
 
 /// The steps of message 1, of 0 octets and time 0, in slot 0.
-fn first_message() -> [CoreEvent; 7] {
+fn first_message() -> [CoreEvent; 11] {
     [
         Scan { reader: 0 },
         Scan { reader: 1 },
         Scan { reader: 2 },
         Scan { reader: 3 },
+        Scan { reader: 4 },
+        Scan { reader: 5 },
+        Scan { reader: 6 },
+        Scan { reader: 7 },
         first_word(0),
         StoreWord {
             slot: 0,

@@ -30,7 +30,7 @@ use Move::{Latest, Publishes, Reader, Reads, Refused, Scans, Step, Writes};
 
 // ---- the steps of a schedule
 
-fn push(rt: &impl Abort, steps: &mut Vec<CoreEvent>, event: CoreEvent) {
+pub(crate) fn push(rt: &impl Abort, steps: &mut Vec<CoreEvent>, event: CoreEvent) {
     steps.push(event).expect(rt, "memory");
 }
 

@@ -5,11 +5,11 @@ use slot_core::{LONGEST_MESSAGE, MOST_MESSAGES, READERS, SLOTS, TABLE_WORDS, WOR
 
 #[test]
 fn a_port_has_its_sizes(rt: HostRuntime) {
-    check_value(&rt, "readers", READERS as u64, 4);
-    check_value(&rt, "slots", SLOTS as u64, 6);
+    check_value(&rt, "readers", READERS as u64, 8);
+    check_value(&rt, "slots", SLOTS as u64, 10);
     check_value(&rt, "longest message", LONGEST_MESSAGE, 1471);
     check_value(&rt, "words", WORDS as u64, 186);
-    check_value(&rt, "table words", TABLE_WORDS as u64, 1121);
+    check_value(&rt, "table words", TABLE_WORDS as u64, 1869);
     check_value(
         &rt,
         "most messages",

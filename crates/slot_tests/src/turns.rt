@@ -29,10 +29,10 @@ fn store(slot: usize, index: usize, word: u64) -> CoreEvent {
 
 // ---- a reader
 
-/// What reader 3 may do: load first, announce, load again, load a word, one after the message, clear.
+/// What reader 7 may do: load first, announce, load again, load a word, one after the message, clear.
 fn reader_turns(allowed: [bool; 6]) -> [Turn; 6] {
     let [first, announce, second, word, past, clear] = allowed;
-    let reader = 3;
+    let reader = 7;
     [
         (LoadFirst { reader }, first),
         (Announce { reader }, announce),
@@ -47,9 +47,9 @@ fn reader_turns(allowed: [bool; 6]) -> [Turn; 6] {
 fn steps_to_a_hold() -> [Move; 4] {
     [
         Publishes(2),
-        Step(LoadFirst { reader: 3 }),
-        Step(Announce { reader: 3 }),
-        Step(LoadSecond { reader: 3 }),
+        Step(LoadFirst { reader: 7 }),
+        Step(Announce { reader: 7 }),
+        Step(LoadSecond { reader: 7 }),
     ]
 }
 
@@ -57,10 +57,10 @@ fn steps_to_a_hold() -> [Move; 4] {
 fn failed_look() -> [Move; 5] {
     [
         Publishes(2),
-        Step(LoadFirst { reader: 3 }),
-        Step(Announce { reader: 3 }),
+        Step(LoadFirst { reader: 7 }),
+        Step(Announce { reader: 7 }),
         Publishes(1),
-        Step(LoadSecond { reader: 3 }),
+        Step(LoadSecond { reader: 7 }),
     ]
 }
 
@@ -75,7 +75,7 @@ fn a_reader_takes_its_steps_in_turn(rt: HostRuntime) {
     let steps = steps_to_a_hold();
     check_turns(&rt, alloc, &[], &idle);
     // Nothing published: a look finds 0, and the reader stays idle.
-    check_turns(&rt, alloc, &[Step(LoadFirst { reader: 3 })], &idle);
+    check_turns(&rt, alloc, &[Step(LoadFirst { reader: 7 })], &idle);
     check_turns(&rt, alloc, &steps[..1], &idle);
     check_turns(&rt, alloc, &steps[..2], &loaded);
     check_turns(&rt, alloc, &steps[..3], &announced);
@@ -107,7 +107,7 @@ fn before_all_are_scanned() -> [Turn; 7] {
         (Scan { reader: 3 }, false),
         (store(0, 0, 0), false),
         (store(0, 1, 0), false),
-        (store(5, 0, 1471), false),
+        (store(9, 0, 1471), false),
         (StoreLatest, false),
     ]
 }
@@ -116,9 +116,9 @@ fn before_all_are_scanned() -> [Turn; 7] {
 fn after_all_are_scanned() -> [Turn; 8] {
     [
         (Scan { reader: 0 }, false),
-        (Scan { reader: 3 }, false),
+        (Scan { reader: 7 }, false),
         (store(0, 0, 0), true),
-        (store(5, 0, 1471), true),
+        (store(9, 0, 1471), true),
         (store(0, 0, 1472), false),
         (store(0, 0, u64::MAX), false),
         (store(0, 1, 0), false),
@@ -175,21 +175,21 @@ fn the_writer_takes_its_steps_in_turn(rt: HostRuntime) {
     check_turns(&rt, alloc, &words, &after_the_last_word());
 }
 
-/// The first 185 words of the longest message, 1471 octets, are stored in slot 5.
+/// The first 185 words of the longest message, 1471 octets, are stored in slot 9.
 fn store_longest(rt: &impl Abort, alloc: Global, core: &mut Core) {
     for index in 1..185 {
-        take(rt, alloc, core, store(5, index, u64::MAX));
+        take(rt, alloc, core, store(9, index, u64::MAX));
     }
 }
 
 fn check_longest(rt: &impl Abort, alloc: Global) {
-    let mut core = core_after(rt, alloc, &[Scans, Step(store(5, 0, 1471))]);
+    let mut core = core_after(rt, alloc, &[Scans, Step(store(9, 0, 1471))]);
     store_longest(rt, alloc, &mut core);
     check_refused(rt, alloc, &mut core, StoreLatest, NotItsTurn);
-    check_refused(rt, alloc, &mut core, store(5, 185, 1), NotItsTurn);
-    take(rt, alloc, &mut core, store(5, 185, u64::MAX - 255));
+    check_refused(rt, alloc, &mut core, store(9, 185, 1), NotItsTurn);
+    take(rt, alloc, &mut core, store(9, 185, u64::MAX - 255));
     take(rt, alloc, &mut core, StoreLatest);
-    check_word(rt, &core, 5, 185, u64::MAX - 255);
+    check_word(rt, &core, 9, 185, u64::MAX - 255);
 }
 
 /// It has 186 words; the last one has 7 octets.

@@ -34,7 +34,7 @@ unmoved : (constant : List ℕ) (earlier : List Arrival) (a : Arrival) (link : S
 unmoved constant earlier a link other = rw other refl
 
 abbrev turned : Settings → List Event → Link
-turned link past = record { settings = link; history = reverse past; queues = [] }
+turned link past = record { settings = link; history = reverse past; channels = [] }
 
 abbrev with_frame : Link → Arrival → Link
 with_frame state a = with_event state a (room_after state a) (verdict_after state a (room_after state a))
@@ -45,7 +45,7 @@ turned_event link past a =
     let e : Event = event_at link past a in
     let back : reverse (e ∷ past) ≡ reverse past ++ e ∷ [] = reverse-append (e ∷ []) past in
     let same : reverse (reverse past) ≡ past = reverse-reverse past in
-    let first : turned link (e ∷ past) ≡ record { settings = link; history = reverse past ++ e ∷ []; queues = [] } = ap (λ (h : List Event). let l : Link = record { settings = link; history = h; queues = [] } in l) back in
+    let first : turned link (e ∷ past) ≡ record { settings = link; history = reverse past ++ e ∷ []; channels = [] } = ap (λ (h : List Event). let l : Link = record { settings = link; history = h; channels = [] } in l) back in
     let second = ap (λ (p : List Event). with_event (turned link past) a (room_unread (origin_of link) p a) (verdict_at link p a)) (sym same) in
     first ∙ second
 

@@ -26,7 +26,7 @@ past_after constant link (a ∷ earlier) =
     if comes_to constant link a.frame then event_at link past a ∷ past else past
 
 abbrev pub state_after : List ℕ → List Arrival → Settings → Link
-state_after constant earlier link = record { settings = link; history = reverse (past_after constant link earlier); queues = [] }
+state_after constant earlier link = record { settings = link; history = reverse (past_after constant link earlier); channels = [] }
 
 -- the states, in the order of the configuration's links
 abbrev pub states_after : Configuration → List Arrival → List Link

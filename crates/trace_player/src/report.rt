@@ -1,9 +1,9 @@
 //! The report of a run: what the ports show, and how many events and filtered frames there were.
-ghost use Rattle.std.specs.Prelude.{◌≡◌, ◌<◌, ◌++◌, List, OnOk, Some, slice_get, string_bytes};
+ghost use Rattle.std.specs.Prelude.{◌≡◌, ◌<◌, ◌++◌, List, OnOk, Some, length, slice_get, string_bytes};
 ghost use Rattle.es_base.specs.declared.event.Arrival.{Arrival};
 ghost use Rattle.es_base.specs.Config.{Configuration};
 ghost use Rattle.es_base.specs.FilterTally.{HasFiltered};
-ghost use Rattle.es_base.specs.Limits.{most_ports};
+ghost use Rattle.es_base.specs.Port.{Port};
 ghost use Rattle.es_base.specs.Tally.{count_of};
 ghost use Rattle.link_receiver.specs.Link.{deliveries_of, past_of};
 ghost use Rattle.output_lines.specs.Report.{count_lines, link_lines, port_lines};
@@ -11,7 +11,7 @@ ghost use Rattle.trace_player.specs.Histories.{states_after};
 ghost use Rattle.trace_player.specs.Output.{report_after};
 ghost use Rattle.trace_player.specs.Report.{lines_of_counts, lines_of_ports};
 
-use es_base::{FilterTally, Memory, PortKind, PortNo, PortSettings};
+use es_base::{FilterTally, Memory, PortKind, PortNo};
 use link_receiver::UnreadLink;
 use output_lines::{write_counts, write_filtered, write_newest, write_queue};
 use std::alloc::Global;
@@ -19,12 +19,13 @@ use std::alloc::Global;
 /// Adds the report at a time, in microseconds, to the text.
 pub(crate) fn write_report(
     alloc: Global,
-    states: &[UnreadLink],
+    states: &mut [UnreadLink],
     filtered: &FilterTally,
     at: u64,
     text: &mut String,
 ) -> Result<(), Memory>
-    ensures { OnOk result ((c : Configuration) (frames : List Arrival) → states.now ≡ states_after c frames → HasFiltered filtered.now c frames
+    ensures states { states.new ≡ states.old }
+    ensures text { OnOk result ((c : Configuration) (frames : List Arrival) → states.old ≡ states_after c frames → HasFiltered filtered.now c frames
         → string_bytes text.new ≡ string_bytes text.old ++ report_after c frames at) }
 {
     write_all_ports(alloc, states, at, text)?;
@@ -35,52 +36,61 @@ pub(crate) fn write_report(
 /// Adds the lines of all ports, link by link.
 fn write_all_ports(
     alloc: Global,
-    states: &[UnreadLink],
+    states: &mut [UnreadLink],
     at: u64,
     text: &mut String,
 ) -> Result<(), Memory>
-    ensures { OnOk result (string_bytes text.new ≡ string_bytes text.old ++ lines_of_ports at states.now) }
+    ensures states { states.new ≡ states.old }
+    ensures text { OnOk result (string_bytes text.new ≡ string_bytes text.old ++ lines_of_ports at states.old) }
 {
-    'links: for state in states {
-        write_ports(alloc, state, at, text)?;
+    'links: for place in 0..states.len() {
+        write_ports(alloc, &mut states[place], at, text)?;
     }
     Ok(())
 }
 
 /// Adds the lines of a link's ports, in the order of its settings.
-fn write_ports(alloc: Global, state: &UnreadLink, at: u64, text: &mut String) -> Result<(), Memory>
-    ensures { OnOk result (string_bytes text.new ≡ string_bytes text.old ++ link_lines at state.now.settings (past_of state.now)) }
+fn write_ports(
+    alloc: Global,
+    state: &mut UnreadLink,
+    at: u64,
+    text: &mut String,
+) -> Result<(), Memory>
+    ensures state { state.new ≡ state.old }
+    ensures text { OnOk result (string_bytes text.new ≡ string_bytes text.old ++ link_lines at state.old.settings (past_of state.old)) }
 {
-    let ports = state.settings().ports();
-    'ports: for place in 0..ports.len() {
-        write_port(alloc, state, place, &ports[place], at, text)?;
+    'ports: for place in 0..state.settings().ports().len() {
+        write_port(alloc, state, place, at, text)?;
     }
     Ok(())
 }
 
-/// Adds the lines of the port at this place of a link: its newest message, or all that were delivered to
-/// it, since none of a queue is ever taken.
+/// Adds the lines of the port at this place of a link: its newest message, as a reader reads it, or all that
+/// were delivered to it, since none of a queue is ever taken.
 fn write_port(
     alloc: Global,
-    state: &UnreadLink,
+    state: &mut UnreadLink,
     place: usize,
-    port: &PortSettings,
     at: u64,
     text: &mut String,
 ) -> Result<(), Memory>
-    requires there { slice_get state.now.settings.ports place ≡ Some port.now }
-    requires few { place < most_ports }
-    ensures { OnOk result (string_bytes text.new ≡ string_bytes text.old ++ port_lines at port.now (deliveries_of state.now (record { 0 = place }))) }
+    requires { place < length state.old.settings.ports }
+    ensures state { state.new ≡ state.old }
+    ensures text { OnOk result ((port : Port) → slice_get state.old.settings.ports place ≡ Some port →
+        string_bytes text.new ≡ string_bytes text.old ++ port_lines at port (deliveries_of state.old (record { 0 = place }))) }
 {
-    let name = port.name().as_str();
+    let port = &state.settings().ports()[place];
+    let name = port.name().copy();
     let number = PortNo(place as u8);
     match port.kind() {
         PortKind::Sampling { refresh } => {
-            write_newest(text, at, name, refresh, state.newest(number))
+            let mut out = [0; 1471];
+            let newest = state.newest(number, &mut out);
+            write_newest(text, at, name.as_str(), refresh, newest)
         }
         PortKind::Queuing { depth: _ } => {
             let messages = state.deliveries(alloc, number)?;
-            write_queue(text, name, &messages)
+            write_queue(text, name.as_str(), &messages)
         }
     }
 }

@@ -1,11 +1,15 @@
-use Rattle.std.proofs.Common.{◌∙◌, ap, length}
-use Rattle.link_receiver.proofs.HandedOut.{are_of_their_queues, as_many_takers}
+use Rattle.std.proofs.Common.{rules}
+use Rattle.link_receiver.proofs.HandedOut.{are_of_their_ports}
+use Rattle.link_receiver.proofs.Kept.{kept_new}
+use Rattle.link_receiver.proofs.Outlets.{ends_opened}
 use Rattle.link_receiver.proofs.link.LinkState.new.Goals as goal
 
-pub ends_of-requires-clause-as_many : goal.ends_of-requires-clause-as_many
-ends_of-requires-clause-as_many c = ap length c.ports.ensures.value ∙ as_many_takers _ _ _ c.in_ok-state.ensures.takers
+pub invariant_of-state : goal.invariant_of-state
+invariant_of-state c =
+    kept_new _ _ _ _ _ c.in_ok-outlets.ends.items _ (search rules) (search rules) (search rules) (rw (c.ports.ensures.value, ← c.in_ok-copy.ensures) at c.in_ok-outlets.ensures) (search rules)
 
-pub returns-clause-queues : goal.returns-clause-queues
-returns-clause-queues c =
-    are_of_their_queues c.args.settings.now.ports c.in_ok-state.state.queues c.in_ok-ends.ends.items
-    (c.in_ok-state.takers.items, c.in_ok-state.ensures.takers, rw c.ports.ensures.value at c.in_ok-ends.ensures)
+pub returns-clause-ends : goal.returns-clause-ends
+returns-clause-ends c = ends_opened 0 _ _ _ (rw c.ports.ensures.value at c.in_ok-outlets.ensures)
+
+pub returns-clause-ports : goal.returns-clause-ports
+returns-clause-ports c = are_of_their_ports _ _ _ (ends_opened 0 _ _ _ (rw c.ports.ensures.value at c.in_ok-outlets.ensures))

@@ -1,5 +1,4 @@
-use Rattle.std.proofs.Common.{◌≡◌, ◌<◌, ◌-◌, ◌^◌, ◌∙◌, arith, length, Some, refl, reverse, sym, ap, map, Result, Ok, Err}
-use Rattle.std.specs.List.{slice_get}
+use Rattle.std.proofs.Common.{◌<◌, ◌-◌, ◌^◌, ◌∙◌, arith, length, refl, reverse, sym, ap, map, Result, Ok, Err}
 use Rattle.std.specs.Result.{OnErr}
 use Rattle.std.proofs.lemmas.List.{length-reverse}
 use Rattle.es_base.specs.declared.event.Event.{Event}
@@ -7,13 +6,12 @@ use Rattle.es_base.specs.Past.{event_of, origin_of}
 use Rattle.es_base.specs.Reassembly.{groups_in}
 use Rattle.es_base.specs.Run.{settled}
 use Rattle.es_base.proofs.Counted.{one_event_more}
-use Rattle.link_receiver.specs.declared.outlet.Outlet.{Outlet}
 use Rattle.link_receiver.specs.Link.{Link, Takes}
-use Rattle.link_receiver.specs.Outlet.{HasNumberLeft, queue_of}
+use Rattle.link_receiver.specs.Outlet.{channel_of}
 use Rattle.link_receiver.proofs.Kept.{kept_more}
 use Rattle.link_receiver.proofs.Offers.{holds_at_port, is_room_in}
-use Rattle.link_receiver.proofs.Outlets.{queues_stay}
-use Rattle.link_receiver.proofs.Refusals.{delivers_if, has_number, has_outlet, may_answer}
+use Rattle.link_receiver.proofs.Outlets.{channels_stay}
+use Rattle.link_receiver.proofs.Refusals.{delivers_if, has_outlet, has_space, may_answer}
 use Rattle.link_receiver.proofs.Taken.{one_more}
 use Rattle.link_receiver.proofs.link.LinkState.take_arrival.Goals as goal
 
@@ -31,53 +29,43 @@ returns-in_err-reserve_event-clause-err g c = rw c.in_err-reserve_event.ensures.
 
 -- one more event
 
-pub offer-delivery-requires : goal.offer-delivery-requires
-offer-delivery-requires g c =
-    let link : Link = record { settings = c.self.inside.settings; history = c.self.inside.history.items; queues = map queue_of c.self.inside.outlets.items } in
+pub offer-had_room-requires-clause-fills : goal.offer-had_room-requires-clause-fills
+offer-had_room-requires-clause-fills g c =
+    let link : Link = record { settings = c.self.inside.settings; history = c.self.inside.history.items; channels = map channel_of c.self.inside.outlets.items } in
     let change = rw (← c.self.view_is) at c.in_ok-change.ensures in
     rw change.packet (is_room_in link c.args.arrival c.self.inside.reassembly c.in_ok-change.change.room c.self.invariant.waiting change.room)
 
-pub deliver-had_room-requires-clause-exists : goal.deliver-had_room-requires-clause-exists
-deliver-had_room-requires-clause-exists g c =
+pub offer-had_room-requires-clause-space : goal.offer-had_room-requires-clause-space
+offer-had_room-requires-clause-space g c =
     let outlets = c.self.inside.outlets.items in
-    let link : Link = record { settings = c.self.inside.settings; history = c.self.inside.history.items; queues = map queue_of outlets } in
+    let link : Link = record { settings = c.self.inside.settings; history = c.self.inside.history.items; channels = map channel_of outlets } in
     let change = rw (← c.self.view_is) at c.in_ok-change.ensures in
-    let room = c.in_ok-change.change.room in
-    let fills = rw change.packet at (c.offer-delivery.ensures.fills link.settings.reassembly (groups_in (origin_of link.settings) (reverse link.history)) c.self.invariant.waiting) in
-    holds_at_port link c.args.arrival room c.offer-delivery.result (λ port. port.0 < length outlets) change.room fills (has_outlet link room outlets change.has_place c.self.invariant.as_many)
-
-pub deliver-had_room-requires-clause-numbered : goal.deliver-had_room-requires-clause-numbered
-deliver-had_room-requires-clause-numbered g c =
-    let outlets = c.self.inside.outlets.items in
-    let link : Link = record { settings = c.self.inside.settings; history = c.self.inside.history.items; queues = map queue_of outlets } in
-    let change = rw (← c.self.view_is) at c.in_ok-change.ensures in
-    let room = c.in_ok-change.change.room in
-    let fills = rw change.packet at (c.offer-delivery.ensures.fills link.settings.reassembly (groups_in (origin_of link.settings) (reverse link.history)) c.self.invariant.waiting) in
-    holds_at_port link c.args.arrival room c.offer-delivery.result (λ port. (outlet : Outlet) → slice_get outlets port.0 ≡ Some outlet → HasNumberLeft outlet)
-    change.room fills (has_number link room outlets change.has_place c.self.invariant.kinds c.self.invariant.shown)
+    has_space link c.in_ok-change.change.room outlets change.has_place c.self.invariant.as_many c.self.invariant.kinds c.self.invariant.shown
 
 pub invariant_of-self-2 : goal.invariant_of-self-2
 invariant_of-self-2 g c =
     let settings = c.self.inside.settings in
     let history = c.self.inside.history.items in
     let outlets = c.self.inside.outlets.items in
-    let had = c.deliver-had_room.result in
+    let had = c.offer-had_room.result in
+    let after = c.offer-had_room.new.outlets.items in
     let e : Event = event_of c.args.arrival had c.settled-verdict.result in
     let more = rw (c.of.ensures, c.in_ok-reserve_event.ensures.items) at c.push_reserved.ensures.items in
     let short : length (reverse history) < 2 ^ 64 - 1 = omega (arith, length-reverse history, c.in_ok-reserve_event.ensures.few) in
     let one = rw c.kind.ensures.kind at c.add.ensures in
-    let link : Link = record { settings = settings; history = history; queues = map queue_of outlets } in
+    let link : Link = record { settings = settings; history = history; channels = map channel_of outlets } in
     let change = rw (← c.self.view_is) at c.in_ok-change.ensures in
     let room = c.in_ok-change.change.room in
-    let delivery = c.offer-delivery.result in
     let groups = groups_in (origin_of settings) (reverse history) in
-    let fills = rw change.packet at (c.offer-delivery.ensures.fills settings.reassembly groups c.self.invariant.waiting) in
+    let delivers = rw change.packet at (c.offer-had_room.ensures.delivers settings.reassembly groups c.self.invariant.waiting) in
+    let delivery = delivers.0 in
+    let fills = delivers.1 in
     let stand = c.note.ensures (origin_of settings) (reverse history) e c.self.invariant.checked refl (sym change.numbered) refl (sym change.forwarded) in
-    let waits = rw change.packet at (c.offer-delivery.ensures.stands settings.reassembly groups c.self.invariant.waiting) in
+    let waits = rw change.packet at (c.offer-had_room.ensures.stands settings.reassembly groups c.self.invariant.waiting) in
     let within = holds_at_port link c.args.arrival room delivery (λ port. port.0 < length outlets) change.room fills (has_outlet link room outlets change.has_place c.self.invariant.as_many) in
-    let may = may_answer link c.args.arrival room delivery outlets c.deliver-had_room.new.outlets.items had change.room fills c.deliver-had_room.ensures within c.self.invariant.kinds c.self.invariant.shown in
-    kept_more settings history c.push_reserved.new.self.items c.self.inside.checks c.note.new.self c.self.inside.reassembly c.offer-delivery.new.reassembly outlets c.deliver-had_room.new.outlets.items c.self.inside.tally c.add.new.self e delivery
-    more c.in_ok-reserve_event.ensures.few c.self.invariant (c.settled-verdict.ensures ∙ ap (λ d. settled d had) change.decision) may stand waits c.deliver-had_room.ensures within
+    let may = may_answer link c.args.arrival room delivery outlets after had change.room fills delivers.2 within c.self.invariant.kinds c.self.invariant.shown in
+    kept_more settings history c.push_reserved.new.self.items c.self.inside.checks c.note.new.self c.self.inside.reassembly c.offer-had_room.new.reassembly outlets after c.self.inside.tally c.add.new.self e delivery
+    more c.in_ok-reserve_event.ensures.few c.self.invariant (c.settled-verdict.ensures ∙ ap (λ d. settled d had) change.decision) may stand waits delivers.2 within
     (delivers_if link c.args.arrival room delivery had change.room fills may)
     (one_event_more c.self.inside.tally c.add.new.self (reverse history) e c.self.invariant.counted short one) c.requires.frame (rw (← c.self.view_is) at c.requires.link)
 
@@ -86,21 +74,23 @@ returns-clause-ok g c =
     let settings = c.self.inside.settings in
     let history = c.self.inside.history.items in
     let outlets = c.self.inside.outlets.items in
-    let had = c.deliver-had_room.result in
-    let link : Link = record { settings = settings; history = history; queues = map queue_of outlets } in
+    let had = c.offer-had_room.result in
+    let after = c.offer-had_room.new.outlets.items in
+    let link : Link = record { settings = settings; history = history; channels = map channel_of outlets } in
     let change = rw (← c.self.view_is) at c.in_ok-change.ensures in
     let room = c.in_ok-change.change.room in
-    let delivery = c.offer-delivery.result in
-    let fills = rw change.packet at (c.offer-delivery.ensures.fills settings.reassembly (groups_in (origin_of settings) (reverse history)) c.self.invariant.waiting) in
+    let delivers = rw change.packet at (c.offer-had_room.ensures.delivers settings.reassembly (groups_in (origin_of settings) (reverse history)) c.self.invariant.waiting) in
+    let delivery = delivers.0 in
+    let fills = delivers.1 in
     let within = holds_at_port link c.args.arrival room delivery (λ port. port.0 < length outlets) change.room fills (has_outlet link room outlets change.has_place c.self.invariant.as_many) in
-    let may = may_answer link c.args.arrival room delivery outlets c.deliver-had_room.new.outlets.items had change.room fills c.deliver-had_room.ensures within c.self.invariant.kinds c.self.invariant.shown in
+    let may = may_answer link c.args.arrival room delivery outlets after had change.room fills delivers.2 within c.self.invariant.kinds c.self.invariant.shown in
     let more = rw (c.of.ensures, c.in_ok-reserve_event.ensures.items) at c.push_reserved.ensures.items in
-    let taken : Takes link c.args.arrival c.settled-verdict.result (record { settings = settings; history = c.push_reserved.new.self.items; queues = map queue_of c.deliver-had_room.new.outlets.items }) = record {
+    let taken : Takes link c.args.arrival c.settled-verdict.result (record { settings = settings; history = c.push_reserved.new.self.items; channels = map channel_of after }) = record {
       few = c.in_ok-reserve_event.ensures.few;
       room = had;
       may = may;
       becomes = c.settled-verdict.ensures ∙ ap (λ d. settled d had) change.decision;
-      event = one_more link c.args.arrival had c.settled-verdict.result c.push_reserved.new.self.items (map queue_of c.deliver-had_room.new.outlets.items) more
-          (queues_stay delivery had outlets c.deliver-had_room.new.outlets.items c.deliver-had_room.ensures within);
+      event = one_more link c.args.arrival had c.settled-verdict.result c.push_reserved.new.self.items (map channel_of after) more
+          (channels_stay delivery had outlets after delivers.2 within);
     } in
     rw (← c.self.view_is) taken

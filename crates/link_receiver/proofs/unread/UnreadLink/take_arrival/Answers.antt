@@ -12,16 +12,16 @@ invariant_of-self-in-Queued g c =
     let new = c.take_arrival.new.self in
     let port = c.in-Queued.port in
     let takes : Takes old c.args.arrival (Queued port) new = rw c.in-Queued.is at c.in_ok-verdict.ensures.ok in
-    let more = unread_more old c.args.arrival (Queued port) new c.self.inside.takers.items takes c.self.invariant.0 (queued_at port (IsWithinAt new) c.meet_at.ensures.within) in
-    let noted = rw (c.len.ensures, c.history.ensures.events) at c.note_end.ensures in
+    let more = unread_more old c.args.arrival (Queued port) new c.self.inside.ends.items takes c.self.invariant.0 (queued_at port (IsWithinAt new) c.meet_at.ensures.within) in
+    let noted = rw (c.len.ensures, c.history.ensures.events) at c.note_last.ensures in
     let ends = ends_taken old c.args.arrival c.in_ok-verdict.verdict new _ _ c.in_ok-verdict.ensures.ok c.self.invariant.1 noted in
-    (rw c.meet_at.ensures.state (record { takers_are = c.meet_at.ensures.takers; within = more.within }), rw c.meet_at.ensures.state ends)
+    (rw c.meet_at.ensures.state (record { ends_are = c.meet_at.ensures.ends; within = more.within }), rw c.meet_at.ensures.state ends)
 
 pub invariant_of-self-in_default : goal.invariant_of-self-in_default
 invariant_of-self-in_default g c =
-    let noted = rw (c.len.ensures, c.history.ensures.events) at c.note_end.ensures in
+    let noted = rw (c.len.ensures, c.history.ensures.events) at c.note_last.ensures in
     let ends = ends_taken c.self.inside.state c.args.arrival c.in_ok-verdict.verdict c.take_arrival.new.self _ _ c.in_ok-verdict.ensures.ok c.self.invariant.1 noted in (
-      unread_more c.self.inside.state c.args.arrival c.in_ok-verdict.verdict c.take_arrival.new.self c.self.inside.takers.items c.in_ok-verdict.ensures.ok c.self.invariant.0
+      unread_more c.self.inside.state c.args.arrival c.in_ok-verdict.verdict c.take_arrival.new.self c.self.inside.ends.items c.in_ok-verdict.ensures.ok c.self.invariant.0
           (λ port is. absurd (c.in_default.not-Queued port is)),
       ends,
     )
@@ -33,7 +33,7 @@ returns-in-Queued-clause-event g c =
     let port = c.in-Queued.port in
     let takes : Takes old c.args.arrival (Queued port) new = rw c.in-Queued.is at c.in_ok-verdict.ensures.ok in
     let event = unread_event old c.args.arrival (Queued port) new takes (queued_at port (IsWithinAt new) c.meet_at.ensures.within) in
-    let view : Link → Link = λ link. record { settings = link.settings; history = link.history; queues = [] } in
+    let view : Link → Link = λ link. record { settings = link.settings; history = link.history; channels = [] } in
     rw (← c.self.view_is) (ap view (c.meet_at.ensures.state ∙ event))
 
 pub returns-in-Queued-clause-verdict : goal.returns-in-Queued-clause-verdict
@@ -51,7 +51,7 @@ returns-in_default g c =
     let verdict = c.in_ok-verdict.verdict in
     let takes = c.in_ok-verdict.ensures.ok in
     let event = unread_event old c.args.arrival verdict new takes (λ port is. absurd (c.in_default.not-Queued port is)) in
-    let view : Link → Link = λ link. record { settings = link.settings; history = link.history; queues = [] } in
+    let view : Link → Link = λ link. record { settings = link.settings; history = link.history; channels = [] } in
     record {
       event = rw (← c.self.view_is) (ap view event);
       verdict = rw (← c.self.view_is) (unread_verdict old c.args.arrival verdict new takes (λ port is. absurd (c.in_default.not-Queued port is)));

@@ -1,5 +1,5 @@
 use Rattle.slot_core.proofs.Schedules.{gets_stuck}
-use Rattle.slot_core.proofs.without.the_sixth_slot.Goals as goal
+use Rattle.slot_core.proofs.without.the_tenth_slot.Goals as goal
 
 pub returns : goal.returns
 returns c = gets_stuck
