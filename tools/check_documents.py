@@ -35,7 +35,7 @@ with_x is_x has_x are_x IsX HasX AreX
 """.split())
 
 # A definition and a function by their first lines; an impl or a trait by its first line.
-DEFINITION = re.compile(r"^(?:\w+ )?pub (?:(?:record|data) )?(?!mod )(\S+)")
+DEFINITION = re.compile(r"^(?:\w+ )?pub (?:(?:record|data) )?(?!mod |use )(\S+)")
 BLOCK = re.compile(r"^(?:pub )?(impl|trait)\b(.*)")
 FUNCTION = re.compile(r"^\s*(pub(?:\(\w+\))? )?fn (\w+)")
 ITEM = re.compile(r"^\s*(?:pub(?:\(\w+\))? )?(?:ghost )?(?:struct|enum|trait|const|type|mod|ghost|fn) (\w+)")

@@ -1,6 +1,7 @@
 -- Integrity checking, on each network: which frames pass (ARINC 664 Part 7, integrity checking; the
 -- window is own).
 use Rattle.std.specs.Prelude.{ℕ, zero, suc, ◌+◌, ◌==◌, Bool, true, false, ◌||◌, List, [], ◌∷◌, Option, None, Some, if◌then◌else◌}
+use Rattle.std.specs.Option.{option_to_list}
 use Rattle.es_base.specs.declared.place.Net.{Net}
 use Rattle.es_base.specs.declared.place.Net.TheVariants as nets
 use Rattle.es_base.specs.declared.event.Arrival.{Arrival}
@@ -38,9 +39,10 @@ is_same_net nets.A nets.B = false
 is_same_net nets.B nets.A = false
 is_same_net nets.B nets.B = true
 
--- the sequence numbers of the frames on a network, the latest first, whether or not they passed
+-- the sequence numbers of the frames on a network, the latest first, whether or not they passed; of those
+-- before the past the latest alone, since no other is looked at
 abbrev pub sequence_numbers_on : Origin → List Event → Net → List ℕ
-sequence_numbers_on o [] net = []
+sequence_numbers_on o [] net = option_to_list (o.base.last_number net)
 sequence_numbers_on o (e ∷ past) net =
     if is_same_net e.net net then sequence_number_of e.frame ∷ sequence_numbers_on o past net else sequence_numbers_on o past net
 

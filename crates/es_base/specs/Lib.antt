@@ -4,6 +4,7 @@ pub mod Octets
 pub mod Frame
 pub mod Packet
 pub mod Fragments
+pub mod Copies
 pub mod Groups
 pub mod Udp
 pub mod Name
@@ -21,4 +22,5 @@ pub mod Outcome
 pub mod Deliveries
 pub mod Run
 pub mod Tally
+pub mod Base
 pub mod FilterTally

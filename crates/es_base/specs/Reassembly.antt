@@ -23,8 +23,9 @@ abbrev pub groups_by : ℕ → List Group → Option PacketParts → ℕ → Lis
 groups_by limit groups None time = groups
 groups_by limit groups (Some packet) time = groups_after limit groups packet time
 
--- the groups of pieces that stand at a link, in the order in which they began
+-- the groups of pieces that stand at a link, in the order in which they began; at first those that the
+-- events before the past left
 abbrev pub groups_in : Origin → List Event → List Group
-groups_in o [] = []
+groups_in o [] = o.base.groups
 groups_in o (e ∷ past) =
     groups_by o.settings.reassembly (groups_in o past) (offered (is_forwarded o past (arrival_of e)) e.frame) e.time

@@ -1,5 +1,5 @@
 -- What becomes of a frame, and which histories are lawful.
-use Rattle.std.specs.Prelude.{◌≡◌, ℕ, ◌+◌, Bool, true, false, not, List, [], ◌∷◌, length, nat_le, nat_lt, if◌then◌else◌}
+use Rattle.std.specs.Prelude.{◌≡◌, ℕ, ◌+◌, Bool, true, false, not, List, [], ◌∷◌, nat_le, nat_lt, if◌then◌else◌}
 use Rattle.es_base.specs.declared.place.PortNo.{PortNo}
 use Rattle.es_base.specs.declared.port.PortKind.{PortKind}
 use Rattle.es_base.specs.declared.port.PortKind.TheVariants.{Sampling, Queuing}
@@ -12,7 +12,7 @@ use Rattle.es_base.specs.declared.event.Event.{Event}
 use Rattle.es_base.specs.Limits.{most_samples}
 use Rattle.es_base.specs.Past.{Origin, arrival_of}
 use Rattle.es_base.specs.Outcome.{Outcome, out_of_sequence, redundant, refused, brings, outcome}
-use Rattle.es_base.specs.Deliveries.{deliveries}
+use Rattle.es_base.specs.Deliveries.{number_delivered}
 
 -- the verdict of a message at a sampling port, after this number of others
 abbrev pub sampled : PortNo → ℕ → Verdict
@@ -30,7 +30,7 @@ decided (brings payload) delivered = decided_at payload.kind payload.port (deliv
 
 -- what becomes of a frame that comes after this past, but for the queue's answer
 abbrev pub decision_of : Origin → List Event → Arrival → Decision
-decision_of o past a = decided (outcome o past a) (λ port. length (deliveries o past port))
+decision_of o past a = decided (outcome o past a) (number_delivered o past)
 
 -- the verdict, once the queue has said whether it has room
 abbrev pub settled : Decision → Bool → Verdict
@@ -58,7 +58,7 @@ may_refuse_with (brings payload) delivered = may_be_full payload.kind (delivered
 
 -- whether the frame brings a message that its queue may refuse
 abbrev pub may_refuse : Origin → List Event → Arrival → Bool
-may_refuse o past a = may_refuse_with (outcome o past a) (λ port. length (deliveries o past port))
+may_refuse o past a = may_refuse_with (outcome o past a) (number_delivered o past)
 
 -- what a queue may answer: that it has room, and that it has none only if it may refuse
 abbrev pub MayAnswer : Origin → List Event → Arrival → Bool → Type 0

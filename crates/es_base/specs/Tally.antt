@@ -6,6 +6,7 @@ use Rattle.es_base.specs.declared.event.Event.{Event}
 use Rattle.es_base.specs.Limits.{verdict_kinds}
 use Rattle.es_base.specs.Verdict.{kind_of}
 use Rattle.es_base.specs.Integrity.{is_same_net}
+use Rattle.es_base.specs.Past.{Origin}
 
 -- ---- a tally
 
@@ -47,11 +48,11 @@ AddsOne kinds old new net kind =
 abbrev pub is_counted : Net → ℕ → Event → Bool
 is_counted net kind e = is_same_net e.net net && kind_of e.verdict == kind
 
--- the number of a past's events of a network with a verdict of a kind
-abbrev pub count_of : List Event → Net → ℕ → ℕ
-count_of [] net kind = 0
-count_of (e ∷ past) net kind = if is_counted net kind e then count_of past net kind + 1 else count_of past net kind
+-- the number of events of a network with a verdict of a kind, before the past and in it
+abbrev pub count_of : Origin → List Event → Net → ℕ → ℕ
+count_of o [] net kind = o.base.counts net kind
+count_of o (e ∷ past) net kind = if is_counted net kind e then count_of o past net kind + 1 else count_of o past net kind
 
--- these are the counts of a past
-abbrev pub HasCounts : Counts → List Event → Type 0
-HasCounts counts past = (net : Net) (kind : ℕ) → IsKind verdict_kinds kind → count_in counts net kind ≡ count_of past net kind
+-- these are the counts of all events, before the past and in it
+abbrev pub HasCounts : Counts → Origin → List Event → Type 0
+HasCounts counts o past = (net : Net) (kind : ℕ) → IsKind verdict_kinds kind → count_in counts net kind ≡ count_of o past net kind

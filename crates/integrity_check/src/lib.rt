@@ -55,6 +55,16 @@ impl Sequence {
     {
         self.last = Some(sequence_number);
     }
+
+    /// A copy, which stands for the same sequence numbers.
+    pub fn copy(&self) -> Sequence
+        ensures { result ≡ self.now }
+    {
+        Sequence {
+            window: self.window,
+            last: self.last,
+        }
+    }
 }
 
 /// Whether a sequence number is among the first `window` that follow `before`.

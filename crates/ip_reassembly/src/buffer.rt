@@ -49,6 +49,19 @@ impl Buffer {
         })
     }
 
+    /// A copy of this buffer, with what came.
+    pub(crate) fn copy(&self, alloc: Global) -> Result<Buffer, Memory>
+        ensures { IfOk result (λ copy. copy ≡ self.now) }
+    {
+        let octets = Vec::from_slice(alloc, &self.octets)?;
+        let marks = Vec::from_slice(alloc, &self.marks)?;
+        Ok(Buffer {
+            total: self.total,
+            octets,
+            marks,
+        })
+    }
+
     /// Forgets all that came.
     pub(crate) fn clear(&mut self)
         ensures { Holds self.new [] }

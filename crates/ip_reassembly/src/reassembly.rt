@@ -73,6 +73,22 @@ impl Reassembly {
         })
     }
 
+    /// A copy, which stands for the same pieces and takes as much memory. The only error is that there
+    /// wasn't so much.
+    pub fn copy(&self, alloc: Global) -> Result<Reassembly, Memory>
+        ensures { IfOk result (λ copy. copy ≡ self.now) }
+    {
+        let first = self.partials[0].copy(alloc)?;
+        let second = self.partials[1].copy(alloc)?;
+        let third = self.partials[2].copy(alloc)?;
+        let fourth = self.partials[3].copy(alloc)?;
+        Ok(Reassembly {
+            limit: self.limit,
+            standing: self.standing,
+            partials: ArrayVec::from([first, second, third, fourth]),
+        })
+    }
+
     /// The limit of time, in microseconds.
     pub fn limit(&self) -> u64
         ensures { result ≡ self.now.limit }

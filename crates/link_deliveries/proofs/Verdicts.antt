@@ -1,5 +1,5 @@
 -- What the verdict of an event tells of it, after a past of which it is the next.
-use Rattle.std.proofs.Common.{◌≡◌, ◌∙◌, ap, sym, ℕ, ◌+◌, Bool, true, false, ◌&&◌, List, [], ◌∷◌, ◌++◌, append-nil, length, Option, None, nat_lt, refl, if◌then◌else◌, ⊎_elim, reverse, take, drop}
+use Rattle.std.proofs.Common.{◌≡◌, ◌∙◌, ap, sym, ℕ, ◌+◌, Bool, true, false, ◌&&◌, List, [], ◌∷◌, ◌++◌, append-nil, Option, None, nat_lt, refl, if◌then◌else◌, ⊎_elim, reverse, take, drop}
 use Rattle.std.specs.Option.{option_to_list}
 use Rattle.std.specs.List.{All}
 use Rattle.std.proofs.lemmas.Bool.{cases_Bool, eqb-true}
@@ -17,7 +17,7 @@ use Rattle.es_base.specs.Past.{Origin, arrival_of}
 use Rattle.es_base.specs.Redundancy.{is_forwarded}
 use Rattle.es_base.specs.Reassembly.{groups_in, offered}
 use Rattle.es_base.specs.Outcome as way
-use Rattle.es_base.specs.Deliveries.{delivered, deliveries, is_same_port, takes_one_more}
+use Rattle.es_base.specs.Deliveries.{delivered, deliveries, is_same_port, number_delivered, takes_one_more}
 use Rattle.es_base.specs.Run.{IsRun, decided, decided_at, settled}
 use Rattle.link_deliveries.specs.Told.{tells_delivered, tells_forwarded}
 use Rattle.link_deliveries.specs.Message.{IsLawfulAfter, IsMessageOf}
@@ -45,7 +45,7 @@ forwarded_by o past a (way.brings payload) before room is = forwarded_at payload
 pub is_told_forwarded : (o : Origin) (past : List Event) (e : Event) → IsLawfulAfter o past e → tells_forwarded e.verdict ≡ is_forwarded o past (arrival_of e)
 is_told_forwarded o past e lawful =
     let a = arrival_of e in
-    ap tells_forwarded lawful ∙ forwarded_by o past a (way.outcome o past a) (λ port. length (deliveries o past port)) e.room (outcome_is o past a)
+    ap tells_forwarded lawful ∙ forwarded_by o past a (way.outcome o past a) (number_delivered o past) e.room (outcome_is o past a)
 
 -- ---- what it delivered
 
@@ -63,7 +63,7 @@ told_sampled : (at port : PortNo) (number : ℕ) (numbered : Bool)
 told_sampled at port number true = both (is_same_port at port) true
 told_sampled at port number false = both (is_same_port at port) false
 
-told_at : (kind : PortKind) (at port : PortNo) (before : PortNo → ℕ) (room : Bool)
+pub told_at : (kind : PortKind) (at port : PortNo) (before : PortNo → ℕ) (room : Bool)
     → tells_delivered (settled (decided_at kind at (before at)) room) port ≡ (is_same_port at port && takes_one_more kind room (before port))
 told_at (Queuing depth) at port before true = both (is_same_port at port) true
 told_at (Queuing depth) at port before false = both (is_same_port at port) false
@@ -95,15 +95,15 @@ delivers_by o past a (way.brings payload) before room port verdict message broug
 
 pub delivers_it : (o : Origin) (past : List Event) (e : Event) (port : PortNo) (message : Option Message) → IsLawfulAfter o past e
     → IsMessageOf (tells_delivered e.verdict port) o.settings.reassembly (groups_in o past) (offered (is_forwarded o past (arrival_of e)) e.frame) e.time message
-    → option_to_list message ≡ delivered (way.outcome o past (arrival_of e)) e.room e.time port (length (deliveries o past port))
+    → option_to_list message ≡ delivered (way.outcome o past (arrival_of e)) e.room e.time port (number_delivered o past port)
 delivers_it o past e port message lawful has =
     let a = arrival_of e in
-    delivers_by o past a (way.outcome o past a) (λ p. length (deliveries o past p)) e.room port e.verdict message (outcome_is o past a) lawful has
+    delivers_by o past a (way.outcome o past a) (number_delivered o past) e.room port e.verdict message (outcome_is o past a) lawful has
 
 -- ---- events that delivered nothing
 
 delivers_nothing : (o : Origin) (past : List Event) (e : Event) (port : PortNo) → IsLawfulAfter o past e → tells_delivered e.verdict port ≡ false
-    → delivered (way.outcome o past (arrival_of e)) e.room e.time port (length (deliveries o past port)) ≡ []
+    → delivered (way.outcome o past (arrival_of e)) e.room e.time port (number_delivered o past port) ≡ []
 delivers_nothing o past e port lawful told = sym (delivers_it o past e port None lawful (rw told refl))
 
 pub nothing_later : (o : Origin) (later past : List Event) (port : PortNo) → IsRun o (later ++ past) → All (λ e. tells_delivered e.verdict port ≡ false) later

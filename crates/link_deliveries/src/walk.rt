@@ -1,16 +1,17 @@
 //! A walk through a link's history.
 ghost use Rattle.std.specs.Prelude.{◌≡◌, ◌<◌, ◌≤◌, ◌∷◌, ◌++◌, List, IfOk, OnOk, Some, length, reverse, slice_get, take};
-ghost use Rattle.std.specs.Option.{option_to_list};
+ghost use Rattle.std.specs.Option.{option_copied, option_to_list};
 ghost use Rattle.es_base.specs.declared.event.Event.{Event};
 ghost use Rattle.es_base.specs.Frame.{IsFrame};
-ghost use Rattle.es_base.specs.Past.{AreFramesOf, Origin, arrival_of, origin_of};
+ghost use Rattle.es_base.specs.Past.{AreFramesOf, Base, Origin, arrival_of, origin_at};
 ghost use Rattle.es_base.specs.Reassembly.{groups_in};
 ghost use Rattle.es_base.specs.Outcome.{outcome};
-ghost use Rattle.es_base.specs.Deliveries.{delivered, deliveries};
+ghost use Rattle.es_base.specs.Deliveries.{delivered, deliveries, number_delivered};
 ghost use Rattle.es_base.specs.Run.{IsRun};
 ghost use Rattle.ip_reassembly.specs.Kept.{StandsFor};
 ghost use Rattle.link_deliveries.specs.Message.{IsLawfulAfter};
 ghost use Rattle.link_deliveries.specs.Told.{AreDeliveredBefore, tells_delivered};
+ghost use Rattle.link_deliveries.specs.Before.{StoodBefore};
 
 use crate::offer::{offer, packet_of};
 use crate::told::tells_delivered;
@@ -19,20 +20,24 @@ use es_base::{Event, LinkSettings, Memory, Message, PortNo};
 use ip_reassembly::Reassembly;
 use std::alloc::Global;
 
-/// The messages that a lawful history of a link delivered to a port, in order. Its pieces are joined
-/// anew, so this takes a walk through the history, up to the last event that delivered a message.
+/// The messages that a lawful history of a link delivered to a port, in order. `before` is the reassembly
+/// as it stood before the history, or None if nothing was before. Pieces are joined anew, so this takes a
+/// walk through the history, up to the last event that delivered a message.
 pub fn deliveries(
     alloc: Global,
     settings: &LinkSettings,
+    before: Option<&Reassembly>,
     history: &BlockList<Event>,
     port: PortNo,
 ) -> Result<Vec<Message>, Memory>
-    requires run { IsRun (origin_of settings.now) (reverse history.now.items) }
     requires frames { AreFramesOf settings.now (reverse history.now.items) }
-    ensures { IfOk result (λ messages. messages.items ≡ deliveries (origin_of settings.now) (reverse history.now.items) port) }
+    ensures { IfOk result (λ messages. (base : Base) →
+        StoodBefore (option_copied before.entry) settings.now base →
+        IsRun (origin_at settings.now base) (reverse history.now.items) →
+        messages.items ≡ deliveries (origin_at settings.now base) (reverse history.now.items) port) }
 {
     let end = end_of(history, port);
-    deliveries_up_to(alloc, settings, history, end, port)
+    deliveries_up_to(alloc, settings, before, history, end, port)
 }
 
 /// The messages that a lawful history of a link delivered to a port, in order, for a caller who knows that no
@@ -40,19 +45,22 @@ pub fn deliveries(
 pub fn deliveries_up_to(
     alloc: Global,
     settings: &LinkSettings,
+    before: Option<&Reassembly>,
     history: &BlockList<Event>,
     end: usize,
     port: PortNo,
 ) -> Result<Vec<Message>, Memory>
-    requires run { IsRun (origin_of settings.now) (reverse history.now.items) }
     requires frames { AreFramesOf settings.now (reverse history.now.items) }
     requires end { AreDeliveredBefore end port history.now.items }
-    ensures { IfOk result (λ messages. messages.items ≡ deliveries (origin_of settings.now) (reverse history.now.items) port) }
+    ensures { IfOk result (λ messages. (base : Base) →
+        StoodBefore (option_copied before.entry) settings.now base →
+        IsRun (origin_at settings.now base) (reverse history.now.items) →
+        messages.items ≡ deliveries (origin_at settings.now base) (reverse history.now.items) port) }
 {
     if end == 0 {
         return Ok(Vec::new(alloc));
     }
-    deliveries_before(alloc, settings, history, end, port)
+    deliveries_before(alloc, settings, before, history, end, port)
 }
 
 /// How many events there are up to the last one that delivered a message to the port.
@@ -77,20 +85,23 @@ fn delivers_at(history: &BlockList<Event>, place: usize, port: PortNo) -> bool
     }
 }
 
-/// The messages that the events before this place delivered.
+/// The messages that the events of the history before this place delivered.
 fn deliveries_before(
     alloc: Global,
     settings: &LinkSettings,
+    before: Option<&Reassembly>,
     history: &BlockList<Event>,
     end: usize,
     port: PortNo,
 ) -> Result<Vec<Message>, Memory>
-    requires run { IsRun (origin_of settings.now) (reverse history.now.items) }
     requires frames { AreFramesOf settings.now (reverse history.now.items) }
     requires within { end ≤ length history.now.items }
-    ensures { IfOk result (λ messages. messages.items ≡ deliveries (origin_of settings.now) (reverse (take end history.now.items)) port) }
+    ensures { IfOk result (λ messages. (base : Base) →
+        StoodBefore (option_copied before.entry) settings.now base →
+        IsRun (origin_at settings.now base) (reverse history.now.items) →
+        messages.items ≡ deliveries (origin_at settings.now base) (reverse (take end history.now.items)) port) }
 {
-    let mut reassembly = Reassembly::new(alloc, settings.reassembly())?;
+    let mut reassembly = reassembly_from(alloc, settings, before)?;
     let mut messages = Vec::new(alloc);
     'events: for place in 0..end {
         if let Some(event) = history.get(place) {
@@ -99,6 +110,22 @@ fn deliveries_before(
         }
     }
     Ok(messages)
+}
+
+/// The reassembly that a walk begins with: a copy of the one that stood before, or a new one.
+fn reassembly_from(
+    alloc: Global,
+    settings: &LinkSettings,
+    before: Option<&Reassembly>,
+) -> Result<Reassembly, Memory>
+    ensures { IfOk result (λ reassembly. (base : Base) →
+        StoodBefore (option_copied before.entry) settings.now base →
+        StandsFor reassembly settings.now.reassembly base.groups) }
+{
+    match before {
+        None => Reassembly::new(alloc, settings.reassembly()),
+        Some(before) => before.copy(alloc),
+    }
 }
 
 /// Adds a message, if there is one.
@@ -124,7 +151,7 @@ fn message_of(
         StandsFor reassembly.new o.settings.reassembly (groups_in o (event.now ∷ past)) }
     ensures message { IfOk result (λ message. (o : Origin) (past : List Event) → IsLawfulAfter o past event.now →
         StandsFor reassembly.old o.settings.reassembly (groups_in o past) →
-        option_to_list message ≡ delivered (outcome o past (arrival_of event.now)) event.now.room event.now.time port (length (deliveries o past port))) }
+        option_to_list message ≡ delivered (outcome o past (arrival_of event.now)) event.now.room event.now.time port (number_delivered o past port)) }
 {
     let packet = packet_of(event);
     let delivers = tells_delivered(event.verdict, port);

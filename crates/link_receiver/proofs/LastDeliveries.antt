@@ -13,6 +13,7 @@ use Rattle.es_base.specs.declared.event.Arrival.{Arrival}
 use Rattle.es_base.specs.declared.verdict.Verdict.{Verdict}
 use Rattle.es_base.specs.Past.{event_of}
 use Rattle.link_receiver.specs.Link.{Link, Takes}
+use Rattle.link_receiver.specs.Counted.{port_no}
 use Rattle.link_receiver.specs.Unread.{AreUpToLast}
 
 -- an event that delivered nothing to the port
@@ -32,7 +33,7 @@ end_here history e port end is =
 
 -- an event that delivered nothing to any port
 pub ends_kept : (history : List Event) (e : Event) (ends : List ℕ) → ((port : PortNo) → tells_delivered e.verdict port ≡ false) → AreUpToLast history ends → AreUpToLast (history ++ e ∷ []) ends
-ends_kept history e ends none before port end there = end_kept history e (record { 0 = port }) end (none (record { 0 = port })) (before port end there)
+ends_kept history e ends none before port end there = end_kept history e (port_no port) end (none (port_no port)) (before port end there)
 
 set_same : (xs : List ℕ) (i x y : ℕ) → slice_get (slice_set xs i x) i ≡ Some y → x ≡ y
 set_same [] i x y there = cc
@@ -48,40 +49,40 @@ set_other (z ∷ zs) (suc i) (suc j) x other = set_other zs i j x (λ e. other (
 
 -- an event that delivered a message to this port: at another port
 elsewhere : (history : List Event) (e : Event) (ends : List ℕ) (at : PortNo) (port found : ℕ)
-    → ((port : PortNo) → tells_delivered e.verdict port ≡ is_same_port at port) → AreUpToLast history ends → is_same_port at (record { 0 = port }) ≡ false
-    → slice_get ends port ≡ Some found → AreDeliveredBefore found (record { 0 = port }) (history ++ e ∷ [])
+    → ((port : PortNo) → tells_delivered e.verdict port ≡ is_same_port at port) → AreUpToLast history ends → is_same_port at (port_no port) ≡ false
+    → slice_get ends port ≡ Some found → AreDeliveredBefore found (port_no port) (history ++ e ∷ [])
 elsewhere history e ends at port found told before other there =
-    let none : tells_delivered e.verdict (record { 0 = port }) ≡ false = told (record { 0 = port }) ∙ other in
-    end_kept history e (record { 0 = port }) found none (before port found there)
+    let none : tells_delivered e.verdict (port_no port) ≡ false = told (port_no port) ∙ other in
+    end_kept history e (port_no port) found none (before port found there)
 
-differ : (at : PortNo) (port : ℕ) → is_same_port at (record { 0 = port }) ≡ false → at.0 ≡ port → ⊥
-differ at port other same = let is : is_same_port at (record { 0 = port }) ≡ true = eq-eqb at.0 port same in cc
+differ : (at : PortNo) (port : ℕ) → is_same_port at (port_no port) ≡ false → at.0 ≡ port → ⊥
+differ at port other same = let is : is_same_port at (port_no port) ≡ true = eq-eqb at.0 port same in cc
 
 -- at a port whose end is noted
 pub ends_more : (history : List Event) (e : Event) (ends : List ℕ) (at : PortNo) (end : ℕ) → length history + 1 ≡ end
     → ((port : PortNo) → tells_delivered e.verdict port ≡ is_same_port at port) → AreUpToLast history ends → AreUpToLast (history ++ e ∷ []) (slice_set ends at.0 end)
 ends_more history e ends at end is told before port found there =
     ⊎_elim
-    (λ (same : is_same_port at (record { 0 = port }) ≡ true).
+    (λ (same : is_same_port at (port_no port) ≡ true).
     let here = ap (slice_get (slice_set ends at.0 end)) (eqb-true at.0 port same) ∙ there in
-    end_here history e (record { 0 = port }) found (is ∙ set_same ends at.0 end found here))
-    (λ (other : is_same_port at (record { 0 = port }) ≡ false).
+    end_here history e (port_no port) found (is ∙ set_same ends at.0 end found here))
+    (λ (other : is_same_port at (port_no port) ≡ false).
     elsewhere history e ends at port found told before other (sym (set_other ends at.0 port end (differ at port other)) ∙ there))
-    (cases_Bool (is_same_port at (record { 0 = port })))
+    (cases_Bool (is_same_port at (port_no port)))
 
 -- at a port that has no end
 pub ends_outside : (history : List Event) (e : Event) (ends : List ℕ) (at : PortNo) → length ends ≤ at.0
     → ((port : PortNo) → tells_delivered e.verdict port ≡ is_same_port at port) → AreUpToLast history ends → AreUpToLast (history ++ e ∷ []) ends
 ends_outside history e ends at outside told before port found there =
     ⊎_elim
-    (λ (same : is_same_port at (record { 0 = port }) ≡ true). absurd (omega (arith, outside, eqb-true at.0 port same, slice_get_within ends port found there)))
-    (λ (other : is_same_port at (record { 0 = port }) ≡ false). elsewhere history e ends at port found told before other there)
-    (cases_Bool (is_same_port at (record { 0 = port })))
+    (λ (same : is_same_port at (port_no port) ≡ true). absurd (omega (arith, outside, eqb-true at.0 port same, slice_get_within ends port found there)))
+    (λ (other : is_same_port at (port_no port) ≡ false). elsewhere history e ends at port found told before other there)
+    (cases_Bool (is_same_port at (port_no port)))
 
 -- before any event
 pub no_ends : (count : ℕ) → AreUpToLast [] (replicate count 0)
 no_ends count port end there =
-    let told = λ (e : Event). tells_delivered e.verdict (record { 0 = port }) ≡ false in
+    let told = λ (e : Event). tells_delivered e.verdict (port_no port) ≡ false in
     let zero_end : end ≡ 0 = all_zero count port end there in
     rw zero_end (omega arith, All-nil told)
   where

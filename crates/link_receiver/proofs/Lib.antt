@@ -13,3 +13,5 @@ pub mod Rooms
 pub mod Taken
 pub mod Ways
 pub mod LastDeliveries
+pub mod Epochs
+pub mod Numbers

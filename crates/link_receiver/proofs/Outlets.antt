@@ -1,5 +1,5 @@
 -- The outlets of a link's ports: before any message, and after one more.
-use Rattle.std.proofs.Common.{◌≡◌, ◌∙◌, ap, sym, refl, ℕ, zero, suc, ◌+◌, ◌<◌, ◌≤◌, Bool, true, false, List, [], ◌∷◌, ◌++◌, length, map, Option, None, Some, IfSome, arith, length-append, append-nil}
+use Rattle.std.proofs.Common.{◌≡◌, ◌∙◌, ap, refl, ℕ, zero, suc, ◌+◌, ◌<◌, ◌≤◌, Bool, true, false, List, [], ◌∷◌, ◌++◌, length, map, Option, None, Some, IfSome, arith, length-append, append-nil, append_assoc}
 use Rattle.std.specs.List.{slice_get}
 use Rattle.std.specs.Vec.{vec_capacity}
 use Rattle.std.proofs.lemmas.List.{length-map, map-append}
@@ -20,6 +20,7 @@ use Rattle.link_receiver.specs.declared.ends.PortEnd.{PortEnd}
 use Rattle.link_receiver.specs.declared.outlet.Outlet.{Outlet}
 use Rattle.link_receiver.specs.declared.outlet.Outlet.TheVariants as outlets
 use Rattle.link_receiver.specs.Change.{IsEnough}
+use Rattle.link_receiver.specs.Counted.{EndsIn}
 use Rattle.link_receiver.specs.Outlet.{Accepts, AreOpened, Delivers, Delivery, Fits, HasSpace, IsOfKind, IsOpened, IsOpenedAs, Shows, channel_of}
 use Rattle.link_receiver.specs.Ends.{AreEndsOf, IsEndOf}
 use Rattle.link_receiver.specs.Link.{message_words}
@@ -39,9 +40,9 @@ one_fits : (place : ℕ) (name : List ℕ) (kind : PortKind) (outlet : Outlet) (
 one_fits place name (Sampling refresh) outlet end is = rw is.1 tt
 one_fits place name (Queuing depth) outlet end is = rw is.1 refl
 
-one_shows : (place : ℕ) (name : List ℕ) (kind : PortKind) (outlet : Outlet) (end : PortEnd) → IsOpenedAs place name kind outlet end → Shows (Some outlet) []
-one_shows place name (Sampling refresh) outlet end is = rw is.1 (refl, All-nil (λ (message : Message). AreOctets message.octets))
-one_shows place name (Queuing depth) outlet end is = rw is.1 refl
+one_shows : (place : ℕ) (name : List ℕ) (kind : PortKind) (outlet : Outlet) (end : PortEnd) → IsOpenedAs place name kind outlet end → Shows (Some outlet) 0 []
+one_shows place name (Sampling refresh) outlet end is = rw is.1 (([], refl, refl), All-nil (λ (message : Message). AreOctets message.octets))
+one_shows place name (Queuing depth) outlet end is = rw is.1 ([], refl, refl)
 
 pub opened_fit : (first : ℕ) (ports : List Port) (opened : List Outlet) (ends : List PortEnd) → AreOpened first ports opened ends → (place : ℕ) → Fits (slice_get ports place) (slice_get opened place)
 opened_fit first [] [] [] are place = tt
@@ -52,7 +53,7 @@ opened_fit first (port ∷ ports) [] ends are place = absurd are
 opened_fit first [] (outlet ∷ opened) ends are place = absurd are
 opened_fit first [] [] (end ∷ ends) are place = absurd are
 
-pub opened_show : (first : ℕ) (ports : List Port) (opened : List Outlet) (ends : List PortEnd) → AreOpened first ports opened ends → (place : ℕ) → Shows (slice_get opened place) []
+pub opened_show : (first : ℕ) (ports : List Port) (opened : List Outlet) (ends : List PortEnd) → AreOpened first ports opened ends → (place : ℕ) → Shows (slice_get opened place) 0 []
 opened_show first [] [] [] are place = refl
 opened_show first (port ∷ ports) (outlet ∷ opened) (end ∷ ends) are zero = one_shows first port.name port.kind outlet end are.0
 opened_show first (port ∷ ports) (outlet ∷ opened) (end ∷ ends) are (suc place) = opened_show (first + 1) ports opened ends are.1 place
@@ -89,15 +90,19 @@ abbrev pub messages_if : Bool → List Message → List Message
 messages_if true messages = messages
 messages_if false messages = []
 
-pub accepted_shows : (before : Outlet) (message : Message) (after : Outlet) (room : Bool) (messages : List Message) → Accepts before message after room
-    → Shows (Some before) messages → Shows (Some after) (messages ++ messages_if room (message ∷ []))
-accepted_shows (outlets.Sampling writer) message after room messages is shows =
-    rw (is.1, is.0) (
-      ap (λ (published : List (List ℕ)). published ++ message_words message ∷ []) shows.0 ∙ sym (map-append message_words messages (message ∷ [])),
+-- one more at the end
+one_more : {T : Type 0} (whole : List T) (before : ℕ) (last : List T) (x : T) → EndsIn whole before last → EndsIn (whole ++ x ∷ []) before (last ++ x ∷ [])
+one_more {T} whole before last x ends = (ends.0, ends.1, ap (λ (xs : List T). xs ++ x ∷ []) ends.2 ∙ append_assoc ends.0 last (x ∷ []))
+
+pub accepted_shows : (outlet : Outlet) (message : Message) (after : Outlet) (room : Bool) (before : ℕ) (messages : List Message) → Accepts outlet message after room
+    → Shows (Some outlet) before messages → Shows (Some after) before (messages ++ messages_if room (message ∷ []))
+accepted_shows (outlets.Sampling writer) message after room before messages is shows =
+    rw (is.1, is.0, map-append message_words messages (message ∷ [])) (
+      one_more writer.published before (map message_words messages) (message_words message) shows.0,
       All-push (λ (message : Message). AreOctets message.octets) messages message shows.1 is.2,
     )
-accepted_shows (outlets.Queuing queue) message after true messages is shows = rw is (ap (λ (put : List Message). put ++ message ∷ []) shows)
-accepted_shows (outlets.Queuing queue) message after false messages is shows = rw (is.0, append-nil) shows
+accepted_shows (outlets.Queuing queue) message after true before messages is shows = rw is (one_more queue.put before messages message shows)
+accepted_shows (outlets.Queuing queue) message after false before messages is shows = rw (is.0, append-nil) shows
 
 kept_kind : (kind : PortKind) (before : Outlet) (message : Message) (after : Outlet) (room : Bool) → Accepts before message after room → IsOfKind kind before → IsOfKind kind after
 kept_kind (Sampling refresh) (outlets.Sampling writer) message after room is of_kind = rw is.1 tt
@@ -126,18 +131,21 @@ channels_stay (Some delivery) room old new is within =
 
 -- ---- what one more message needs, and a full queue
 
-space_left : (kind : PortKind) (outlet : Outlet) (messages : List Message) (room : Room) → IsOfKind kind outlet → Shows (Some outlet) messages
-    → takes_one_more kind true (length messages) ≡ true → IsEnough kind room.len (vec_capacity room.octets) → HasSpace outlet room
-space_left (Sampling refresh) (outlets.Sampling writer) messages room of_kind shows takes enough =
-    let many : length writer.published ≡ length messages = ap length shows.0 ∙ length-map messages message_words in
-    (omega (arith, many, ltb-true (length messages) _ takes), enough)
-space_left (Queuing depth) (outlets.Queuing queue) messages room of_kind shows takes enough = enough
-space_left (Sampling refresh) (outlets.Queuing queue) messages room of_kind shows takes enough = absurd of_kind
-space_left (Queuing depth) (outlets.Sampling writer) messages room of_kind shows takes enough = absurd of_kind
+space_left : (kind : PortKind) (outlet : Outlet) (before : ℕ) (messages : List Message) (room : Room) → IsOfKind kind outlet → Shows (Some outlet) before messages
+    → takes_one_more kind true (before + length messages) ≡ true → IsEnough kind room.len (vec_capacity room.octets) → HasSpace outlet room
+space_left (Sampling refresh) (outlets.Sampling writer) before messages room of_kind shows takes enough =
+    let words = map message_words messages in
+    let ends = shows.0 in
+    let many : length writer.published ≡ before + length messages =
+    omega (arith, ends.1, ap length ends.2, length-append ends.0 words, length-map messages message_words) in
+    (omega (arith, many, ltb-true (before + length messages) _ takes), enough)
+space_left (Queuing depth) (outlets.Queuing queue) before messages room of_kind shows takes enough = enough
+space_left (Sampling refresh) (outlets.Queuing queue) before messages room of_kind shows takes enough = absurd of_kind
+space_left (Queuing depth) (outlets.Sampling writer) before messages room of_kind shows takes enough = absurd of_kind
 
-pub has_space_left : (port : Port) (found : Option Port) (outlet : Outlet) (messages : List Message) (room : Room) → found ≡ Some port → Fits found (Some outlet) → Shows (Some outlet) messages
-    → takes_one_more port.kind true (length messages) ≡ true → IsEnough port.kind room.len (vec_capacity room.octets) → HasSpace outlet room
-has_space_left port found outlet messages room is fits shows takes enough = space_left port.kind outlet messages room (rw is at fits) shows takes enough
+pub has_space_left : (port : Port) (found : Option Port) (outlet : Outlet) (before : ℕ) (messages : List Message) (room : Room) → found ≡ Some port → Fits found (Some outlet) → Shows (Some outlet) before messages
+    → takes_one_more port.kind true (before + length messages) ≡ true → IsEnough port.kind room.len (vec_capacity room.octets) → HasSpace outlet room
+has_space_left port found outlet before messages room is fits shows takes enough = space_left port.kind outlet before messages room (rw is at fits) shows takes enough
 
 -- as many messages were put as a full queue holds
 pub full_after : (queue : Known) → MayBeFull queue → queue.depth ≤ length queue.put

@@ -14,7 +14,7 @@ use Rattle.es_base.specs.Returns.{◌>>=◌, map_err}
 use Rattle.es_base.specs.Udp.{udp_of}
 use Rattle.es_base.specs.Port.{Port, is_sampling, port_of}
 use Rattle.es_base.specs.Settings.{Settings}
-use Rattle.es_base.specs.Past.{event_of, origin_of}
+use Rattle.es_base.specs.Past.{event_of, opening, origin_of}
 use Rattle.es_base.specs.Integrity.{passes}
 use Rattle.es_base.specs.Redundancy.{forwarded, is_redundant}
 use Rattle.es_base.specs.Groups.{Group, fate}
@@ -25,9 +25,14 @@ use Rattle.es_base.specs.Run.{MayAnswer, decided, may_refuse_with, settled}
 use Rattle.slot_core.specs.Limits.{port_readers}
 use Rattle.sampling_port.specs.Ends.{PortId, ReaderEnd, end_of, new_readers}
 use Rattle.sampling_port.specs.Seats.{new_seat}
+use Rattle.es_base.specs.declared.name.PortName.{PortName}
+use Rattle.queuing_port.specs.Queue.{Holds, Known}
 use Rattle.link_receiver.specs.declared.ends.PortEnd.{PortEnd}
+use Rattle.link_receiver.specs.declared.ends.PortEnd.TheVariants as ends
+use Rattle.link_receiver.specs.Counted.{EndsIn}
 use Rattle.link_receiver.specs.Ends.{AreEndsOf, IsEndOf, IsNewLink, IsWithin, IsWithinDepth}
-use Rattle.link_receiver.specs.Link.{Channel, Link, Takes, samples, deliveries_of, outcome_after, past_of, room_after, verdict_after, with_event}
+use Rattle.link_receiver.specs.Link.{Channel, Link, Takes, samples}
+use Rattle.link_receiver.specs.Whole.{Whole, deliveries_of, number_of, outcome_after, past_of, room_after, verdict_after, whole_of, with_event}
 use Rattle.link_receiver.specs.Unread.{AreUnreadEnds, IsUnread, IsUnreadAt, IsUnreadEnd, IsWithinAt}
 use Rattle.link_receiver.proofs.Places.{reverse-push}
 
@@ -86,7 +91,7 @@ by_steps false is_copy settings groups a = tt
 by_steps true true settings groups a = tt
 by_steps true false settings groups a = if_brought settings.ports (way.frame_payload settings groups a) (in_frame settings groups a)
 
-pub brings_of_port : (link : Link) (a : Arrival) → IfBrings link.settings.ports (outcome_after link a)
+pub brings_of_port : (link : Whole) (a : Arrival) → IfBrings link.settings.ports (outcome_after link a)
 unfolding way.outcome
 brings_of_port link a =
     let o = origin_of link.settings in
@@ -95,8 +100,25 @@ brings_of_port link a =
 
 -- ---- one event more
 
-deliveries_more : (link : Link) (a : Arrival) (room : Bool) (verdict : Verdict) (port : PortNo)
-    → deliveries_of (with_event link a room verdict) port ≡ deliveries_of link port ++ delivered (outcome_after link a) room a.time port (length (deliveries_of link port))
+-- the link took a frame: it has one event more
+pub record TakesWhole (old : Whole) (a : Arrival) (verdict : Verdict) (new : Whole) : Type 0 where
+  pub room : Bool
+  pub may : MayAnswer (origin_of old.settings) (past_of old) a room
+  pub becomes : verdict ≡ verdict_after old a room
+  pub event : new ≡ with_event old a room verdict
+
+pub takes_whole : (link : Link) (a : Arrival) (verdict : Verdict) (new : Link) → link.before ≡ None → Takes link a verdict new → TakesWhole (whole_of link) a verdict (whole_of new)
+takes_whole link a verdict new begins takes =
+    let is = takes.becomes opening (rw begins refl) in
+    record {
+      room = takes.room;
+      may = is.may;
+      becomes = is.becomes;
+      event = ap whole_of takes.event;
+    }
+
+deliveries_more : (link : Whole) (a : Arrival) (room : Bool) (verdict : Verdict) (port : PortNo)
+    → deliveries_of (with_event link a room verdict) port ≡ deliveries_of link port ++ delivered (outcome_after link a) room a.time port (number_of link port)
 deliveries_more link a room verdict port = rw (reverse-push link.history (event_of a room verdict)) refl
 
 same_port : (a b : PortNo) → is_same_port a b ≡ true → a ≡ b
@@ -108,10 +130,10 @@ abbrev pub IfQueued : Verdict → (PortNo → Type 0) → Type 0
 IfQueued verdict Holds = (port : PortNo) → verdict ≡ verdicts.Queued port → Holds port
 
 -- a queue that had room, and holds no more than it may, didn't hold as many before
-not_full : (link : Link) (a : Arrival) (outcome : way.Outcome) (verdict : Verdict) → outcome_after link a ≡ outcome → IfBrings link.settings.ports outcome
-    → verdict ≡ settled (decided outcome (λ port. length (deliveries_of link port))) true
+not_full : (link : Whole) (a : Arrival) (outcome : way.Outcome) (verdict : Verdict) → outcome_after link a ≡ outcome → IfBrings link.settings.ports outcome
+    → verdict ≡ settled (decided outcome (number_of link)) true
     → IfQueued verdict (IsWithinAt (with_event link a true verdict))
-    → may_refuse_with outcome (λ port. length (deliveries_of link port)) ≡ false
+    → may_refuse_with outcome (number_of link) ≡ false
 not_full link a way.out_of_sequence verdict is of_port becomes queued = refl
 not_full link a way.redundant verdict is of_port becomes queued = refl
 not_full link a (way.refused v) verdict is of_port becomes queued = refl
@@ -123,31 +145,31 @@ not_full link a (way.brings payload) verdict is of_port becomes queued = go payl
     before : List Message
     before = deliveries_of link port
 
-    go : (kind : PortKind) → payload.kind ≡ kind → may_refuse_with (way.brings payload) (λ p. length (deliveries_of link p)) ≡ false
+    go : (kind : PortKind) → payload.kind ≡ kind → may_refuse_with (way.brings payload) (number_of link) ≡ false
     go (Sampling refresh) kind = rw kind refl
     go (Queuing depth) kind =
         let within = queued port (becomes ∙ rw kind refl) in
-        let held : IsWithinDepth (Some of_port.0) (length (deliveries_of (with_event link a true verdict) port)) = rw of_port.1 at within in
-        let bound : length (deliveries_of (with_event link a true verdict) port) ≤ depth = rw (of_port.2 ∙ kind) at held in
+        let held : IsWithinDepth (Some of_port.0) (number_of (with_event link a true verdict) port) = rw of_port.1 at within in
+        let bound : number_of (with_event link a true verdict) port ≤ depth = rw (of_port.2 ∙ kind) at held in
         let message : Message = record { time = a.time; octets = payload.octets } in
-        let one : delivered (outcome_after link a) true a.time port (length before) ≡ message ∷ [] = rw (is, eq-eqb port.0 port.0 refl, kind) refl in
+        let one : delivered (outcome_after link a) true a.time port (number_of link port) ≡ message ∷ [] = rw (is, eq-eqb port.0 port.0 refl, kind) refl in
         let more : deliveries_of (with_event link a true verdict) port ≡ before ++ message ∷ [] = deliveries_more link a true verdict port ∙ ap (λ ms. before ++ ms) one in
-        rw kind (lt-leb depth (length before) (omega (arith, bound, ap length more, length-append before (message ∷ []))))
+        rw kind (lt-leb depth (number_of link port) (omega (arith, bound, ap length more, length-append before (message ∷ []))))
 
-room_of : (link : Link) (a : Arrival) (verdict : Verdict) (new : Link) (room : Bool) → MayAnswer (origin_of link.settings) (past_of link) a room → verdict ≡ verdict_after link a room
+room_of : (link : Whole) (a : Arrival) (verdict : Verdict) (new : Whole) (room : Bool) → MayAnswer (origin_of link.settings) (past_of link) a room → verdict ≡ verdict_after link a room
     → new ≡ with_event link a room verdict → IfQueued verdict (IsWithinAt new) → room ≡ room_after link a
 room_of link a verdict new false may becomes is queued = rw may refl
 room_of link a verdict new true may becomes is queued =
     rw (not_full link a (outcome_after link a) verdict refl (brings_of_port link a) becomes (rw is at queued)) refl
 
 -- the queue's answer is that of one that nobody reads
-pub room_is : (link : Link) (a : Arrival) (verdict : Verdict) (new : Link) → (takes : Takes link a verdict new) → IfQueued verdict (IsWithinAt new) → takes.room ≡ room_after link a
+pub room_is : (link : Whole) (a : Arrival) (verdict : Verdict) (new : Whole) → (takes : TakesWhole link a verdict new) → IfQueued verdict (IsWithinAt new) → takes.room ≡ room_after link a
 room_is link a verdict new takes queued = room_of link a verdict new takes.room takes.may takes.becomes takes.event queued
 
-pub unread_verdict : (link : Link) (a : Arrival) (verdict : Verdict) (new : Link) → Takes link a verdict new → IfQueued verdict (IsWithinAt new) → verdict ≡ verdict_after link a (room_after link a)
+pub unread_verdict : (link : Whole) (a : Arrival) (verdict : Verdict) (new : Whole) → TakesWhole link a verdict new → IfQueued verdict (IsWithinAt new) → verdict ≡ verdict_after link a (room_after link a)
 unread_verdict link a verdict new takes queued = takes.becomes ∙ ap (verdict_after link a) (room_is link a verdict new takes queued)
 
-pub unread_event : (link : Link) (a : Arrival) (verdict : Verdict) (new : Link) → Takes link a verdict new → IfQueued verdict (IsWithinAt new) → new ≡ with_event link a (room_after link a) verdict
+pub unread_event : (link : Whole) (a : Arrival) (verdict : Verdict) (new : Whole) → TakesWhole link a verdict new → IfQueued verdict (IsWithinAt new) → new ≡ with_event link a (room_after link a) verdict
 unread_event link a verdict new takes queued = takes.event ∙ ap (λ room. with_event link a room verdict) (room_is link a verdict new takes queued)
 
 abbrev queued_port : PortNo → Verdict → PortNo
@@ -159,15 +181,15 @@ queued_at port Holds holds = λ other same. subst Holds (ap (queued_port port) s
 
 -- ---- no port has more messages than its queue holds
 
-nothing_more : (link : Link) (a : Arrival) (room : Bool) (verdict : Verdict) (port : PortNo) → delivered (outcome_after link a) room a.time port (length (deliveries_of link port)) ≡ []
+nothing_more : (link : Whole) (a : Arrival) (room : Bool) (verdict : Verdict) (port : PortNo) → delivered (outcome_after link a) room a.time port (number_of link port) ≡ []
     → IsWithinAt link port → IsWithinAt (with_event link a room verdict) port
 nothing_more link a room verdict port none within = rw (deliveries_more link a room verdict port, none, append-nil) within
 
 any_number : (port : Port) (refresh : ℕ) (held : ℕ) → port.kind ≡ Sampling refresh → IsWithinDepth (Some port) held
 any_number port refresh held is = rw is tt
 
-within_one : (link : Link) (a : Arrival) (outcome : way.Outcome) (room : Bool) (verdict : Verdict) (port : PortNo) → outcome_after link a ≡ outcome → IfBrings link.settings.ports outcome
-    → verdict ≡ settled (decided outcome (λ p. length (deliveries_of link p))) room
+within_one : (link : Whole) (a : Arrival) (outcome : way.Outcome) (room : Bool) (verdict : Verdict) (port : PortNo) → outcome_after link a ≡ outcome → IfBrings link.settings.ports outcome
+    → verdict ≡ settled (decided outcome (number_of link)) room
     → IsWithinAt link port → IfQueued verdict (IsWithinAt (with_event link a room verdict)) → IsWithinAt (with_event link a room verdict) port
 within_one link a way.out_of_sequence room verdict port is of_port becomes within queued = nothing_more link a room verdict port (rw is refl) within
 within_one link a way.redundant room verdict port is of_port becomes within queued = nothing_more link a room verdict port (rw is refl) within
@@ -181,16 +203,30 @@ within_one link a (way.brings payload) room verdict port is of_port becomes with
     at_same : (kind : PortKind) (had : Bool) → payload.kind ≡ kind → room ≡ had → is_same_port payload.port port ≡ true → IsWithinAt (with_event link a room verdict) port
     at_same (Sampling refresh) had kind room_is same =
         let there : slice_get link.settings.ports port.0 ≡ Some of_port.0 = rw (← same_port payload.port port same) of_port.1 in
-        rw there (any_number of_port.0 refresh (length (deliveries_of (with_event link a room verdict) port)) (of_port.2 ∙ kind))
+        rw there (any_number of_port.0 refresh (number_of (with_event link a room verdict) port) (of_port.2 ∙ kind))
     at_same (Queuing depth) true kind room_is same = queued port (becomes ∙ rw (kind, room_is, same_port payload.port port same) refl)
     at_same (Queuing depth) false kind room_is same = nothing_more link a room verdict port (rw (is, same, kind, room_is) refl) within
 
-pub within_more : (link : Link) (a : Arrival) (verdict : Verdict) (new : Link) → Takes link a verdict new → ((place : ℕ) → IsWithinAt link (record { 0 = place }))
+pub within_more : (link : Whole) (a : Arrival) (verdict : Verdict) (new : Whole) → TakesWhole link a verdict new → ((place : ℕ) → IsWithinAt link (record { 0 = place }))
     → IfQueued verdict (IsWithinAt new) → (place : ℕ) → IsWithinAt new (record { 0 = place })
 within_more link a verdict new takes within queued place =
     rw takes.event (within_one link a (outcome_after link a) takes.room verdict (record { 0 = place }) refl (brings_of_port link a) takes.becomes (within place) (rw takes.event at queued))
 
 -- ---- the ends
+
+-- an end from which nothing was taken
+pub none_taken : (port : Option Port) (channel : Option Channel) (place : PortNo) (name : PortName) (taker : Known) → IsUnreadAt port channel (Some (ends.Queuing place name taker)) → taker.taken ≡ []
+none_taken None channel place name taker is = absurd is
+none_taken (Some port) channel place name taker is = go port.kind is
+  where
+    go : (kind : PortKind) → IsUnreadEnd kind channel (ends.Queuing place name taker) → taker.taken ≡ []
+    go (Sampling refresh) is = absurd is
+    go (Queuing depth) is = is.1
+
+-- its queue holds all that was delivered
+pub held_all : (taker : Known) (messages : List Message) (held : ℕ) → taker.taken ≡ [] → EndsIn taker.put 0 messages → Holds taker held → held ≡ 0 + length messages
+held_all taker messages held none ends holds =
+    omega (arith, ap (λ (ms : List Message). length ms) none, holds.1, ap (λ (ms : List Message). length ms) holds.2, length-append taker.taken holds.0, ends.1, ap (λ (ms : List Message). length ms) ends.2, length-append ends.0 messages)
 
 pub ends_stay : (link : Link) (a : Arrival) (verdict : Verdict) (new : Link) (ends : List PortEnd) → Takes link a verdict new → AreUnreadEnds link ends → AreUnreadEnds new ends
 ends_stay link a verdict new ends takes are = λ place. rw takes.event (are place)
@@ -225,14 +261,16 @@ none_within (Some port) = go port.kind
 
 pub unread_new : (settings : Settings) (link : Link) (ends : List PortEnd) → IsNewLink settings link → AreEndsOf 0 settings.ports link.channels ends → IsUnread link ends
 unread_new settings link ends new are = record {
+  begins = new.1;
   ends_are = rw new.0 (ends_at 0 settings.ports link.channels ends are);
-  within = λ place. rw new.1 (none_within (slice_get link.settings.ports place));
+  within = λ place. rw new.2 (none_within (slice_get link.settings.ports place));
 }
 
 -- ---- after one
 
-pub unread_more : (link : Link) (a : Arrival) (verdict : Verdict) (new : Link) (ends : List PortEnd) → Takes link a verdict new → IsUnread link ends → IfQueued verdict (IsWithinAt new) → IsUnread new ends
+pub unread_more : (link : Link) (a : Arrival) (verdict : Verdict) (new : Link) (ends : List PortEnd) → Takes link a verdict new → IsUnread link ends → IfQueued verdict (IsWithinAt (whole_of new)) → IsUnread new ends
 unread_more link a verdict new ends takes unread queued = record {
+  begins = rw takes.event unread.begins;
   ends_are = ends_stay link a verdict new ends takes unread.ends_are;
-  within = within_more link a verdict new takes unread.within queued;
+  within = within_more (whole_of link) a verdict (whole_of new) (takes_whole link a verdict new unread.begins takes) unread.within queued;
 }

@@ -1,10 +1,14 @@
+pub mod Base
 pub mod ByPlace
 pub mod Change
 pub mod Checks
+pub mod Counted
 pub mod Ends
+pub mod Epoch
 pub mod Kept
 pub mod Link
 pub mod Offer
 pub mod Outlet
 pub mod Seen
 pub mod Unread
+pub mod Whole

@@ -20,7 +20,7 @@ use Rattle.link_receiver.specs.declared.ends.PortEnd.{PortEnd}
 use Rattle.link_receiver.specs.declared.ends.PortEnd.TheVariants as ends
 use Rattle.link_receiver.specs.declared.outlet.Outlet.{Outlet}
 use Rattle.link_receiver.specs.declared.outlet.Outlet.TheVariants as outlets
-use Rattle.link_receiver.specs.Ends.{port_no}
+use Rattle.link_receiver.specs.Counted.{EndsIn, port_no}
 use Rattle.link_receiver.specs.Link.{Channel, message_words, queues, samples}
 
 -- ---- one port
@@ -29,12 +29,13 @@ abbrev pub channel_of : Outlet → Channel
 channel_of (outlets.Sampling writer) = samples writer.port
 channel_of (outlets.Queuing queue) = queues queue.queue
 
--- what went out is what was delivered to the port; a sampling port publishes the words of each message
-abbrev pub Shows : Option Outlet → List Message → Type 0
-Shows None messages = messages ≡ []
-Shows (Some (outlets.Sampling writer)) messages =
-    (writer.published ≡ map message_words messages) × All (λ message. AreOctets message.octets) messages
-Shows (Some (outlets.Queuing queue)) messages = queue.put ≡ messages
+-- what went out is what was delivered to the port: as many as were delivered before the history, and the
+-- messages of the history; a sampling port publishes the words of each message
+abbrev pub Shows : Option Outlet → ℕ → List Message → Type 0
+Shows None before messages = messages ≡ []
+Shows (Some (outlets.Sampling writer)) before messages =
+    EndsIn writer.published before (map message_words messages) × All (λ message. AreOctets message.octets) messages
+Shows (Some (outlets.Queuing queue)) before messages = EndsIn queue.put before messages
 
 -- the outlet is that of a port of this kind
 abbrev pub IsOfKind : PortKind → Outlet → Type 0

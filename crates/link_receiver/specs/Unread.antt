@@ -1,5 +1,5 @@
 -- A link from whose queues nobody takes.
-use Rattle.std.specs.Prelude.{◌≡◌, ℕ, List, [], length, slice_get, Option, None, Some}
+use Rattle.std.specs.Prelude.{◌≡◌, ℕ, List, [], slice_get, Option, None, Some}
 use Rattle.es_base.specs.declared.place.PortNo.{PortNo}
 use Rattle.es_base.specs.declared.port.PortKind.{PortKind}
 use Rattle.es_base.specs.declared.port.PortKind.TheVariants.{Sampling, Queuing}
@@ -10,7 +10,9 @@ use Rattle.sampling_port.specs.Ends.{ReaderEnd}
 use Rattle.link_receiver.specs.declared.ends.PortEnd.{PortEnd}
 use Rattle.link_receiver.specs.declared.ends.PortEnd.TheVariants as ends
 use Rattle.link_receiver.specs.Ends.{IsWithinDepth}
-use Rattle.link_receiver.specs.Link.{Channel, Link, deliveries_of, queues, samples}
+use Rattle.link_receiver.specs.Counted.{port_no}
+use Rattle.link_receiver.specs.Link.{Channel, Link, queues, samples}
+use Rattle.link_receiver.specs.Whole.{Whole, number_of, whole_of}
 
 -- the end of a port of this kind: its first reader is of the port, and its taker has taken nothing from the
 -- port's queue
@@ -32,14 +34,16 @@ abbrev pub AreUnreadEnds : Link → List PortEnd → Type 0
 AreUnreadEnds link ends = (place : ℕ) → IsUnreadAt (slice_get link.settings.ports place) (slice_get link.channels place) (slice_get ends place)
 
 -- no more messages were delivered to the port at this place than its queue holds
-abbrev pub IsWithinAt : Link → PortNo → Type 0
-IsWithinAt link port = IsWithinDepth (slice_get link.settings.ports port.0) (length (deliveries_of link port))
+abbrev pub IsWithinAt : Whole → PortNo → Type 0
+IsWithinAt link port = IsWithinDepth (slice_get link.settings.ports port.0) (number_of link port)
 
+-- nothing was taken out of the link, nor from its queues
 pub record IsUnread (link : Link) (ends : List PortEnd) : Type 0 where
+  pub begins : link.before ≡ None
   pub ends_are : AreUnreadEnds link ends
-  pub within : (place : ℕ) → IsWithinAt link (record { 0 = place })
+  pub within : (place : ℕ) → IsWithinAt (whole_of link) (port_no place)
 
 -- each port's last delivery is among the first so many events
 abbrev pub AreUpToLast : List Event → List ℕ → Type 0
 AreUpToLast history up_to_last =
-    (port end : ℕ) → slice_get up_to_last port ≡ Some end → AreDeliveredBefore end (record { 0 = port }) history
+    (port end : ℕ) → slice_get up_to_last port ≡ Some end → AreDeliveredBefore end (port_no port) history

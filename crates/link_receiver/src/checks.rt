@@ -38,6 +38,17 @@ impl Checks {
         }
     }
 
+    /// The same once more.
+    pub(crate) fn copy(&self) -> Checks
+        ensures { result ≡ self.now }
+    {
+        Checks {
+            a: self.a.copy(),
+            b: self.b.copy(),
+            redundancy: self.redundancy.copy(),
+        }
+    }
+
     /// Whether a frame with this sequence number passes integrity checking on its network.
     pub(crate) fn passes(&self, net: Net, sequence_number: u8) -> bool
         ensures { (o : Origin) (past : List Event) (a : Arrival) → HavePast self.now o past →

@@ -1,18 +1,20 @@
 //! One link's state.
-ghost use Rattle.std.specs.Prelude.{◌≡◌, ◌≤◌, IfOk, OnErr, Some, [], length, slice_get, true};
+ghost use Rattle.std.specs.Prelude.{◌≡◌, ◌<◌, ◌≤◌, ◌+◌, ◌↔◌, IfErr, IfOk, OnErr, Some, [], length, reverse, slice_get, true};
 ghost use Rattle.std.specs.List.{All};
-ghost use Rattle.std.specs.Option.{option_map};
+ghost use Rattle.std.specs.Option.{option_copied, option_map};
 ghost use Rattle.std.specs.Vec.{vec_capacity};
 ghost use Rattle.es_base.specs.Limits.{most_events};
+ghost use Rattle.es_base.specs.Base.{IsBase};
 ghost use Rattle.es_base.specs.Frame.{IsFrame, link_number_of};
 ghost use Rattle.es_base.specs.Port.{largest_payload};
-ghost use Rattle.es_base.specs.Past.{AreFramesOf, arrived, origin_of};
+ghost use Rattle.es_base.specs.Past.{AreFramesOf, Base, arrived, origin_at};
 ghost use Rattle.es_base.specs.Run.{IsRun, decided, decided_at};
 ghost use Rattle.es_base.specs.Tally.{HasCounts};
 ghost use Rattle.es_base.specs.Reassembly.{groups_in, offered};
 ghost use Rattle.es_base.specs.Deliveries.{takes_one_more};
 ghost use Rattle.es_base.specs.Outcome.{Outcome as OutcomeValue, brought, frame_payload};
 ghost use Rattle.frame_reader.specs.Parts.{packet_parts};
+ghost use Rattle.link_deliveries.specs.Before.{StoodBefore};
 ghost use Rattle.link_deliveries.specs.Told.{AreDeliveredBefore};
 ghost use Rattle.slot_core.specs.Octets.{AreOctets};
 ghost use Rattle.slot_core.specs.State.{StartsWith};
@@ -21,16 +23,20 @@ ghost use Rattle.queuing_port.specs.Queue.{Holds};
 ghost use Rattle.link_receiver.specs.Change.{HasPlace, IsChange, IsEnough, RoomFor};
 ghost use Rattle.link_receiver.specs.Seen.{HasPort, IsForOneOf, Sees, counts_as_forwarded};
 ghost use Rattle.link_receiver.specs.Ends.{AreEndsOf, IsNewLink, IsOfItsPort, IsWithinDepth};
-ghost use Rattle.link_receiver.specs.Link.{Takes, past_of, deliveries_of, published_at, queues, samples};
-ghost use Rattle.link_receiver.specs.Link.{outcome_after, decision_after};
+ghost use Rattle.link_receiver.specs.Link.{Takes, decision_after, deliveries_of, from, number_of, outcome_after, published_at, queues, samples};
+ghost use Rattle.link_receiver.specs.Base.{StandsFor, taken_out};
+ghost use Rattle.link_receiver.specs.Counted.{EndsIn};
+ghost use Rattle.link_receiver.specs.Epoch.{Hands};
+ghost use Rattle.link_receiver.specs.declared.epoch.EpochFault.TheVariants.{TooMany};
 
 use crate::change::{Change, Room};
-use crate::checks::Checks;
 use crate::ends::PortEnd;
-use crate::history::reserve_event;
+use crate::epoch::{Epoch, EpochFault};
+use crate::history::{MOST_EVENTS, reserve_event};
 use crate::offer::offer;
 use crate::outcome::{Outcome, Payload};
 use crate::outlet::{Outlet, open_outlets};
+use crate::standing::Standing;
 use crate::verdict::{sampled, settled};
 use crate::way::{brought, counts_as_forwarded, packet_payload};
 use block_list::BlockList;
@@ -46,20 +52,21 @@ use sampling_port::Reader;
 use slot_core::{MOST_MESSAGES, READERS};
 use std::alloc::Global;
 use std::marker::Model;
+use std::mem;
 use std::sync::Wait;
 
-/// The state of one link: its settings and its history. What it keeps beside them follows from these
-/// two: for each network a sequence number, what redundancy management compares with, the pieces of
-/// datagrams that aren't complete, and for each port the end that publishes its messages or puts them
-/// into its queue.
+/// The state of one link: its settings, its history, and what is kept of the events that were taken out
+/// before it. The rest follows from these: what is kept of all events, and for each port the end that
+/// publishes its messages or puts them into its queue.
 #[derive(Drop)]
 pub struct LinkState {
     settings: LinkSettings,
+    /// What is kept of the events before the history. None if there were none.
+    before: Option<Standing>,
     history: BlockList<Event>,
-    checks: Checks,
-    reassembly: Reassembly,
+    /// What is kept of all events.
+    kept: Standing,
     outlets: Vec<Outlet>,
-    tally: VerdictTally,
 }
 
 impl Model for LinkState {
@@ -73,11 +80,12 @@ impl Model for LinkState {
 
     ghost view = { λ s. record {
       settings = s.settings;
+      before = s.before;
       history = s.history.items;
       channels = map channel_of s.outlets.items;
     } };
 
-    ghost invariant = { λ s. IsKept s.settings s.history.items s.checks s.reassembly s.outlets.items s.tally };
+    ghost invariant = { λ s. IsKept s.settings s.before s.history.items s.kept s.outlets.items };
 }
 
 impl LinkState {
@@ -91,11 +99,10 @@ impl LinkState {
         let (outlets, ends) = open_outlets(alloc, settings.ports())?;
         let state = LinkState {
             settings: settings.copy(alloc)?,
+            before: None,
             history: BlockList::new(alloc),
-            checks: Checks::opening(settings.window(), settings.skew_max()),
-            reassembly: Reassembly::new(alloc, settings.reassembly())?,
+            kept: Standing::opening(alloc, settings)?,
             outlets,
-            tally: VerdictTally::opening(),
         };
         Ok((state, ends))
     }
@@ -107,34 +114,86 @@ impl LinkState {
         &self.settings
     }
 
-    /// The link's events in the order in which their frames came. Each has a frame of this link. There are
-    /// at most `MOST_EVENTS`.
+    /// The link's events since the last epoch was taken out, or since the first of all, in the order in which
+    /// their frames came. Each has a frame of this link. There are at most `MOST_EVENTS`.
     pub fn history(&self) -> &BlockList<Event>
         ensures events { result.now.items ≡ self.now.history }
-        ensures run { IsRun (origin_of self.now.settings) (past_of self.now) }
-        ensures frames { AreFramesOf self.now.settings (past_of self.now) }
+        ensures base { (base : Base) × IsBase self.now.settings base × StandsFor self.now.before self.now.settings base }
+        ensures run { (base : Base) → StandsFor self.now.before self.now.settings base → IsRun (origin_at self.now.settings base) (reverse self.now.history) }
+        ensures frames { AreFramesOf self.now.settings (reverse self.now.history) }
         ensures few { length self.now.history ≤ most_events }
     {
         &self.history
     }
 
-    /// How many events came on each network with each kind of verdict.
+    /// How many events were taken out: the place of the history's first event among all events of the link.
+    pub fn taken(&self) -> u64
+        ensures value { result ≡ taken_out self.now.before }
+        ensures few { result ≤ most_events }
+    {
+        match &self.before {
+            None => 0,
+            Some(before) => before.taken,
+        }
+    }
+
+    /// Takes the history out: the link goes on from what it left. What becomes of a frame is what it would have
+    /// become, places and counts go on, and a partial datagram can still be completed. The events themselves
+    /// are handed out, not copies of them. After a fault nothing has changed.
+    pub fn take_epoch(&mut self, alloc: Global) -> Result<Epoch, EpochFault>
+        ensures ok { IfOk result (λ epoch. Hands self.old epoch self.new) }
+        ensures err { OnErr result (self.new ≡ self.old) }
+        ensures fault { IfErr result (λ fault. (fault ≡ TooMany) ↔ (most_events < taken_out self.old.before + length self.old.history)) }
+    {
+        if self.kept.taken > MOST_EVENTS as u64 {
+            return Err(EpochFault::TooMany);
+        }
+        let Ok(settings) = self.settings.copy(alloc) else {
+            return Err(EpochFault::Memory);
+        };
+        let Ok(kept) = self.kept.copy(alloc) else {
+            return Err(EpochFault::Memory);
+        };
+        let before = mem::replace(&mut self.before, Some(kept));
+        let events = mem::replace(&mut self.history, BlockList::new(alloc));
+        Ok(Epoch::of(settings, before, events))
+    }
+
+    /// How many events came on each network with each kind of verdict, from the first event on.
     pub fn tally(&self) -> &VerdictTally
-        ensures { HasCounts result.now (past_of self.now) }
+        ensures { (base : Base) → StandsFor self.now.before self.now.settings base →
+            HasCounts result.now (origin_at self.now.settings base) (reverse self.now.history) }
     {
-        &self.tally
+        &self.kept.tally
     }
 
-    /// The messages that were delivered to a port, in order, worked out from the history. This walks
-    /// through the history, up to the last event that delivered one.
+    /// The messages that the history delivered to a port, in order, worked out from it. This walks through the
+    /// history, up to the last event that delivered one.
     pub fn deliveries(&self, alloc: Global, port: PortNo) -> Result<Vec<Message>, Memory>
-        ensures { IfOk result (λ messages. messages.items ≡ deliveries_of self.now port) }
+        ensures { IfOk result (λ messages. (base : Base) → StandsFor self.now.before self.now.settings base →
+            messages.items ≡ deliveries_of (from base self.now) port) }
     {
-        deliveries(alloc, self.settings(), self.history(), port)
+        deliveries(
+            alloc,
+            self.settings(),
+            self.pieces_before(),
+            self.history(),
+            port,
+        )
     }
 
-    /// The messages that were delivered to a port, in order, for a caller who knows that no event from this
-    /// place on delivered one.
+    /// The pieces of datagrams that weren't complete before the history.
+    fn pieces_before(&self) -> Option<&Reassembly>
+        ensures { (base : Base) → StandsFor self.now.before self.now.settings base → StoodBefore (option_copied result) self.now.settings base }
+    {
+        match &self.before {
+            None => None,
+            Some(before) => Some(&before.reassembly),
+        }
+    }
+
+    /// The messages that the history delivered to a port, in order, for a caller who knows that no event from
+    /// this place on delivered one.
     pub(crate) fn deliveries_up_to(
         &self,
         alloc: Global,
@@ -142,20 +201,32 @@ impl LinkState {
         port: PortNo,
     ) -> Result<Vec<Message>, Memory>
         requires { AreDeliveredBefore end port self.now.history }
-        ensures { IfOk result (λ messages. messages.items ≡ deliveries_of self.now port) }
+        ensures { IfOk result (λ messages. (base : Base) → StandsFor self.now.before self.now.settings base →
+            messages.items ≡ deliveries_of (from base self.now) port) }
     {
-        deliveries_up_to(alloc, self.settings(), self.history(), end, port)
+        deliveries_up_to(
+            alloc,
+            self.settings(),
+            self.pieces_before(),
+            self.history(),
+            end,
+            port,
+        )
     }
 
     /// A sampling port of this link and a reader of it meet: the reader then knows all that was delivered to
-    /// the port, so no later read returns an earlier message than the last of that. What it had seen is a
-    /// beginning of it. It takes no memory and waits for nobody, and nothing else changes.
+    /// the port, before the history and in it, so no later read returns an earlier message than the last of
+    /// that. What it had seen is a beginning of it. It takes no memory and waits for nobody, and nothing else
+    /// changes.
     pub fn meet(&mut self, port: PortNo, reader: &mut Reader<READERS>)
         requires { slice_get self.old.channels port.0 ≡ Some (samples reader.old.port) }
         ensures link { self.new ≡ self.old }
-        ensures reader { reader.new ≡ is_told reader.old (published_at self.old port) }
-        ensures before { StartsWith (published_at self.old port) reader.old.seen }
-        ensures octets { All (λ message. AreOctets message.octets) (deliveries_of self.old port) }
+        ensures reader { reader.new ≡ is_told reader.old reader.new.seen }
+        ensures before { StartsWith reader.new.seen reader.old.seen }
+        ensures seen { (base : Base) → StandsFor self.old.before self.old.settings base →
+            EndsIn reader.new.seen (base.delivered port) (published_at (from base self.old) port) }
+        ensures octets { (base : Base) → StandsFor self.old.before self.old.settings base →
+            All (λ message. AreOctets message.octets) (deliveries_of (from base self.old) port) }
     {
         self.outlets[port.0 as usize].meet_reader(reader);
     }
@@ -166,7 +237,9 @@ impl LinkState {
     pub fn meet_taker<R: Wait>(&mut self, rt: &R, port: PortNo, taker: &mut Taker) -> usize
         requires { slice_get self.old.channels port.0 ≡ Some (queues taker.old.queue) }
         ensures link { self.new ≡ self.old }
-        ensures taker { taker.new ≡ record taker.old { put = deliveries_of self.old port } }
+        ensures taker { taker.new ≡ record taker.old { put = taker.new.put } }
+        ensures put { (base : Base) → StandsFor self.old.before self.old.settings base →
+            EndsIn taker.new.put (base.delivered port) (deliveries_of (from base self.old) port) }
         ensures held { Holds taker.new result }
         ensures depth { IsWithinDepth (slice_get self.old.settings.ports port.0) result }
     {
@@ -176,7 +249,8 @@ impl LinkState {
     /// What would become of a frame of this link that came now, at `now` microseconds. Nothing changes. The
     /// frame's link number isn't looked at: whose frame it is, is for the caller to know.
     pub fn decide(&self, net: Net, now: u64, frame: &Frame<'_>) -> Decision
-        ensures { result ≡ decision_after self.now (arrived net now frame.now.whole.now) }
+        ensures { (base : Base) → StandsFor self.now.before self.now.settings base →
+            result ≡ decision_after (from base self.now) (arrived net now frame.now.whole.now) }
     {
         let (outcome, _) = self.outcome(net, now, frame);
         self.decision(&outcome)
@@ -229,17 +303,17 @@ impl LinkState {
             room,
         } = change;
         let (net, time) = (arrival.net, arrival.time);
-        self.checks.note(net, sequence_number, time, forwarded);
+        self.kept.checks.note(net, sequence_number, time, forwarded);
         let had_room = offer(
             rt,
-            &mut self.reassembly,
+            &mut self.kept.reassembly,
             &mut self.outlets,
             packet,
             time,
             room,
         );
         let verdict = settled(decision, had_room);
-        self.tally.add(net, verdict.kind());
+        self.kept.note(net, verdict);
         self.history
             .push_reserved(Event::of(arrival, had_room, verdict));
         Ok(verdict)
@@ -248,7 +322,7 @@ impl LinkState {
     /// What an arrival changes. All memory that it needs but for the history's place is taken here.
     fn change_by<'a>(&self, alloc: Global, arrival: &'a Arrival) -> Result<Change<'a>, Memory>
         requires { IsFrame arrival.now.frame }
-        ensures { IfOk result (λ change. IsChange self.now arrival.now change) }
+        ensures { IfOk result (λ change. (base : Base) → StandsFor self.now.before self.now.settings base → IsChange (from base self.now) arrival.now change) }
     {
         let frame = frame_in(arrival.frame.as_slice());
         let (outcome, packet) = self.outcome(arrival.net, arrival.time, &frame);
@@ -265,15 +339,17 @@ impl LinkState {
     /// that reassembly is offered, if it is offered one.
     #[tactic(auto, unfolding(es_base::specs::Outcome::outcome))]
     fn outcome<'a>(&self, net: Net, now: u64, frame: &Frame<'a>) -> (Outcome, Option<Packet<'a>>)
-        ensures value { Sees result.0 (outcome_after self.now (arrived net now frame.now.whole.now)) }
+        ensures value { (base : Base) → StandsFor self.now.before self.now.settings base →
+            Sees result.0 (outcome_after (from base self.now) (arrived net now frame.now.whole.now)) }
         ensures packet { option_map packet_parts result.1 ≡ offered (counts_as_forwarded result.0) frame.now.whole.now }
         ensures port { HasPort result.0 self.now.settings.ports }
     {
-        if !self.checks.passes(net, frame.sequence_number) {
+        if !self.kept.checks.passes(net, frame.sequence_number) {
             return (Outcome::OutOfSequence, None);
         }
         let managed = self.settings.redundancy();
         if self
+            .kept
             .checks
             .is_redundant(managed, frame.sequence_number, now)
         {
@@ -290,7 +366,8 @@ impl LinkState {
         now: u64,
         frame: &Frame<'a>,
     ) -> (Outcome, Option<Packet<'a>>)
-        ensures value { Sees result.0 (brought (frame_payload self.now.settings (groups_in (origin_of self.now.settings) (past_of self.now)) (arrived net now frame.now.whole.now))) }
+        ensures value { (base : Base) → StandsFor self.now.before self.now.settings base →
+            Sees result.0 (brought (frame_payload self.now.settings (groups_in (origin_at self.now.settings base) (reverse self.now.history)) (arrived net now frame.now.whole.now))) }
         ensures packet { option_map packet_parts result.1 ≡ offered true frame.now.whole.now }
         ensures forwarded { counts_as_forwarded result.0 ≡ true }
         ensures port { HasPort result.0 self.now.settings.ports }
@@ -299,14 +376,15 @@ impl LinkState {
             Ok(packet) => packet,
             Err(fault) => return (Outcome::Refused(Verdict::BadHeader(fault)), None),
         };
-        let payload = packet_payload(&self.settings, &self.reassembly, &packet, now);
+        let payload = packet_payload(&self.settings, &self.kept.reassembly, &packet, now);
         (brought(payload), Some(packet))
     }
 
     /// What becomes of a frame with this outcome, but for the queue's answer.
     fn decision(&self, outcome: &Outcome) -> Decision
         requires { HasPort outcome.now self.now.settings.ports }
-        ensures { (is : OutcomeValue) → Sees outcome.now is → result ≡ decided is (λ port. length (deliveries_of self.now port)) }
+        ensures { (base : Base) (is : OutcomeValue) → StandsFor self.now.before self.now.settings base → Sees outcome.now is →
+            result ≡ decided is (number_of (from base self.now)) }
     {
         match outcome {
             Outcome::OutOfSequence => Decision::Final(Verdict::OutOfSequence),
@@ -319,7 +397,8 @@ impl LinkState {
     /// What becomes of a payload at its port, but for the queue's answer.
     fn decision_at(&self, payload: &Payload) -> Decision
         requires { IsForOneOf self.now.settings.ports payload.now }
-        ensures { result ≡ decided_at payload.now.kind payload.now.port (length (deliveries_of self.now payload.now.port)) }
+        ensures { (base : Base) → StandsFor self.now.before self.now.settings base →
+            result ≡ decided_at payload.now.kind payload.now.port (number_of (from base self.now) payload.now.port) }
     {
         match &self.outlets[payload.port.0 as usize] {
             Outlet::Sampling(writer) => {
@@ -332,8 +411,9 @@ impl LinkState {
     /// Room for the message that a frame with this outcome delivers, if its queue has room.
     fn room_for(&self, alloc: Global, outcome: &Outcome) -> Result<Option<Room>, Memory>
         requires { HasPort outcome.now self.now.settings.ports }
-        ensures room { IfOk result (λ room. (is : OutcomeValue) → Sees outcome.now is → RoomFor is self.now room) }
-        ensures place { IfOk result (λ room. HasPlace self.now room) }
+        ensures room { IfOk result (λ room. (base : Base) (is : OutcomeValue) → StandsFor self.now.before self.now.settings base → Sees outcome.now is →
+            RoomFor is (from base self.now) room) }
+        ensures place { IfOk result (λ room. (base : Base) → StandsFor self.now.before self.now.settings base → HasPlace (from base self.now) room) }
     {
         let Outcome::Brings(payload) = outcome else {
             return Ok(None);
@@ -351,7 +431,8 @@ impl LinkState {
     /// Whether a payload's port takes one message more, if its queue has room.
     fn takes_one_more(&self, payload: &Payload) -> bool
         requires { IsForOneOf self.now.settings.ports payload.now }
-        ensures { result ≡ takes_one_more payload.now.kind true (length (deliveries_of self.now payload.now.port)) }
+        ensures { (base : Base) → StandsFor self.now.before self.now.settings base →
+            result ≡ takes_one_more payload.now.kind true (number_of (from base self.now) payload.now.port) }
     {
         match &self.outlets[payload.port.0 as usize] {
             Outlet::Sampling(writer) => writer.published() < MOST_MESSAGES,

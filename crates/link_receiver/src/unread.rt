@@ -1,5 +1,5 @@
 //! A link from whose queues nobody takes.
-ghost use Rattle.std.specs.Prelude.{◌≡◌, ◌<◌, ◌≤◌, ◌+◌, ◌++◌, ◌∷◌, [], List, IfOk, OnErr, OnOk, IfSome, IfNone, false, Some, length, slice_get};
+ghost use Rattle.std.specs.Prelude.{◌≡◌, ◌<◌, ◌≤◌, ◌+◌, ◌++◌, ◌∷◌, [], List, IfOk, OnErr, OnOk, None, Some, length, slice_get};
 ghost use Rattle.std.specs.Option.{option_map};
 ghost use Rattle.es_base.specs.declared.event.Event.{Event};
 ghost use Rattle.es_base.specs.Limits.{most_events};
@@ -7,15 +7,14 @@ ghost use Rattle.es_base.specs.Frame.{IsFrame, link_number_of};
 ghost use Rattle.es_base.specs.Past.{AreFramesOf, origin_of};
 ghost use Rattle.es_base.specs.Tally.{HasCounts};
 ghost use Rattle.es_base.specs.Run.{IsRun};
-ghost use Rattle.es_base.specs.declared.place.PortNo.{PortNo};
-ghost use Rattle.es_base.specs.Deliveries.{is_same_port, newest_of, read_as};
-ghost use Rattle.link_deliveries.specs.Told.{tells_delivered};
-ghost use Rattle.link_receiver.specs.Ends.{IsNewLink};
-ghost use Rattle.link_receiver.specs.Link.{deliveries_of, newest_at, past_of, room_after, samples, verdict_after, with_event};
+ghost use Rattle.es_base.specs.Deliveries.{newest_of, read_as};
+ghost use Rattle.link_receiver.specs.Link.{samples};
+ghost use Rattle.link_receiver.specs.Whole.{IsNewWhole, deliveries_of, newest_at, past_of, room_after, verdict_after, whole_of, with_event};
 ghost use Rattle.link_receiver.specs.Unread.{AreUnreadEnds, AreUpToLast, IsUnreadAt, IsWithinAt};
 
 use crate::ends::PortEnd;
 use crate::link::LinkState;
+use crate::verdict::delivered_at;
 use block_list::BlockList;
 use es_base::{
     Arrival, Event, LinkSettings, Memory, Message, PortNo, Sample, Verdict, VerdictTally,
@@ -38,14 +37,13 @@ pub struct UnreadLink {
 }
 
 impl Model for UnreadLink {
-    ghost use Rattle.std.specs.Prelude.{[]};
-    ghost use Rattle.link_receiver.specs.Link.{Link};
+    ghost use Rattle.link_receiver.specs.Whole.{Whole, whole_of};
 
-    ghost Value = { Link };
+    ghost Value = { Whole };
 
     ghost use Rattle.link_receiver.specs.Unread.{AreUpToLast, IsUnread};
 
-    ghost view = { λ u. record { settings = u.state.settings; history = u.state.history; channels = [] } };
+    ghost view = { λ u. whole_of u.state };
 
     ghost invariant = { λ u. IsUnread u.state u.ends.items × AreUpToLast u.state.history u.up_to_last.items };
 }
@@ -53,7 +51,7 @@ impl Model for UnreadLink {
 impl UnreadLink {
     /// The link with these settings and no history.
     pub fn new(alloc: Global, settings: &LinkSettings) -> Result<UnreadLink, Memory>
-        ensures { IfOk result (IsNewLink settings.now) }
+        ensures { IfOk result (IsNewWhole settings.now) }
     {
         let (state, ends) = LinkState::new(alloc, settings)?;
         let up_to_last = vec![in alloc; 0; settings.ports().len()]?;
@@ -93,7 +91,7 @@ impl UnreadLink {
 
     /// How many events came on each network with each kind of verdict.
     pub fn tally(&self) -> &VerdictTally
-        ensures { HasCounts result.now (past_of self.now) }
+        ensures { HasCounts result.now (origin_of self.now.settings) (past_of self.now) }
     {
         self.state.tally()
     }
@@ -144,24 +142,14 @@ fn note_last(up_to_last: &mut Vec<usize>, verdict: Verdict, end: usize)
     }
 }
 
-/// The port to which an event with this verdict delivered a message.
-fn delivered_at(verdict: Verdict) -> Option<PortNo>
-    ensures some { IfSome result (λ at. (port : PortNo) → tells_delivered verdict port ≡ is_same_port at port) }
-    ensures none { IfNone result ((port : PortNo) → tells_delivered verdict port ≡ false) }
-{
-    match verdict {
-        Verdict::Sampled(port, _) | Verdict::Queued(port) => Some(port),
-        _ => None,
-    }
-}
-
 /// The ends of the queue of the port at this place meet, if it has one. So it is seen that no more
 /// messages were delivered to the port than its queue holds.
 fn meet_at<R: Wait>(rt: &R, state: &mut LinkState, port: PortNo, ends: &mut Vec<PortEnd>)
-    requires { AreUnreadEnds state.old ends.old.items }
+    requires begins { state.old.before ≡ None }
+    requires ends { AreUnreadEnds state.old ends.old.items }
     ensures state { state.new ≡ state.old }
     ensures ends { AreUnreadEnds state.old ends.new.items }
-    ensures within { IsWithinAt state.old port }
+    ensures within { IsWithinAt (whole_of state.old) port }
 {
     if let Some(end) = ends.get_mut(port.0 as usize) {
         meet_end(rt, state, port, end);
@@ -170,10 +158,11 @@ fn meet_at<R: Wait>(rt: &R, state: &mut LinkState, port: PortNo, ends: &mut Vec<
 
 /// The taker of this port's queue, if it has one, meets the end that puts.
 fn meet_end<R: Wait>(rt: &R, state: &mut LinkState, port: PortNo, end: &mut PortEnd)
-    requires { IsUnreadAt (slice_get state.old.settings.ports port.0) (slice_get state.old.channels port.0) (Some end.old) }
+    requires begins { state.old.before ≡ None }
+    requires end { IsUnreadAt (slice_get state.old.settings.ports port.0) (slice_get state.old.channels port.0) (Some end.old) }
     ensures state { state.new ≡ state.old }
     ensures end { IsUnreadAt (slice_get state.old.settings.ports port.0) (slice_get state.old.channels port.0) (Some end.new) }
-    ensures within { IsWithinAt state.old port }
+    ensures within { IsWithinAt (whole_of state.old) port }
 {
     if let PortEnd::Queuing {
         port: _,
@@ -192,10 +181,11 @@ fn newest_at<'a>(
     ends: &mut Vec<PortEnd>,
     out: &'a mut [u8; 1471],
 ) -> Option<Sample<'a>>
-    requires { AreUnreadEnds state.old ends.old.items }
+    requires begins { state.old.before ≡ None }
+    requires ends { AreUnreadEnds state.old ends.old.items }
     ensures state { state.new ≡ state.old }
     ensures ends { AreUnreadEnds state.old ends.new.items }
-    ensures newest { option_map read_as result ≡ newest_at state.old port }
+    ensures newest { option_map read_as result ≡ newest_at (whole_of state.old) port }
 {
     match ends.get_mut(port.0 as usize) {
         Some(end) => newest_of(state, port, end, out),
@@ -210,10 +200,11 @@ fn newest_of<'a>(
     end: &mut PortEnd,
     out: &'a mut [u8; 1471],
 ) -> Option<Sample<'a>>
-    requires { IsUnreadAt (slice_get state.old.settings.ports port.0) (slice_get state.old.channels port.0) (Some end.old) }
+    requires begins { state.old.before ≡ None }
+    requires end { IsUnreadAt (slice_get state.old.settings.ports port.0) (slice_get state.old.channels port.0) (Some end.old) }
     ensures state { state.new ≡ state.old }
     ensures end { IsUnreadAt (slice_get state.old.settings.ports port.0) (slice_get state.old.channels port.0) (Some end.new) }
-    ensures newest { option_map read_as result ≡ newest_at state.old port }
+    ensures newest { option_map read_as result ≡ newest_at (whole_of state.old) port }
 {
     match end {
         PortEnd::Sampling {
@@ -237,10 +228,11 @@ fn newest_read<'a>(
     reader: &mut Reader<READERS>,
     out: &'a mut [u8; 1471],
 ) -> Option<Sample<'a>>
-    requires { slice_get state.old.channels port.0 ≡ Some (samples reader.old.port) }
+    requires begins { state.old.before ≡ None }
+    requires reader { slice_get state.old.channels port.0 ≡ Some (samples reader.old.port) }
     ensures state { state.new ≡ state.old }
     ensures reader { reader.new.port ≡ reader.old.port }
-    ensures newest { option_map read_as result ≡ newest_of (deliveries_of state.old port) }
+    ensures newest { option_map read_as result ≡ newest_of (deliveries_of (whole_of state.old) port) }
 {
     state.meet(port, reader);
     let answer = reader.read(MOST_TRIES, out);

@@ -1,6 +1,9 @@
 //! The verdict of a frame.
-ghost use Rattle.std.specs.Prelude.{◌≡◌};
+ghost use Rattle.std.specs.Prelude.{◌≡◌, IfNone, IfSome, false};
+ghost use Rattle.es_base.specs.declared.place.PortNo.{PortNo};
+ghost use Rattle.es_base.specs.Deliveries.{is_same_port};
 ghost use Rattle.es_base.specs.Run.{sampled, settled};
+ghost use Rattle.link_deliveries.specs.Told.{tells_delivered};
 
 use es_base::{Decision, PortNo, Verdict};
 use slot_core::MOST_MESSAGES;
@@ -29,5 +32,16 @@ pub(crate) fn settled(decision: Decision, room: bool) -> Verdict
                 Verdict::Overflow(port)
             }
         }
+    }
+}
+
+/// The port to which an event with this verdict delivered a message.
+pub(crate) fn delivered_at(verdict: Verdict) -> Option<PortNo>
+    ensures some { IfSome result (λ at. (port : PortNo) → tells_delivered verdict port ≡ is_same_port at port) }
+    ensures none { IfNone result ((port : PortNo) → tells_delivered verdict port ≡ false) }
+{
+    match verdict {
+        Verdict::Sampled(port, _) | Verdict::Queued(port) => Some(port),
+        _ => None,
     }
 }

@@ -5,6 +5,7 @@ use Rattle.es_base.specs.declared.place.LinkNo.{LinkNo}
 use Rattle.es_base.specs.declared.event.Arrival.{Arrival}
 use Rattle.es_base.specs.declared.event.Event.{Event}
 use Rattle.es_base.specs.Config.{Configuration}
+use Rattle.es_base.specs.Past.{Origin}
 use Rattle.es_base.specs.FilterTally.{HasFiltered, filtered_count}
 use Rattle.es_base.specs.Limits.{filter_causes, verdict_kinds}
 use Rattle.es_base.specs.Tally.{Counts, HasCounts, IsKind, count_in, count_of}
@@ -21,11 +22,11 @@ same_to (suc n) one two same =
 same_text : (kinds : ℕ) (one two : ℕ → ℕ) → ((kind : ℕ) → IsKind kinds kind → one kind ≡ two kind) → counts_text kinds one ≡ counts_text kinds two
 same_text kinds one two same = same_to kinds one two (λ kind low high. same kind (record { low = low; high = high }))
 
-pub counts_of_past : (vl : LinkNo) (counts : Counts) (past : List Event) → HasCounts counts past → count_lines vl (count_in counts) ≡ count_lines vl (count_of past)
-counts_of_past vl counts past has =
+pub counts_of_past : (vl : LinkNo) (counts : Counts) (o : Origin) (past : List Event) → HasCounts counts o past → count_lines vl (count_in counts) ≡ count_lines vl (count_of o past)
+counts_of_past vl counts o past has =
     rw (
-      same_text verdict_kinds (count_in counts nets.A) (count_of past nets.A) (has nets.A),
-      same_text verdict_kinds (count_in counts nets.B) (count_of past nets.B) (has nets.B),
+      same_text verdict_kinds (count_in counts nets.A) (count_of o past nets.A) (has nets.A),
+      same_text verdict_kinds (count_in counts nets.B) (count_of o past nets.B) (has nets.B),
     ) refl
 
 pub counts_of_frames : (counts : Counts) (c : Configuration) (earlier : List Arrival) → HasFiltered counts c earlier → filtered_lines (count_in counts) ≡ filtered_lines (filtered_count c earlier)

@@ -65,7 +65,7 @@ all_link_lines at past_of (link ∷ links) = link_lines at link (past_of link) +
 
 abbrev pub all_count_lines : (Settings → List Event) → List Settings → List ℕ
 all_count_lines past_of [] = []
-all_count_lines past_of (link ∷ links) = count_lines link.vl (count_of (past_of link)) ++ all_count_lines past_of links
+all_count_lines past_of (link ∷ links) = count_lines link.vl (count_of (origin_of link) (past_of link)) ++ all_count_lines past_of links
 
 -- the counts of filtered frames, by network and cause
 abbrev pub filtered_lines : (Net → ℕ → ℕ) → List ℕ

@@ -123,7 +123,7 @@ pub(crate) const EMPTY_NAV: Frame = Frame::Udp("1389138a00080000");
 
 /// The parts of a frame: its first 14 octets, its IPv4 header, its UDP header, and its payload. Of a packet
 /// the octets after the IPv4 header, and what fills the frame.
-fn texts_of(frame: Frame) -> [&'static str; 4] {
+pub(crate) fn texts_of(frame: Frame) -> [&'static str; 4] {
     match frame {
         Frame::Of18 => {
             let ethernet = "0300000000120200000001200800";

@@ -1,6 +1,6 @@
 //! Which datagram some pieces make.
 use crate::steps::Fate::{Alone, Completed, Held, Joined};
-use crate::steps::{Step, check};
+use crate::steps::{Step, check, check_copied};
 use test_inputs::fragments::PacketName::{
     EndAt16, EndAt40, First, FirstAnew, FirstForPos, FirstOf21, Last, LastFrom24, LastTo19,
     LastTo20, LongerLast, NoOctets, SevenOctets,
@@ -130,6 +130,16 @@ fn each_octet_has_to_come(rt: HostRuntime) {
 #[test]
 fn a_complete_datagram_ends_its_group(rt: HostRuntime) {
     check(&rt, rt.alloc(), &last_once_more());
+}
+
+#[test]
+fn a_copy_and_the_first_each_complete_a_datagram(rt: HostRuntime) {
+    check_copied(
+        &rt,
+        rt.alloc(),
+        &[(First, 1000, Held)],
+        &[(Last, 1100, Completed)],
+    );
 }
 
 #[test]

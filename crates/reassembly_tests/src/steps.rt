@@ -41,8 +41,21 @@ pub(crate) type Step = (PacketName, u64, Fate);
 pub(crate) fn check(rt: &impl Abort, alloc: Global, steps: &[Step]) {
     let mut reassembly = Reassembly::new(alloc, LIMIT).expect(rt, "memory");
     assert!(rt; reassembly.limit() == LIMIT);
+    check_steps(rt, alloc, &mut reassembly, steps);
+}
+
+/// A Reassembly is copied after the steps of `before`, and then it and its copy each do those of `after`.
+pub(crate) fn check_copied(rt: &impl Abort, alloc: Global, before: &[Step], after: &[Step]) {
+    let mut first = Reassembly::new(alloc, LIMIT).expect(rt, "memory");
+    check_steps(rt, alloc, &mut first, before);
+    let mut copy = first.copy(alloc).expect(rt, "memory");
+    check_steps(rt, alloc, &mut copy, after);
+    check_steps(rt, alloc, &mut first, after);
+}
+
+fn check_steps(rt: &impl Abort, alloc: Global, reassembly: &mut Reassembly, steps: &[Step]) {
     for (packet, time, fate) in steps {
-        check_step(rt, alloc, &mut reassembly, *packet, *time, *fate);
+        check_step(rt, alloc, reassembly, *packet, *time, *fate);
     }
 }
 

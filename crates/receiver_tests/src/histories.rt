@@ -15,10 +15,10 @@ use test_inputs::{IP, LINK, Link, PAYLOAD, UDP};
 /// The other payload.
 const NEXT_PAYLOAD: &str = "2122232425262728292a2b2c2d2e2f3031";
 /// The payload that the two fragments make.
-const JOINED_PAYLOAD: &str = "a0a1a2a3a4a5a6a7b0b1b2b3b4b5b6b7b8b9babbbcbdbebf";
+pub(crate) const JOINED_PAYLOAD: &str = "a0a1a2a3a4a5a6a7b0b1b2b3b4b5b6b7b8b9babbbcbdbebf";
 
 /// The time of a message in microseconds, and its octets.
-type Wanted = (u64, &'static str);
+pub(crate) type Wanted = (u64, &'static str);
 
 /// The second frame is a copy of the first, and the fourth is out of sequence.
 fn samples() -> [FrameRow<'static>; 4] {
@@ -41,7 +41,13 @@ fn pieces() -> [FrameRow<'static>; 5] {
     ]
 }
 
-fn check_messages(rt: &impl Abort, alloc: Global, messages: &[Message], wanted: &[Wanted]) {
+/// These messages have these times and octets, and there are no others.
+pub(crate) fn check_messages(
+    rt: &impl Abort,
+    alloc: Global,
+    messages: &[Message],
+    wanted: &[Wanted],
+) {
     assert!(rt; messages.len() == wanted.len());
     for (message, (time, payload)) in messages.iter().zip(wanted) {
         check_message(rt, alloc, message, *time, payload);

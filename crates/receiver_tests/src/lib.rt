@@ -10,6 +10,8 @@ mod beside;
 #[cfg(test)]
 mod datagrams;
 #[cfg(test)]
+mod epochs;
+#[cfg(test)]
 mod frames;
 #[cfg(test)]
 mod groups;
@@ -27,6 +29,8 @@ mod meetings;
 mod messages;
 #[cfg(test)]
 mod packets;
+#[cfg(test)]
+mod parted;
 #[cfg(test)]
 mod partitions;
 #[cfg(test)]

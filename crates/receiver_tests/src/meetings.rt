@@ -16,7 +16,7 @@ use std::sync::Wait;
 use test_inputs::{IP, LINK, Link, PAYLOAD, UDP};
 
 /// The taker of the end of `nav`.
-fn taker_in(rt: &impl Abort, end: PortEnd) -> Taker
+pub(crate) fn taker_in(rt: &impl Abort, end: PortEnd) -> Taker
     ensures { (channels : List Channel) → IsOfItsPort channels end →
         slice_get channels 1 ≡ Some (queues result.queue) }
 {
@@ -38,7 +38,7 @@ fn taker_in(rt: &impl Abort, end: PortEnd) -> Taker
 }
 
 /// A new receiver whose queue of `nav` has this depth, and the taker of that queue.
-fn opened_with_taker(rt: &impl Abort, alloc: Global, nav_depth: u8) -> (LinkState, Taker)
+pub(crate) fn opened_with_taker(rt: &impl Abort, alloc: Global, nav_depth: u8) -> (LinkState, Taker)
     ensures { slice_get result.0.channels 1 ≡ Some (queues result.1.queue) }
 {
     let (state, mut ends) = opened(rt, alloc, Link { nav_depth, ..LINK });
@@ -48,7 +48,12 @@ fn opened_with_taker(rt: &impl Abort, alloc: Global, nav_depth: u8) -> (LinkStat
 }
 
 /// The link and the taker meet while the taker hasn't taken this many messages.
-fn check_meeting(rt: &(impl Abort + Wait), state: &mut LinkState, taker: &mut Taker, held: usize)
+pub(crate) fn check_meeting(
+    rt: &(impl Abort + Wait),
+    state: &mut LinkState,
+    taker: &mut Taker,
+    held: usize,
+)
     requires { slice_get state.old.channels 1 ≡ Some (queues taker.old.queue) }
     ensures state { state.new.channels ≡ state.old.channels }
     ensures taker { taker.new.queue ≡ taker.old.queue }
@@ -71,7 +76,7 @@ fn bring(
 }
 
 /// The taker takes the message of this time.
-fn take(rt: &(impl Abort + Wait), taker: &mut Taker, time: u64)
+pub(crate) fn take(rt: &(impl Abort + Wait), taker: &mut Taker, time: u64)
     ensures { taker.new.queue ≡ taker.old.queue }
 {
     let message = taker.take(rt).expect(rt, "a message");
@@ -99,7 +104,7 @@ fn a_link_and_its_taker_know_how_many_messages_are_held(rt: HostRuntime) {
 }
 
 /// So many events of this kind came on this network.
-fn check_count(rt: &impl Abort, state: &LinkState, net: Net, kind: usize, wanted: u64) {
+pub(crate) fn check_count(rt: &impl Abort, state: &LinkState, net: Net, kind: usize, wanted: u64) {
     assert!(rt; 1 <= kind && kind <= VERDICT_KINDS);
     let count = state.tally().count(net, kind);
     assert!(rt; count == wanted, "{net} {kind}: {count}");

@@ -72,7 +72,7 @@ pub(crate) fn check_empty(rt: &impl Abort, reader: &mut Reader<READERS>) {
 }
 
 /// The octets of `PAYLOAD`.
-const OCTETS: [u8; 17] = [1, 2, 3, 4, 5, 6, 7, 8, 9, 10, 11, 12, 13, 14, 15, 16, 17];
+pub(crate) const OCTETS: [u8; 17] = [1, 2, 3, 4, 5, 6, 7, 8, 9, 10, 11, 12, 13, 14, 15, 16, 17];
 
 /// The sequence number of a smallest frame, its time in microseconds, and the number of its message.
 type Brought = (u8, u64, u64);

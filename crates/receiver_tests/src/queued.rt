@@ -13,7 +13,7 @@ use test_inputs::fragments::PacketName::{First, FirstAnew, Last, LongerLast};
 use test_inputs::{IP, LINK, PAYLOAD, fives};
 
 /// The taker takes one message, of this time in microseconds and with this payload.
-fn check_taken(
+pub(crate) fn check_taken(
     rt: &(impl Abort + Wait),
     alloc: Global,
     taker: &mut Taker,

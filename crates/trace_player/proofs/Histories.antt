@@ -18,7 +18,7 @@ use Rattle.es_base.specs.Past.{origin_of}
 use Rattle.es_base.specs.Run.{room_unread}
 use Rattle.es_base.proofs.Addressed.{IsAddressee, link_at}
 use Rattle.es_base.proofs.Firsts.{IsOnly, first_at, passes_found, nothing_found, map_none, map_one}
-use Rattle.link_receiver.specs.Link.{Link, past_of, room_after, verdict_after, with_event}
+use Rattle.link_receiver.specs.Whole.{Whole, past_of, room_after, verdict_after, with_event}
 use Rattle.trace_player.specs.Histories.{event_at, past_after, state_after, states_after, verdict_at}
 use Rattle.trace_player.specs.Output.{line_after, line_if, line_of}
 
@@ -33,10 +33,10 @@ unmoved : (constant : List ℕ) (earlier : List Arrival) (a : Arrival) (link : S
     → state_after constant (a ∷ earlier) link ≡ state_after constant earlier link
 unmoved constant earlier a link other = rw other refl
 
-abbrev turned : Settings → List Event → Link
-turned link past = record { settings = link; history = reverse past; channels = [] }
+abbrev turned : Settings → List Event → Whole
+turned link past = record { settings = link; history = reverse past }
 
-abbrev with_frame : Link → Arrival → Link
+abbrev with_frame : Whole → Arrival → Whole
 with_frame state a = with_event state a (room_after state a) (verdict_after state a (room_after state a))
 
 turned_event : (link : Settings) (past : List Event) (a : Arrival)
@@ -45,7 +45,7 @@ turned_event link past a =
     let e : Event = event_at link past a in
     let back : reverse (e ∷ past) ≡ reverse past ++ e ∷ [] = reverse-append (e ∷ []) past in
     let same : reverse (reverse past) ≡ past = reverse-reverse past in
-    let first : turned link (e ∷ past) ≡ record { settings = link; history = reverse past ++ e ∷ []; channels = [] } = ap (λ (h : List Event). let l : Link = record { settings = link; history = h; channels = [] } in l) back in
+    let first : turned link (e ∷ past) ≡ record { settings = link; history = reverse past ++ e ∷ [] } = ap (λ (h : List Event). let l : Whole = record { settings = link; history = h } in l) back in
     let second = ap (λ (p : List Event). with_event (turned link past) a (room_unread (origin_of link) p a) (verdict_at link p a)) (sym same) in
     first ∙ second
 
@@ -112,25 +112,25 @@ moved_states c earlier a place link are comes is =
     let one = map_one number (state_after c.constant (a ∷ earlier)) (state_after c.constant earlier) c.links link apart (only_one vl c.links are.numbers) is.found in
     rw (first_at number c.links place comes.first, more) at one
 
-state_is : (c : Configuration) (earlier : List Arrival) (states : List Link) (place : ℕ) (link : Settings) (d : Link)
+state_is : (c : Configuration) (earlier : List Arrival) (states : List Whole) (place : ℕ) (link : Settings) (d : Whole)
     → slice_get c.links place ≡ Some link → states ≡ states_after c earlier → get_or states place d ≡ state_after c.constant earlier link
 state_is c earlier states place link d there same =
     let view = state_after c.constant earlier in
     get_or_from_slice_get states place (view link) d (rw same (slice_get-map view c.links place ∙ ap (option_map view) there))
 
 -- what a frame leaves of all states, once its link's state takes it
-pub taken_states : (c : Configuration) (earlier : List Arrival) (a : Arrival) (states : List Link) (place : ℕ) (d after : Link)
+pub taken_states : (c : Configuration) (earlier : List Arrival) (a : Arrival) (states : List Whole) (place : ℕ) (d after : Whole)
     → AreLinks c.links → ComesToPlace c a.frame place → after ≡ with_frame (get_or states place d) a
     → states ≡ states_after c earlier → set states place after ≡ states_after c (a ∷ earlier)
 taken_states c earlier a states place d after are comes took same =
     let addressee = link_at c a.frame place comes in
     let link = addressee.0 in
     let is = state_is c earlier states place link d addressee.1.there same in
-    let after_is : after ≡ with_frame (state_after c.constant earlier link) a = subst (λ (s : Link). after ≡ with_frame s a) is took in
+    let after_is : after ≡ with_frame (state_after c.constant earlier link) a = subst (λ (s : Whole). after ≡ with_frame s a) is took in
     rw (same, after_is) (moved_states c earlier a place link are comes addressee.1)
 
 -- the line that is written of it
-pub taken_line : (c : Configuration) (earlier : List Arrival) (a : Arrival) (states : List Link) (place : ℕ) (d : Link) (before after : List ℕ)
+pub taken_line : (c : Configuration) (earlier : List Arrival) (a : Arrival) (states : List Whole) (place : ℕ) (d : Whole) (before after : List ℕ)
     → ComesToPlace c a.frame place → after ≡ before ++ (line_after (get_or states place d).settings (past_of (get_or states place d)) a ++ 10 ∷ [])
     → states ≡ states_after c earlier → after ≡ before ++ line_of c earlier a
 taken_line c earlier a states place d before after comes wrote same =
@@ -140,7 +140,7 @@ taken_line c earlier a states place d before after comes wrote same =
     let is = state_is c earlier states place link d addressee.1.there same in
     let line : Settings → List Event → List ℕ = λ s p. before ++ (line_after s p a ++ 10 ∷ []) in
     let line_to : Result Settings FilterCause → List ℕ = λ to. before ++ (line_if c earlier a to ++ 10 ∷ []) in
-    wrote ∙ ap (λ (s : Link). line s.settings (past_of s)) is ∙ ap (line link) (reverse-reverse past) ∙ sym (ap line_to addressee.1.comes)
+    wrote ∙ ap (λ (s : Whole). line s.settings (past_of s)) is ∙ ap (line link) (reverse-reverse past) ∙ sym (ap line_to addressee.1.comes)
 
 -- ---- all links
 
@@ -149,11 +149,11 @@ settings_kept : (constant : List ℕ) (earlier : List Arrival) (links : List Set
 settings_kept constant earlier [] = refl
 settings_kept constant earlier (link ∷ links) = ap (λ (rest : List Settings). link ∷ rest) (settings_kept constant earlier links)
 
-pub are_of_links : (c : Configuration) (earlier : List Arrival) (states : List Link) → states ≡ states_after c earlier → map (λ state. state.settings) states ≡ c.links
-are_of_links c earlier states same = ap (map (λ (state : Link). state.settings)) same ∙ settings_kept c.constant earlier c.links
+pub are_of_links : (c : Configuration) (earlier : List Arrival) (states : List Whole) → states ≡ states_after c earlier → map (λ state. state.settings) states ≡ c.links
+are_of_links c earlier states same = ap (map (λ (state : Whole). state.settings)) same ∙ settings_kept c.constant earlier c.links
 
 -- the state at the place of a link has its settings
-pub settings_at : (links : List Settings) (states : List Link) (place : ℕ) (link : Settings) (d : Link)
+pub settings_at : (links : List Settings) (states : List Whole) (place : ℕ) (link : Settings) (d : Whole)
     → map (λ state. state.settings) states ≡ links → slice_get links place ≡ Some link → (get_or states place d).settings ≡ link
 settings_at links states place link d same there =
-    sym (get_or-map (λ (state : Link). state.settings) states place d) ∙ ap (λ (l : List Settings). get_or l place d.settings) same ∙ get_or_from_slice_get links place link d.settings there
+    sym (get_or-map (λ (state : Whole). state.settings) states place d) ∙ ap (λ (l : List Settings). get_or l place d.settings) same ∙ get_or_from_slice_get links place link d.settings there

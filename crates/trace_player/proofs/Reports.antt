@@ -12,8 +12,9 @@ use Rattle.es_base.specs.Port.{Port}
 use Rattle.es_base.specs.Settings.{Settings}
 use Rattle.es_base.specs.Config.{Configuration}
 use Rattle.es_base.specs.FilterTally.{HasFiltered, filtered_count}
+use Rattle.es_base.specs.Past.{origin_of}
 use Rattle.es_base.specs.Tally.{Counts, count_in, count_of}
-use Rattle.link_receiver.specs.Link.{Link, deliveries_of, newest_at}
+use Rattle.link_receiver.specs.Whole.{Whole, deliveries_of, newest_at}
 use Rattle.output_lines.specs.Line.{queue_text}
 use Rattle.output_lines.specs.Report.{all_count_lines, all_link_lines, count_lines, filtered_lines, line, link_lines, message_lines, newest_lines, port_lines, ports_lines}
 use Rattle.output_lines.proofs.SameCounts.{counts_of_frames}
@@ -24,7 +25,7 @@ use Rattle.trace_player.specs.Report.{lines_of_counts, lines_of_ports}
 -- ---- one port
 
 -- the line of a sampling port, of what was read there
-pub sample_lines : (at : ℕ) (link : Link) (place : ℕ) (port : Port) (name : List ℕ) (refresh : ℕ) (newest : Option (ℕ × Message))
+pub sample_lines : (at : ℕ) (link : Whole) (place : ℕ) (port : Port) (name : List ℕ) (refresh : ℕ) (newest : Option (ℕ × Message))
     → slice_get link.settings.ports place ≡ Some port → port.kind ≡ Sampling refresh → name ≡ port.name → newest ≡ newest_at link (record { 0 = place })
     → newest_lines at name refresh newest ≡ port_lines at port (deliveries_of link (record { 0 = place }))
 sample_lines at link place port name refresh newest there kind called is = rw (is, there, kind, called) refl
@@ -56,9 +57,9 @@ same_counts : (constant : List ℕ) (frames : List Arrival) (links : List Settin
 same_counts constant frames [] = refl
 same_counts constant frames (link ∷ links) =
     let past = past_after constant link frames in
-    rw (same_counts constant frames links) (ap (λ (p : List Event). count_lines link.vl (count_of p) ++ all_count_lines (λ l. past_after constant l frames) links) (reverse-reverse past))
+    rw (same_counts constant frames links) (ap (λ (p : List Event). count_lines link.vl (count_of (origin_of link) p) ++ all_count_lines (λ l. past_after constant l frames) links) (reverse-reverse past))
 
-pub report_is : (c : Configuration) (frames : List Arrival) (at : ℕ) (states : List Link) (filtered : Counts) (text one two more : List ℕ)
+pub report_is : (c : Configuration) (frames : List Arrival) (at : ℕ) (states : List Whole) (filtered : Counts) (text one two more : List ℕ)
     → states ≡ states_after c frames → HasFiltered filtered c frames
     → one ≡ text ++ lines_of_ports at states → two ≡ one ++ lines_of_counts states → more ≡ two ++ filtered_lines (count_in filtered)
     → more ≡ text ++ report_after c frames at

@@ -9,7 +9,7 @@ use Rattle.es_base.specs.Config.{Configuration}
 use Rattle.es_base.specs.Addressing.{comes_to}
 use Rattle.es_base.specs.Past.{event_of, origin_of}
 use Rattle.es_base.specs.Run.{room_unread, verdict_of}
-use Rattle.link_receiver.specs.Link.{Link}
+use Rattle.link_receiver.specs.Whole.{Whole}
 
 -- the verdict of a frame that comes to the link after this past, if no message is ever taken from a queue
 abbrev pub verdict_at : Settings → List Event → Arrival → Verdict
@@ -25,9 +25,9 @@ past_after constant link (a ∷ earlier) =
     let past = past_after constant link earlier in
     if comes_to constant link a.frame then event_at link past a ∷ past else past
 
-abbrev pub state_after : List ℕ → List Arrival → Settings → Link
-state_after constant earlier link = record { settings = link; history = reverse (past_after constant link earlier); channels = [] }
+abbrev pub state_after : List ℕ → List Arrival → Settings → Whole
+state_after constant earlier link = record { settings = link; history = reverse (past_after constant link earlier) }
 
 -- the states, in the order of the configuration's links
-abbrev pub states_after : Configuration → List Arrival → List Link
+abbrev pub states_after : Configuration → List Arrival → List Whole
 states_after c earlier = map (state_after c.constant earlier) c.links

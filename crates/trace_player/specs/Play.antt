@@ -4,7 +4,7 @@ use Rattle.std.specs.Io.KnownBytes.{Appends}
 use Rattle.es_base.specs.declared.place.Net.{Net}
 use Rattle.es_base.specs.declared.place.Net.TheVariants as nets
 use Rattle.es_base.specs.Config.{Configuration}
-use Rattle.link_receiver.specs.Link.{Link}
+use Rattle.link_receiver.specs.Whole.{Whole}
 use Rattle.hex_trace.specs.declared.frames.TimedFrame.{TimedFrame}
 use Rattle.hex_trace.specs.declared.fault.TraceFault.{TraceFault}
 use Rattle.hex_trace.specs.declared.fault.TraceFault.TheVariants as of_trace
@@ -55,11 +55,11 @@ abbrev pub PlaysTraces : Given → Given → (List TimedFrame → List TimedFram
 PlaysTraces a b Holds = (frames_a : List TimedFrame) × ((frames_b : List TimedFrame) × ReadsTrace a (Ok frames_a) × ReadsTrace b (Ok frames_b) × Holds frames_a frames_b)
 
 -- the links' states are those after the frames of both traces
-abbrev pub AreAfter : Configuration → List TimedFrame → List TimedFrame → List Link → Type 0
+abbrev pub AreAfter : Configuration → List TimedFrame → List TimedFrame → List Whole → Type 0
 AreAfter c frames_a frames_b states = states ≡ states_after c (reverse (merged frames_a frames_b))
 
 -- what a run over two traces makes, whose report is asked for at a time: the links' states, and the output
-abbrev pub Runs : Configuration → Option ℕ → Given → Given → List Link → List ℕ → Type 0
+abbrev pub Runs : Configuration → Option ℕ → Given → Given → List Whole → List ℕ → Type 0
 Runs c at a b states output = PlaysTraces a b (λ frames_a frames_b. (output ≡ output_of c frames_a frames_b at) × AreAfter c frames_a frames_b states)
 
 -- the fault of a run over two traces that comes before anything is written
@@ -80,7 +80,7 @@ Played c at a b contents has_failed old new (Err Write) =
 Played c at a b contents has_failed old new (Err Memory) = (a.failed ≡ false) × (b.failed ≡ false) × (new ≡ old)
 
 -- what a run that returns the links' states did; the states are seen through `view`
-abbrev pub Replayed : {S X : Type 0} → (X → List Link) → Configuration → Option ℕ → Given → Given → (S → Option (List ℕ)) → (S → Bool) → S → S → Result X PlayFault → Type 0
+abbrev pub Replayed : {S X : Type 0} → (X → List Whole) → Configuration → Option ℕ → Given → Given → (S → Option (List ℕ)) → (S → Bool) → S → S → Result X PlayFault → Type 0
 Replayed view c at a b contents has_failed old new (Ok x) =
     (has_failed new ≡ false)
     × PlaysTraces a b (λ frames_a frames_b. Appends (contents old) (contents new) (output_of c frames_a frames_b at) × AreAfter c frames_a frames_b (view x))

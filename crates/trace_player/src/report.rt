@@ -3,9 +3,10 @@ ghost use Rattle.std.specs.Prelude.{◌≡◌, ◌<◌, ◌++◌, List, OnOk, So
 ghost use Rattle.es_base.specs.declared.event.Arrival.{Arrival};
 ghost use Rattle.es_base.specs.Config.{Configuration};
 ghost use Rattle.es_base.specs.FilterTally.{HasFiltered};
+ghost use Rattle.es_base.specs.Past.{origin_of};
 ghost use Rattle.es_base.specs.Port.{Port};
 ghost use Rattle.es_base.specs.Tally.{count_of};
-ghost use Rattle.link_receiver.specs.Link.{deliveries_of, past_of};
+ghost use Rattle.link_receiver.specs.Whole.{deliveries_of, past_of};
 ghost use Rattle.output_lines.specs.Report.{count_lines, link_lines, port_lines};
 ghost use Rattle.trace_player.specs.Histories.{states_after};
 ghost use Rattle.trace_player.specs.Output.{report_after};
@@ -107,7 +108,7 @@ fn write_all_counts(states: &[UnreadLink], text: &mut String) -> Result<(), Memo
 
 /// Adds the counts of a link's events.
 fn write_link_counts(state: &UnreadLink, text: &mut String) -> Result<(), Memory>
-    ensures { OnOk result (string_bytes text.new ≡ string_bytes text.old ++ count_lines state.now.settings.vl (count_of (past_of state.now))) }
+    ensures { OnOk result (string_bytes text.new ≡ string_bytes text.old ++ count_lines state.now.settings.vl (count_of (origin_of state.now.settings) (past_of state.now))) }
 {
     write_counts(text, state.settings(), state.tally())
 }

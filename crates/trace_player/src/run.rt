@@ -4,7 +4,7 @@ ghost use Rattle.es_base.specs.declared.event.Arrival.{Arrival};
 ghost use Rattle.es_base.specs.Frame.{IsFrame};
 ghost use Rattle.es_base.specs.Addressing.{addressee_of};
 ghost use Rattle.es_base.specs.FilterTally.{HasFiltered};
-ghost use Rattle.link_receiver.specs.Link.{past_of, room_after, verdict_after, with_event};
+ghost use Rattle.link_receiver.specs.Whole.{past_of, room_after, verdict_after, with_event};
 ghost use Rattle.trace_player.specs.Histories.{states_after};
 ghost use Rattle.trace_player.specs.Merge.{merged};
 ghost use Rattle.trace_player.specs.Output.{line_after, line_of, output_of};

@@ -1,4 +1,4 @@
-use Rattle.std.proofs.Common.{◌≡◌, ◌∙◌, ap, ℕ, List, Option, length}
+use Rattle.std.proofs.Common.{◌≡◌, ◌∙◌, ap, ℕ, List, Option}
 use Rattle.std.specs.Option.{option_map, option_to_list}
 use Rattle.std.proofs.lemmas.Result.{IfOk-weaker}
 use Rattle.es_base.specs.declared.event.Event.{Event}
@@ -7,7 +7,7 @@ use Rattle.es_base.specs.Past.{Origin, arrival_of}
 use Rattle.es_base.specs.Groups.{Group}
 use Rattle.es_base.specs.Reassembly.{groups_in, offered}
 use Rattle.es_base.specs.Outcome.{outcome}
-use Rattle.es_base.specs.Deliveries.{delivered, deliveries}
+use Rattle.es_base.specs.Deliveries.{delivered, number_delivered}
 use Rattle.frame_reader.specs.Parts.{packet_parts}
 use Rattle.ip_reassembly.specs.Kept.{StandsFor}
 use Rattle.link_deliveries.specs.Message.{IsLawfulAfter, IsMessageOf}
@@ -27,7 +27,7 @@ returns-clause-message c =
     → IsMessageOf c.tells_delivered-delivers.result limit groups (option_map packet_parts c.packet_of-packet.result) e.time message in
     let Delivers : Option Message → Type 0 = λ message. (o : Origin) (past : List Event) → IsLawfulAfter o past e
     → StandsFor c.args.reassembly.now o.settings.reassembly (groups_in o past)
-    → option_to_list message ≡ delivered (outcome o past (arrival_of e)) e.room e.time c.args.port (length (deliveries o past c.args.port)) in
+    → option_to_list message ≡ delivered (outcome o past (arrival_of e)) e.room e.time c.args.port (number_delivered o past c.args.port) in
     IfOk-weaker c.offer.result Has Delivers (λ message has o past lawful stands.
     let packet = c.packet_of-packet.ensures ∙ ap (λ is. offered is e.frame) (is_told_forwarded o past e lawful) in
     delivers_it o past e c.args.port message lawful (rw (packet, c.tells_delivered-delivers.ensures) at (has o.settings.reassembly (groups_in o past) stands)))

@@ -3,7 +3,7 @@ use Rattle.std.proofs.lemmas.Option.{get_or_from_slice_get}
 use Rattle.std.proofs.lemmas.Result.{on_ok_weaker}
 use Rattle.es_base.specs.Port.{Port}
 use Rattle.es_base.specs.Settings.{Settings}
-use Rattle.link_receiver.specs.Link.{deliveries_of}
+use Rattle.link_receiver.specs.Whole.{deliveries_of}
 use Rattle.trace_player.proofs.Reports.{queue_lines, sample_lines}
 use Rattle.trace_player.proofs.report.write_port.Goals as goal
 

@@ -1,5 +1,5 @@
 use Rattle.std.proofs.Common.{◌<◌, ◌∙◌, length, rules}
-use Rattle.link_receiver.specs.Link.{deliveries_of}
+use Rattle.link_receiver.specs.Whole.{deliveries_of}
 use Rattle.link_receiver.proofs.Places.{there}
 use Rattle.trace_player.proofs.Reports.{ports_go_on}
 use Rattle.trace_player.proofs.report.write_ports.Goals as goal

@@ -1,5 +1,5 @@
 use Rattle.std.proofs.Common.{◌≡◌, ◌++◌, drop, string_bytes}
-use Rattle.link_receiver.specs.Link.{deliveries_of, past_of}
+use Rattle.link_receiver.specs.Whole.{deliveries_of, past_of}
 use Rattle.output_lines.specs.Report.{link_lines, ports_lines}
 use Rattle.trace_player.proofs.report.write_ports.Given as goal
 

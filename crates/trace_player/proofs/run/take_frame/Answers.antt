@@ -1,6 +1,6 @@
 use Rattle.std.proofs.Common.{◌∙◌, ap, arith}
 use Rattle.std.proofs.lemmas.Grind.{common_steps}
-use Rattle.link_receiver.specs.Link.{room_after, with_event}
+use Rattle.link_receiver.specs.Whole.{room_after, with_event}
 use Rattle.trace_player.proofs.Histories.{on_ok_always}
 use Rattle.trace_player.proofs.run.take_frame.Goals as goal
 

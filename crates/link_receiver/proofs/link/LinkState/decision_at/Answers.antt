@@ -4,7 +4,7 @@ use Rattle.link_receiver.proofs.Outlets.{queue_is_asked}
 use Rattle.link_receiver.proofs.link.LinkState.decision_at.Goals as goal
 
 pub returns-in-Queuing : goal.returns-in-Queuing
-returns-in-Queuing c =
+returns-in-Queuing c = λ base stands.
     let ports = c.self.inside.settings.ports in
     let outlets = c.self.inside.outlets.items in
     let port = c.args.payload.now.port in

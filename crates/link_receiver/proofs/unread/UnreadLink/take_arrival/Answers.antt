@@ -1,9 +1,10 @@
-use Rattle.std.proofs.Common.{◌∙◌, [], ap}
+use Rattle.std.proofs.Common.{◌∙◌, ap}
 use Rattle.es_base.specs.declared.verdict.Verdict.TheVariants.{Queued}
-use Rattle.link_receiver.specs.Link.{Link, Takes}
+use Rattle.link_receiver.specs.Link.{Takes}
+use Rattle.link_receiver.specs.Whole.{whole_of}
 use Rattle.link_receiver.specs.Unread.{IsWithinAt}
 use Rattle.link_receiver.proofs.LastDeliveries.{ends_taken}
-use Rattle.link_receiver.proofs.Rooms.{queued_at, unread_event, unread_more, unread_verdict}
+use Rattle.link_receiver.proofs.Rooms.{queued_at, takes_whole, unread_event, unread_more, unread_verdict}
 use Rattle.link_receiver.proofs.unread.UnreadLink.take_arrival.Goals as goal
 
 pub invariant_of-self-in-Queued : goal.invariant_of-self-in-Queued
@@ -12,10 +13,10 @@ invariant_of-self-in-Queued g c =
     let new = c.take_arrival.new.self in
     let port = c.in-Queued.port in
     let takes : Takes old c.args.arrival (Queued port) new = rw c.in-Queued.is at c.in_ok-verdict.ensures.ok in
-    let more = unread_more old c.args.arrival (Queued port) new c.self.inside.ends.items takes c.self.invariant.0 (queued_at port (IsWithinAt new) c.meet_at.ensures.within) in
+    let more = unread_more old c.args.arrival (Queued port) new c.self.inside.ends.items takes c.self.invariant.0 (queued_at port (IsWithinAt (whole_of new)) c.meet_at.ensures.within) in
     let noted = rw (c.len.ensures, c.history.ensures.events) at c.note_last.ensures in
     let ends = ends_taken old c.args.arrival c.in_ok-verdict.verdict new _ _ c.in_ok-verdict.ensures.ok c.self.invariant.1 noted in
-    (rw c.meet_at.ensures.state (record { ends_are = c.meet_at.ensures.ends; within = more.within }), rw c.meet_at.ensures.state ends)
+    (rw c.meet_at.ensures.state (record { begins = more.begins; ends_are = c.meet_at.ensures.ends; within = more.within }), rw c.meet_at.ensures.state ends)
 
 pub invariant_of-self-in_default : goal.invariant_of-self-in_default
 invariant_of-self-in_default g c =
@@ -32,9 +33,8 @@ returns-in-Queued-clause-event g c =
     let new = c.take_arrival.new.self in
     let port = c.in-Queued.port in
     let takes : Takes old c.args.arrival (Queued port) new = rw c.in-Queued.is at c.in_ok-verdict.ensures.ok in
-    let event = unread_event old c.args.arrival (Queued port) new takes (queued_at port (IsWithinAt new) c.meet_at.ensures.within) in
-    let view : Link → Link = λ link. record { settings = link.settings; history = link.history; channels = [] } in
-    rw (← c.self.view_is) (ap view (c.meet_at.ensures.state ∙ event))
+    let event = unread_event (whole_of old) c.args.arrival (Queued port) (whole_of new) (takes_whole old c.args.arrival (Queued port) new c.self.invariant.0.begins takes) (queued_at port (IsWithinAt (whole_of new)) c.meet_at.ensures.within) in
+    rw (← c.self.view_is) (ap whole_of c.meet_at.ensures.state ∙ event)
 
 pub returns-in-Queued-clause-verdict : goal.returns-in-Queued-clause-verdict
 returns-in-Queued-clause-verdict g c =
@@ -42,7 +42,7 @@ returns-in-Queued-clause-verdict g c =
     let new = c.take_arrival.new.self in
     let port = c.in-Queued.port in
     let takes : Takes old c.args.arrival (Queued port) new = rw c.in-Queued.is at c.in_ok-verdict.ensures.ok in
-    rw (← c.self.view_is) (unread_verdict old c.args.arrival (Queued port) new takes (queued_at port (IsWithinAt new) c.meet_at.ensures.within))
+    rw (← c.self.view_is) (unread_verdict (whole_of old) c.args.arrival (Queued port) (whole_of new) (takes_whole old c.args.arrival (Queued port) new c.self.invariant.0.begins takes) (queued_at port (IsWithinAt (whole_of new)) c.meet_at.ensures.within))
 
 pub returns-in_default : goal.returns-in_default
 returns-in_default g c =
@@ -50,11 +50,10 @@ returns-in_default g c =
     let new = c.take_arrival.new.self in
     let verdict = c.in_ok-verdict.verdict in
     let takes = c.in_ok-verdict.ensures.ok in
-    let event = unread_event old c.args.arrival verdict new takes (λ port is. absurd (c.in_default.not-Queued port is)) in
-    let view : Link → Link = λ link. record { settings = link.settings; history = link.history; channels = [] } in
+    let event = unread_event (whole_of old) c.args.arrival verdict (whole_of new) (takes_whole old c.args.arrival verdict new c.self.invariant.0.begins takes) (λ port is. absurd (c.in_default.not-Queued port is)) in
     record {
-      event = rw (← c.self.view_is) (ap view event);
-      verdict = rw (← c.self.view_is) (unread_verdict old c.args.arrival verdict new takes (λ port is. absurd (c.in_default.not-Queued port is)));
+      event = rw (← c.self.view_is) event;
+      verdict = rw (← c.self.view_is) (unread_verdict (whole_of old) c.args.arrival verdict (whole_of new) (takes_whole old c.args.arrival verdict new c.self.invariant.0.begins takes) (λ port is. absurd (c.in_default.not-Queued port is)));
       few = rw (← c.self.view_is) takes.few;
       err = tt;
     }

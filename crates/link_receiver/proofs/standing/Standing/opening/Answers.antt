@@ -1,0 +1,17 @@
+use Rattle.std.proofs.Common.{◌≡◌, ℕ, refl, zero, suc, replicate}
+use Rattle.std.specs.Prelude.{slice_index_or}
+use Rattle.link_receiver.proofs.standing.Standing.opening.Goals as goal
+
+zeros : (n port : ℕ) → ◌≡◌ {A = ℕ} (slice_index_or (replicate n 0) port 0) 0
+zeros zero port = refl
+zeros (suc n) zero = refl
+zeros (suc n) (suc port) = zeros n port
+
+pub returns : goal.returns
+returns c = record {
+  checked = record { a = rw c.window.ensures.value at c.opening.ensures.a; b = rw c.window.ensures.value at c.opening.ensures.b; redundancy = rw c.skew_max.ensures at c.opening.ensures.redundancy };
+  waiting = rw c.reassembly.ensures at c.in_ok-reassembly.ensures;
+  counted = let zero = c.opening-2.ensures in λ net kind is. zero net kind is;
+  numbered = λ port. zeros 32 port;
+  many = refl;
+}
