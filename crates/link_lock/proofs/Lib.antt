@@ -1,0 +1,3 @@
+pub mod Settles
+pub mod Steps
+pub mod Visits
