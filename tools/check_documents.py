@@ -59,7 +59,7 @@ def sources(*patterns):
 
 
 def is_of_tests(crate):
-    return crate == "test_inputs" or crate.endswith("_tests")
+    return crate.startswith("test_") or crate.endswith("_tests")
 
 
 # ---- what the tree has

@@ -1,5 +1,5 @@
 -- A command without subcommands finds one fault at most in any words, and none only if it takes them.
-use Rattle.std.proofs.Common.{◌≡◌, ◌∙◌, ◌&&◌, ◌||◌, ◌==◌, ℕ, Bool, zero, suc, true, false, not, List, [], ◌∷◌, length, drop, min, Option, Some, None, is_some, refl, sym, ap, subst, inl, inr, arith, codes}
+use Rattle.std.proofs.Common.{◌≡◌, ◌∙◌, ◌&&◌, ◌||◌, ◌==◌, ℕ, Bool, zero, suc, true, false, true≢false, not, List, [], ◌∷◌, length, drop, min, Option, Some, None, is_some, refl, sym, ap, subst, inl, inr, arith, codes}
 use Rattle.std.specs.Prelude.{if◌then◌else◌, nat_le, nat_lt, encode_utf8, slice_get, ◌+◌}
 use Rattle.std.specs.List.{list_all}
 use Rattle.std.specs.Option.{option_map_or}
@@ -10,9 +10,9 @@ use Rattle.clap.specs.Facts.{parser_of_value, unwrap_or_range}
 use Rattle.clap.specs.Walk.{Held, Names, Row, Rule, Step, Text, Waiting, Walk, action_of, arg_by_id, arg_by_index, arg_by_long, arg_by_short, attached_value, count_of, finished, has_row, is_empty, is_pending, most_values, next, nothing_held, reacted, settled, subcommand, subcommand_met, takes_several, takes_values, trailing, value, values_or_missing, walk, walk_from, walked, with_default, word_met}
 use Rattle.clap.specs.Simple.{Shape, built, entered}
 use Rattle.clap.specs.Takes.{action_passes, bundle_passes, bundle_step_passes, count_passes, default_passes, entered_passes, flag_word_passes, flags_pass, is_given, is_valid, level_passes, long_passes, option_passes, other_passes, positional_passes, react_passes, set_passes, settle_passes, short_passes, step_passes, takes, turn_passes, use_passes, value_passes, values_pass, walk_passes, word_passes}
-use Rattle.clap.specs.Kinds.{HasKind, IsAmong, Kinds, or_else, range_kinds}
+use Rattle.clap.specs.Kinds.{HasKind, IsAmong, Kinds, or_else, range_kinds, request_kinds}
 use Rattle.clap.specs.Faults.{default_fault, given_default_fault, is_simple_and_free, action_fault, bundle_fault, bundle_step_fault, check_fault, count_fault, defaults_fault, entered_fault, fault_of, flag_word_fault, flags_fault, level_fault, long_fault, option_fault, other_fault, positional_fault, react_fault, set_fault, settle_fault, short_fault, step_fault, turn_fault, use_fault, values_fault, walk_fault, word_fault}
-use Rattle.clap.specs.Values.{kind_of, refused_kind}
+use Rattle.clap.specs.Values.{is_request, kind_of, refused_kind}
 use Rattle.clap.specs.declared.builder.action.ArgAction.{ArgAction}
 use Rattle.clap.specs.declared.builder.action.ArgAction.TheVariants as action
 use Rattle.clap.specs.declared.error.Error.{Error}
@@ -191,15 +191,45 @@ module _ (c : List Rule) (again : Bool) where
   positional_says : (a : Rule) (h : Held) → Says (positional_fault c again a h) (positional_passes c again a h)
   positional_says a h = unless (is_pending a h.pending && takes_several a) _ _ (settle_says h)
 
-no_default : (rs : List Rule) → list_all (λ a. is_empty a.defaults) rs ≡ true → (rows : List Row) → defaults_fault rows rs ≡ []
-unfolding defaults_fault
-no_default [] e rows = refl
-no_default (a ∷ rest) e rows = past (default_fault rows a) _ (skipped (has_row a.id rows) (both (is_empty a.defaults) _ e).0)
-    ∙ no_default rest (both (is_empty a.defaults) _ e).1 (with_default rows a)
+-- ---- the defaults
+
+values_none : (a : Rule) (vs : List Text) → values_pass a vs ≡ true → values_fault a vs ≡ []
+values_none a [] e = refl
+values_none a (v ∷ vs) e = past _ _ (passed (value_passes a v) (both (value_passes a v) _ e).0) ∙ values_none a vs (both (value_passes a v) _ e).1
   where
-    skipped : (has : Bool) → is_empty a.defaults ≡ true → (if has || is_empty a.defaults then [] else given_default_fault a a.defaults) ≡ []
-    skipped true none = refl
-    skipped false none = rw none refl
+    passed : (passes : Bool) → passes ≡ true → (if passes then [] else refused_kind (parser_of_value a.parser) ∷ []) ≡ []
+    passed true e = refl
+    passed false e = absurd (true≢false (sym e))
+
+no_request : (x : ArgAction) → not (is_request x) ≡ true → request_kinds x ≡ []
+no_request action.Set e = refl
+no_request action.SetTrue e = refl
+no_request action.SetFalse e = refl
+no_request action.Append e = refl
+no_request action.Count e = refl
+no_request action.Help e = absurd (true≢false (sym e))
+no_request action.HelpShort e = absurd (true≢false (sym e))
+no_request action.HelpLong e = absurd (true≢false (sym e))
+no_request action.Version e = absurd (true≢false (sym e))
+
+-- a default that passes makes no fault
+no_default : (a : Rule) → default_passes a ≡ true → (rows : List Row) → default_fault rows a ≡ []
+no_default a e rows = go (has_row a.id rows) (is_empty a.defaults) e
+  where
+    go : (has empty : Bool) → (empty || (not (is_request (action_of a)) && values_pass a a.defaults)) ≡ true
+        → (if has || empty then [] else given_default_fault a a.defaults) ≡ []
+    go true empty e = refl
+    go false true e = refl
+    go false false e =
+        let each = both (not (is_request (action_of a))) _ e in
+        past _ _ (no_request (action_of a) each.0) ∙ values_none a a.defaults each.1
+
+no_defaults : (rs : List Rule) → list_all default_passes rs ≡ true → (rows : List Row) → defaults_fault rows rs ≡ []
+unfolding defaults_fault
+no_defaults [] e rows = refl
+no_defaults (a ∷ rest) e rows =
+    let each = both (default_passes a) _ e in
+    past (default_fault rows a) _ (no_default a each.0 rows) ∙ no_defaults rest each.1 (with_default rows a)
 
 module _ (s : Shape) (leaf : s.is_leaf ≡ true) (unhelped : s.disable_help_subcommand ≡ true) where
   other_says : (name : Option Text) (word : Text) (h : Held) → Says (other_fault s name word h) (other_passes s name word h)
@@ -241,18 +271,17 @@ module _ (s : Shape) (leaf : s.is_leaf ≡ true) (unhelped : s.disable_help_subc
 
   -- ---- after the walk
 
-  level_says : (undefaulted : list_all (λ a. is_empty a.defaults) s.rules ≡ true) (passing : list_all default_passes s.rules ≡ true)
+  level_says : (passing : list_all default_passes s.rules ≡ true)
       → ((rows : List Row) → Says (check_fault s rows false) (is_valid s rows false))
       → (names : Names) (h : Held) (words : List Text) → Says (level_fault s names h words false []) (level_passes s names h words false)
-  level_says undefaulted passing checked names h words =
+  level_says passing checked names h words =
       let end = (walk s.rules names h words).held in
       after _ _ _ _ (walk_says names (walk_from h) words)
       (after _ _ _ _ (settle_says s.rules s.args_override_self end)
-      (after _ _ _ _ (defaults_say passing undefaulted (settled s.rules end).rows) (checked (finished s.rules end))))
+      (after _ _ _ _ (defaults_say (settled s.rules end).rows) (checked (finished s.rules end))))
     where
-      defaults_say : list_all default_passes s.rules ≡ true → list_all (λ a. is_empty a.defaults) s.rules ≡ true
-          → (rows : List Row) → Says (defaults_fault rows s.rules) (list_all default_passes s.rules)
-      defaults_say passing undefaulted rows = rw (passing, no_default s.rules undefaulted rows) no_kind
+      defaults_say : (rows : List Row) → Says (defaults_fault rows s.rules) (list_all default_passes s.rules)
+      defaults_say rows = rw (passing, no_defaults s.rules passing rows) no_kind
 
 -- ---- the command of the program
 
@@ -266,7 +295,7 @@ missing true false z = one_kind _ _
 missing false y z = one_kind _ _
 
 play_says : (names : Names) (h : Held) (words : List Text) → Says (level_fault top names h words false []) (level_passes top names h words false)
-play_says = level_says top refl refl refl refl
+play_says = level_says top refl refl refl
     (λ rows. missing (is_given (codes "config") rows) (is_given (codes "a") rows) (is_given (codes "b") rows))
 
 pub fault_says : (words : List Text) → Says (fault_of play_command words) (takes play_command words)

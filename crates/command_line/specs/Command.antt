@@ -1,11 +1,11 @@
--- The command line of the program, `afdx_play --config FILE --a FILE --b FILE [--at MICROSECONDS]`, as
--- `clap` reads it.
-use Rattle.std.specs.Prelude.{◌≡◌, ◌≢◌, ◌≤◌, ℕ, List, [], ◌∷◌, map, true, Some, IfSome, option_map, ⊤, String, codes, string_bytes}
+-- The command line of the program, `afdx_play --config FILE --a FILE --b FILE [--at MICROSECONDS] [--threads]`,
+-- as `clap` reads it.
+use Rattle.std.specs.Prelude.{◌≡◌, ◌≢◌, ◌≤◌, ℕ, List, [], ◌∷◌, map, Bool, true, false, Option, Some, None, IfSome, option_map, ⊤, String, codes, string_bytes}
 use Rattle.std.specs.Str.Parse.{digits_value, without_leading_plus}
 use Rattle.std.specs.declared.alloc.Global.{Global}
 use Rattle.clap.specs.Simple.{on_top}
-use Rattle.clap.specs.Words.{App, IsUnsignedIn, Rule, Row, Text, first_of, fault_of, found_of, kind_of, matches_of, new_app, new_rule, rows_of, takes, with_rule}
-use Rattle.clap.specs.declared.builder.action.ArgAction.TheVariants.{Set}
+use Rattle.clap.specs.Words.{App, IsUnsignedIn, Rule, Row, Text, first_of, fault_of, found_of, kind_of, matches_of, new_app, new_rule, one_of, rows_of, takes, with_rule}
+use Rattle.clap.specs.declared.builder.action.ArgAction.TheVariants.{Set, SetTrue}
 use Rattle.clap.specs.declared.builder.value_parser.ValueParser.TheVariants.{Unsigned}
 use Rattle.clap.specs.declared.error.Error.{Error}
 use Rattle.clap.specs.declared.error.kind.ErrorKind.{ErrorKind}
@@ -37,13 +37,20 @@ time_option name = record (new_rule name) {
   parser = Some (Unsigned 0 latest_time);
 }
 
+-- an option that may be left out, and has no value: `--NAME`
+abbrev pub flag_option : Text → Rule
+flag_option name = record (new_rule name) {
+  long = Some name;
+  action = Some SetTrue;
+}
+
 -- the words are those after the program's name
 abbrev pub bare_command : App
 bare_command = on_top (λ top. record top { no_binary_name = true }) (new_app (codes "afdx_play"))
 
 abbrev pub play_command : App
-play_command = with_rule (with_rule (with_rule (with_rule bare_command
-    (file_option (codes "config"))) (file_option (codes "a"))) (file_option (codes "b"))) (time_option (codes "at"))
+play_command = with_rule (with_rule (with_rule (with_rule (with_rule bare_command
+    (file_option (codes "config"))) (file_option (codes "a"))) (file_option (codes "b"))) (time_option (codes "at"))) (flag_option (codes "threads"))
 
 -- the words as texts
 abbrev pub texts_of : List (String Global) → List Text
@@ -66,13 +73,20 @@ IsTime = IsUnsignedIn 0 latest_time
 abbrev pub microseconds_in : Text → ℕ
 microseconds_in text = digits_value 10 (without_leading_plus text)
 
+-- a flag is on if the command matches `true` for it, as it does where the words have it, and off if it matches
+-- `false`, as it does where they don't, or nothing
+abbrev pub IsFlag : Option Text → Bool → Type 0
+IsFlag matched flag = (matched ≡ Some (codes "true") → flag ≡ true) × (matched ≡ Some (codes "false") → flag ≡ false) × (matched ≡ None → flag ≡ false)
+
 -- the files are the values that the command matches in the words, each under its own option; the time of
--- the report is the number that it matches, and there is none if the option isn't given
+-- the report is the number that it matches, and there is none if the option isn't given; the flag of the threads is
+-- what it matches for it
 abbrev pub IsLineIn : List Row → Line → Type 0
 IsLineIn rows line = (first_of (codes "config") rows ≡ Some (string_bytes line.config))
     × (first_of (codes "a") rows ≡ Some (string_bytes line.a))
     × (first_of (codes "b") rows ≡ Some (string_bytes line.b))
     × (option_map microseconds_in (first_of (codes "at") rows) ≡ line.at)
+    × IsFlag (one_of (codes "threads") rows) line.threads
 
 -- the time of the report, if it is given, is at most the latest
 abbrev pub HasTimeInRange : Line → Type 0

@@ -1,15 +1,17 @@
 //! The command and its options, as `clap` takes them.
 ghost use Rattle.std.specs.Prelude.{◌≡◌, IfOk, false};
 ghost use Rattle.clap.specs.Words.{app_of, rule_of};
-ghost use Rattle.command_line.specs.Command.{file_option, play_command, time_option};
+ghost use Rattle.command_line.specs.Command.{file_option, flag_option, play_command, time_option};
 
 use clap::{Arg, ArgAction, Command, value_parser};
 use std::alloc::{AllocError, Global};
 
+const THREADS: &str = "a thread for each network; the lines of A come first, and then those of B";
+
 const TIME_OF_THE_REPORT: &str =
     "the time of the report, in microseconds; by default the greatest arrival time";
 
-/// The command of the program, with its four options.
+/// The command of the program, with its five options.
 pub(crate) fn play_command<'a>(alloc: Global) -> Result<Command<'a>, AllocError>
     ensures { IfOk result (λ command. app_of command ≡ play_command) }
 {
@@ -19,7 +21,8 @@ pub(crate) fn play_command<'a>(alloc: Global) -> Result<Command<'a>, AllocError>
         .arg(file_option(alloc, "config", "the configuration, a TOML file"))?
         .arg(file_option(alloc, "a", "the trace of network A"))?
         .arg(file_option(alloc, "b", "the trace of network B"))?
-        .arg(time_option(alloc, "at", TIME_OF_THE_REPORT))
+        .arg(time_option(alloc, "at", TIME_OF_THE_REPORT))?
+        .arg(flag_option(alloc, "threads", THREADS))
 }
 
 /// The option `--NAME FILE`. It has to be given.
@@ -45,5 +48,16 @@ fn time_option<'a>(alloc: Global, name: &'a str, help: &'a str) -> Arg<'a>
         .action(ArgAction::Set)
         .value_name("MICROSECONDS")
         .value_parser(value_parser!(u64).range(..=i64::MAX))
+        .help(help)
+}
+
+/// The option `--NAME`. It has no value, and may be left out.
+fn flag_option<'a>(alloc: Global, name: &'a str, help: &'a str) -> Arg<'a>
+    ensures rule { rule_of result ≡ flag_option name.entry.now }
+    ensures local { result.global ≡ false }
+{
+    Arg::new(alloc, name)
+        .long(name)
+        .action(ArgAction::SetTrue)
         .help(help)
 }

@@ -1,7 +1,7 @@
-//! From the words after the program's name to the files and the time that they name.
+//! From the words after the program's name to the files and the time that they name, and to what else they ask for.
 ghost use Rattle.std.specs.Prelude.{◌≡◌, ◌≤◌, IfOk, IfErr, IfSome, Some, true, is_some, option_map, codes, string_bytes};
 ghost use Rattle.clap.specs.Words.{first_of, kind_of, one_of};
-ghost use Rattle.command_line.specs.Command.{given, HasTimeInRange, IsFaultOf, IsLineIn, IsLineOf, IsTaken, IsTime, fault_from, latest_time, microseconds_in};
+ghost use Rattle.command_line.specs.Command.{given, HasTimeInRange, IsFaultOf, IsFlag, IsLineIn, IsLineOf, IsTaken, IsTime, fault_from, latest_time, microseconds_in};
 ghost use Rattle.command_line.specs.declared.fault.LineFault.TheVariants.{Memory};
 
 use crate::LineFault;
@@ -10,7 +10,7 @@ use clap::error::ErrorKind;
 use clap::{ArgMatches, Error};
 use std::alloc::{AllocError, Global};
 
-/// The files and the time that a command line names.
+/// The files and the time that a command line names, and whether it asks for threads.
 #[derive(Debug, Drop)]
 pub struct Line {
     /// The configuration.
@@ -22,6 +22,8 @@ pub struct Line {
     /// The time of the report, in microseconds, 0 to 9223372036854775807. None if it isn't given: the
     /// report is then of the greatest arrival time.
     pub at: Option<u64>,
+    /// Whether each network's trace is played in a thread of its own.
+    pub threads: bool,
 }
 
 /// Reads the words after the program's name. The fault is Help if they ask for help, Refused if
@@ -41,7 +43,7 @@ pub fn line_of(alloc: Global, words: &[String]) -> Result<Line, LineFault>
     }
 }
 
-/// The files and the time of a command line that names all three files.
+/// The line of a command line that names all three files.
 fn line_from(alloc: Global, matches: &ArgMatches<'_>) -> Result<Line, AllocError>
     requires config { is_some (first_of (codes "config") (given matches.now)) ≡ true }
     requires a { is_some (first_of (codes "a") (given matches.now)) ≡ true }
@@ -56,6 +58,7 @@ fn line_from(alloc: Global, matches: &ArgMatches<'_>) -> Result<Line, AllocError
         a: value_of(alloc, matches, "a")?,
         b: value_of(alloc, matches, "b")?,
         at: time_of(matches, "at"),
+        threads: flag_of(matches, "threads"),
     })
 }
 
@@ -77,6 +80,13 @@ fn time_of(matches: &ArgMatches<'_>, name: &str) -> Option<u64>
     ensures range { IfSome result (λ time. time ≤ latest_time) }
 {
     matches.get_one(name)
+}
+
+/// Whether a flag was given.
+fn flag_of(matches: &ArgMatches<'_>, name: &str) -> bool
+    ensures { IsFlag (one_of name.now (given matches.now)) result }
+{
+    matches.get_flag(name)
 }
 
 /// The fault of an error of the command.

@@ -67,7 +67,7 @@ taken_before None settings base stands = rw stands refl
 taken_before (Some kept) settings base stands = let many = stands.many in omega (arith, many)
 
 -- what one base counts that is stood for, each does
-same_counts : (before : Option Kept) (settings : Settings) (base other : Base) → StandsFor before settings base → StandsFor before settings other
+pub same_counts : (before : Option Kept) (settings : Settings) (base other : Base) → StandsFor before settings base → StandsFor before settings other
     → (net : Net) (kind : ℕ) → IsKind verdict_kinds kind → other.counts net kind ≡ base.counts net kind
 same_counts None settings base other stands too net kind is = rw (stands, too) refl
 same_counts (Some kept) settings base other stands too net kind is = sym (too.counted net kind is) ∙ stands.counted net kind is

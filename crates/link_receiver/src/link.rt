@@ -50,7 +50,7 @@ use link_deliveries::{deliveries, deliveries_up_to};
 use queuing_port::Taker;
 use sampling_port::Reader;
 use slot_core::{MOST_MESSAGES, READERS};
-use std::alloc::Global;
+use std::alloc::{AllocError, Global};
 use std::marker::Model;
 use std::mem;
 use std::sync::Wait;
@@ -277,24 +277,31 @@ impl LinkState {
             time: now,
             frame: Octets::copy_of(alloc, frame.whole)?,
         };
-        self.take_arrival(rt, alloc, arrival)
+        match self.take_arrival(rt, alloc, arrival) {
+            Ok(verdict) => Ok(verdict),
+            Err(_) => Err(AllocError),
+        }
     }
 
     /// Takes a frame as `take` does, and keeps its octets themselves in place of a copy. They are those
-    /// of a frame of this link, as `read_frame` returned it. If memory runs out they are given up.
+    /// of a frame of this link, as `read_frame` returned it. If memory runs out the arrival is handed back.
     pub fn take_arrival<R: Wait>(
         &mut self,
         rt: &R,
         alloc: Global,
         arrival: Arrival,
-    ) -> Result<Verdict, Memory>
+    ) -> Result<Verdict, Arrival>
         requires frame { IsFrame arrival.frame }
         requires link { link_number_of arrival.frame ≡ self.old.settings.vl.0 }
         ensures ok { IfOk result (λ verdict. Takes self.old arrival verdict self.new) }
-        ensures err { OnErr result (self.new ≡ self.old) }
+        ensures err { IfErr result (λ back. (back ≡ arrival) × (self.new ≡ self.old)) }
     {
-        let change = self.change_by(alloc, &arrival)?;
-        reserve_event(&mut self.history, alloc)?;
+        let Ok(()) = reserve_event(&mut self.history, alloc) else {
+            return Err(arrival);
+        };
+        let Ok(change) = self.change_by(alloc, &arrival) else {
+            return Err(arrival);
+        };
         let Change {
             sequence_number,
             forwarded,

@@ -21,7 +21,7 @@ use es_base::{
 };
 use sampling_port::{MOST_TRIES, Read, Reader};
 use slot_core::READERS;
-use std::alloc::Global;
+use std::alloc::{AllocError, Global};
 use std::marker::Model;
 use std::sync::Wait;
 
@@ -120,7 +120,9 @@ impl UnreadLink {
         ensures few { OnOk result (length self.old.history < most_events) }
         ensures err { OnErr result (self.new ≡ self.old) }
     {
-        let verdict = self.state.take_arrival(rt, alloc, arrival)?;
+        let Ok(verdict) = self.state.take_arrival(rt, alloc, arrival) else {
+            return Err(AllocError);
+        };
         note_last(&mut self.up_to_last, verdict, self.state.history().len());
         if let Verdict::Queued(port) = verdict {
             meet_at(rt, &mut self.state, port, &mut self.ends);

@@ -9,7 +9,7 @@ use Rattle.es_base.specs.Past.{Origin}
 use Rattle.es_base.specs.FilterTally.{HasFiltered, filtered_count}
 use Rattle.es_base.specs.Limits.{filter_causes, verdict_kinds}
 use Rattle.es_base.specs.Tally.{Counts, HasCounts, IsKind, count_in, count_of}
-use Rattle.output_lines.specs.Line.{counts_text}
+use Rattle.output_lines.specs.Line.{causes_of, count_at, counts_text}
 use Rattle.output_lines.specs.Report.{count_lines, filtered_lines}
 
 -- equal counts have one text
@@ -35,3 +35,8 @@ counts_of_frames counts c earlier has =
       same_text filter_causes (count_in counts nets.A) (filtered_count c earlier nets.A) (has nets.A),
       same_text filter_causes (count_in counts nets.B) (filtered_count c earlier nets.B) (has nets.B),
     ) refl
+
+-- the list of the counts of all causes has the text of these counts
+pub text_of_causes : (count : ℕ → ℕ) → counts_text filter_causes (count_at (causes_of count)) ≡ counts_text filter_causes count
+unfolding counts_text
+text_of_causes count = refl

@@ -16,7 +16,7 @@ use Rattle.es_base.specs.Past.{origin_of}
 use Rattle.es_base.specs.Deliveries.{deliveries, newest_of}
 use Rattle.es_base.specs.Tally.{count_of}
 use Rattle.sampling_port.specs.Age.{freshness}
-use Rattle.output_lines.specs.Line.{empty_text, sample_text, queue_text, message_text, event_counts_text, filtered_counts_text}
+use Rattle.output_lines.specs.Line.{count_at, empty_text, sample_text, queue_text, message_text, event_counts_text, filtered_counts_text}
 
 -- every line ends with the byte 0a
 abbrev pub line : List ℕ → List ℕ
@@ -70,6 +70,11 @@ all_count_lines past_of (link ∷ links) = count_lines link.vl (count_of (origin
 -- the counts of filtered frames, by network and cause
 abbrev pub filtered_lines : (Net → ℕ → ℕ) → List ℕ
 filtered_lines filtered = line (filtered_counts_text nets.A (filtered nets.A)) ++ line (filtered_counts_text nets.B (filtered nets.B))
+
+-- the counts of these lists, that of A and that of B
+abbrev pub counts_by_net : List ℕ → List ℕ → Net → ℕ → ℕ
+counts_by_net a b nets.A = count_at a
+counts_by_net a b nets.B = count_at b
 
 -- the report on these links at a time in microseconds: for each link its ports; then for each link its
 -- counts; then the counts of filtered frames

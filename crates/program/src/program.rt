@@ -13,6 +13,7 @@ use command_line::{Line, LineFault, line_of};
 use std::alloc::Global;
 use std::io::{self, ErrorKind, Write};
 use std::sync::Wait;
+use std::thread::Threads;
 use trace_player::{Device, Sink, Source};
 use vl_config::{BUILT_IN, read_config};
 
@@ -33,9 +34,10 @@ pub struct Ending {
 ///
 /// With no words it plays the standard input as the trace of network A, with the built-in configuration;
 /// trace B is empty. With the words of a command line it reads the file of the configuration, opens the
-/// file of trace A and then that of trace B, and plays them. The output goes to `output`; the first fault
+/// file of trace A and then that of trace B, and plays them; if the words have `--threads`, with a thread for each,
+/// and the contract doesn't say then what the text of the output is. The output goes to `output`; the first fault
 /// ends the run, and its line goes to `errors`.
-pub fn run<R: Wait, F: Files, I: Source, O: Sink, E: Write>(
+pub fn run<R: Threads + Wait + Sync, F: Files, I: Source, O: Sink, E: Write>(
     rt: &R,
     alloc: Global,
     words: io::Result<Vec<String>>,
@@ -64,7 +66,7 @@ pub fn run<R: Wait, F: Files, I: Source, O: Sink, E: Write>(
 }
 
 /// What the words ask for.
-fn run_words<R: Wait, F: Files, I: Source, O: Sink>(
+fn run_words<R: Threads + Wait + Sync, F: Files, I: Source, O: Sink>(
     rt: &R,
     alloc: Global,
     words: io::Result<Vec<String>>,
@@ -86,7 +88,7 @@ fn run_words<R: Wait, F: Files, I: Source, O: Sink>(
 }
 
 /// What these words ask for.
-fn run_given<R: Wait, F: Files, I: Source, O: Sink>(
+fn run_given<R: Threads + Wait + Sync, F: Files, I: Source, O: Sink>(
     rt: &R,
     alloc: Global,
     words: &[String],
@@ -108,7 +110,7 @@ fn run_given<R: Wait, F: Files, I: Source, O: Sink>(
 }
 
 /// Plays the files of a command line, or shows the help that its words ask for.
-fn play_words<R: Wait, F: Files, O: Sink>(
+fn play_words<R: Threads + Wait + Sync, F: Files, O: Sink>(
     rt: &R,
     alloc: Global,
     words: &[String],
@@ -153,7 +155,7 @@ fn play_input<R: Wait, I: Source, O: Sink>(
 }
 
 /// Plays the files of a command line.
-fn play_line<R: Wait, F: Files, O: Sink>(
+fn play_line<R: Threads + Wait + Sync, F: Files, O: Sink>(
     rt: &R,
     alloc: Global,
     line: &Line,

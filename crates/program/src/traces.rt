@@ -2,7 +2,7 @@
 ghost use Rattle.std.specs.Prelude.{◌≡◌, Result, IfOk, false};
 ghost use Rattle.std.specs.IoError.{error_kind};
 ghost use Rattle.program.specs.Outside.{open_fault};
-ghost use Rattle.program.specs.Run.{Plays, PlaysFiles, IsOpened, world};
+ghost use Rattle.program.specs.Run.{Plays, PlaysAsked, PlaysByThreads, PlaysFiles, IsOpened, world};
 
 use crate::{Files, RunFault};
 use command_line::Line;
@@ -11,10 +11,13 @@ use std::alloc::Global;
 use std::io::{self, ErrorKind};
 use std::mem;
 use std::sync::Wait;
+use std::thread::Threads;
+use thread_player::play_threads;
 use trace_player::{PlayFault, Sink, Source, replay};
 
-/// Opens the files of both traces, A first, and plays them.
-pub(crate) fn play_files<R: Wait, F: Files, O: Sink>(
+/// Opens the files of both traces, A first, and plays them: with a thread for each if the line asks for that, and
+/// else with one for both.
+pub(crate) fn play_files<R: Threads + Wait + Sync, F: Files, O: Sink>(
     rt: &R,
     alloc: Global,
     config: &Config,
@@ -27,7 +30,51 @@ pub(crate) fn play_files<R: Wait, F: Files, O: Sink>(
 {
     let mut a = open_trace(files, Net::A, &line.a)?;
     let mut b = open_trace(files, Net::B, &line.b)?;
-    play_all(rt, alloc, config, &mut a, &mut b, output, line.at)
+    play_asked(rt, alloc, config, line, &mut a, &mut b, output)
+}
+
+/// Plays two traces as a line asks for: with a thread for each, or with one for both.
+fn play_asked<R: Threads + Wait + Sync, A: Source, B: Source, O: Sink>(
+    rt: &R,
+    alloc: Global,
+    config: &Config,
+    line: &Line,
+    a: &mut A,
+    b: &mut B,
+    output: &mut O,
+) -> Result<(), RunFault>
+    requires source_a { A.has_failed a.old ≡ false }
+    requires source_b { B.has_failed b.old ≡ false }
+    requires sink { O.has_failed output.old ≡ false }
+    ensures { PlaysAsked line.now.threads O.contents O.has_failed output.old output.new config.now line.now.at
+        (record { bytes = A.remaining a.old; failed = A.has_failed a.new })
+        (record { bytes = B.remaining b.old; failed = B.has_failed b.new }) result }
+{
+    if line.threads {
+        return play_apart(rt, alloc, config, a, b, output, line.at);
+    }
+    play_all(rt, alloc, config, a, b, output, line.at)
+}
+
+/// Plays two traces with a thread for each, and with a report at the time `at`, in microseconds, or by default.
+fn play_apart<R: Threads + Wait + Sync, A: Source, B: Source, O: Sink>(
+    rt: &R,
+    alloc: Global,
+    config: &Config,
+    a: &mut A,
+    b: &mut B,
+    output: &mut O,
+    at: Option<u64>,
+) -> Result<(), RunFault>
+    requires source_a { A.has_failed a.old ≡ false }
+    requires source_b { B.has_failed b.old ≡ false }
+    requires sink { O.has_failed output.old ≡ false }
+    ensures { PlaysByThreads O.contents O.has_failed output.old output.new
+        (record { bytes = A.remaining a.old; failed = A.has_failed a.new })
+        (record { bytes = B.remaining b.old; failed = B.has_failed b.new }) result }
+{
+    play_threads(rt, alloc, config, a, b, output, at)?;
+    Ok(())
 }
 
 /// The file of a network's trace.

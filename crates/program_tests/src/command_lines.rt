@@ -11,7 +11,8 @@ fn read(alloc: Global, words: &[String]) -> Result<Line, LineFault> {
 
 fn text_of_line(alloc: Global, line: &Line) -> Result<String, AllocError> {
     let (config, a, b, at) = (&line.config, &line.a, &line.b, line.at);
-    format!(in alloc; "line {config} {a} {b} {at:?}")
+    let threads = if line.threads { " threads" } else { "" };
+    format!(in alloc; "line {config} {a} {b} {at:?}{threads}")
 }
 
 /// What `line_of` returns, as a text.
@@ -99,6 +100,7 @@ Options:
       --a <FILE>           the trace of network A
       --b <FILE>           the trace of network B
       --at <MICROSECONDS>  the time of the report, in microseconds; by default the greatest arrival time
+      --threads            a thread for each network; the lines of A come first, and then those of B
   -h, --help               Print help
 ";
     check_line(&rt, rt.alloc(), "--help", expected);
@@ -128,6 +130,25 @@ fn places_of_the_time() -> [Row; 4] {
 #[test]
 fn the_time_stands_before_or_after_the_files(rt: HostRuntime) {
     check_lines(&rt, rt.alloc(), &places_of_the_time());
+}
+
+fn flags() -> [Row; 3] {
+    [
+        (
+            "--config c --a x --b y --threads",
+            "line c x y None threads",
+        ),
+        (
+            "--threads --config c --a x --b y --at 5",
+            "line c x y Some(5) threads",
+        ),
+        ("--config c --a x --b --threads", "refused: "),
+    ]
+}
+
+#[test]
+fn reads_the_flag_of_the_threads(rt: HostRuntime) {
+    check_starts(&rt, rt.alloc(), &flags());
 }
 
 fn times() -> [Row; 7] {

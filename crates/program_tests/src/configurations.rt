@@ -4,10 +4,16 @@ use std::alloc::{AllocError, Global};
 use std::io::ErrorKind;
 use std::process::Abort;
 use std::sync::Wait;
+use std::thread::Threads;
 use vl_config::BUILT_IN;
 
 /// A run is refused for its configuration: nothing but that file was asked for.
-fn check_refused(rt: &(impl Abort + Wait), alloc: Global, octets: &[u8], errors: &str) {
+fn check_refused(
+    rt: &(impl Abort + Threads + Wait + Sync),
+    alloc: Global,
+    octets: &[u8],
+    errors: &str,
+) {
     let missing = Err(ErrorKind::NotFound);
     let wanted = Wanted {
         status: 1,
@@ -86,7 +92,7 @@ fn texts_of(alloc: Global, change: Changed) -> Result<(String, String), AllocErr
     Ok((config, errors))
 }
 
-fn check_change(rt: &(impl Abort + Wait), alloc: Global, change: Changed) {
+fn check_change(rt: &(impl Abort + Threads + Wait + Sync), alloc: Global, change: Changed) {
     let (config, errors) = texts_of(alloc, change).expect(rt, "memory");
     check_refused(rt, alloc, config.as_bytes(), errors.as_str());
 }

@@ -3,6 +3,7 @@ use crate::shelf::{ALL, Wanted, check_files};
 use std::alloc::Global;
 use std::process::Abort;
 use std::sync::Wait;
+use std::thread::Threads;
 use test_inputs::{SECOND_LINK, ScriptedReader};
 use vl_config::BUILT_IN;
 
@@ -81,7 +82,13 @@ const FRAGMENTS_B: &str = "# Network B has the first fragment before A has it.
 ";
 
 /// Two links play these traces to this output.
-fn check_example(rt: &(impl Abort + Wait), alloc: Global, a: &str, b: &str, output: &str) {
+fn check_example(
+    rt: &(impl Abort + Threads + Wait + Sync),
+    alloc: Global,
+    a: &str,
+    b: &str,
+    output: &str,
+) {
     let config = format!(in alloc; "{BUILT_IN}{SECOND_LINK}").expect(rt, "memory");
     let files = (
         Ok(config.as_bytes()),

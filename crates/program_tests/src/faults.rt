@@ -5,6 +5,7 @@ use std::alloc::Global;
 use std::io::ErrorKind;
 use std::process::Abort;
 use std::sync::Wait;
+use std::thread::Threads;
 use test_inputs::{ReadCall, ScriptedReader};
 use vl_config::BUILT_IN;
 
@@ -37,7 +38,7 @@ fn stored_trace(error: Option<ErrorKind>) -> StoredTrace<'static> {
     }
 }
 
-fn check_unread(rt: &(impl Abort + Wait), alloc: Global, row: Unread) {
+fn check_unread(rt: &(impl Abort + Threads + Wait + Sync), alloc: Global, row: Unread) {
     let ([c, x, y], status, errors, asked) = row;
     let config = match c {
         None => Ok(BUILT_IN.as_bytes()),
@@ -104,7 +105,7 @@ fn reader_of(trace: Trace) -> ScriptedReader<'static> {
 
 /// A run of these traces with the built-in configuration ends with this line and status.
 fn check_traces(
-    rt: &(impl Abort + Wait),
+    rt: &(impl Abort + Threads + Wait + Sync),
     alloc: Global,
     a: ScriptedReader<'_>,
     b: ScriptedReader<'_>,
@@ -127,7 +128,7 @@ fn a_trace_that_is_refused_has_its_words_and_status(rt: HostRuntime) {
     }
 }
 
-fn check_long_line(rt: &(impl Abort + Wait), alloc: Global, line: &str) {
+fn check_long_line(rt: &(impl Abort + Threads + Wait + Sync), alloc: Global, line: &str) {
     let a = ScriptedReader::of(line.as_bytes());
     let b = ScriptedReader::of(b"");
     check_traces(rt, alloc, a, b, "afdx_play: trace A line 1: long line\n", 1);

@@ -4,6 +4,7 @@ use std::alloc::{AllocError, Global};
 use std::io::{self, Error, ErrorKind};
 use std::process::Abort;
 use std::sync::Wait;
+use std::thread::Threads;
 use test_inputs::{ScriptedReader, ScriptedWriter, WriteCall};
 use trace_player::Device;
 
@@ -146,7 +147,7 @@ fn writer_of<'a>(alloc: Global, calls: &'a [WriteCall]) -> ScriptedWriter<'a> {
 /// A run with these words and with what is given comes to this. If the standard error fails it is not
 /// told.
 pub(crate) fn check_given(
-    rt: &(impl Abort + Wait),
+    rt: &(impl Abort + Threads + Wait + Sync),
     alloc: Global,
     words: io::Result<Vec<String>>,
     given: Given<'_>,
@@ -173,7 +174,7 @@ pub(crate) fn check_given(
 
 /// A run with these words, this standard input and these files comes to this.
 pub(crate) fn check_run(
-    rt: &(impl Abort + Wait),
+    rt: &(impl Abort + Threads + Wait + Sync),
     alloc: Global,
     words: io::Result<Vec<String>>,
     input: &str,
@@ -192,7 +193,7 @@ pub(crate) fn check_run(
 /// A run with the words of a whole command line over the files `c`, `x` and `y` comes to this. The
 /// standard input has a frame, which is not read.
 pub(crate) fn check_files(
-    rt: &(impl Abort + Wait),
+    rt: &(impl Abort + Threads + Wait + Sync),
     alloc: Global,
     (c, x, y): (StoredConfig<'_>, StoredTrace<'_>, StoredTrace<'_>),
     wanted: Wanted<'_>,

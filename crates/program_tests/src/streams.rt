@@ -3,6 +3,7 @@ use crate::shelf::{Given, Wanted, check_given, empty_shelf, words_in};
 use std::alloc::Global;
 use std::process::Abort;
 use std::sync::Wait;
+use std::thread::Threads;
 use test_inputs::{ReadCall, ScriptedReader, WriteCall};
 
 /// Words, what reading the standard input does after a frame, what writing the standard output does, and
@@ -35,7 +36,7 @@ fn failing_streams() -> [Row; 4] {
     ]
 }
 
-fn check_streams(rt: &(impl Abort + Wait), alloc: Global, row: Row) {
+fn check_streams(rt: &(impl Abort + Threads + Wait + Sync), alloc: Global, row: Row) {
     let (words, then, calls, status, output, errors) = row;
     let words = Ok(words_in(rt, alloc, words));
     let given = Given {
@@ -61,7 +62,7 @@ fn a_stream_that_fails_has_its_words_and_status(rt: HostRuntime) {
 }
 
 /// The status is that of the fault, even if its line can't be written.
-fn check_untold(rt: &(impl Abort + Wait), alloc: Global) {
+fn check_untold(rt: &(impl Abort + Threads + Wait + Sync), alloc: Global) {
     let words = Ok(Vec::new(alloc));
     let given = Given {
         shelf: empty_shelf(alloc),

@@ -1,9 +1,10 @@
 //! What the words ask for: the standard input, a run over files, the help; and words that are refused.
-use crate::shelf::{ALL, Wanted, check_files, check_run, empty_shelf, words_in};
+use crate::shelf::{ALL, Shelf, Wanted, check_files, check_run, empty_shelf, words_in};
 use std::alloc::Global;
 use std::io::{Error, ErrorKind};
 use std::process::Abort;
 use std::sync::Wait;
+use std::thread::Threads;
 use test_inputs::ScriptedReader;
 use vl_config::BUILT_IN;
 
@@ -16,6 +17,7 @@ Options:
       --a <FILE>           the trace of network A
       --b <FILE>           the trace of network B
       --at <MICROSECONDS>  the time of the report, in microseconds; by default the greatest arrival time
+      --threads            a thread for each network; the lines of A come first, and then those of B
   -h, --help               Print help
 ";
 
@@ -63,7 +65,7 @@ fn runs_without_files() -> [Row; 5] {
     ]
 }
 
-fn check_row(rt: &(impl Abort + Wait), alloc: Global, row: Row) {
+fn check_row(rt: &(impl Abort + Threads + Wait + Sync), alloc: Global, row: Row) {
     let (words, input, status, output, errors) = row;
     let wanted = Wanted {
         status,
@@ -84,7 +86,7 @@ fn words_ask_for_the_standard_input_or_the_help(rt: HostRuntime) {
 
 /// Words that could not be read, by this error.
 fn check_unread(
-    rt: &(impl Abort + Wait),
+    rt: &(impl Abort + Threads + Wait + Sync),
     alloc: Global,
     kind: ErrorKind,
     status: u8,
@@ -119,7 +121,7 @@ filtered B 1 0 0 0 0
 ";
 
 /// A frame on each network, one for the port and one for a link that isn't configured.
-fn check_line(rt: &(impl Abort + Wait), alloc: Global, config: &str) {
+fn check_line(rt: &(impl Abort + Threads + Wait + Sync), alloc: Global, config: &str) {
     let files = (
         Ok(config.as_bytes()),
         Ok(ScriptedReader::of(FRAME.as_bytes())),
@@ -138,4 +140,39 @@ fn check_line(rt: &(impl Abort + Wait), alloc: Global, config: &str) {
 fn a_command_line_plays_its_files(rt: HostRuntime) {
     let config = BUILT_IN.replace(rt.alloc(), "\"pos\"", "\"height\"");
     check_line(&rt, rt.alloc(), &config.expect(&rt, "memory"));
+}
+
+/// The lines of A come first, whatever the times are.
+const BY_NETWORK: &str = "1000 A vl 17 0 sampled pos 1
+900 B filtered too-short
+port pos sampling 1 1000 17 stale 0102030405060708090a0b0c0d0e0f1011
+port nav queuing 0
+count 17 A 0 0 0 0 0 0 0 0 0 1 0 0 0
+count 17 B 0 0 0 0 0 0 0 0 0 0 0 0 0
+filtered A 0 0 0 0 0
+filtered B 1 0 0 0 0
+";
+
+/// A frame on each network, with a thread for each.
+fn check_threads(rt: &(impl Abort + Threads + Wait + Sync), alloc: Global) {
+    let shelf = Shelf {
+        alloc,
+        c: Ok(BUILT_IN.as_bytes()),
+        x: Ok(ScriptedReader::of(FRAME.as_bytes())),
+        y: Ok(ScriptedReader::of(b"900 00")),
+        asked: 0,
+    };
+    let wanted = Wanted {
+        status: 0,
+        output: BY_NETWORK,
+        errors: "",
+        asked: ALL,
+    };
+    let words = words_in(rt, alloc, "--config c --a x --b y --at 21001 --threads");
+    check_run(rt, alloc, Ok(words), "1 00", shelf, wanted);
+}
+
+#[test]
+fn a_command_line_plays_its_files_with_threads(rt: HostRuntime) {
+    check_threads(&rt, rt.alloc());
 }

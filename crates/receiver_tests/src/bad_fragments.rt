@@ -1,12 +1,12 @@
 //! Fragments that are no piece of a datagram, and the verdict of each frame.
-use crate::frames::FOR_NAV;
-use crate::packets::{PacketRow, check_packet_rows};
+use crate::packets::check_packet_rows;
 use es_base::Net::A;
 use es_base::Verdict::{BadFragment, FragmentHeld};
 use test_inputs::fragments::PacketName::{
     EmptyFirst, First, FirstTo11, Last, LastFrom32784, LastTo8199, LastTo8200, NextFrom65528,
     NextTo20,
 };
+use test_inputs::rows::{FOR_NAV, PacketRow};
 
 fn bad_between() -> [PacketRow; 3] {
     [

@@ -1,5 +1,5 @@
 //! Partitions that read on threads of their own, while the link takes frames.
-use crate::frames::{POS, receive};
+use crate::frames::receive;
 use crate::partitions::opened_with_readers;
 use es_base::{Net, Verdict};
 use link_receiver::LinkState;
@@ -9,6 +9,7 @@ use std::alloc::Global;
 use std::process::Abort;
 use std::sync::Wait;
 use std::thread::{Threads, join, map_vec};
+use test_inputs::rows::POS;
 use test_inputs::{ETHERNET, IP, UDP, frame_of};
 
 /// How many frames the link takes, and how often each reader reads.

@@ -1,27 +1,14 @@
 //! Which datagram the fragments of some frames make, and the verdict of each frame.
-use crate::frames::{FOR_NAV, POS};
-use crate::packets::{PacketRow, check_packet_rows, check_packets_of};
+use crate::packets::{check_packet_rows, check_packets_of};
 use es_base::Net::{A, B};
-use es_base::Verdict::{BadUdp, FragmentHeld, FragmentedSample, Redundant};
+use es_base::Verdict::{BadUdp, FragmentHeld, Redundant};
 use test_inputs::fragments::PacketName::{
-    EndAt16, EndAt40, First, FirstAnew, FirstForPos, FirstOf21, Last, LastFrom24, LastTo19,
-    LastTo20, LongerLast,
+    EndAt16, EndAt40, First, FirstOf21, Last, LastFrom24, LastTo19, LastTo20, LongerLast,
+};
+use test_inputs::rows::{
+    FOR_NAV, PacketRow, first_twice, in_order, joined_for_a_sampling_port, last_first,
 };
 use test_inputs::{LINK, Link};
-
-fn in_order() -> [PacketRow; 2] {
-    [
-        (A, 1000, 1, First, FragmentHeld),
-        (A, 1100, 2, Last, FOR_NAV),
-    ]
-}
-
-fn last_first() -> [PacketRow; 2] {
-    [
-        (A, 1000, 1, Last, FragmentHeld),
-        (A, 1100, 2, First, FOR_NAV),
-    ]
-}
 
 /// Copies of both fragments on the other network are redundant, and joined with nothing.
 fn on_both_networks() -> [PacketRow; 4] {
@@ -30,15 +17,6 @@ fn on_both_networks() -> [PacketRow; 4] {
         (B, 1050, 1, First, Redundant),
         (B, 1100, 2, Last, FOR_NAV),
         (A, 1150, 2, Last, Redundant),
-    ]
-}
-
-/// The first fragment comes twice, with other octets the second time.
-fn first_twice() -> [PacketRow; 3] {
-    [
-        (A, 1000, 1, First, FragmentHeld),
-        (A, 1100, 2, FirstAnew, FragmentHeld),
-        (A, 1200, 3, Last, FOR_NAV),
     ]
 }
 
@@ -92,13 +70,6 @@ fn last_once_more() -> [PacketRow; 3] {
         (A, 1000, 1, First, FragmentHeld),
         (A, 1100, 2, Last, FOR_NAV),
         (A, 1200, 3, Last, FragmentHeld),
-    ]
-}
-
-fn joined_for_a_sampling_port() -> [PacketRow; 2] {
-    [
-        (A, 1000, 1, FirstForPos, FragmentHeld),
-        (A, 1100, 2, Last, FragmentedSample(POS)),
     ]
 }
 

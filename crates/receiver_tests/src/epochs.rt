@@ -2,13 +2,12 @@
 //! been, and places and counts go on.
 ghost use Rattle.std.specs.Prelude.{◌≡◌};
 
-use crate::frames::{FOR_NAV, NAV, POS, check_frame, opened};
+use crate::frames::{check_frame, opened};
 use crate::histories::{JOINED_PAYLOAD, Wanted, check_messages};
 use crate::meetings::{check_count, check_meeting, opened_with_taker, take};
-use crate::packets::{PacketRow, frame_row};
 use crate::partitions::{OCTETS, check_read, opened_with_readers};
 use crate::queued::check_taken;
-use crate::queues::{NAV_UDP, taker_of};
+use crate::queues::taker_of;
 use es_base::Net::{A, B};
 use es_base::Verdict::{FragmentHeld, OutOfSequence, Overflow, Queued, Redundant, Sampled};
 use es_base::{Net, PortNo, Verdict};
@@ -33,6 +32,7 @@ pub(crate) enum Step {
 }
 
 use Step::{Epoch, Nav, Packet, Pos};
+use test_inputs::rows::{FOR_NAV, NAV, NAV_UDP, POS, PacketRow, packet_row};
 
 /// The number of this name has this value.
 pub(crate) fn check_number(rt: &impl Abort, name: &str, number: u64, wanted: u64) {
@@ -69,7 +69,7 @@ pub(crate) fn check_step(rt: &(impl Abort + Wait), alloc: Global, state: &mut Li
     let row = match step {
         Pos(net, time, number, verdict) => (net, time, number, IP, UDP, PAYLOAD, verdict),
         Nav(net, time, number, verdict) => (net, time, number, IP, NAV_UDP, PAYLOAD, verdict),
-        Packet(row) => frame_row(row),
+        Packet(row) => packet_row(row),
         Epoch(first, events) => return check_epoch(rt, alloc, state, first, events),
     };
     check_frame(rt, alloc, state, row);

@@ -3,20 +3,14 @@ ghost use Rattle.std.specs.Prelude.{◌≡◌};
 ghost use Rattle.std.specs.List.{All};
 ghost use Rattle.link_receiver.specs.Ends.{IsOfItsPort};
 
-use es_base::{Decision, LinkSettings, Net, PortNo, Verdict};
+use es_base::{Decision, LinkSettings, Net, Verdict};
 use frame_reader::read_frame;
 use link_receiver::{LinkState, PortEnd};
 use std::alloc::Global;
 use std::process::Abort;
 use std::sync::Wait;
-use test_inputs::{CONSTANT, ETHERNET, IP, LINK, Link, PAYLOAD, UDP, frame_of};
-
-/// The sampling port `pos` of the built-in configuration.
-pub(crate) const POS: PortNo = PortNo(0);
-/// Its queuing port `nav`.
-pub(crate) const NAV: PortNo = PortNo(1);
-/// The verdict of a good datagram for `nav`, whose queue has room.
-pub(crate) const FOR_NAV: Verdict = Verdict::Queued(NAV);
+use test_inputs::rows::{FrameRow, SmallestRow, smallest_row};
+use test_inputs::{CONSTANT, ETHERNET, IP, LINK, Link, PAYLOAD, frame_of};
 
 /// A new receiver with these settings, and the ends of its ports.
 pub(crate) fn opened_with(
@@ -62,10 +56,6 @@ pub(crate) fn decision_of(rt: &impl Abort, alloc: Global, udp: &str) -> Decision
     state.decide(Net::A, 1000, &frame)
 }
 
-/// The network, arrival time in microseconds and sequence number of a frame of link 17, its IPv4 header,
-/// UDP header and payload, and its verdict.
-pub(crate) type FrameRow<'a> = (Net, u64, u8, &'a str, &'a str, &'a str, Verdict);
-
 /// The receiver gives this frame this verdict.
 pub(crate) fn check_frame(
     rt: &(impl Abort + Wait),
@@ -105,23 +95,23 @@ pub(crate) fn check_rows(
     check_frames(rt, alloc, &mut state, rows);
 }
 
-/// The network, arrival time in microseconds and sequence number of a smallest frame, and its verdict.
-pub(crate) type Step = (Net, u64, u8, Verdict);
-
 /// The receiver gives this smallest frame this verdict.
 pub(crate) fn check_step(
     rt: &(impl Abort + Wait),
     alloc: Global,
     state: &mut LinkState,
-    step: Step,
+    step: SmallestRow,
 ) {
-    let (net, now, sequence_number, verdict) = step;
-    let row = (net, now, sequence_number, IP, UDP, PAYLOAD, verdict);
-    check_frame(rt, alloc, state, row);
+    check_frame(rt, alloc, state, smallest_row(step));
 }
 
 /// A new receiver of this link gives smallest frames these verdicts.
-pub(crate) fn check_steps_of(rt: &(impl Abort + Wait), alloc: Global, link: Link, steps: &[Step]) {
+pub(crate) fn check_steps_of(
+    rt: &(impl Abort + Wait),
+    alloc: Global,
+    link: Link,
+    steps: &[SmallestRow],
+) {
     let (mut state, _) = opened(rt, alloc, link);
     for step in steps {
         check_step(rt, alloc, &mut state, *step);
@@ -129,6 +119,6 @@ pub(crate) fn check_steps_of(rt: &(impl Abort + Wait), alloc: Global, link: Link
 }
 
 /// A new receiver of the built-in configuration's link gives smallest frames these verdicts.
-pub(crate) fn check_steps(rt: &(impl Abort + Wait), alloc: Global, steps: &[Step]) {
+pub(crate) fn check_steps(rt: &(impl Abort + Wait), alloc: Global, steps: &[SmallestRow]) {
     check_steps_of(rt, alloc, LINK, steps);
 }

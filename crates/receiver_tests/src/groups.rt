@@ -1,22 +1,11 @@
 //! Which fragments of some frames belong together, which are given up, and the verdict of each frame.
-use crate::frames::FOR_NAV;
-use crate::packets::{PacketRow, check_packet_rows};
+use crate::packets::check_packet_rows;
 use es_base::Net::A;
 use es_base::Verdict::FragmentHeld;
 use test_inputs::fragments::PacketName::{
     First, First3, First4, First5, First6, Last, LastFromAnother, LastToAnother, Whole,
 };
-
-fn five_begin() -> [PacketRow; 6] {
-    [
-        (A, 1000, 1, First, FragmentHeld),
-        (A, 1100, 2, First3, FragmentHeld),
-        (A, 1200, 3, First4, FragmentHeld),
-        (A, 1300, 4, First5, FragmentHeld),
-        (A, 1400, 5, First6, FragmentHeld),
-        (A, 1500, 6, Last, FragmentHeld),
-    ]
-}
+use test_inputs::rows::{FOR_NAV, PacketRow, five_begin};
 
 fn four_begin() -> [PacketRow; 5] {
     [

@@ -1,11 +1,12 @@
 //! What the headers of IPv4 and UDP decide about a frame.
-use crate::frames::{FOR_NAV, POS, check_rows};
+use crate::frames::check_rows;
 use es_base::PacketFault::{Checksum, HeaderLength, Protocol, TotalLength, Version};
 use es_base::Verdict::{BadHeader, BadUdp, NoPort, Sampled};
 use es_base::{Net, Verdict};
 use std::alloc::Global;
 use std::process::Abort;
 use std::sync::Wait;
+use test_inputs::rows::{FOR_NAV, POS};
 use test_inputs::{IP, LINK, PAYLOAD, UDP};
 
 /// An IPv4 header, a UDP header, and the verdict of their frame.

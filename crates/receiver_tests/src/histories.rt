@@ -1,8 +1,6 @@
 //! The messages that a link's history delivered to its ports.
-use crate::frames::{FOR_NAV, FrameRow, NAV, POS, check_frames, opened};
+use crate::frames::{check_frames, opened};
 use crate::messages::check_message;
-use crate::packets::frame_row;
-use crate::queues::NAV_UDP;
 use es_base::Net::{A, B};
 use es_base::Verdict::{FragmentHeld, OutOfSequence, Overflow, Redundant, Sampled};
 use es_base::{Message, PortNo, Verdict};
@@ -10,6 +8,7 @@ use std::alloc::Global;
 use std::process::Abort;
 use std::sync::Wait;
 use test_inputs::fragments::PacketName::{First, Last};
+use test_inputs::rows::{FOR_NAV, FrameRow, NAV, NAV_UDP, POS, packet_row};
 use test_inputs::{IP, LINK, Link, PAYLOAD, UDP};
 
 /// The other payload.
@@ -33,11 +32,11 @@ fn samples() -> [FrameRow<'static>; 4] {
 /// Both pieces come on both networks, with a whole datagram between them.
 fn pieces() -> [FrameRow<'static>; 5] {
     [
-        frame_row((A, 1000, 1, First, FragmentHeld)),
-        frame_row((B, 1050, 1, First, Redundant)),
+        packet_row((A, 1000, 1, First, FragmentHeld)),
+        packet_row((B, 1050, 1, First, Redundant)),
         (A, 1070, 2, IP, NAV_UDP, PAYLOAD, FOR_NAV),
-        frame_row((B, 1100, 3, Last, FOR_NAV)),
-        frame_row((A, 1150, 3, Last, Redundant)),
+        packet_row((B, 1100, 3, Last, FOR_NAV)),
+        packet_row((A, 1150, 3, Last, Redundant)),
     ]
 }
 

@@ -1,34 +1,15 @@
 //! Which sequence numbers pass on one network.
-use crate::frames::{POS, Step, check_steps, check_steps_of};
+use crate::frames::{check_steps, check_steps_of};
 use es_base::Net::A;
 use es_base::Verdict::{OutOfSequence, Sampled};
 use std::alloc::Global;
 use std::process::Abort;
 use std::sync::Wait;
+use test_inputs::rows::{POS, SmallestRow, turn, window};
 use test_inputs::{LINK, Link};
 
-/// A discarded sequence number counts as the one before: 0c follows 0b.
-fn window() -> [Step; 5] {
-    [
-        (A, 10_000, 0x05, Sampled(POS, 1)),
-        (A, 20_000, 0x06, Sampled(POS, 2)),
-        (A, 30_000, 0x08, Sampled(POS, 3)),
-        (A, 40_000, 0x0b, OutOfSequence),
-        (A, 50_000, 0x0c, Sampled(POS, 4)),
-    ]
-}
-
-/// 1 follows 255.
-fn turn() -> [Step; 3] {
-    [
-        (A, 1000, 0xfe, Sampled(POS, 1)),
-        (A, 2000, 0xff, Sampled(POS, 2)),
-        (A, 3000, 0x01, Sampled(POS, 3)),
-    ]
-}
-
 /// 1 follows 255, and neither 1 nor 4 follows 1.
-fn repetition_and_leap() -> [Step; 5] {
+fn repetition_and_leap() -> [SmallestRow; 5] {
     [
         (A, 0, 0xfe, Sampled(POS, 1)),
         (A, 10_000, 0xff, Sampled(POS, 2)),
@@ -39,7 +20,7 @@ fn repetition_and_leap() -> [Step; 5] {
 }
 
 /// 0 always passes, and 1 and 2 follow it.
-fn resets() -> [Step; 5] {
+fn resets() -> [SmallestRow; 5] {
     [
         (A, 0, 0x09, Sampled(POS, 1)),
         (A, 10_000, 0x00, Sampled(POS, 2)),
@@ -50,7 +31,7 @@ fn resets() -> [Step; 5] {
 }
 
 /// 2 comes after the next of 255, and 3 doesn't.
-fn next_but_one_of_255() -> [Step; 5] {
+fn next_but_one_of_255() -> [SmallestRow; 5] {
     [
         (A, 0, 0xff, Sampled(POS, 1)),
         (A, 10_000, 0x02, Sampled(POS, 2)),
@@ -61,7 +42,7 @@ fn next_but_one_of_255() -> [Step; 5] {
 }
 
 /// 1 comes after the next of 254, and 255 after the next of 253.
-fn next_but_one_of_254() -> [Step; 5] {
+fn next_but_one_of_254() -> [SmallestRow; 5] {
     [
         (A, 0, 0xfd, Sampled(POS, 1)),
         (A, 10_000, 0xff, Sampled(POS, 2)),
@@ -72,7 +53,7 @@ fn next_but_one_of_254() -> [Step; 5] {
 }
 
 /// With a window of 1 none may be lost: 08 is out of sequence after 06, and 0b after 08.
-fn window_of_1() -> [Step; 5] {
+fn window_of_1() -> [SmallestRow; 5] {
     [
         (A, 10_000, 0x05, Sampled(POS, 1)),
         (A, 20_000, 0x06, Sampled(POS, 2)),
@@ -83,7 +64,7 @@ fn window_of_1() -> [Step; 5] {
 }
 
 /// With a window of 3 two may be lost: 0b passes after 08.
-fn window_of_3() -> [Step; 4] {
+fn window_of_3() -> [SmallestRow; 4] {
     [
         (A, 10_000, 0x05, Sampled(POS, 1)),
         (A, 20_000, 0x06, Sampled(POS, 2)),
@@ -93,7 +74,7 @@ fn window_of_3() -> [Step; 4] {
 }
 
 /// With a window of 4 the last that passes after 253 is 2: 254, 255, 1, 2.
-fn last_in_a_window_of_4() -> [Step; 2] {
+fn last_in_a_window_of_4() -> [SmallestRow; 2] {
     [
         (A, 1000, 0xfd, Sampled(POS, 1)),
         (A, 20_000, 0x02, Sampled(POS, 2)),
@@ -101,7 +82,7 @@ fn last_in_a_window_of_4() -> [Step; 2] {
 }
 
 /// 3 is one number further.
-fn after_a_window_of_4() -> [Step; 2] {
+fn after_a_window_of_4() -> [SmallestRow; 2] {
     [
         (A, 1000, 0xfd, Sampled(POS, 1)),
         (A, 20_000, 0x03, OutOfSequence),
@@ -109,7 +90,7 @@ fn after_a_window_of_4() -> [Step; 2] {
 }
 
 /// A new receiver of a link with this window gives smallest frames these verdicts.
-fn check_window(rt: &(impl Abort + Wait), alloc: Global, window: u8, steps: &[Step]) {
+fn check_window(rt: &(impl Abort + Wait), alloc: Global, window: u8, steps: &[SmallestRow]) {
     check_steps_of(rt, alloc, Link { window, ..LINK }, steps);
 }
 

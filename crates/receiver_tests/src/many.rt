@@ -1,10 +1,11 @@
 //! Many frames of one link.
-use crate::frames::{POS, check_step, opened};
+use crate::frames::{check_step, opened};
 use es_base::{Net, Verdict};
 use link_receiver::LinkState;
 use std::alloc::Global;
 use std::process::Abort;
 use std::sync::Wait;
+use test_inputs::rows::POS;
 use test_inputs::{LINK, sequence_number_at};
 
 /// A new receiver that took this many frames, one a microsecond, each of which became a message.

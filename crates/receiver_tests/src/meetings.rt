@@ -3,8 +3,7 @@ ghost use Rattle.std.specs.Prelude.{◌≡◌, List, Some, slice_get};
 ghost use Rattle.link_receiver.specs.Ends.{IsOfItsPort};
 ghost use Rattle.link_receiver.specs.Link.{Channel, queues};
 
-use crate::frames::{NAV, POS, check_frame, opened};
-use crate::queues::NAV_UDP;
+use crate::frames::{check_frame, opened};
 use es_base::Net::{A, B};
 use es_base::Verdict::{OutOfSequence, Overflow, Queued, Redundant, Sampled};
 use es_base::{Net, VERDICT_KINDS, Verdict};
@@ -13,6 +12,7 @@ use queuing_port::Taker;
 use std::alloc::Global;
 use std::process::Abort;
 use std::sync::Wait;
+use test_inputs::rows::{NAV, NAV_UDP, POS};
 use test_inputs::{IP, LINK, Link, PAYLOAD, UDP};
 
 /// The taker of the end of `nav`.

@@ -1,5 +1,5 @@
 //! Messages at the ports: which are taken, and the newest of each port.
-use crate::frames::{FrameRow, POS, check_frames, check_rows, opened_with};
+use crate::frames::{check_frames, check_rows, opened_with};
 use crate::partitions::{check_read, opened_with_readers};
 use es_base::Net::A;
 use es_base::Verdict::{Sampled, TooLong};
@@ -8,6 +8,7 @@ use link_receiver::PortEnd;
 use std::alloc::Global;
 use std::process::Abort;
 use std::sync::Wait;
+use test_inputs::rows::{FrameRow, POS};
 use test_inputs::{IP, LINK, LONGEST_IP, LONGEST_UDP, Link, PAYLOAD, UDP, fives, sampling_port};
 
 /// The message has this time in microseconds and this payload.

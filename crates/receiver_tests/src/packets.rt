@@ -1,24 +1,11 @@
 //! Fragments and other packets given to the receiver of a link, each in a frame of 60 octets.
-use crate::frames::{FrameRow, check_frame, opened};
-use es_base::{Net, Verdict};
+use crate::frames::{check_frame, opened};
 use link_receiver::LinkState;
 use std::alloc::Global;
 use std::process::Abort;
 use std::sync::Wait;
-use test_inputs::fragments::{PacketName, padding_after};
+use test_inputs::rows::{PacketRow, packet_row};
 use test_inputs::{LINK, Link};
-
-/// The network, arrival time in microseconds and sequence number of a frame of link 17, its packet, and
-/// its verdict.
-pub(crate) type PacketRow = (Net, u64, u8, PacketName, Verdict);
-
-/// The frame of this packet.
-pub(crate) fn frame_row(row: PacketRow) -> FrameRow<'static> {
-    let (net, now, sequence_number, packet, verdict) = row;
-    let (ip, octets) = packet.texts();
-    let padding = padding_after(octets);
-    (net, now, sequence_number, ip, octets, padding, verdict)
-}
 
 /// The receiver gives these packets these verdicts.
 pub(crate) fn check_packets(
@@ -28,7 +15,7 @@ pub(crate) fn check_packets(
     rows: &[PacketRow],
 ) {
     for row in rows {
-        check_frame(rt, alloc, state, frame_row(*row));
+        check_frame(rt, alloc, state, packet_row(*row));
     }
 }
 

@@ -1,7 +1,7 @@
 //! A link played whole, and in epochs: what becomes of each frame is the same.
 use crate::epochs::Step::{Nav, Packet, Pos};
 use crate::epochs::{Step, check_epoch, check_events, check_step};
-use crate::frames::{FOR_NAV, NAV, POS, opened};
+use crate::frames::opened;
 use crate::meetings::{check_count, taker_in};
 use crate::partitions::readers_in;
 use es_base::Net::{A, B};
@@ -17,6 +17,7 @@ use std::sync::Wait;
 use test_inputs::fragments::PacketName::{
     First, First3, First4, First5, First6, Last, SevenOctets,
 };
+use test_inputs::rows::{FOR_NAV, NAV, POS};
 use test_inputs::{LINK, Link};
 
 /// Copies, fragments with others between them, and times that fall. The queue of `nav` holds three messages.

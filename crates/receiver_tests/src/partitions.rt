@@ -5,7 +5,7 @@ ghost use Rattle.sampling_port.specs.Ends.{ReaderEnd};
 ghost use Rattle.link_receiver.specs.Ends.{IsOfItsPort};
 ghost use Rattle.link_receiver.specs.Link.{Channel, samples};
 
-use crate::frames::{POS, check_frame, opened};
+use crate::frames::{check_frame, opened};
 use es_base::Net::A;
 use es_base::Verdict;
 use link_receiver::{LinkState, PortEnd};
@@ -14,6 +14,7 @@ use slot_core::READERS;
 use std::alloc::Global;
 use std::process::Abort;
 use std::sync::Wait;
+use test_inputs::rows::POS;
 use test_inputs::{IP, LINK, PAYLOAD, UDP};
 
 /// The readers of the sampling port at place 0, which is called `pos`.

@@ -1,7 +1,7 @@
 //! The octets of messages that are queued.
-use crate::frames::{FOR_NAV, FrameRow, check_frames, opened};
+use crate::frames::{check_frames, opened};
 use crate::messages::check_message;
-use crate::packets::{PacketRow, check_packets};
+use crate::packets::check_packets;
 use crate::queues::taker_of;
 use es_base::Net::A;
 use es_base::Verdict::FragmentHeld;
@@ -9,7 +9,8 @@ use queuing_port::Taker;
 use std::alloc::Global;
 use std::process::Abort;
 use std::sync::Wait;
-use test_inputs::fragments::PacketName::{First, FirstAnew, Last, LongerLast};
+use test_inputs::fragments::PacketName::{First, Last, LongerLast};
+use test_inputs::rows::{FOR_NAV, FrameRow, PacketRow, first_twice, in_order, last_first};
 use test_inputs::{IP, LINK, PAYLOAD, fives};
 
 /// The taker takes one message, of this time in microseconds and with this payload.
@@ -63,27 +64,14 @@ fn three(first: PacketRow, second: PacketRow, third: PacketRow) -> [PacketRow; 3
 #[test]
 fn a_joined_datagram_is_queued_whole(rt: HostRuntime) {
     let payload = "a0a1a2a3a4a5a6a7b0b1b2b3b4b5b6b7b8b9babbbcbdbebf";
-    let in_order = [
-        (A, 1000, 1, First, FragmentHeld),
-        (A, 1100, 2, Last, FOR_NAV),
-    ];
-    check_joined(&rt, rt.alloc(), &in_order, 1100, payload);
-    let last_first = [
-        (A, 1000, 1, Last, FragmentHeld),
-        (A, 1100, 2, First, FOR_NAV),
-    ];
-    check_joined(&rt, rt.alloc(), &last_first, 1100, payload);
+    check_joined(&rt, rt.alloc(), &in_order(), 1100, payload);
+    check_joined(&rt, rt.alloc(), &last_first(), 1100, payload);
 }
 
 #[test]
 fn a_queued_message_has_the_latest_octets(rt: HostRuntime) {
-    let rows = three(
-        (A, 1000, 1, First, FragmentHeld),
-        (A, 1100, 2, FirstAnew, FragmentHeld),
-        (A, 1200, 3, Last, FOR_NAV),
-    );
     let payload = "c0c1c2c3c4c5c6c7b0b1b2b3b4b5b6b7b8b9babbbcbdbebf";
-    check_joined(&rt, rt.alloc(), &rows, 1200, payload);
+    check_joined(&rt, rt.alloc(), &first_twice(), 1200, payload);
 }
 
 /// The last fragment that ends earlier comes later, and the end is its end; and the other way round the

@@ -1,5 +1,5 @@
 //! Messages at a queuing port: which are queued, and which its taker takes.
-use crate::frames::{NAV, POS, check_frame, decision_of, opened};
+use crate::frames::{check_frame, decision_of, opened};
 use es_base::Net::A;
 use es_base::Verdict::{Overflow, Queued, Sampled};
 use es_base::{Decision, Verdict};
@@ -9,9 +9,6 @@ use std::alloc::Global;
 use std::process::Abort;
 use std::sync::Wait;
 use test_inputs::{IP, LINK, Link, PAYLOAD, UDP};
-
-/// The UDP header of the smallest frame, for `nav`.
-pub(crate) const NAV_UDP: &str = "1389138a00190000";
 
 /// The taker of `nav`, the last port of its link.
 pub(crate) fn taker_of(rt: &impl Abort, mut ends: Vec<PortEnd>) -> Taker {
@@ -34,6 +31,7 @@ enum Step {
 }
 
 use Step::{Nav, Pos, Take};
+use test_inputs::rows::{NAV, NAV_UDP, POS};
 
 /// The frame at this place, from 0, brings its payload to the port with this UDP header, and has this
 /// verdict.

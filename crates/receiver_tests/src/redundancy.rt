@@ -1,39 +1,16 @@
 //! Which frames of both networks are forwarded.
-use crate::frames::{FrameRow, POS, Step, check_rows, check_steps, check_steps_of};
+use crate::frames::{check_rows, check_steps, check_steps_of};
 use es_base::Net::{A, B};
-use es_base::Verdict::{BadHeader, OutOfSequence, Redundant, Sampled};
-use es_base::{PacketFault, Verdict};
-use test_inputs::{IP, LINK, Link, PAYLOAD, UDP};
-
-/// A copy at SkewMax, 1000 microseconds.
-fn copy_at_skew_max() -> [Step; 2] {
-    [(A, 1000, 7, Sampled(POS, 1)), (B, 2000, 7, Redundant)]
-}
-
-/// A copy one microsecond later.
-fn copy_after_skew_max() -> [Step; 2] {
-    [(A, 1000, 7, Sampled(POS, 1)), (B, 2001, 7, Sampled(POS, 2))]
-}
-
-/// B follows A by two frames.
-fn two_frames_late() -> [Step; 4] {
-    [
-        (A, 1000, 0, Sampled(POS, 1)),
-        (A, 1100, 1, Sampled(POS, 2)),
-        (B, 1200, 0, Redundant),
-        (B, 1300, 1, Redundant),
-    ]
-}
-
-fn reset_after_255() -> [Step; 2] {
-    [
-        (A, 1000, 0xff, Sampled(POS, 1)),
-        (A, 1200, 0, Sampled(POS, 2)),
-    ]
-}
+use es_base::Verdict;
+use es_base::Verdict::{OutOfSequence, Redundant, Sampled};
+use test_inputs::rows::{
+    POS, SmallestRow, bad_and_good, copy_after_skew_max, copy_at_skew_max, copy_before_its_first,
+    reset_after_255, two_frames_late,
+};
+use test_inputs::{LINK, Link};
 
 /// Each network has its own sequence numbers.
-fn networks_apart() -> [Step; 4] {
+fn networks_apart() -> [SmallestRow; 4] {
     [
         (A, 1000, 7, Sampled(POS, 1)),
         (B, 1000, 9, Sampled(POS, 2)),
@@ -42,7 +19,7 @@ fn networks_apart() -> [Step; 4] {
     ]
 }
 
-fn copies_at_time_0() -> [Step; 2] {
+fn copies_at_time_0() -> [SmallestRow; 2] {
     [(A, 0, 7, Sampled(POS, 1)), (B, 0, 7, Redundant)]
 }
 
@@ -68,13 +45,8 @@ fn time_0_is_a_time(rt: HostRuntime) {
     check_steps(&rt, rt.alloc(), &copies_at_time_0());
 }
 
-/// Nothing has elapsed since a later time.
-fn copy_before_its_first() -> [Step; 2] {
-    [(A, 5000, 9, Sampled(POS, 1)), (B, 10, 9, Redundant)]
-}
-
 /// The greatest time counts, not the latest.
-fn time_that_falls() -> [Step; 3] {
+fn time_that_falls() -> [SmallestRow; 3] {
     [
         (A, 5000, 9, Sampled(POS, 1)),
         (A, 4500, 10, Sampled(POS, 2)),
@@ -83,7 +55,7 @@ fn time_that_falls() -> [Step; 3] {
 }
 
 /// A redundant frame moves nothing.
-fn redundant_frame_between() -> [Step; 3] {
+fn redundant_frame_between() -> [SmallestRow; 3] {
     [
         (A, 1000, 9, Sampled(POS, 1)),
         (B, 1900, 9, Redundant),
@@ -126,7 +98,7 @@ fn sequence_numbers_are_ahead_up_to_the_bounds(rt: HostRuntime) {
 }
 
 /// Both copies are forwarded.
-fn both_copies() -> [Step; 2] {
+fn both_copies() -> [SmallestRow; 2] {
     [(A, 1000, 7, Sampled(POS, 1)), (B, 1000, 7, Sampled(POS, 2))]
 }
 
@@ -137,23 +109,6 @@ fn every_copy_is_forwarded_without_redundancy_management(rt: HostRuntime) {
         ..LINK
     };
     check_steps_of(&rt, rt.alloc(), link, &both_copies());
-}
-
-/// A frame with a wrong checksum, and a good copy of it.
-fn bad_and_good() -> [FrameRow<'static>; 2] {
-    let bad = "4500002d000100000111cdcd0a010101e0e00011";
-    [
-        (
-            A,
-            1000,
-            0,
-            bad,
-            UDP,
-            PAYLOAD,
-            BadHeader(PacketFault::Checksum),
-        ),
-        (B, 1100, 0, IP, UDP, PAYLOAD, Redundant),
-    ]
 }
 
 #[test]

@@ -1,9 +1,9 @@
 //! Lines of the output, printed.
 use es_base::Net::{A, B};
-use es_base::{FilterTally, LinkNo, PortNo, Verdict, VerdictTally};
+use es_base::{FILTER_CAUSES, LinkNo, PortNo, Verdict, VerdictTally};
 use output_lines::{
-    CountLine, EmptyLine, EventLine, FilteredCountLine, MessageLine, QueueLine, SampleLine,
-    VerdictText,
+    BusyLine, CountLine, EmptyLine, EventLine, FilteredCountLine, MessageLine, QueueLine,
+    SampleLine, VerdictText,
 };
 use sampling_port::Freshness;
 use std::alloc::Global;
@@ -53,6 +53,13 @@ fn check_empty_port(rt: &impl Abort, alloc: Global) {
 #[test]
 fn ports_without_messages_have_a_line(rt: HostRuntime) {
     check_empty_port(&rt, rt.alloc());
+}
+
+/// No run comes to this line, but for a reader beside a writer that is faster at each of its tries.
+#[test]
+fn a_port_that_was_never_still_has_a_line(rt: HostRuntime) {
+    let busy = BusyLine { name: "pos" };
+    check_line(&rt, rt.alloc(), busy, "port pos sampling busy");
 }
 
 /// A message of `pos` at 1000 microseconds, with these octets.
@@ -131,10 +138,9 @@ fn check_no_counts(rt: &impl Abort, alloc: Global) {
         tally: &tally,
     };
     check_line(rt, alloc, line, "count 17 A 0 0 0 0 0 0 0 0 0 0 0 0 0");
-    let filtered = FilterTally::opening();
     let line = FilteredCountLine {
         net: B,
-        tally: &filtered,
+        counts: [0; FILTER_CAUSES],
     };
     check_line(rt, alloc, line, "filtered B 0 0 0 0 0");
 }

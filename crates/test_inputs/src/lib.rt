@@ -6,6 +6,7 @@ mod devices;
 pub mod fragments;
 mod frames;
 mod links;
+pub mod rows;
 mod words;
 
 pub use devices::{ReadCall, ScriptedReader, ScriptedWriter, WriteCall};

@@ -1,6 +1,7 @@
 //! A whole run: from the bytes of a trace to the bytes of the output.
-ghost use Rattle.std.specs.Prelude.{◌≡◌, IfErr, IfOk, false, string_bytes};
+ghost use Rattle.std.specs.Prelude.{◌≡◌, Ok, IfErr, IfOk, false, string_bytes};
 ghost use Rattle.es_base.specs.declared.place.Net.TheVariants.{A as net_a};
+ghost use Rattle.hex_trace.specs.Trace.{ReadsTrace};
 ghost use Rattle.trace_player.specs.Play.{ReadsTraceOf, WritesWhole, Played, Replayed, Runs, IsFaultBeforeOutput, IsFaultOf, IsFaultOfTrace, IsOutputOf};
 
 use crate::run::{new_states, output_of};
@@ -107,13 +108,33 @@ fn run_traces<R: Wait, A: Source, B: Source>(
         fault) }
     ensures b_untouched { IfErr result (λ fault. IsFaultOfTrace net_a fault → b.new ≡ b.old) }
 {
-    let mut text = Vec::new(alloc);
-    let frames_a = trace_of(alloc, Net::A, a, &mut text)?;
-    let frames_b = trace_of(alloc, Net::B, b, &mut text)?;
-    drop(text);
+    let (frames_a, frames_b) = read_both(alloc, a, b)?;
     let mut states = new_states(alloc, config)?;
     let output = output_of(rt, alloc, config, &mut states, frames_a, frames_b, at)?;
     Ok((states, output))
+}
+
+/// Reads the traces of both networks: trace A whole, and checks it, and then trace B. Returns the frames of
+/// each. After a fault of trace A the source of trace B wasn't touched. The fault is never Write.
+pub fn read_both<A: Source, B: Source>(
+    alloc: Global,
+    a: &mut A,
+    b: &mut B,
+) -> Result<(Frames, Frames), PlayFault>
+    requires source_a { A.has_failed a.old ≡ false }
+    requires source_b { B.has_failed b.old ≡ false }
+    ensures a { IfOk result (λ frames. ReadsTrace (record { bytes = A.remaining a.old; failed = A.has_failed a.new }) (Ok frames.0)) }
+    ensures b { IfOk result (λ frames. ReadsTrace (record { bytes = B.remaining b.old; failed = B.has_failed b.new }) (Ok frames.1)) }
+    ensures fault { IfErr result (λ fault. IsFaultBeforeOutput
+        (record { bytes = A.remaining a.old; failed = A.has_failed a.new })
+        (record { bytes = B.remaining b.old; failed = B.has_failed b.new })
+        fault) }
+    ensures b_untouched { IfErr result (λ fault. IsFaultOfTrace net_a fault → b.new ≡ b.old) }
+{
+    let mut text = Vec::new(alloc);
+    let frames_a = trace_of(alloc, Net::A, a, &mut text)?;
+    let frames_b = trace_of(alloc, Net::B, b, &mut text)?;
+    Ok((frames_a, frames_b))
 }
 
 /// The frames of the trace of one network. `text` is where it is read to: one text serves for both

@@ -1,7 +1,7 @@
-use Rattle.std.proofs.Common.{◌∙◌, sym, ap, subst}
-use Rattle.clap.specs.Words.{App, HasKind, fault_of, is_simple_and_free, takes}
+use Rattle.std.proofs.Common.{◌≡◌, ◌∙◌, List, true, refl, sym, ap, subst}
+use Rattle.clap.specs.Words.{App, HasKind, Row, fault_of, is_simple, is_simple_and_free, matches_of, takes}
 use Rattle.clap.specs.declared.error.kind.ErrorKind.{ErrorKind}
-use Rattle.command_line.specs.Command.{IsFaultOf, IsTaken, texts_of, fault_from}
+use Rattle.command_line.specs.Command.{IsFaultOf, IsLineIn, IsLineOf, IsTaken, play_command, texts_of, fault_from}
 use Rattle.command_line.specs.declared.fault.LineFault.{LineFault}
 use Rattle.command_line.proofs.Faults.{fault_says, fault_of_words, free}
 use Rattle.command_line.proofs.Options.{config_given, a_given, b_given, time_read, time_in_range}
@@ -28,6 +28,16 @@ returns-in_ok-line_from-in-Ok-clause-taken c =
     let is = c.in_ok-play_command.ensures in
     let none = c.in-Ok.ensures.kinds (ap is_simple_and_free is ∙ free) in
     (fault_says (texts_of c.args.words.now)).none (sym (ap (λ (a : App). fault_of a (texts_of c.args.words.now)) is) ∙ none)
+
+simple : is_simple play_command ≡ true
+simple = refl
+
+pub returns-in_ok-line_from-in-Ok-clause-line : goal.returns-in_ok-line_from-in-Ok-clause-line
+unfolding IsLineOf
+returns-in_ok-line_from-in-Ok-clause-line c =
+    let is = c.in_ok-play_command.ensures in
+    let rows = (c.in-Ok.ensures.matches (ap is_simple is ∙ simple)).0 ∙ ap (λ (a : App). matches_of a (texts_of c.args.words.now)) is in
+    subst (λ (matched : List Row). IsLineIn matched c.in_ok-line_from-in-Ok.field-0) rows c.in_ok-line_from-in-Ok.ensures.line
 
 pub returns-in-Err-clause-fault : goal.returns-in-Err-clause-fault
 returns-in-Err-clause-fault c =

@@ -32,7 +32,7 @@ returns g c =
         (
           Ok c.in_ok-b.b,
           rw c.deref-2.ensures at b,
-          (g.F.Trace.Source.has_failed c.play_all.new.a, (g.F.Trace.Source.has_failed c.play_all.new.b, c.play_all.ensures)),
+          (g.F.Trace.Source.has_failed c.play_asked.new.a, (g.F.Trace.Source.has_failed c.play_asked.new.b, c.play_asked.ensures)),
         ),
       ),
     )

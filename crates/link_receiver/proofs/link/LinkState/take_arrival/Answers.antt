@@ -1,5 +1,4 @@
-use Rattle.std.proofs.Common.{◌<◌, ◌∙◌, arith, length, refl, reverse, sym, ap, map, Result, Ok, Err}
-use Rattle.std.specs.Result.{OnErr}
+use Rattle.std.proofs.Common.{◌<◌, ◌∙◌, arith, length, refl, reverse, sym, ap, map}
 use Rattle.es_base.specs.declared.event.Event.{Event}
 use Rattle.es_base.specs.Past.{event_of}
 use Rattle.es_base.specs.Reassembly.{groups_in}
@@ -9,26 +8,12 @@ use Rattle.link_receiver.specs.Counted.{port_no}
 use Rattle.link_receiver.specs.Link.{Link, LinkFrom, Takes, from}
 use Rattle.link_receiver.specs.Outlet.{channel_of}
 use Rattle.link_receiver.proofs.Kept.{kept_more}
-use Rattle.link_receiver.proofs.Numbers.{counted_before, few_events, number_more, port_within, room_to_deliver, room_to_take}
+use Rattle.link_receiver.proofs.Numbers.{counted_before, few_events, number_more, port_within, room_to_deliver}
 use Rattle.link_receiver.proofs.Offers.{holds_at_port, is_room_in}
 use Rattle.link_receiver.proofs.Outlets.{channels_stay}
 use Rattle.link_receiver.proofs.Refusals.{delivers_if, has_outlet, has_space, may_answer}
 use Rattle.link_receiver.proofs.Taken.{one_more}
 use Rattle.link_receiver.proofs.link.LinkState.take_arrival.Goals as goal
-
--- no memory for one more event: nothing has changed
-
-unchanged : {T E : Type 0} (result : Result T E) (P : Type 0) → P → OnErr result P
-unchanged (Ok value) P same = tt
-unchanged (Err error) P same = same
-
-pub invariant_of-self : goal.invariant_of-self
-invariant_of-self g c = rw c.in_err-reserve_event.ensures.items c.self.invariant
-
-pub returns-in_err-reserve_event-clause-err : goal.returns-in_err-reserve_event-clause-err
-returns-in_err-reserve_event-clause-err g c = rw c.in_err-reserve_event.ensures.items (unchanged _ _ c.self.view_is)
-
--- one more event
 
 pub offer-had_room-requires-clause-fills : goal.offer-had_room-requires-clause-fills
 offer-had_room-requires-clause-fills g c =
@@ -36,10 +21,10 @@ offer-had_room-requires-clause-fills g c =
     let base = c.self.invariant.base.0 in
     let stands = c.self.invariant.base.2 in
     let link : Link = record { settings = s.settings; before = s.before; history = s.history.items; channels = map channel_of s.outlets.items } in
-    let changes = rw (← c.self.view_is) at c.in_ok-change.ensures in
+    let changes = rw c.in-Ok.ensures.items at c.in-Ok-change_by.ensures in
     let change = changes base stands in
     let kept = c.self.invariant.after base stands in
-    rw change.packet (is_room_in (from base link) c.args.arrival s.kept.reassembly c.in_ok-change.change.room kept.keeps.waiting change.room)
+    rw change.packet (is_room_in (from base link) c.args.arrival s.kept.reassembly c.in-Ok-change_by.change.room kept.keeps.waiting change.room)
 
 pub offer-had_room-requires-clause-space : goal.offer-had_room-requires-clause-space
 offer-had_room-requires-clause-space g c =
@@ -48,15 +33,10 @@ offer-had_room-requires-clause-space g c =
     let base = c.self.invariant.base.0 in
     let stands = c.self.invariant.base.2 in
     let link : Link = record { settings = s.settings; before = s.before; history = s.history.items; channels = map channel_of outlets } in
-    let changes = rw (← c.self.view_is) at c.in_ok-change.ensures in
+    let changes = rw c.in-Ok.ensures.items at c.in-Ok-change_by.ensures in
     let change = changes base stands in
     let kept = c.self.invariant.after base stands in
-    has_space (from base link) c.in_ok-change.change.room outlets change.has_place c.self.invariant.as_many c.self.invariant.kinds kept.shown
-
-pub note-requires-2-clause-taken : goal.note-requires-2-clause-taken
-note-requires-2-clause-taken g c =
-    let s = c.self.inside in
-    room_to_take s.settings s.before s.history.items s.kept s.outlets.items c.self.invariant
+    has_space (from base link) c.in-Ok-change_by.change.room outlets change.has_place c.self.invariant.as_many c.self.invariant.kinds kept.shown
 
 pub note-requires-2-clause-delivered : goal.note-requires-2-clause-delivered
 note-requires-2-clause-delivered g c =
@@ -71,8 +51,8 @@ note-requires-2-clause-place g c =
     let had = c.offer-had_room.result in
     let after = c.offer-had_room.new.outlets.items in
     let link : Link = record { settings = s.settings; before = s.before; history = s.history.items; channels = map channel_of outlets } in
-    let changes = rw (← c.self.view_is) at c.in_ok-change.ensures in
-    let room = c.in_ok-change.change.room in
+    let changes = rw c.in-Ok.ensures.items at c.in-Ok-change_by.ensures in
+    let room = c.in-Ok-change_by.change.room in
     let base = c.self.invariant.base.0 in
     let stands = c.self.invariant.base.2 in
     let change = changes base stands in
@@ -87,8 +67,8 @@ note-requires-2-clause-place g c =
     (omega (arith, c.self.invariant.as_many, c.self.invariant.few_ports)) within (c.settled-verdict.ensures ∙ ap (λ d. settled d had) change.decision)
     (delivers_if view c.args.arrival room delivery had change.room fills may)
 
-pub invariant_of-self-2 : goal.invariant_of-self-2
-invariant_of-self-2 g c =
+pub invariant_of-self-3 : goal.invariant_of-self-3
+invariant_of-self-3 g c =
     let s = c.self.inside in
     let outlets = s.outlets.items in
     let past = reverse s.history.items in
@@ -96,10 +76,10 @@ invariant_of-self-2 g c =
     let after = c.offer-had_room.new.outlets.items in
     let e : Event = event_of c.args.arrival had c.settled-verdict.result in
     let link : Link = record { settings = s.settings; before = s.before; history = s.history.items; channels = map channel_of outlets } in
-    let changes = rw (← c.self.view_is) at c.in_ok-change.ensures in
-    let room = c.in_ok-change.change.room in
-    let more = rw (c.of.ensures, c.in_ok-reserve_event.ensures.items) at c.push_reserved.ensures.items in
-    kept_more s.settings s.before s.history.items c.push_reserved.new.self.items s.kept c.note-2.new.self outlets after e more c.in_ok-reserve_event.ensures.few c.self.invariant
+    let changes = rw c.in-Ok.ensures.items at c.in-Ok-change_by.ensures in
+    let room = c.in-Ok-change_by.change.room in
+    let more = rw (c.of.ensures, c.in-Ok.ensures.items) at c.push_reserved.ensures.items in
+    kept_more s.settings s.before s.history.items c.push_reserved.new.self.items s.kept c.note-2.new.self outlets after e more c.in-Ok.ensures.few c.self.invariant
     (λ base stands.
     let kept = c.self.invariant.after base stands in
     let change = changes base stands in
@@ -141,9 +121,9 @@ returns-clause-ok g c =
     let after = c.offer-had_room.new.outlets.items in
     let verdict = c.settled-verdict.result in
     let link : Link = record { settings = s.settings; before = s.before; history = s.history.items; channels = map channel_of outlets } in
-    let changes = rw (← c.self.view_is) at c.in_ok-change.ensures in
-    let room = c.in_ok-change.change.room in
-    let more = rw (c.of.ensures, c.in_ok-reserve_event.ensures.items) at c.push_reserved.ensures.items in
+    let changes = rw c.in-Ok.ensures.items at c.in-Ok-change_by.ensures in
+    let room = c.in-Ok-change_by.change.room in
+    let more = rw (c.of.ensures, c.in-Ok.ensures.items) at c.push_reserved.ensures.items in
     let base = c.self.invariant.base.0 in
     let stands = c.self.invariant.base.2 in
     let change = changes base stands in
@@ -152,7 +132,7 @@ returns-clause-ok g c =
     let delivers = rw change.packet at (c.offer-had_room.ensures.delivers s.settings.reassembly (groups_in view.origin past) kept.keeps.waiting) in
     let within = holds_at_port view c.args.arrival room delivers.0 (λ port. port.0 < length outlets) change.room delivers.1 (has_outlet view room outlets change.has_place c.self.invariant.as_many) in
     let taken : Takes link c.args.arrival verdict (record { settings = s.settings; before = s.before; history = c.push_reserved.new.self.items; channels = map channel_of after }) = record {
-      few = c.in_ok-reserve_event.ensures.few;
+      few = c.in-Ok.ensures.few;
       room = had;
       becomes = λ base stands.
           let kept = c.self.invariant.after base stands in

@@ -1,0 +1,116 @@
+//! What one thread does: it gives the frames of its trace to its network's pass, one after another.
+ghost use Rattle.std.specs.Prelude.{◌≡◌, ◌++◌, IfOk, OnOk, string_bytes};
+ghost use Rattle.end_system.specs.System.{IsPassOf};
+ghost use Rattle.thread_player.specs.Line.{ports_of, reply_line};
+
+use end_system::{EndSystem, Gate, NetPass, Reply};
+use es_base::{Config, LinkNo, Memory, Net, PortSettings};
+use output_lines::{EventLine, FilteredLine, VerdictText};
+use std::alloc::{AllocError, Global};
+use std::sync::Wait;
+use std::sync::atomic::{AtomicBool, Ordering};
+use trace_player::{Frames, TimedFrame};
+
+/// What a thread has when its trace is at its end.
+#[derive(Drop)]
+pub(crate) struct Fed {
+    pub pass: NetPass,
+    /// A line for each frame, in the order of the trace.
+    pub lines: String,
+    /// The time of the last frame, in microseconds; 0 if there was none.
+    pub latest: u64,
+}
+
+/// Gives the frames of a trace to a pass. Returns Err if memory ran out, in this thread or in the other: the thread
+/// in which it runs out sets `stop`, and each looks at `stop` before each frame.
+pub(crate) fn feed<R: Wait, G: Gate>(
+    rt: &R,
+    alloc: Global,
+    system: &EndSystem<G>,
+    config: &Config,
+    pass: NetPass,
+    frames: Frames,
+    stop: &AtomicBool,
+) -> Result<Fed, Memory>
+    requires { IsPassOf system.now pass }
+    ensures own { IfOk result (λ fed. IsPassOf system.now fed.pass) }
+    ensures net { IfOk result (λ fed. fed.pass.net ≡ pass.net) }
+{
+    let mut frames = frames;
+    let mut fed = Fed {
+        pass,
+        lines: String::new(alloc),
+        latest: 0,
+    };
+    'frames: while let Some(frame) = frames.next() {
+        if stop.load(Ordering::SeqCst) {
+            return Err(AllocError);
+        }
+        if let Err(error) = give(rt, alloc, system, config, &mut fed, frame) {
+            stop.store(true, Ordering::SeqCst);
+            return Err(error);
+        }
+    }
+    Ok(fed)
+}
+
+/// Gives one frame to the pass, and adds its line.
+fn give<R: Wait, G: Gate>(
+    rt: &R,
+    alloc: Global,
+    system: &EndSystem<G>,
+    config: &Config,
+    fed: &mut Fed,
+    timed: TimedFrame,
+) -> Result<(), Memory>
+    requires { IsPassOf system.now fed.old.pass }
+    ensures own { IsPassOf system.now fed.new.pass }
+    ensures net { OnOk result (fed.new.pass.net ≡ fed.old.pass.net) }
+{
+    let TimedFrame { time, frame } = timed;
+    let net = fed.pass.net();
+    fed.latest = time;
+    match system.receive_arrival(rt, alloc, &mut fed.pass, time, frame) {
+        Ok(reply) => add_line(&mut fed.lines, config, time, net, reply),
+        Err(_) => Err(AllocError),
+    }
+}
+
+/// Adds the line of a frame that came at `time`, in microseconds, and got this reply.
+fn add_line(
+    lines: &mut String,
+    config: &Config,
+    time: u64,
+    net: Net,
+    reply: Reply,
+) -> Result<(), Memory>
+    ensures { OnOk result (string_bytes lines.new ≡ string_bytes lines.old ++ reply_line config.now time net reply) }
+{
+    match reply {
+        Reply::Filtered(cause) => {
+            let line = FilteredLine { time, net, cause };
+            writeln!(lines, "{line}")
+        }
+        Reply::Link { vl, place, verdict } => {
+            let ports = ports_of(config, vl);
+            let line = EventLine {
+                time,
+                net,
+                vl,
+                place: place as usize,
+                verdict: VerdictText { verdict, ports },
+            };
+            writeln!(lines, "{line}")
+        }
+    }
+}
+
+/// The ports of the link with this number; none if it isn't configured.
+fn ports_of(config: &Config, vl: LinkNo) -> &[PortSettings]
+    ensures { result.now ≡ ports_of config.now vl }
+{
+    match config.link_of(vl) {
+        Some(at) => config.links()[at].ports(),
+        None => &[],
+    }
+}
