@@ -12,6 +12,8 @@ mod example;
 #[cfg(test)]
 mod faults;
 #[cfg(test)]
+mod hostile;
+#[cfg(test)]
 mod shelf;
 #[cfg(test)]
 mod streams;

@@ -1,5 +1,5 @@
 //! What the headers of IPv4 and UDP decide about a frame.
-use crate::frames::check_rows;
+use crate::frames::{check_rows, opened, receive};
 use es_base::PacketFault::{Checksum, HeaderLength, Protocol, TotalLength, Version};
 use es_base::Verdict::{BadHeader, BadUdp, NoPort, Sampled};
 use es_base::{Net, Verdict};
@@ -7,7 +7,7 @@ use std::alloc::Global;
 use std::process::Abort;
 use std::sync::Wait;
 use test_inputs::rows::{FOR_NAV, POS};
-use test_inputs::{IP, LINK, PAYLOAD, UDP};
+use test_inputs::{IP, LINK, PAYLOAD, UDP, longest};
 
 /// An IPv4 header, a UDP header, and the verdict of their frame.
 type Row = (&'static str, &'static str, Verdict);
@@ -103,6 +103,22 @@ fn check_first(rt: &(impl Abort + Wait), alloc: Global, rows: &[Row]) {
 #[test]
 fn ip_headers_are_refused_by_their_first_fault(rt: HostRuntime) {
     check_first(&rt, rt.alloc(), &faults_of_the_ip_header());
+}
+
+/// A new receiver finds the header of this beginning of a frame to say more octets than came.
+fn check_cut(rt: &(impl Abort + Wait), alloc: Global, frame: &[u8], len: usize) {
+    let octets = frame.get(..len).expect(rt, "a beginning");
+    let (mut state, _) = opened(rt, alloc, LINK);
+    let verdict = receive(rt, alloc, &mut state, Net::A, 1000, octets);
+    assert!(rt; verdict == BadHeader(TotalLength), "{len}: {verdict:?}");
+}
+
+#[test]
+fn a_frame_that_was_cut_has_a_bad_header(rt: HostRuntime) {
+    let frame = longest(rt.alloc(), 0).expect(&rt, "a frame");
+    for len in 60..1514 {
+        check_cut(&rt, rt.alloc(), &frame, len);
+    }
 }
 
 #[test]

@@ -15,8 +15,6 @@ mod histories;
 #[cfg(test)]
 mod links;
 #[cfg(test)]
-mod memory;
-#[cfg(test)]
 mod ports;
 #[cfg(test)]
 mod rows;

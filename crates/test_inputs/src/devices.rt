@@ -8,6 +8,8 @@ use std::io::{Error, ErrorKind, Read, Result, Write};
 pub enum ReadCall<'a> {
     /// It gives these bytes, or as many as there is room for, and the others at the next calls.
     Gives(&'a [u8]),
+    /// It gives one of these bytes, and the others at the next calls.
+    Drips(&'a [u8]),
     /// It is interrupted at this many calls, one after another, and at least at one.
     Interrupted(usize),
     Fails,
@@ -69,6 +71,10 @@ impl Read for ScriptedReader<'_> {
         };
         match call {
             ReadCall::Gives(bytes) => Ok(self.give(bytes, buffer)),
+            ReadCall::Drips(bytes) => {
+                let count = buffer.len().min(1);
+                Ok(self.give(bytes, &mut buffer[..count]))
+            }
             ReadCall::Interrupted(times) => {
                 self.count_to(times.saturating_sub(self.given), 1);
                 Err(Error::from(ErrorKind::Interrupted))

@@ -1,0 +1,393 @@
+"""The page of draw.py: totals, an overview, the words, a section for each link, filtered frames and counters."""
+from html import escape
+
+from drawing.gather import FRAMES_OF_SILENCE, ROWS, WAITS_OF_SILENCE
+from drawing.pair import PATIENCE
+from drawing.picture import (
+    CLASSES, Row, Times, age_picture, class_of, delay_picture, filtered_rows, mark, path, picture, queue_picture,
+    rows_picture, strip,
+)
+from drawing.read import FILTER_CAUSES, FIRST_FORWARDED, KINDS, NETWORKS, OUT_OF_SEQUENCE, REDUNDANT
+from drawing.style import PATTERNS, SCRIPT, STYLE
+
+# Sections that are open at first; points and stretches of all pictures of ports together.
+OPEN_LINKS, POINTS_OF_PORTS, STRETCHES_OF_PORTS = 3, 80_000, 4_000
+
+MEANINGS = [
+    ("delivered", "sampled, queued", "the frame was forwarded, and made a message at a port"),
+    ("held", "fragment-held", "it was forwarded, and its fragment waits for the rest of its datagram"),
+    ("refused", "bad-header CAUSE, bad-fragment, bad-udp, no-port, too-long, fragmented-sample, exhausted",
+     "it was forwarded, and refused later for this cause"),
+    ("overflow", "overflow", "it was forwarded, and the queue of its port was full. The player takes no message from a "
+     "queue, so that each queue overflows in the end"),
+    ("redundant", "redundant", "it passed integrity checking, and redundancy management didn't forward it"),
+    ("out", "out-of-sequence", "integrity checking discarded it: its sequence number may not come next on its network"),
+    ("alone", "(no verdict)", "a forwarded frame that no redundant frame of the other network is paired with: its copy "
+     "was lost or discarded, or comes after the last line, or the pairing is wrong. Drawn for links with redundant "
+     "frames only, and beside the frame's own verdict"),
+    ("filtered", "filtered CAUSE", "octets that are no frame of a configured link; no link's picture has them"),
+]
+
+
+def key(of_class):
+    return f'<svg class="key" viewBox="0 0 14 14" aria-hidden="true">{path(of_class, mark(of_class, 7, 7))}</svg>'
+
+
+def share(part, whole):
+    if not whole:
+        return "–"
+    percent = 100 * part / whole
+    return "0 %" if not part else "under 0.01 %" if percent < 0.01 else f"{percent:.2f} %"
+
+
+def share_bar(part, whole):
+    return f'<span class="share" style="width:{100 * part / whole:.2f}%"></span>' if part else ""
+
+
+def plural(number, one, many=None):
+    return f"{number:,} {one if number == 1 else many or one + 's'}"
+
+
+def listed(parts):
+    parts = list(parts)
+    return parts[0] if len(parts) == 1 else f"{', '.join(parts[:-1])} and {parts[-1]}" if parts else "none"
+
+
+def figure(drawn, caption, **data):
+    """A picture with the sentence that has its figures; for programs they stand in `data-` attributes too."""
+    said = "".join(f' data-{name.replace("_", "-")}="{escape(str(value))}"' for name, value in data.items())
+    return f"<figure{said}>{drawn}<figcaption>{escape(caption)}</figcaption></figure>"
+
+
+def sum_of(link, kinds):
+    return sum(link.counts[network][kind] for network in (0, 1) for kind in kinds)
+
+
+FORWARDED_KINDS = range(FIRST_FORWARDED, len(KINDS))
+KINDS_OF = {name: [kind for kind, word in enumerate(KINDS) if class_of(word) == name] for name in CLASSES}
+
+
+# ---- the head of the page
+
+
+def totals(output, source):
+    links = output.links.values()
+    filtered = sum(map(sum, output.filtered))
+    counted = {name: sum(sum_of(link, kinds) for link in links) for name, kinds in KINDS_OF.items()}
+    forwarded = sum(sum_of(link, FORWARDED_KINDS) for link in links)
+    rows = [("", "forwarded, in all", forwarded)]
+    rows += [(name, f"of these {CLASSES[name][1]}", counted[name])
+             for name in ("delivered", "held", "refused", "overflow")]
+    rows += [(name, CLASSES[name][1], counted[name]) for name in ("redundant", "out")]
+    rows.append(("filtered", "filtered", filtered))
+    none = "none"
+    figures = [("frames", f"{output.frames:,}"), ("links", f"{len(links):,}"), ("ports", f"{len(output.ports):,}"),
+               ("first frame", none if output.first is None else f"{output.first:,} µs"),
+               ("last frame", none if output.last is None else f"{output.last:,} µs"),
+               ("from first to last", none if output.first is None else f"{output.last - output.first:,} µs")]
+    shown = "".join(f"<div><dt>{name}</dt><dd>{value}</dd></div>" for name, value in figures)
+    body = "".join(
+        f'<tr><td class="word">{key(name) if name else ""} {escape(said)}</td>'
+        f'<td data-total="{escape(said)}">{number:,}</td>'
+        f'<td>{share(number, output.frames)}</td><td class="bar">{share_bar(number, output.frames)}</td></tr>'
+        for name, said, number in rows)
+    return (f"<h1>What became of each frame</h1><p>Drawn from the player’s output {escape(source)}.</p>"
+            f'<dl class="totals">{shown}</dl><table><thead><tr><th class="word">what became of it</th><th>frames</th>'
+            f'<th>of all frames</th><th></th></tr></thead><tbody>{body}</tbody></table>')
+
+
+def notes(output, has_config):
+    said = []
+    if output.by_network:
+        said.append("This output has the lines by network, as with <code>--threads</code>. The pictures stand in order "
+                    "of time all the same. Which network’s frame a link took first was up to the threads then, and "
+                    "with it which copy was forwarded: a redundant frame that came before the forwarded one isn’t "
+                    "paired with it.")
+    if not has_config:
+        said.append("No configuration was given (<code>--config</code>), so that refresh periods and depths aren’t "
+                    "drawn.")
+    return "".join(f'<p class="note">{text}</p>' for text in said)
+
+
+def overview(output, gathered, times):
+    rows = []
+    for link in output.links.values():
+        drawn = gathered.links[link.number]
+        alone = sum(map(sum, drawn.alone)) if drawn.has_redundant else None
+        medians = [f"first on {NETWORKS[n]}: {d.median():,}" for n, d in enumerate(drawn.delays) if d.number]
+        least = min((d.median() for d in drawn.delays if d.number), default=-1)
+        cells = [link.events(0), link.events(1), sum_of(link, FORWARDED_KINDS), sum_of(link, [REDUNDANT]),
+                 sum_of(link, [OUT_OF_SEQUENCE]), sum_of(link, KINDS_OF["refused"]), sum_of(link, KINDS_OF["overflow"])]
+        label = (f"Link {link.number} in small: {cells[0]} frames on A, {cells[1]} on B, {cells[4]} out of sequence, "
+                 f"{cells[5]} refused")
+        number = f'<td class="word" data-value="{link.number}"><a href="#link-{link.number}">{link.number}</a></td>'
+        rows.append(f"<tr>{number}<td>{strip(label, times, drawn)}</td>" + "".join(map(number_cell, cells))
+                    + ("<td>–</td>" if alone is None else number_cell(alone))
+                    + f'<td data-value="{least}">{"<br>".join(medians) or "–"}</td></tr>')
+    heads = ["frames on A", "frames on B", "forwarded", "redundant", "out of sequence", "refused", "overflow",
+             "no second copy", "median delay in µs"]
+    span = f"{output.first:,} to {output.last:,} µs" if output.frames else "no frame"
+    head = (f'<th class="word">link</th><th class="word fixed">{span}: A up, B down</th>'
+            + "".join(f"<th>{head}</th>" for head in heads))
+    return ('<h2 id="overview">All links</h2><div class="scroll" id="links-in-small">'
+            f'<table class="sort"><thead><tr>{head}</tr></thead><tbody>{"".join(rows)}</tbody></table></div>'
+            f"<p>In small: bars are frames, on a scale of each link’s own; {key('out')} stands where a frame was out "
+            f"of sequence, {key('refused')} where one was refused for another cause than a full queue.</p>")
+
+
+def number_cell(number):
+    return f'<td data-value="{number}"{"" if number else ZERO}>{number:,}</td>'
+
+
+ZERO = ' class="zero"'
+
+
+def words(gathered):
+    rows = "".join(f'<tr><td>{key(name)}</td><td class="word">{CLASSES[name][1]}</td>'
+                   f'<td class="word"><code>{escape(kinds)}</code></td><td class="word">{escape(meaning)}</td></tr>'
+                   for name, kinds, meaning in MEANINGS)
+    bins = gathered.bins
+    silent = picture(40, 14, "hatch of a silence", ['<rect class="silent" width="40" height="14"/>'], "key wide-key")
+    return f"""<h2 id="words">How to read the pictures</h2>
+<div class="scroll"><table><thead><tr><th></th><th class="word">mark</th><th class="word">verdicts</th>
+<th class="word">meaning</th></tr></thead><tbody>{rows}</tbody></table></div>
+<p><b>Rows.</b> The time from the first frame to the last one is cut into {plural(bins.number, "bin")} of
+{bins.width:,} µs each, and a link’s picture has a row for each kind of verdict that occurs, for network A above and
+for B below. A bar’s height is the number of frames in its bin; each row has its own scale: “full bar” is the number
+that its highest bar stands for, and “frames” counts all of the row. A row of few frames has a mark for each. Rest the
+pointer on a bin for its numbers.</p>
+<p><b>Gaps.</b> The output has no sequence numbers, so no picture says that a frame was lost. Three things may come
+from a loss: <i>out of sequence</i>; <i>no second copy</i>; and a <i>silence</i>, hatched {silent} over the rows of a
+network: it brought no frame of the link while the other one brought {FRAMES_OF_SILENCE} or more that aren’t
+redundant, for more than {WAITS_OF_SILENCE} times as long as any redundant frame of the link came after the latest
+forwarded one. A network that is late, or whose trace begins later or ends earlier, looks like that too.</p>
+<p><b>Second copies.</b> A redundant frame is paired with a frame of its link that the other network forwarded before.
+If a link has no frame out of sequence and each network has as many redundant frames as the other has forwarded ones,
+the n-th is paired with the n-th: right if no copy was lost. Else a redundant frame takes the latest forwarded frame
+that isn’t paired, and pairs that were made one inside the other are made anew in order. A forwarded frame waits no
+longer for its copy once the other network brings a frame that is itself forwarded, or once the delay would be longer
+than any redundant frame of the link came after the latest forwarded one, or if later frames wait too, once it has
+waited {PATIENCE} times the median of those times. All of this is a guess: after a loss some pairs next to it may be
+wrong, and where a link’s frames follow each other faster than their second copies come, delays may be too short by
+whole intervals between frames.</p>
+<p><b>Ports.</b> A sampling port’s picture has the age of its newest message: in each bin the greatest one, from the
+first message to the last frame of the output. Above the refresh period it is hatched: the message is stale there.
+Whether the newest message is fresh or stale in the report holds for the time of the report, which the output doesn’t
+say. A queuing port’s picture has the messages that wait: the player takes none, so that a queue only fills.</p>"""
+
+
+# ---- the links
+
+
+def rows_of(drawn, network):
+    """The rows of a network that have a frame, in the order of the verdicts; the two that aren't forwarded are last."""
+    rows, found = drawn.rows[network], []
+    names = [name for name in ROWS if ROWS[name] >= FIRST_FORWARDED]
+    names.sort(key=lambda name: list(CLASSES).index(class_of(name)))
+    for name in (*names, "redundant", "out-of-sequence"):
+        if rows.get(name):
+            found.append(Row(name, class_of(name), rows.get(name)))
+    if drawn.has_redundant and any(drawn.alone[network]):
+        found.append(Row(f"no second copy on {NETWORKS[1 - network]}", "alone", drawn.alone[network]))
+    return found
+
+
+def silence_of(drawn, network):
+    number, longest = drawn.silences.number[network], drawn.silences.longest[network]
+    if not number:
+        return ""
+    length, begin, others = longest
+    times = "once, for" if number == 1 else f"{number:,} times, longest for"
+    return (f" It was silent {times} {length:,} µs from {begin:,} µs on, while {NETWORKS[1 - network]} brought "
+            f"{others:,} frames that aren’t redundant.")
+
+
+def verdicts_figure(drawn, times):
+    number, said, bands = drawn.link.number, [], []
+    for network, name in enumerate(NETWORKS):
+        rows = rows_of(drawn, network)
+        events = drawn.link.events(network)
+        bands.append((f"Network {name}: {plural(events, 'frame')}", rows, drawn.silences.runs[network]))
+        counts = listed(f"{row.total:,} {row.name}" for row in rows if row.of_class != "alone")
+        alone = "".join(f" {row.total:,} of them {'has' if row.total == 1 else 'have'} {row.name}."
+                        for row in rows if row.of_class == "alone")
+        said.append(f"Network {name} brought {plural(events, 'frame')}{': ' + counts if events else ''}.{alone}"
+                    f"{silence_of(drawn, network)}")
+    caption = " ".join(said)
+    silent = {f"silent_{name.lower()}": " ".join(map(str, (drawn.silences.number[n], *drawn.silences.longest[n])))
+              for n, name in enumerate(NETWORKS) if drawn.silences.number[n]}
+    return figure(rows_picture(f"Verdicts of link {number} over time, network A above and B below", times, bands),
+                  caption, verdicts=number, **silent)
+
+
+def delays_figure(drawn):
+    link = drawn.link
+    if not drawn.has_redundant:
+        why = (", since redundancy management is off" if link.redundancy is False else
+               ": redundancy management is off, or no second copy came")
+        return f"<p>No frame of this link is redundant{why}.</p>"
+    said = []
+    for network, delays in enumerate(drawn.delays):
+        if delays.number:
+            exact = "" if delays.step == 1 else f" (to {delays.step} µs)"
+            said.append(f"First on {NETWORKS[network]}, {'solid' if network == 0 else 'hatched'}: "
+                        f"{plural(delays.number, 'pair')}, delays of {delays.least:,} µs at least, "
+                        f"{delays.median():,} µs in the median{exact}, {delays.greatest:,} µs at most.")
+    redundant, paired = sum_of(link, [REDUNDANT]), sum(delays.number for delays in drawn.delays)
+    how = ("the n-th forwarded frame with the n-th redundant one, as their numbers are equal" if drawn.in_order else
+           "with the latest forwarded frame that waits, in order where several wait")
+    skew = "" if link.skew_max is None else f" The link’s SkewMax is {link.skew_max:,} µs."
+    caption = (f"{paired:,} of {plural(redundant, 'redundant frame')} {'is' if paired == 1 else 'are'} paired, {how}. "
+               + " ".join(said) + skew)
+    if not paired:
+        return f"<p>{escape(caption)}</p>"
+    pairs = {f"first_{name.lower()}": f"{d.number} {d.least} {d.median()} {d.greatest}"
+             for name, d in zip(NETWORKS, drawn.delays) if d.number}
+    return figure(delay_picture(f"Delays of second copies of link {link.number}", drawn.delays), caption,
+                  delays=link.number, **pairs)
+
+
+def age_caption(port, ages, last):
+    said = [f"{plural(ages.messages, 'message')}, the first at {ages.first:,} µs and the newest at {ages.latest:,} µs.",
+            f"The greatest age up to the last frame was {ages.oldest:,} µs."]
+    if ages.refresh is not None:
+        said.append(f"The refresh period is {ages.refresh:,} µs;")
+        part = share(ages.stale_time, max(1, last - ages.first))
+        said.append(f"the message was stale (hatched) {plural(ages.stale_stretches, 'time')}, for "
+                    f"{ages.stale_time:,} µs in all, {part} of the time since the first message."
+                    if ages.stale_stretches else "no message was stale.")
+    if port.state in ("fresh", "stale"):
+        said.append(f"In the report it is {port.state}.")
+    return " ".join(said)
+
+
+def queue_caption(queue):
+    said = [plural(len(queue.times), "message") + " queued"]
+    if queue.times:
+        said.append(f", the first at {queue.times[0]:,} µs and the last at {queue.times[-1]:,} µs")
+    said.append(f"; {plural(queue.overflow, 'overflow')}" if queue.overflow else "; no overflow")
+    if queue.overflow:
+        said.append(f", the first at {queue.first_overflow:,} µs")
+    if queue.depth is not None:
+        said.append(f". The queue holds {plural(queue.depth, 'message')}")
+    return "".join(said) + "."
+
+
+def ports_part(output, gathered, times, number):
+    """The pictures of a link's ports, and the names of those that got nothing."""
+    of_all = max(1, len(gathered.ages) + len(gathered.queues))
+    points = max(40, POINTS_OF_PORTS // of_all)
+    size = -(-gathered.bins.number // points)
+    stretches = min(60, STRETCHES_OF_PORTS // of_all)
+    hover_size = -(-gathered.bins.number // stretches) if stretches > 4 else 0
+    parts, empty = [], []
+    for port in output.ports.values():
+        if port.link != number:
+            continue
+        ages, queue = gathered.ages.get(port.name), gathered.queues.get(port.name)
+        if ages:
+            caption = age_caption(port, ages, gathered.bins.last)
+            drawn = age_picture(port.name, times, ages, size, hover_size)
+            data = {"sampling": port.name, "messages": ages.messages, "oldest": ages.oldest, "stale": ages.stale_time}
+            parts.append(f"<h3>Sampling port {port.name}: age of its newest message</h3>")
+            parts.append(figure(drawn, caption, **data))
+        elif queue and (queue.times or queue.overflow):
+            caption = queue_caption(queue)
+            drawn = queue_picture(port.name, times, queue, size, hover_size)
+            data = {"queuing": port.name, "queued": len(queue.times), "overflow": queue.overflow}
+            parts.append(f"<h3>Queuing port {port.name}: messages in its queue</h3>")
+            parts.append(figure(drawn, caption, **data))
+        else:
+            empty.append(f"{port.name} ({port.kind})")
+    if empty:
+        parts.append(f"<p>No message came to {escape(listed(empty))}.</p>")
+    return "".join(parts)
+
+
+def link_section(output, gathered, times, place, link):
+    drawn = gathered.links[link.number]
+    events = link.events(0) + link.events(1)
+    said = (f"{plural(events, 'frame')}: {plural(sum_of(link, FORWARDED_KINDS), 'forwarded', 'forwarded')}, "
+            f"{sum_of(link, [REDUNDANT]):,} redundant, {sum_of(link, [OUT_OF_SEQUENCE]):,} out of sequence")
+    counts = " ".join(f'data-{name.lower()}="{" ".join(map(str, link.counts[n]))}"' for n, name in enumerate(NETWORKS))
+    inside = ports_part(output, gathered, times, link.number)
+    if events:
+        inside = (f"{verdicts_figure(drawn, times)}<h3>Delay of second copies</h3>{delays_figure(drawn)}{inside}")
+    is_open = " open" if place < OPEN_LINKS else ""
+    return (f'<details id="link-{link.number}" data-link="{link.number}" {counts}{is_open}>'
+            f"<summary>Link {link.number} <span>{said}</span></summary>{inside}</details>")
+
+
+def links_part(output, gathered, times):
+    parts = ['<h2 id="links">Link by link</h2><p><button type="button" data-open="all" hidden>Open all</button> '
+             '<button type="button" data-open="none" hidden>Close all</button></p>']
+    parts += [link_section(output, gathered, times, place, link) for place, link in enumerate(output.links.values())]
+    homeless = [f"{port.name} ({port.kind})" for port in output.ports.values() if port.link is None]
+    if homeless:
+        parts.append(f"<p>No line of a frame names these ports, so that the output doesn’t say their links: "
+                     f"{escape(listed(homeless))}.</p>")
+    return "".join(parts)
+
+
+# ---- filtered frames and counters
+
+
+def filtered_part(output, gathered, times):
+    head = '<h2 id="filtered">Filtered frames</h2>'
+    heads = "".join(f"<th>{cause}</th>" for cause in FILTER_CAUSES)
+    rows = "".join(f'<tr data-filtered="{name}"><td class="word">{name}</td>'
+                   + "".join(map(number_cell, output.filtered[n])) + number_cell(sum(output.filtered[n])) + "</tr>"
+                   for n, name in enumerate(NETWORKS))
+    table = (f'<table><thead><tr><th class="word">network</th>{heads}<th>all</th></tr></thead>'
+             f"<tbody>{rows}</tbody></table>")
+    if not any(map(sum, output.filtered)):
+        return f"{head}<p>No frame was filtered.</p>{table}"
+    bands, said = [], []
+    for network, name in enumerate(NETWORKS):
+        found = filtered_rows(gathered.filtered[network])
+        number = sum(output.filtered[network])
+        bands.append((f"Network {name}: {number:,} filtered", found, []))
+        said.append(f"On network {name} {plural(number, 'frame was', 'frames were')} filtered"
+                    + (": " + listed(f"{row.total:,} {row.name}" for row in found) if number else "") + ".")
+    caption = " ".join(said)
+    drawn = rows_picture("Filtered frames over time by cause, network A above and B below", times, bands)
+    return head + figure(drawn, caption) + table
+
+
+def counters_part(output):
+    heads = "".join(f"<th>{kind.replace('-', '-<wbr>')}</th>" for kind in KINDS)
+    rows, sums = [], [0] * len(KINDS)
+    for link in output.links.values():
+        for network, name in enumerate(NETWORKS):
+            counts = link.counts[network]
+            sums = [total + number for total, number in zip(sums, counts)]
+            cells = "".join(map(number_cell, (*counts, sum(counts))))
+            rows.append(f'<tr data-count="{link.number} {name}"><td class="word" data-value="{link.number}">'
+                        f'{link.number}</td><td class="word">{name}</td>{cells}</tr>')
+    foot = "".join(f"<td>{number:,}</td>" for number in (*sums, sum(sums)))
+    head = f'<th class="word">link</th><th class="word">net-<wbr>work</th>{heads}<th>all</th>'
+    return ('<h2 id="counters">Counters</h2><p>The report’s <code>count</code> lines; the lines of the frames have the '
+            'same numbers. With scripts a heading sorts the table.</p><div class="scroll" id="count-lines">'
+            f'<table class="sort"><thead><tr>{head}</tr></thead><tbody>{"".join(rows)}</tbody>'
+            f'<tfoot><tr><td class="word" colspan="2">all</td>{foot}</tr></tfoot></table></div>')
+
+
+def page(output, gathered, source, has_config):
+    """The whole page, as text."""
+    times = Times(gathered.bins)
+    parts = [
+        '<!DOCTYPE html>\n<html lang="en"><head><meta charset="utf-8">'
+        '<meta name="viewport" content="width=device-width,initial-scale=1">'
+        f"<title>What became of each frame: {escape(source)}</title><style>{STYLE}</style></head><body>"
+        f'<svg width="0" height="0" aria-hidden="true" style="position:absolute"><defs>{PATTERNS}{times.definition()}'
+        "</defs></svg>",
+        totals(output, source),
+        '<nav aria-label="parts of the page"><a href="#overview">All links</a>'
+        '<a href="#words">How to read the pictures</a><a href="#links">Link by link</a>'
+        '<a href="#filtered">Filtered frames</a><a href="#counters">Counters</a></nav>',
+        notes(output, has_config),
+        overview(output, gathered, times), words(gathered), links_part(output, gathered, times),
+        filtered_part(output, gathered, times), counters_part(output),
+        f"<script>{SCRIPT}</script></body></html>\n",
+    ]
+    return "".join(parts)

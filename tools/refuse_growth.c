@@ -1,0 +1,76 @@
+/* Refuses one growth of the program that this library is loaded into before it starts (LD_PRELOAD): the one with the
+   number in the variable GROWTH, counted from 1 over all threads; or, if GROWTH_MARK is set, each growth after the
+   first that asks for just that many octets. A growth is a call of malloc or realloc from the program's own code. To
+   the file named by GROWTH_REPORT it adds an `r` for each growth that it refuses, and an `m` at the mark. */
+#define _GNU_SOURCE
+#include <fcntl.h>
+#include <link.h>
+#include <stdatomic.h>
+#include <stdint.h>
+#include <stdlib.h>
+#include <unistd.h>
+
+void *__libc_malloc(size_t);
+void *__libc_realloc(void *, size_t);
+
+static uintptr_t first, end;
+static long wanted;
+static size_t mark;
+static int report = -1;
+static atomic_long asked;
+static atomic_int marked;
+
+/* The program itself is listed first. */
+static int find_program(struct dl_phdr_info *info, size_t size, void *data)
+{
+    (void)size, (void)data;
+    for (int i = 0; i < info->dlpi_phnum; i++)
+        if (info->dlpi_phdr[i].p_type == PT_LOAD) {
+            uintptr_t start = info->dlpi_addr + info->dlpi_phdr[i].p_vaddr;
+            if (first == 0)
+                first = start;
+            end = start + info->dlpi_phdr[i].p_memsz;
+        }
+    return 1;
+}
+
+__attribute__((constructor)) static void begin(void)
+{
+    const char *number = getenv("GROWTH"), *octets = getenv("GROWTH_MARK"), *file = getenv("GROWTH_REPORT");
+    dl_iterate_phdr(find_program, NULL);
+    if (file != NULL)
+        report = open(file, O_WRONLY | O_APPEND | O_CREAT, 0600);
+    if (octets != NULL)
+        mark = strtoul(octets, NULL, 10);
+    if (number != NULL)
+        wanted = strtol(number, NULL, 10);
+}
+
+static void tell(const char *letter)
+{
+    if (write(report, letter, 1) != 1)
+        _exit(99);
+}
+
+/* Whether this growth, which the code at `caller` asks for, is refused. */
+static int is_refused(void *caller, size_t octets)
+{
+    if ((uintptr_t)caller < first || (uintptr_t)caller >= end)
+        return 0;
+    int refused = mark != 0 ? atomic_load(&marked) : atomic_fetch_add(&asked, 1) + 1 == wanted;
+    if (mark != 0 && octets == mark && !atomic_exchange(&marked, 1))
+        tell("m");
+    if (refused)
+        tell("r");
+    return refused;
+}
+
+void *malloc(size_t octets)
+{
+    return is_refused(__builtin_return_address(0), octets) ? NULL : __libc_malloc(octets);
+}
+
+void *realloc(void *memory, size_t octets)
+{
+    return is_refused(__builtin_return_address(0), octets) ? NULL : __libc_realloc(memory, octets);
+}
