@@ -14,7 +14,6 @@ Every call writes under a name of its own and renames at its end, so it can be m
 """
 import collections
 import contextlib
-import itertools
 import os
 import subprocess
 import uuid
@@ -23,8 +22,9 @@ import numpy
 
 # Bytes of a line before its end, at most (docs/FORMATS.md, trace).
 LONGEST = 8192
-# How much text of a range is cut into lines at a time.
-STEP_OCTETS = 1 << 19
+# How much text is cut into lines at a time, and how many verdict lines are merged: as much as stays near the
+# processor.
+STEP_OCTETS, STEP_LINES = 1 << 20, 1 << 13
 BLOCK = 1 << 20
 # The longest time, a space, and the digits to the end of the link number.
 WINDOW = 20 + 1 + 12
@@ -90,7 +90,8 @@ def problem_with(seen, folder):
 
 
 def owned_text(trace, begin, end, size):
-    """Some text, and where the lines that begin from byte `begin` on and before `end` stand in it.
+    """Some text, and where the lines that begin from byte `begin` on and before `end` stand in it. It goes on for a
+    window after the beginning of each.
 
     The byte before `begin` says whether a line begins there; after `end` at most one line goes on.
     """
@@ -102,15 +103,15 @@ def owned_text(trace, begin, end, size):
         raise NotPlain(str(error)) from None
     if len(text) != stop - base:
         raise NotPlain("the trace got shorter")
+    if stop == size:
+        text += b"\n" + bytes(WINDOW)
     first = text.find(b"\n") + 1 if begin > 0 else 0
     if begin > 0 and (first == 0 or base + first >= end):
         return text, 0, 0
     after = text.find(b"\n", end - 1 - base) + 1
-    if after > 0:
-        return text, first, after
-    if stop < size:
+    if after == 0:
         raise NotPlain("a long line")
-    return text + b"\n", first, len(text) + 1
+    return text, first, after
 
 
 def lines_of(text):
@@ -150,7 +151,7 @@ def links_of(rows, width, lengths):
 
 def fields_of(text, starts, lengths):
     """Times and link numbers of the lines that begin at `starts`, and are so long with their ends."""
-    windows = numpy.ndarray((len(text) + 1,), f"V{WINDOW}", text + bytes(WINDOW), strides=(1,))
+    windows = numpy.ndarray((len(text) - WINDOW + 1,), f"V{WINDOW}", text, strides=(1,))
     rows = windows[starts].view(numpy.uint8).reshape(-1, WINDOW)
     # The places of the first spaces, which stand in their lines if all bytes before them are digits.
     widths = (rows[:, :21] == ord(" ")).argmax(axis=1)
@@ -168,44 +169,48 @@ def fields_of(text, starts, lengths):
     return times, numpy.concatenate(links)
 
 
-def by_link(lines, lengths, links):
-    """The lines in the order of their links, those of a link in theirs; then the link numbers, and for each how
-    many lines it has and where they begin and end."""
-    order = numpy.argsort(links, kind="stable")
-    numbers, firsts, counts = numpy.unique(links[order], return_index=True, return_counts=True)
-    ends = numpy.cumsum(lengths[order])[firsts + counts - 1].tolist()
-    return in_order(lines, order), zip(numbers.tolist(), counts.tolist(), [0, *ends], ends)
+def lines_in(text, begin, after):
+    """Where the lines of a text begin and end; without those that are skipped."""
+    octets = numpy.frombuffer(text, numpy.uint8)
+    ends = numpy.flatnonzero(octets[begin:after] == ord("\n")) + (begin + 1)
+    starts = numpy.concatenate(([begin], ends[:-1]))
+    lengths = ends - starts
+    if lengths.max() > LONGEST + 1:
+        raise NotPlain("a long line")
+    taken = (lengths > 1) & (octets[starts] != ord("#"))
+    return starts[taken], ends[taken]
 
 
 def steps_of(text, begin, after):
-    """The lines of a text some at a time, as few as stay near the processor; without those that are skipped:
-    the lines, their lengths with their ends, times and link numbers."""
+    """The lines of a text some at a time, as few as stay near the processor: where they begin and end, their times
+    and link numbers."""
     while begin < after:
         end = text.rfind(b"\n", begin, min(begin + STEP_OCTETS, after)) + 1 or text.index(b"\n", begin) + 1
-        step, begin = text[begin:end], end
-        lines = lines_of(step)
-        lengths = numpy.fromiter(map(len, lines), numpy.int64, len(lines))
-        starts = numpy.cumsum(lengths) - lengths
-        if lengths.max() > LONGEST + 1:
-            raise NotPlain("a long line")
-        taken = (lengths > 1) & (numpy.frombuffer(step, numpy.uint8)[starts] != ord("#"))
-        if not taken.all():
-            lines, starts, lengths = list(itertools.compress(lines, taken)), starts[taken], lengths[taken]
-        if lines:
-            yield lines, lengths, *fields_of(step, starts, lengths)
+        starts, ends = lines_in(text, begin, end)
+        begin = end
+        if len(starts):
+            yield starts, ends, *fields_of(text, starts, ends - starts)
 
 
-def write_by_link(pieces, counts, of_lines, of_index):
-    """Writes the pieces of the lines of each link, and the index. Returns its rows."""
+def by_link(text, starts, ends, links):
+    """The lines of each link, one after another: the link numbers, with how many lines and which octets."""
+    order = numpy.argsort(links, kind="stable")
+    numbers, firsts = numpy.unique(links[order], return_index=True)
+    lines = [text[start:end] for start, end in zip(starts[order].tolist(), ends[order].tolist())]
+    bounds = [*firsts.tolist(), len(lines)]
+    for number, first, after in zip(numbers.tolist(), bounds, bounds[1:]):
+        yield number, after - first, b"".join(lines[first:after])
+
+
+def write_by_link(pieces, counts, out):
+    """Writes the pieces of the lines of each link. Returns the rows of the index."""
     rows, offset = [], 0
     for link in sorted(pieces):
         length = sum(map(len, pieces[link]))
-        of_lines.writelines(pieces[link])
+        out.writelines(pieces[link])
         rows.append((link, counts[link], offset, length))
         offset += length
-    rows = numpy.array(rows, numpy.int64).reshape(-1, 4)
-    of_index.write(rows.tobytes())
-    return rows
+    return numpy.array(rows, numpy.int64).reshape(-1, 4)
 
 
 def part(trace, net, number, begin, end, size, folder):
@@ -217,17 +222,18 @@ def part(trace, net, number, begin, end, size, folder):
     total, first, last = 0, None, None
     files = [kept(of_range(folder, net, number, what)) for what in ["lines", "times", "links", "index"]]
     with files[0] as of_lines, files[1] as of_times, files[2] as of_links, files[3] as of_index:
-        for lines, lengths, times, links in steps_of(*owned_text(trace, begin, end, size)):
+        text, begin, after = owned_text(trace, begin, end, size)
+        for starts, ends, times, links in steps_of(text, begin, after):
             if last is not None and times[0] < last:
                 raise NotPlain("a time falls")
-            first, last, total = times[0] if first is None else first, times[-1], total + len(lines)
-            text, bounds = by_link(lines, lengths, links)
-            for link, count, start, stop in bounds:
-                pieces[link].append(memoryview(text)[start:stop])
+            first, last, total = times[0] if first is None else first, times[-1], total + len(times)
+            for link, count, octets in by_link(text, starts, ends, links):
+                pieces[link].append(octets)
                 counts[link] += count
             of_times.write(times.tobytes())
             of_links.write(links.tobytes())
-        rows = write_by_link(pieces, counts, of_lines, of_index)
+        rows = write_by_link(pieces, counts, of_lines)
+        of_index.write(rows.tobytes())
     return total, *(None if time is None else int(time) for time in (first, last)), rows[:, [LINK, LINES, LENGTH]]
 
 
@@ -400,15 +406,38 @@ def merged_groups(folder, pieces):
     return groups
 
 
-def merge(number, pieces, offsets, folder):
-    """Writes the verdict lines of a slice: the groups' outputs, read on from `offsets`, say each its next line."""
+def octets_of_group(folder, group, begin, end):
+    """The octets between two places of a group's output."""
+    with open(of_group(folder, group, "out"), "rb", buffering=0) as output:
+        return os.pread(output.fileno(), end - begin, begin)
+
+
+def lines_at(octets, starts, lengths):
+    """The lines that begin at `starts`, one after another. They are so short that an index of their octets is the
+    fast way."""
+    ends = numpy.cumsum(lengths, dtype=numpy.int32)
+    return octets[numpy.repeat(starts - (ends - lengths), lengths) + numpy.arange(ends[-1], dtype=numpy.int32)]
+
+
+def merge(number, pieces, begins, ends, folder):
+    """Writes the verdict lines of a slice. `begins` and `ends` are where those of each group stand in its output."""
     groups = merged_groups(folder, pieces)
-    with contextlib.ExitStack() as stack:
-        following = {}
-        for group in numpy.unique(groups).tolist():
-            output = stack.enter_context(open(of_group(folder, group, "out"), "rb", buffering=1 << 15))
-            output.seek(offsets[group])
-            following[group] = output.__next__
-        text = b"".join([following[group]() for group in groups.tolist()])
+    text = b"".join(octets_of_group(folder, group, begins[group], ends[group])
+                    for group in numpy.unique(groups).tolist())
+    octets = numpy.frombuffer(text, numpy.uint8)
+    after = (numpy.flatnonzero(octets == ord("\n")) + 1).astype(numpy.int32)
+    if len(after) != len(groups):
+        raise NotPlain("lines are missing")
+    # The lines stand by their groups there; these are theirs in the merged order.
+    lines = numpy.empty(len(groups), numpy.int32)
+    lines[numpy.argsort(groups, kind="stable")] = numpy.arange(len(groups), dtype=numpy.int32)
+    lengths = numpy.diff(after, prepend=numpy.int32(0))
+    starts, lengths = (after - lengths)[lines], lengths[lines]
     with kept(of_slice(folder, number)) as file:
-        file.write(text)
+        for at in range(0, len(groups), STEP_LINES):
+            file.write(lines_at(octets, starts[at:at + STEP_LINES], lengths[at:at + STEP_LINES]).tobytes())
+    # All groups were played, so nobody reads these any more, and they are the most that there is to clear away.
+    for net, piece in zip("AB", pieces):
+        if piece is not None:
+            with contextlib.suppress(FileNotFoundError):
+                os.unlink(of_range(folder, net, piece[0], "lines"))

@@ -31,6 +31,7 @@ import contextlib
 import logging
 import multiprocessing
 import multiprocessing.forkserver
+import multiprocessing.util
 import os
 import shutil
 import signal
@@ -314,7 +315,7 @@ class Run:
                 self.counts[number] = [sum(pair) for pair in zip(self.counts.get(number, [0] * len(more)), more)]
 
     def merge(self, client):
-        calls = [(number, pieces, self.offsets[:, number].tolist(), self.folder)
+        calls = [(number, pieces, self.offsets[:, number].tolist(), self.offsets[:, number + 1].tolist(), self.folder)
                  for number, pieces in enumerate(self.slices)]
         for _ in results(client, self.bar, "merging", parted_traces.merge, calls):
             pass
@@ -391,15 +392,15 @@ def temporary_folder(parent):
 
 
 def play_parted(own, players, engine, out, bar):
-    """Plays the traces on the workers that `engine` gives for a run."""
+    """Plays the traces on the workers of the client that `engine` gives for a run."""
     with temporary_folder(own.scratch) as folder:
         run = Run(own, players, folder, bar)
-        with engine(run) as client:
-            run.part(client)
-            run.plan()
-            run.play(client)
-            run.merge(client)
-            bar.clear()
+        client = engine(run)
+        run.part(client)
+        run.plan()
+        run.play(client)
+        run.merge(client)
+        bar.clear()
         write_pieces(out, run.output())
 
 
@@ -439,13 +440,17 @@ def main():
 
     def engine(run):
         if own.scheduler:
-            return workers_of(own.scheduler, run.seen(), run.folder)
-        return own_workers(own.workers, run.folder)
+            return workers.enter_context(workers_of(own.scheduler, run.seen(), run.folder))
+        return workers.enter_context(own_workers(own.workers, run.folder))
 
     be_silent()
-    with silent_streams() as kept:
+    with silent_streams() as kept, contextlib.ExitStack() as workers:
         out, told = (open(stream, "wb", buffering=0, closefd=False) for stream in kept)
         status, _ = played(own, players, engine, out, told)
+        if status == 0 and not own.scheduler:
+            # The workers have nothing more to do, and end with this process. To close them in order takes a second.
+            shutil.rmtree(multiprocessing.util.get_temp_dir(), ignore_errors=True)
+            os._exit(0)
     sys.exit(status)
 
 

@@ -122,7 +122,7 @@ def compare(tries, what, client, folder, words=WORDS, options=()):
     ways = []
 
     def many(out, told):
-        status, parted = play_many.played(own, players, lambda run: contextlib.nullcontext(client), out, told)
+        status, parted = play_many.played(own, players, lambda run: client, out, told)
         ways.append(parted)
         return status
 
