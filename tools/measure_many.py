@@ -6,6 +6,7 @@ Of the payloads 70 % have 17 to 64 octets, 25 % up to 400, and 5 % up to 1,471.
 import filecmp
 import os
 import random
+import statistics
 import struct
 import subprocess
 import sys
@@ -101,23 +102,37 @@ class Watch(threading.Thread):
             return 0
 
 
+def started(words, out):
+    return subprocess.Popen(words, stdout=out)
+
+
+def ended(run):
+    if run.wait() != 0:
+        sys.exit(f"{run.args[0]} ended with {run.returncode}")
+
+
 def timed(words, output):
-    """Wall seconds and the watch over a run."""
+    """Wall seconds of a run. What was written before is on the disk by then."""
+    os.sync()
     start = time.perf_counter()
     with open(output, "wb") as out:
-        run = subprocess.Popen(words, stdout=out)
+        ended(started(words, out))
+    return time.perf_counter() - start
+
+
+def watched(words, output):
+    """The watch over a run; it takes a processor, so such a run isn't timed."""
+    with open(output, "wb") as out:
+        run = started(words, out)
         watch = Watch(run.pid)
         watch.start()
-        status = run.wait()
-    seconds = time.perf_counter() - start
+        ended(run)
     watch.over.set()
     watch.join()
-    if status != 0:
-        sys.exit(f"{words[0]} ended with {status}")
-    return seconds, watch
+    return watch
 
 
-def measure(program, frames, workers, seed, turns=3):
+def measure(program, frames, workers, seed, turns=5):
     """Prints wall times and peaks; returns the exit status, 1 where the outputs differ."""
     with tempfile.TemporaryDirectory(prefix="measure_many-") as folder:
         write_traces(folder, frames, seed)
@@ -126,18 +141,20 @@ def measure(program, frames, workers, seed, turns=3):
         print(f"{frames} frames of {LINKS} links, {size / 1e6:.0f} MB of text, {os.cpu_count()} cores, "
               f"load {os.getloadavg()[0]:.1f}", flush=True)
         many = [sys.executable, os.path.join(HERE, "play_many.py"), "--program", program, "--workers", str(workers)]
-        found = {"alone": [], "many": []}
+        ways = {"alone": [program, *traces], "many": [*many, *traces]}
+        seconds = {name: [] for name in ways}
         for _ in range(turns):
-            found["alone"].append(timed([program, *traces], folder + "/alone"))
-            found["many"].append(timed([*many, *traces], folder + "/many"))
-        seconds = {name: [run[0] for run in runs] for name, runs in found.items()}
-        peaks = {name: max(max(watch.peaks.values()) for _, watch in runs) for name, runs in found.items()}
-        together = max(watch.together for _, watch in found["many"])
+            for name, words in ways.items():
+                seconds[name].append(timed(words, os.path.join(folder, name)))
+        watches = {name: watched(words, os.path.join(folder, name)) for name, words in ways.items()}
+        peaks = {name: max(watch.peaks.values()) for name, watch in watches.items()}
         for name, times in seconds.items():
             shown = " ".join(f"{each:.2f}" for each in times)
             print(f"{name:5}: {shown} s, largest process {peaks[name][0] / 1024:.0f} MiB")
-        print(f"many, all processes at a time: {together / 1024:.0f} MiB; the largest: {peaks['many'][1][:100]}")
-        print(f"many to alone: least time {min(seconds['many']) / min(seconds['alone']):.2f}, "
+        print(f"many, all processes at a time: {watches['many'].together / 1024:.0f} MiB; the largest: "
+              f"{peaks['many'][1][:100]}")
+        least, middle = (one(seconds["many"]) / one(seconds["alone"]) for one in [min, statistics.median])
+        print(f"many to alone: least time {least:.2f}, middle time {middle:.2f}, "
               f"largest process {peaks['many'][0] / peaks['alone'][0]:.2f}")
         same = filecmp.cmp(folder + "/alone", folder + "/many", shallow=False)
         print("the same bytes" if same else "the bytes differ")

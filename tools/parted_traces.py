@@ -1,19 +1,24 @@
-"""What the workers of `play_many.py` do, each call with files of its own. Needs python3-numpy.
+"""What the workers of `play_many.py` do, each call with files of its own. Needs python3-numpy, and the loops of
+parted_lines.c, compiled into the folder of the run.
 
 - `part` takes a range of a trace's bytes: it finds the lines, checks that their times don't fall, and writes
-  them anew, link by link.
-- `play` gathers the lines of a group of links, lets the program play them, and says where its lines stand.
+  them anew, group by group.
+- `play` hands the lines of a group of links to the program, and says where its lines stand.
 - `merge` takes the lines of the groups' outputs that belong between two places of the merged order.
 
-Of a line it reads the time, the space after it and the four digits of the link number. All else of a line is
+Of a line the time, the space after it and the four digits of the link number are read. All else of a line is
 the program's to judge: each line goes to one group as it stands, so a line that is no line of a trace is
-refused there. What this file can't read, and what the program refuses, ends in `NotPlain`: then the program has
+refused there. What can't be read here, and what the program refuses, ends in `NotPlain`: then the program has
 to play the whole traces by itself.
 
 Every call writes under a name of its own and renames at its end, so it can be made again after a worker died.
 """
-import collections
+import concurrent.futures
 import contextlib
+import ctypes
+import fcntl
+import functools
+import mmap
 import os
 import subprocess
 import uuid
@@ -22,23 +27,13 @@ import numpy
 
 # Bytes of a line before its end, at most (docs/FORMATS.md, trace).
 LONGEST = 8192
-# How much text is cut into lines at a time, and how many verdict lines are merged: as much as stays near the
-# processor.
-STEP_OCTETS, STEP_LINES = 1 << 20, 1 << 13
+LINKS = 1 << 16
 BLOCK = 1 << 20
-# The longest time, a space, and the digits to the end of the link number.
-WINDOW = 20 + 1 + 12
-# The greatest time but for its last digit, and that digit.
-TIME_HEAD, TIME_TAIL = numpy.uint64(1844674407370955161), 5
-POWERS = 10 ** numpy.arange(18, -1, -1, dtype=numpy.uint64)
 
-DIGIT = numpy.zeros(256, numpy.uint16)
-for _place, _digit in enumerate(b"0123456789abcdef"):
-    DIGIT[_digit] = DIGIT[ord(chr(_digit).upper())] = _place
-
-# The columns of a range's index, which has a row for each link in their order: link number, how many lines, and
-# where these lines stand in the range's file of lines.
-LINK, LINES, OFFSET, LENGTH = range(4)
+# The columns of a range's index, which has a row for each group: how many lines, and where they stand in the range's
+# file of lines.
+LINES, OFFSET, LENGTH = range(3)
+COLUMNS = 3
 
 
 class NotPlain(Exception):
@@ -47,6 +42,24 @@ class NotPlain(Exception):
 
 class Failed(Exception):
     """The run can't go on: the exit status, and the line for standard error."""
+
+
+@functools.lru_cache(maxsize=1)
+def loops(folder):
+    """The loops of parted_lines.c."""
+    found = ctypes.CDLL(of_loops(folder))
+    octets, numbers, places, times = (numpy.ctypeslib.ndpointer(kind, flags="C")
+                                      for kind in [numpy.uint8, numpy.uint16, numpy.int64, numpy.uint64])
+    size = ctypes.c_int64
+    for name, result, arguments in [
+            ("find_lines", size, [octets, size, size, numbers, places, numbers, times, numbers, places, places]),
+            ("lay_by_group", None, [octets, size, places, numbers, numbers, places, octets]),
+            ("take_in_order", size, [octets, places, places, numbers, size, octets]),
+            ("merge_groups", None, [times, numbers, size, times, numbers, size, numbers]),
+            ("find_marks", size, [octets, size, places, size, places])]:
+        loop = getattr(found, name)
+        loop.restype, loop.argtypes = result, arguments
+    return found
 
 
 @contextlib.contextmanager
@@ -62,6 +75,10 @@ def kept(path):
             os.unlink(own)
 
 
+def of_loops(folder):
+    return os.path.join(folder, "loops.so")
+
+
 def of_range(folder, net, number, what):
     return os.path.join(folder, f"{net}-{number}.{what}")
 
@@ -74,8 +91,8 @@ def of_slice(folder, number):
     return os.path.join(folder, f"slice-{number}")
 
 
-def groups_of_links(folder):
-    return numpy.fromfile(os.path.join(folder, "groups"), numpy.uint16)
+def of_groups(folder):
+    return os.path.join(folder, "groups")
 
 
 def problem_with(seen, folder):
@@ -86,170 +103,86 @@ def problem_with(seen, folder):
     return None if os.access(folder, os.W_OK) else folder
 
 
+def in_order(folder, texts, order):
+    """The lines of several texts, each with its number: one after another, each time the next one of the text that
+    `order` names."""
+    numbers, lengths = list(texts), [len(text) for text in texts.values()]
+    ends, begins = numpy.zeros((2, LINKS), numpy.int64)
+    ends[numbers] = numpy.cumsum(lengths)
+    begins[numbers] = ends[numbers] - lengths
+    text = numpy.frombuffer(b"".join(texts.values()), numpy.uint8)
+    lines = numpy.empty(len(text), numpy.uint8)
+    if loops(folder).take_in_order(text, begins, ends, order, len(order), lines) != len(text):
+        raise NotPlain("lines are missing")
+    return lines
+
+
 # ---- a range of a trace
 
 
 def owned_text(trace, begin, end, size):
-    """Some text, and where the lines that begin from byte `begin` on and before `end` stand in it. It goes on for a
-    window after the beginning of each.
+    """The lines that begin from byte `begin` on and before `end`, each with its end.
 
-    The byte before `begin` says whether a line begins there; after `end` at most one line goes on.
+    The byte before `begin` says whether a line begins there; after `end` at most one line goes on. The trace itself is
+    mapped. If it gets shorter meanwhile, the worker dies, and the call finds that out when it's made again.
     """
-    base, stop = max(begin - 1, 0), min(end + LONGEST, size)
+    before, stop = max(begin - 1, 0), min(end + LONGEST, size)
+    base = before - before % mmap.ALLOCATIONGRANULARITY
     try:
         with open(trace, "rb", buffering=0) as file:
-            text = os.pread(file.fileno(), stop - base, base)
+            if os.fstat(file.fileno()).st_size < stop:
+                raise NotPlain("the trace got shorter")
+            os.posix_fadvise(file.fileno(), base, stop - base, os.POSIX_FADV_WILLNEED)
+            text = mmap.mmap(file.fileno(), stop - base, prot=mmap.PROT_READ, offset=base)
     except OSError as error:
         raise NotPlain(str(error)) from None
-    if len(text) != stop - base:
-        raise NotPlain("the trace got shorter")
-    if stop == size:
-        text += b"\n" + bytes(WINDOW)
-    first = text.find(b"\n") + 1 if begin > 0 else 0
+    first = text.find(b"\n", before - base) + 1 if begin > 0 else 0
     if begin > 0 and (first == 0 or base + first >= end):
-        return text, 0, 0
+        return numpy.zeros(0, numpy.uint8)
     after = text.find(b"\n", end - 1 - base) + 1
-    if after == 0:
+    if after == 0 and stop < size:
         raise NotPlain("a long line")
-    return text, first, after
+    return numpy.frombuffer(text if after else text[:] + b"\n", numpy.uint8)[first:after or None]
 
 
-def lines_of(text):
-    """The lines of a text, each with its end. `splitlines` is the fast way, but 0d ends a line for it too."""
-    if b"\r" not in text:
-        return text.splitlines(True)
-    return [line + b"\n" for line in text.split(b"\n")[:-1]]
+def found_lines(text, group_of_link, lines, octets, folder):
+    """Where the lines of a text begin, and their lengths, times and groups. How many lines and octets each group has is
+    added to `lines` and `octets`."""
+    # The shortest line is a digit, a space and the line's end.
+    most = len(text) // 3 + 1
+    starts, times = numpy.empty(most, numpy.int64), numpy.empty(most, numpy.uint64)
+    lengths, groups = numpy.empty((2, most), numpy.uint16)
+    count = loops(folder).find_lines(text, len(text), LONGEST, group_of_link, starts, lengths, times, groups, lines,
+                                     octets)
+    if count < 0:
+        raise NotPlain("a line of another form, or a time that falls")
+    return starts[:count], lengths[:count], times[:count], groups[:count]
 
 
-def in_order(lines, order):
-    """The lines at these places, one after another."""
-    places = numpy.empty(len(lines), object)
-    places[:] = lines
-    return b"".join(places[order].tolist())
+def part(trace, net, number, begin, end, size, many, folder):
+    """Parts the lines that begin in a range of bytes of a trace into so many groups.
 
-
-def times_of(rows, width):
-    """The numbers of `width` decimal digits that the rows begin with."""
-    digits = rows[:, :width] - numpy.uint8(ord("0"))
-    if width == 0 or (digits > 9).any() or (width > 1 and (digits[:, 0] == 0).any()):
-        raise NotPlain("a time")
-    head = digits[:, :19] @ POWERS[-min(width, 19):]
-    if width < 20:
-        return head
-    if ((head > TIME_HEAD) | ((head == TIME_HEAD) & (digits[:, 19] > TIME_TAIL))).any():
-        raise NotPlain("a time that is too large")
-    return head * numpy.uint64(10) + digits[:, 19]
-
-
-def links_of(rows, width, lengths):
-    """The link numbers; 0 for a frame that is too short to have one, since any group will do for it."""
-    digits = DIGIT[rows[:, width + 9:width + 13]]
-    links = digits[:, 0] << 12 | digits[:, 1] << 8 | digits[:, 2] << 4 | digits[:, 3]
-    links[lengths < width + 14] = 0
-    return links
-
-
-def fields_of(text, starts, lengths):
-    """Times and link numbers of the lines that begin at `starts`, and are so long with their ends."""
-    windows = numpy.ndarray((len(text) - WINDOW + 1,), f"V{WINDOW}", text, strides=(1,))
-    rows = windows[starts].view(numpy.uint8).reshape(-1, WINDOW)
-    # The places of the first spaces, which stand in their lines if all bytes before them are digits.
-    widths = (rows[:, :21] == ord(" ")).argmax(axis=1)
-    if (widths[1:] < widths[:-1]).any():
-        raise NotPlain("a time falls")
-    times, links = [], []
-    for width in range(widths[0], widths[-1] + 1):
-        begin, after = numpy.searchsorted(widths, [width, width + 1])
-        if begin < after:
-            times.append(times_of(rows[begin:after], width))
-            links.append(links_of(rows[begin:after], width, lengths[begin:after]))
-    times = numpy.concatenate(times)
-    if (times[1:] < times[:-1]).any():
-        raise NotPlain("a time falls")
-    return times, numpy.concatenate(links)
-
-
-def lines_in(text, begin, after):
-    """Where the lines of a text begin and end; without those that are skipped."""
-    octets = numpy.frombuffer(text, numpy.uint8)
-    ends = numpy.flatnonzero(octets[begin:after] == ord("\n")) + (begin + 1)
-    starts = numpy.concatenate(([begin], ends[:-1]))
-    lengths = ends - starts
-    if lengths.max() > LONGEST + 1:
-        raise NotPlain("a long line")
-    taken = (lengths > 1) & (octets[starts] != ord("#"))
-    return starts[taken], ends[taken]
-
-
-def steps_of(text, begin, after):
-    """The lines of a text some at a time, as few as stay near the processor: where they begin and end, their times
-    and link numbers."""
-    while begin < after:
-        end = text.rfind(b"\n", begin, min(begin + STEP_OCTETS, after)) + 1 or text.index(b"\n", begin) + 1
-        starts, ends = lines_in(text, begin, end)
-        begin = end
-        if len(starts):
-            yield starts, ends, *fields_of(text, starts, ends - starts)
-
-
-def by_link(text, starts, ends, links):
-    """The lines of each link, one after another: the link numbers, with how many lines and which octets."""
-    order = numpy.argsort(links, kind="stable")
-    numbers, firsts = numpy.unique(links[order], return_index=True)
-    lines = [text[start:end] for start, end in zip(starts[order].tolist(), ends[order].tolist())]
-    bounds = [*firsts.tolist(), len(lines)]
-    for number, first, after in zip(numbers.tolist(), bounds, bounds[1:]):
-        yield number, after - first, b"".join(lines[first:after])
-
-
-def write_by_link(pieces, counts, out):
-    """Writes the pieces of the lines of each link. Returns the rows of the index."""
-    rows, offset = [], 0
-    for link in sorted(pieces):
-        length = sum(map(len, pieces[link]))
-        out.writelines(pieces[link])
-        rows.append((link, counts[link], offset, length))
-        offset += length
-    return numpy.array(rows, numpy.int64).reshape(-1, 4)
-
-
-def part(trace, net, number, begin, end, size, folder):
-    """Parts the lines that begin in a range of bytes of a trace.
-
-    Returns how many there are, the first and the last time, and for each link its number, lines and bytes.
+    Returns how many there are, the first and the last time, and how many lines and octets each group has.
     """
-    pieces, counts = collections.defaultdict(list), collections.Counter()
-    total, first, last = 0, None, None
-    files = [kept(of_range(folder, net, number, what)) for what in ["lines", "times", "links", "index"]]
-    with files[0] as of_lines, files[1] as of_times, files[2] as of_links, files[3] as of_index:
-        text, begin, after = owned_text(trace, begin, end, size)
-        for starts, ends, times, links in steps_of(text, begin, after):
-            if last is not None and times[0] < last:
-                raise NotPlain("a time falls")
-            first, last, total = times[0] if first is None else first, times[-1], total + len(times)
-            for link, count, octets in by_link(text, starts, ends, links):
-                pieces[link].append(octets)
-                counts[link] += count
-            of_times.write(times.tobytes())
-            of_links.write(links.tobytes())
-        rows = write_by_link(pieces, counts, of_lines)
-        of_index.write(rows.tobytes())
-    return total, *(None if time is None else int(time) for time in (first, last)), rows[:, [LINK, LINES, LENGTH]]
+    text, group_of_link = owned_text(trace, begin, end, size), numpy.fromfile(of_groups(folder), numpy.uint16)
+    lines, octets = numpy.zeros((2, many), numpy.int64)
+    starts, lengths, times, groups = found_lines(text, group_of_link, lines, octets, folder)
+    offsets = numpy.cumsum(octets) - octets
+    rows = numpy.stack([lines, offsets, octets], 1)
+    laid = numpy.empty(octets.sum(), numpy.uint8)
+    loops(folder).lay_by_group(text, len(starts), starts, lengths, groups, offsets, laid)
+    for what, found in [("lines", laid), ("times", times), ("groups", groups), ("index", rows)]:
+        with kept(of_range(folder, net, number, what)) as file:
+            file.write(found)
+    first, last = (int(times[0]), int(times[-1])) if len(times) else (None, None)
+    return len(times), first, last, lines, octets
 
 
 # ---- a group of links
 
 
-def mingled(lines, rows, links):
-    """The lines of several links, in the order of the trace. `links` are those of these lines."""
-    text = b"".join(os.pread(lines, length, offset) for offset, length in rows[:, [OFFSET, LENGTH]].tolist())
-    places = numpy.empty(len(links), numpy.int64)
-    places[numpy.argsort(links, kind="stable")] = numpy.arange(len(links))
-    return in_order(lines_of(text), places)
-
-
 def copy(lines, offset, length, out):
-    """Copies a part of a file to the end of another one."""
+    """Copies a part of a file to a pipe."""
     while length > 0:
         sent = os.sendfile(out.fileno(), lines, offset, length)
         if sent == 0:
@@ -259,55 +192,67 @@ def copy(lines, offset, length, out):
 
 def gather(folder, net, ranges, group, out):
     """Writes the lines of a group in the order of their trace. Returns how many they are."""
-    groups, count = groups_of_links(folder), 0
+    count = 0
     for number in range(ranges):
-        rows = numpy.fromfile(of_range(folder, net, number, "index"), numpy.int64).reshape(-1, 4)
-        rows = rows[groups[rows[:, LINK]] == group]
-        if len(rows) == 0:
-            continue
-        count += int(rows[:, LINES].sum())
-        with open(of_range(folder, net, number, "lines"), "rb", buffering=0) as lines:
-            if len(rows) == 1:
-                copy(lines.fileno(), int(rows[0, OFFSET]), int(rows[0, LENGTH]), out)
-                continue
-            links = numpy.fromfile(of_range(folder, net, number, "links"), numpy.uint16)
-            out.write(mingled(lines.fileno(), rows, links[groups[links] == group]))
-            out.flush()
+        row = numpy.fromfile(of_range(folder, net, number, "index"), numpy.int64, COLUMNS, offset=8 * COLUMNS * group)
+        if row[LINES]:
+            with open(of_range(folder, net, number, "lines"), "rb", buffering=0) as lines:
+                copy(lines.fileno(), int(row[OFFSET]), int(row[LENGTH]), out)
+        count += int(row[LINES])
     return count
 
 
-def run_program(words, output):
-    """Runs the program; its standard output goes into a file."""
+def feed(pipe, folder, net, ranges, group, last):
+    """Writes the lines of a group, and a last one, into a pipe. Returns how many lines the group has, or None where
+    the program has closed the pipe before."""
+    with contextlib.suppress(BrokenPipeError), open(pipe, "wb", buffering=0) as out:
+        count = gather(folder, net, ranges, group, out)
+        out.write(last)
+        return count
+    return None
+
+
+def run_program(words, traces, output):
+    """Runs the program on two traces, each a function that writes one into the end of a pipe; its standard output goes
+    into a file. Returns what the functions returned."""
     # A worker's settings of its memory aren't for the program.
     environment = {name: value for name, value in os.environ.items() if not name.startswith("MALLOC_")}
+    ends, fills = zip(os.pipe(), os.pipe())
+    for fill in fills:
+        with contextlib.suppress(OSError):
+            fcntl.fcntl(fill, fcntl.F_SETPIPE_SZ, BLOCK)
+    words = [*words, "--a", f"/dev/fd/{ends[0]}", "--b", f"/dev/fd/{ends[1]}"]
     try:
-        done = subprocess.run(words, stdin=subprocess.DEVNULL, stdout=output, stderr=subprocess.PIPE, env=environment)
+        program = subprocess.Popen(words, stdin=subprocess.DEVNULL, stdout=output, stderr=subprocess.PIPE,
+                                   env=environment, pass_fds=ends)
     except OSError as error:
+        for fill in fills:
+            os.close(fill)
         raise Failed(3, f"play_many.py: a worker can't run the program: {error}") from None
-    told = done.stderr.decode("utf-8", "replace")
-    if done.returncode in (1, 2):
+    finally:
+        for end in ends:
+            os.close(end)
+    with concurrent.futures.ThreadPoolExecutor(2) as threads:
+        written = [threads.submit(trace, fill) for trace, fill in zip(traces, fills)]
+        told = program.communicate()[1].decode("utf-8", "replace")
+    found = [trace.result() for trace in written]
+    if program.returncode in (1, 2):
         raise NotPlain(told)
-    if done.returncode == 4:
+    if program.returncode == 4:
         raise Failed(4, told.rstrip("\n"))
-    if done.returncode != 0:
-        how = f"status {done.returncode}" if done.returncode > 0 else f"signal {-done.returncode}"
+    if program.returncode != 0:
+        how = f"status {program.returncode}" if program.returncode > 0 else f"signal {-program.returncode}"
         raise Failed(3, f"play_many.py: the program ended with {how} on a group of links: {told}".rstrip(": \n"))
+    return found
 
 
-def offsets_of(path, marks):
+def offsets_of(path, marks, folder):
     """Where the lines begin that have so many lines before them; `marks` don't fall."""
-    offsets, done, base, marks = [], 0, 0, numpy.array(marks)
-    with open(path, "rb") as output:
-        while block := output.read(BLOCK):
-            ends = numpy.flatnonzero(numpy.frombuffer(block, numpy.uint8) == 10)
-            here = marks[len(offsets):numpy.searchsorted(marks, done + len(ends), "right")] - done
-            starts = numpy.concatenate(([0], ends + 1))
-            # A mark of no lines is the block's beginning only for the first block.
-            offsets += (base + starts[here]).tolist()
-            done, base = done + len(ends), base + len(block)
-    if len(offsets) != len(marks):
+    octets, marks = numpy.fromfile(path, numpy.uint8), numpy.array(marks, numpy.int64)
+    offsets = numpy.empty_like(marks)
+    if loops(folder).find_marks(octets, len(octets), marks, len(marks), offsets) != len(marks):
         raise NotPlain("lines are missing")
-    return offsets
+    return offsets.tolist()
 
 
 def key_of(line):
@@ -340,9 +285,11 @@ def report_of(output, offset, empty):
     return blocks, counts
 
 
-def played_lines(path, marks, late, empty):
+def played_lines(path, marks, late, folder):
     """Where the marked lines of a group's output begin, and what its report has; without the late frame."""
-    offsets = offsets_of(path, marks)
+    offsets = offsets_of(path, marks, folder)
+    with open(os.path.join(folder, "empty"), "rb") as file:
+        empty = file.readlines()
     late_line = b"" if late is None else b"%d B filtered too-short\n" % late
     with open(path, "rb") as output:
         output.seek(offsets[-1])
@@ -363,25 +310,17 @@ def play(program, config, at, late, ranges, group, marks, folder):
 
     Returns where in the group's output the marked lines begin, and what its report has.
     """
-    a, b, path = (of_group(folder, group, f"{what}.{uuid.uuid4().hex}") for what in ["a", "b", "out"])
-    try:
-        with open(a, "wb") as of_a, open(b, "wb") as of_b:
-            count = gather(folder, "A", ranges[0], group, of_a) + gather(folder, "B", ranges[1], group, of_b)
-            if late is not None:
-                of_b.write(b"%d \n" % late)
-        if count != marks[-1]:
+    path = of_group(folder, group, "out")
+    last = [b"", b"" if late is None else b"%d \n" % late]
+    traces = [functools.partial(feed, folder=folder, net=net, ranges=ranges[number], group=group, last=last[number])
+              for number, net in enumerate("AB")]
+    with kept(path) as output:
+        counts = run_program([program, "--config", config, *at], traces, output)
+        if None in counts:
+            raise NotPlain("the program didn't read all")
+        if sum(counts) != marks[-1]:
             raise Failed(3, "play_many.py: the workers don't see each other's files whole")
-        with open(path, "wb") as output:
-            run_program([program, "--config", config, "--a", a, "--b", b, *at], output)
-    finally:
-        for trace in [a, b]:
-            with contextlib.suppress(FileNotFoundError):
-                os.unlink(trace)
-    with open(os.path.join(folder, "empty"), "rb") as file:
-        empty = file.readlines()
-    found = played_lines(path, marks, late, empty)
-    os.replace(path, of_group(folder, group, "out"))
-    return found
+    return played_lines(path, marks, late, folder)
 
 
 # ---- a slice of the merged order
@@ -393,16 +332,15 @@ def lines_between(folder, net, piece):
         return numpy.zeros(0, numpy.uint64), numpy.zeros(0, numpy.uint16)
     number, begin, end = piece
     times = numpy.fromfile(of_range(folder, net, number, "times"), numpy.uint64, end - begin, offset=8 * begin)
-    links = numpy.fromfile(of_range(folder, net, number, "links"), numpy.uint16, end - begin, offset=2 * begin)
-    return times, groups_of_links(folder)[links]
+    groups = numpy.fromfile(of_range(folder, net, number, "groups"), numpy.uint16, end - begin, offset=2 * begin)
+    return times, groups
 
 
 def merged_groups(folder, pieces):
     """The groups of the lines of both traces in merged order: by time, and those of A first on equal times."""
     (times_a, groups_a), (times_b, groups_b) = (lines_between(folder, net, piece) for net, piece in zip("AB", pieces))
-    groups = numpy.zeros(len(times_a) + len(times_b), numpy.uint16)
-    groups[numpy.arange(len(times_a)) + numpy.searchsorted(times_b, times_a, "left")] = groups_a
-    groups[numpy.arange(len(times_b)) + numpy.searchsorted(times_a, times_b, "right")] = groups_b
+    groups = numpy.empty(len(times_a) + len(times_b), numpy.uint16)
+    loops(folder).merge_groups(times_a, groups_a, len(times_a), times_b, groups_b, len(times_b), groups)
     return groups
 
 
@@ -412,30 +350,13 @@ def octets_of_group(folder, group, begin, end):
         return os.pread(output.fileno(), end - begin, begin)
 
 
-def lines_at(octets, starts, lengths):
-    """The lines that begin at `starts`, one after another. They are so short that an index of their octets is the
-    fast way."""
-    ends = numpy.cumsum(lengths, dtype=numpy.int32)
-    return octets[numpy.repeat(starts - (ends - lengths), lengths) + numpy.arange(ends[-1], dtype=numpy.int32)]
-
-
 def merge(number, pieces, begins, ends, folder):
     """Writes the verdict lines of a slice. `begins` and `ends` are where those of each group stand in its output."""
     groups = merged_groups(folder, pieces)
-    text = b"".join(octets_of_group(folder, group, begins[group], ends[group])
-                    for group in numpy.unique(groups).tolist())
-    octets = numpy.frombuffer(text, numpy.uint8)
-    after = (numpy.flatnonzero(octets == ord("\n")) + 1).astype(numpy.int32)
-    if len(after) != len(groups):
-        raise NotPlain("lines are missing")
-    # The lines stand by their groups there; these are theirs in the merged order.
-    lines = numpy.empty(len(groups), numpy.int32)
-    lines[numpy.argsort(groups, kind="stable")] = numpy.arange(len(groups), dtype=numpy.int32)
-    lengths = numpy.diff(after, prepend=numpy.int32(0))
-    starts, lengths = (after - lengths)[lines], lengths[lines]
+    texts = {group: octets_of_group(folder, group, begins[group], ends[group])
+             for group in numpy.flatnonzero(numpy.bincount(groups)).tolist()}
     with kept(of_slice(folder, number)) as file:
-        for at in range(0, len(groups), STEP_LINES):
-            file.write(lines_at(octets, starts[at:at + STEP_LINES], lengths[at:at + STEP_LINES]).tobytes())
+        file.write(in_order(folder, texts, groups))
     # All groups were played, so nobody reads these any more, and they are the most that there is to clear away.
     for net, piece in zip("AB", pieces):
         if piece is not None:

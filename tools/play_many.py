@@ -5,7 +5,8 @@
                  [--workers N | --scheduler ADDRESS] [--program FILE] [--scratch FOLDER]
                  [--range OCTETS] [--groups N]
 
-It needs the Debian packages python3-distributed and python3-numpy, whose Python is /usr/bin/python3.
+It needs the Debian packages python3-distributed and python3-numpy, whose Python is /usr/bin/python3, and a C
+compiler, `cc` or what CC names, for parted_lines.c.
 
 The program keeps all that it reads and plays on one core. But links don't see each other: what becomes of a
 frame hangs on the earlier frames of its own link alone. So the lines of both traces are parted by link number,
@@ -27,12 +28,16 @@ and so does an output that can't be written (`afdx_play: output not written`, 3)
 shows as 128 and its number. Where the standard error is a terminal, it shows how far the run is.
 """
 import argparse
+import concurrent.futures
 import contextlib
+import functools
+import gc
 import logging
 import multiprocessing
 import multiprocessing.forkserver
 import multiprocessing.util
 import os
+import shlex
 import shutil
 import signal
 import subprocess
@@ -41,12 +46,27 @@ import tempfile
 import time
 import warnings
 
+HERE = os.path.dirname(os.path.abspath(__file__))
 # What the workers have in their environment. Memory that a worker gives back after each range would be taken
-# page by page for the next one.
+# page by page for the next one; nobody here asks for the machine's certificates or multiplies matrices.
 ENVIRONMENT = {"MALLOC_TRIM_THRESHOLD_": str(1 << 27), "MALLOC_MMAP_THRESHOLD_": str(1 << 25),
-               "MALLOC_ARENA_MAX": "1"}
-# `distributed` would load it in each process, only to tell its version.
-sys.modules.setdefault("pandas", None)
+               "MALLOC_ARENA_MAX": "1", "SSL_CERT_FILE": os.devnull, "SSL_CERT_DIR": os.devnull,
+               "OPENBLAS_NUM_THREADS": "1",
+               "PYTHONPATH": os.pathsep.join(filter(None, [HERE, os.environ.get("PYTHONPATH")]))}
+# `distributed` would load them in each process, to tell a version and to draw pages.
+for library in ["pandas", "jinja2"]:
+    sys.modules.setdefault(library, None)
+
+
+@contextlib.contextmanager
+def workers_environment():
+    before = dict(os.environ)
+    os.environ.update(ENVIRONMENT)
+    try:
+        yield
+    finally:
+        os.environ.clear()
+        os.environ.update(before)
 
 
 @contextlib.contextmanager
@@ -68,14 +88,21 @@ def silent_streams():
 
 
 def start_server():
-    """Starts the process of which the workers will be copies. It loads their libraries by itself."""
-    before = dict(os.environ)
-    os.environ.update(ENVIRONMENT)
-    multiprocessing.set_forkserver_preload(["distributed", "distributed.nanny", "numpy"])
-    with silent_streams():
+    """Starts the process of which the workers will be copies. It loads this file, and so their libraries."""
+    multiprocessing.set_forkserver_preload(["play_many"])
+    with workers_environment(), silent_streams():
         multiprocessing.forkserver.ensure_running()
-    os.environ.clear()
-    os.environ.update(before)
+
+
+def fill_closed_output():
+    """A standard output that is closed takes nothing, as a full device does: then the program's own line says so."""
+    try:
+        os.fstat(1)
+    except OSError:
+        full = os.open("/dev/full", os.O_WRONLY)
+        os.dup2(full, 1)
+        if full != 1:
+            os.close(full)
 
 
 def end_on(number, _):
@@ -86,13 +113,18 @@ def end_on(number, _):
 if __name__ == "__main__":
     signal.signal(signal.SIGINT, end_on)
     signal.signal(signal.SIGTERM, end_on)
+    fill_closed_output()
     # While this process loads them too.
     start_server()
 
 try:
-    import dask
-    import distributed
-    import numpy
+    # There is no garbage yet.
+    gc.disable()
+    with workers_environment():
+        import dask
+        import distributed
+        import numpy
+    gc.enable()
 except ImportError as error:
     print(f"play_many.py: {error}: see the head of this file for what it needs", file=sys.stderr)
     sys.exit(3)
@@ -101,15 +133,22 @@ import parted_traces
 import play_plan
 from parted_traces import BLOCK, Failed, NotPlain
 
-HERE = os.path.dirname(os.path.abspath(__file__))
 PROGRAM = os.path.join(HERE, "..", "crates", "afdx_play", "out", "afdx_play")
+LOOPS = os.path.join(HERE, "parted_lines.c")
 GREATEST_AT = 2**63 - 1
-RANGE = 1 << 24
+RANGE = 24 << 20
+# How many calls' results are fetched together.
+TOGETHER = 32
 # Seconds to wait for a scheduler, and for its first worker.
 PATIENCE = 10
 
-# A worker's memory is bounded by what it does, so nobody has to watch it.
+# A worker's memory is bounded by what it does, so nobody has to watch it. Nor does anybody look at its profile or at
+# how long an event waits. Calls are handed out as workers are free, so none has to be taken from another worker.
 SETTINGS = {
+    "distributed.admin.system-monitor.interval": "10s",
+    "distributed.admin.tick.interval": "1s",
+    "distributed.scheduler.work-stealing": False,
+    "distributed.worker.profile.enabled": False,
     "distributed.worker.multiprocessing-method": "forkserver",
     "distributed.worker.memory.target": False,
     "distributed.worker.memory.spill": False,
@@ -149,7 +188,7 @@ def words_of(arguments):
     parser.add_argument("--range", type=one_or_more, default=RANGE, metavar="OCTETS",
                         help="what a worker reads of a trace at once (default: %(default)s)")
     parser.add_argument("--groups", type=one_or_more, metavar="N",
-                        help=f"most groups of links (default: {play_plan.GROUPS}, and fewer for small traces)")
+                        help="most groups of links (default: as many as are worth a run of the program)")
     own, players = parser.parse_known_args(arguments)
     own.program = os.path.abspath(own.program)
     return own, players
@@ -176,6 +215,28 @@ def values_of(players):
 
 
 # ---- workers
+
+
+def compiled_loops(parent):
+    """The library of the workers' loops; it is compiled in a folder of `parent`."""
+    with tempfile.TemporaryDirectory(prefix="play_many-", dir=parent) as folder:
+        library = os.path.join(folder, "loops.so")
+        words = [*shlex.split(os.environ.get("CC", "cc")), "-O2", "-shared", "-fPIC", "-o", library, LOOPS]
+        try:
+            done = subprocess.run(words, stdout=subprocess.DEVNULL, stderr=subprocess.PIPE)
+        except OSError as error:
+            raise Failed(3, f"play_many.py: no C compiler: {error}") from None
+        if done.returncode != 0:
+            told = done.stderr.decode("utf-8", "replace").strip().partition("\n")[0]
+            raise Failed(3, f"play_many.py: {words[0]} can't compile {LOOPS}: {told}".rstrip(": "))
+        with open(library, "rb") as file:
+            return file.read()
+
+
+@functools.cache
+def compiling(parent):
+    """The first call starts the compiler, which runs while the workers start."""
+    return concurrent.futures.ThreadPoolExecutor(1).submit(compiled_loops, parent)
 
 
 @contextlib.contextmanager
@@ -227,18 +288,23 @@ class Bar:
 
 
 def results(client, bar, what, task, calls):
-    """Makes the calls on the workers; gives the number of each call and what it returned, as they are done."""
+    """Makes the calls on the workers; gives the number of each call and what it returned, some at a time."""
     bar.show(what, 0, len(calls))
     if not calls:
         return
-    futures = client.map(task, *zip(*calls), pure=False)
-    numbers = {future: number for number, future in enumerate(futures)}
+    numbers = {future: number for number, future in enumerate(client.map(task, *zip(*calls), pure=False))}
+    done = []
     try:
-        for done, (future, found) in enumerate(distributed.as_completed(futures, with_results=True), 1):
-            bar.show(what, done, len(calls))
-            yield numbers[future], found
+        for count, future in enumerate(distributed.as_completed(numbers), 1):
+            bar.show(what, count, len(calls))
+            if future.status != "finished":
+                future.result()
+            done.append(future)
+            if len(done) == TOGETHER or count == len(calls):
+                yield from zip([numbers.pop(each) for each in done], client.gather(done))
+                done.clear()
     finally:
-        client.cancel(futures)
+        client.cancel([*numbers])
 
 
 # ---- the run
@@ -275,8 +341,19 @@ class Run:
             raise NotPlain("a report of another form")
         return lines
 
+    def write_loops(self):
+        """Brings the workers' loops to where they see them."""
+        with open(parted_traces.of_loops(self.folder), "wb") as library:
+            library.write(compiling(self.own.scratch).result())
+
+    def group(self):
+        """Parts the links into groups."""
+        weights = sum(trace.sampled_weights() for trace in self.traces)
+        groups, self.groups = play_plan.groups_of_links(weights, self.own.groups)
+        groups.tofile(parted_traces.of_groups(self.folder))
+
     def part(self, client):
-        calls = [(trace.path, trace.net, number, *trace.ranges[number], trace.size, self.folder)
+        calls = [(trace.path, trace.net, number, *trace.ranges[number], trace.size, self.groups, self.folder)
                  for trace in self.traces for number in range(len(trace.ranges))]
         ranges_of_a = len(self.traces[0].ranges)
         for call, found in results(client, self.bar, "parting", parted_traces.part, calls):
@@ -286,11 +363,7 @@ class Run:
             trace.number_lines()
 
     def plan(self):
-        """The groups of links, the slices of the merged order, and the time of the report."""
-        weights = self.traces[0].weights + self.traces[1].weights
-        groups, self.groups = play_plan.groups_of_links(weights, self.own.groups)
-        groups.tofile(os.path.join(self.folder, "groups"))
-        self.weights = numpy.bincount(groups, weights, self.groups)
+        """The slices of the merged order, and the time of the report."""
         for trace in self.traces:
             trace.load.cache_clear()
         self.slices = play_plan.slices_of(*self.traces)
@@ -303,7 +376,9 @@ class Run:
         self.offsets = numpy.zeros((self.groups, len(self.slices) + 1), numpy.int64)
         self.blocks, self.counts = {}, {}
         ranges = [len(trace.ranges) for trace in self.traces]
-        order = numpy.argsort(-self.weights, kind="stable").tolist()
+        # Traces without lines are one group without a weight.
+        weights = numpy.zeros(self.groups, numpy.int64) + sum(trace.weights for trace in self.traces)
+        order = numpy.argsort(-weights, kind="stable").tolist()
         calls = [(self.own.program, self.config, self.at, self.late, ranges, group, self.marks[:, group].tolist(),
                   self.folder) for group in order]
         for call, (offsets, blocks, counts) in results(client, self.bar, "playing", parted_traces.play, calls):
@@ -395,7 +470,10 @@ def play_parted(own, players, engine, out, bar):
     """Plays the traces on the workers of the client that `engine` gives for a run."""
     with temporary_folder(own.scratch) as folder:
         run = Run(own, players, folder, bar)
+        compiling(own.scratch)
         client = engine(run)
+        run.write_loops()
+        run.group()
         run.part(client)
         run.plan()
         run.play(client)

@@ -12,16 +12,18 @@ import stat
 
 import numpy
 
-from parted_traces import NotPlain, lines_between
+from parted_traces import LINKS, NotPlain, found_lines, lines_between, owned_text
 
 # What the program holds of a frame beside its digits, in octets, about.
 FRAME = 256
-LINKS = 1 << 16
 # How many lines of a trace are merged at once, at most.
 STEP = 1 << 17
-# Many groups of links, so that each is small; but none worth less than a run of the program, and all their
-# outputs have to be open at once.
-GROUPS, MOST_GROUPS, LEAST_GROUP = 96, 500, 1 << 20
+# At how many places a trace is looked at for what its links have, and how many octets there.
+PLACES, SAMPLE = 32, 1 << 17
+# What the program holds of a group, if there are enough links for that; a group is worth less where there are few, but
+# never less than a run of the program.
+GROUP, FEW_GROUPS, LEAST_GROUP = 64 << 20, 32, 1 << 20
+MOST_GROUPS = 500
 
 
 def regular_file(path):
@@ -44,16 +46,22 @@ class Trace:
         self.size = regular_file(self.path)
         self.ranges = [(begin, min(begin + octets, self.size)) for begin in range(0, self.size, octets)]
         self.found = [None] * len(self.ranges)
-        # How many lines and digits each link has, in octets that the program holds.
-        self.weights = numpy.zeros(LINKS, numpy.int64)
+        self.weights = 0
         self.load = functools.lru_cache(maxsize=4)(self.times_of_range)
+
+    def sampled_weights(self):
+        """About how many octets the program holds of each link."""
+        lines, octets, link_numbers = *numpy.zeros((2, LINKS), numpy.int64), numpy.arange(LINKS, dtype=numpy.uint16)
+        for begin in range(0, self.size, max(SAMPLE, self.size // PLACES)):
+            text = owned_text(self.path, begin, min(begin + SAMPLE, self.size), self.size)
+            found_lines(text, link_numbers, lines, octets, self.folder)
+        return (FRAME * lines + octets) * (self.size / max(1, octets.sum()))
 
     def take(self, number, found):
         """What `part` returned of a range."""
-        count, first, last, rows = found
+        count, first, last, lines, octets = found
         self.found[number] = (count, first, last)
-        links, lines, octets = rows.T
-        self.weights[links] += FRAME * lines + octets
+        self.weights = self.weights + FRAME * lines + octets
 
     def number_lines(self):
         """Numbers all lines of the trace, once its last range was taken; their times don't fall."""
@@ -94,13 +102,13 @@ class Trace:
 
 
 def groups_of_links(weights, most):
-    """Parts the links into groups, the heaviest first, each to the group that is lightest so far. Returns the
-    group of each link number, and the number of groups."""
-    links = numpy.flatnonzero(weights)
+    """Parts the links into groups, the heaviest first, each to the group that is lightest so far; links without weight
+    go anywhere. Returns the group of each link number, and the number of groups."""
+    links, total = numpy.flatnonzero(weights), int(weights.sum())
     if most is None:
-        most = min(GROUPS, int(weights.sum()) // LEAST_GROUP)
+        most = min(max(FEW_GROUPS, total // GROUP), total // LEAST_GROUP)
     most = max(1, min(most, MOST_GROUPS, len(links)))
-    groups, lightest = numpy.zeros(LINKS, numpy.uint16), [(0, group) for group in range(most)]
+    groups, lightest = (numpy.arange(LINKS) % most).astype(numpy.uint16), [(0, group) for group in range(most)]
     for link in links[numpy.argsort(-weights[links], kind="stable")].tolist():
         weight, group = lightest[0]
         groups[link] = group

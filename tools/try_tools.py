@@ -12,7 +12,8 @@ byte, and the pages of draw.py against the outputs that they show.
                                                 many frames of 64 links, and shows the memory of each
 
 It isn't part of the gate. It needs the Debian packages python3-distributed and python3-numpy, whose Python is
-/usr/bin/python3, and the program that `rt run` in crates/afdx_play leaves, or --program.
+/usr/bin/python3, a C compiler, `cc` or what CC names, and the program that `rt run` in crates/afdx_play leaves, or
+--program.
 
 Prints a line for each difference, and a line with the counts for each section. The exit status is 1 if
 anything differed.
@@ -280,7 +281,7 @@ def faults(tries):
 
 def command_lines(tries):
     """Runs of play_many.py as a program, with streams and schedulers of all kinds."""
-    try_words.section(tries, CONFIG, text_of(plain(300)), WORDS)
+    try_words.section(tries, CONFIG, text_of(plain(300)), text_of(plain(30000)), WORDS)
 
 
 def pages(tries):

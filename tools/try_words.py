@@ -36,15 +36,15 @@ INSTEADS = {
 class Case:
     """A folder with a configuration and traces, and one for temporary files, which has to be empty after each run."""
 
-    def __init__(self, tries, config, trace, words):
-        self.tries, self.words = tries, list(words)
+    def __init__(self, tries, config, trace, words, octets=3000):
+        self.tries, self.words, self.octets = tries, list(words), str(octets)
         self.folder = tries.folder({"config.toml": config, "a.trace": trace, "b.trace": trace})
         self.scratch = os.path.join(self.folder, "scratch")
         os.mkdir(self.scratch)
         self.environment = {**os.environ, "TMPDIR": self.scratch}
 
     def command(self, options=(), program=None):
-        options = ["--workers", "2", "--range", "3000", "--groups", "2", *options]
+        options = ["--workers", "2", "--range", self.octets, "--groups", "2", *options]
         return [sys.executable, TOOL, "--program", program or self.tries.program, *options]
 
     def instead(self, name, text):
@@ -144,6 +144,14 @@ def own_faults(case):
         found = case.run(case.command(words))
         fine = found[:2] == (2, b"") and b"play_many.py: error: " in found[2]
         case.check(f"words {words}", "" if fine else str(found))
+    for compiler, told in [("/nowhere/cc", b"no C compiler: "), ("false", b"false can't compile /")]:
+        case.environment["CC"] = compiler
+        faulty(f"the compiler {compiler}", [], 3, b"play_many.py: " + told)
+        del case.environment["CC"]
+
+
+def other_programs(case):
+    """Programs that fail, or write something else, without reading."""
     for name, (text, status, told) in INSTEADS.items():
         path = case.instead("program", text)
         expected = (status, b"", told) if told else case.run([path])
@@ -177,6 +185,8 @@ def outputs(case):
     os.close(read)
     case.check("a closed pipe", differs(case.run(case.command(), stdout=write), (3, None, told)))
     os.close(write)
+    closed = {"stdout": None, "preexec_fn": lambda: os.close(1)}
+    case.check("no standard output", differs(case.run(case.command(), **closed), (3, None, told)))
     with open(os.path.join(case.folder, "out"), "w+b") as out:
         out.write(b"before\n")
         out.flush()
@@ -263,9 +273,10 @@ def only_this_machine(case):
     case.check("where a run listens", differs((places, found[0]), ({"127.0.0.1"}, case.alone())))
 
 
-def section(tries, config, trace, words):
-    """All runs, each with the same configuration and traces."""
-    case = Case(tries, config, trace, words)
-    for runs in [plain_runs, pipes, named_pipes, own_faults, schedulers, outputs, terminal, signals, lost_workers,
-                 only_this_machine]:
+def section(tries, config, trace, long_trace, words):
+    """All runs, each with the same configuration and traces; and some with traces that are longer than a pipe holds."""
+    case, long_case = Case(tries, config, trace, words), Case(tries, config, long_trace, words, 1 << 20)
+    for runs in [plain_runs, pipes, named_pipes, own_faults, other_programs, schedulers, outputs, terminal, signals,
+                 lost_workers, only_this_machine]:
         runs(case)
+    other_programs(long_case)
