@@ -1,4 +1,4 @@
-use Rattle.std.proofs.Common.{◌≡◌, ℕ, length}
+use Rattle.std.proofs.Common.{◌≡◌, length}
 use Rattle.end_system.specs.System.{IsPassOf}
 use Rattle.thread_player.proofs.feed.feed.Given as goal
 

@@ -1,7 +1,5 @@
-use Rattle.std.proofs.Common.{ℕ, Bool, List, ap}
-use Rattle.es_base.specs.declared.event.Arrival.{Arrival}
+use Rattle.std.proofs.Common.{List, ap}
 use Rattle.es_base.specs.declared.event.Event.{Event}
-use Rattle.es_base.specs.Settings.{Settings}
 use Rattle.es_base.specs.Past.{origin_of}
 use Rattle.es_base.specs.Tally.{count_of}
 use Rattle.output_lines.specs.Report.{count_lines, link_lines}
