@@ -35,6 +35,7 @@ sys.path[:0] = [HERE, os.path.join(ROOT, "bench")]
 import play_many
 import random_cases
 import measure_many
+import try_program
 import try_words
 
 import dask
@@ -43,18 +44,7 @@ PROFILES = ["sampling", "queuing", "fragments", "mixed"]
 WORDS = ["--config", "config.toml", "--a", "a.trace", "--b", "b.trace"]
 FRAME = ("03000000%04x02000000012008004500002d000100000111cdcc0a010101e0e00011"
          "13891388001900000102030405060708090a0b0c0d0e0f1011%02x")
-CONFIG = """[[link]]
-vl = 17
-skew_max_us = 1000
-reassembly_us = 50000
-
-[[link.port]]
-name = "height"
-kind = "sampling"
-address = "224.224.0.17"
-udp = 5000
-refresh_us = 20000
-
+CONFIG = try_program.CONFIG + """
 [[link]]
 vl = 18
 skew_max_us = 0
