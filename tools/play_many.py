@@ -182,7 +182,7 @@ def words_of(arguments):
     engine.add_argument("--scheduler", metavar="ADDRESS",
                         help="take the workers of this scheduler, such as tcp://host:8786")
     parser.add_argument("--program", default=PROGRAM, metavar="FILE",
-                        help="the player (default: the one that `rt run` left)")
+                        help="the player (default: the one that ./afdx_play builds)")
     parser.add_argument("--scratch", metavar="FOLDER",
                         help="make the temporary folder in this one (default: TMPDIR)")
     parser.add_argument("--range", type=one_or_more, default=RANGE, metavar="OCTETS",
@@ -446,7 +446,8 @@ def run_alone(words, out, told):
     try:
         status = subprocess.run(words, stdout=out, stderr=told, close_fds=False).returncode
     except OSError as error:
-        raise Failed(3, f"play_many.py: the program can't be run: {error}") from None
+        line = f"play_many.py: the program can't be run: {error}: ./afdx_play --help builds it, proved"
+        raise Failed(3, line) from None
     return status if status >= 0 else 128 - status
 
 

@@ -7,8 +7,8 @@ from drawing.picture import (
     CLASSES, Row, Times, age_picture, class_of, delay_picture, filtered_rows, mark, path, picture, queue_picture,
     rows_picture, strip,
 )
-from drawing.read import FILTER_CAUSES, FIRST_FORWARDED, KINDS, NETWORKS, OUT_OF_SEQUENCE, REDUNDANT
 from drawing.style import PATTERNS, SCRIPT, STYLE
+from verdict_words import FILTER_CAUSES, FIRST_FORWARDED, KINDS, NETWORKS, OUT_OF_SEQUENCE, REDUNDANT
 
 # Sections that are open at first; points and stretches of all pictures of ports together.
 OPEN_LINKS, POINTS_OF_PORTS, STRETCHES_OF_PORTS = 3, 80_000, 4_000

@@ -1,4 +1,4 @@
-//! What `afdx_play` is, for the gate to run to a fault: a program has one stored run.
+//! `afdx_play` once more: the gate runs it to a fault. Each stored run needs a crate of its own.
 #![tactic(auto)]
 
 use program::{Ended, run_on};

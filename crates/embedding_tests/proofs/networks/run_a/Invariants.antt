@@ -1,6 +1,0 @@
-use Rattle.std.proofs.Common.{◌≡◌}
-use Rattle.end_system.specs.System.{IsPassOf}
-use Rattle.embedding_tests.proofs.networks.run_a.Given as goal
-
-abbrev pub invariant-loop-place : goal.invariant-loop-place
-invariant-loop-place g l = IsPassOf l.system l.pass × (l.pass.net ≡ l.fn.pass.net)

@@ -1,0 +1,174 @@
+//! Calls that take no memory. Before the first of them a growth of `MARK` octets is asked for: whoever refuses growths
+//! refuses each that comes after it.
+ghost use Rattle.std.specs.Prelude.{◌≡◌, ◌≤◌};
+ghost use Rattle.sampling_port.specs.Ends.{new_readers};
+
+use crate::cases::{Case, joined};
+use crate::refusal::OWN;
+use end_system::{NoGate, Reply};
+use es_base::Net::A;
+use es_base::{FilterCause, Message, Octets};
+use frame_reader::{Packet, read_frame, read_packet};
+use ip_reassembly::{Offered, Reassembly};
+use queuing_port::{Putter, Taker, open_queue};
+use sampling_port::{MOST_TRIES, Read, Reader, Writer, meet, open_port};
+use slot_core::READERS;
+use std::alloc::Global;
+use std::process::Abort;
+use std::sync::Wait;
+use test_inputs::CONSTANT;
+use test_inputs_systems::Running;
+
+/// How many octets the growth has that others follow which are refused.
+const MARK: usize = 1_000_003;
+
+/// From here on each growth is refused.
+fn mark(rt: &impl Abort, alloc: Global) {
+    let octets = Vec::<u8>::with_capacity(alloc, MARK).expect(rt, OWN);
+    assert!(rt; octets.is_empty());
+}
+
+// ---- a sampling port
+
+fn check_read(rt: &impl Abort, reader: &mut Reader<READERS>, number: u64) {
+    let mut out = [0; 1471];
+    let (time, len) = (1000, 3);
+    let wanted = Read::Message { number, time, len };
+    assert_eq!(rt; reader.read(MOST_TRIES, &mut out), wanted);
+    assert!(rt; out[..3] == [7, 8, 9]);
+}
+
+/// The reader holds the newest message, and gives it back.
+fn check_held(rt: &impl Abort, reader: Reader<READERS>, number: u64) {
+    match reader.hold(MOST_TRIES) {
+        Ok(mut held) => {
+            assert!(rt; held.number() == number && held.time() == 1000 && held.len() == 3);
+            let mut reader = held.release();
+            check_read(rt, &mut reader, number);
+        }
+        Err(_) => panic!(rt; "a message"),
+    }
+}
+
+/// The first two readers of a port.
+fn first_two(readers: [Reader<READERS>; READERS]) -> (Reader<READERS>, Reader<READERS>) {
+    let [first, second, c, d, e, f, g, h] = readers;
+    drop((c, d, e, f, g, h));
+    (first, second)
+}
+
+/// The ends of a sampling port.
+type Ends<const COUNT: usize> = (Writer<COUNT>, [Reader<COUNT>; COUNT]);
+
+fn open<const COUNT: usize>(rt: &impl Abort, alloc: Global) -> Ends<COUNT>
+    requires { COUNT ≤ 14 }
+    ensures { result.1 ≡ new_readers result.0.port COUNT }
+{
+    open_port::<COUNT>(alloc).expect(rt, OWN)
+}
+
+fn check_port(rt: &impl Abort, alloc: Global) {
+    let (mut writer, mut readers) = open::<READERS>(rt, alloc);
+    mark(rt, alloc);
+    meet(&mut writer, &mut readers[0]);
+    for number in 1..=20 {
+        assert_eq!(rt; writer.publish(1000, &[7, 8, 9]), Ok(number));
+    }
+    let (mut first, second) = first_two(readers);
+    check_read(rt, &mut first, 20);
+    check_held(rt, second, 20);
+}
+
+#[test]
+fn a_sampling_port_is_used(rt: HostRuntime) {
+    check_port(&rt, rt.alloc());
+}
+
+// ---- a queue
+
+/// A message of one octet, which is the time at which it came.
+fn message_of(rt: &impl Abort, alloc: Global, time: u8) -> Message {
+    Message {
+        time: u64::from(time),
+        octets: Octets::copy_of(alloc, &[time]).expect(rt, OWN),
+    }
+}
+
+fn check_put(rt: &(impl Abort + Wait), putter: &mut Putter, message: Message, has_room: bool) {
+    assert!(rt; putter.put(rt, message).is_ok() == has_room);
+}
+
+fn check_taken(rt: &(impl Abort + Wait), taker: &mut Taker, time: u8) {
+    let message = taker.take(rt).expect(rt, "a message");
+    assert!(rt; message.time == u64::from(time) && message.octets.as_slice() == [time].as_slice());
+}
+
+fn check_queue(rt: &(impl Abort + Wait), alloc: Global) {
+    let (mut putter, mut taker) = open_queue(alloc, 2).ok().expect(rt, OWN);
+    let first = message_of(rt, alloc, 1);
+    let second = message_of(rt, alloc, 2);
+    let third = message_of(rt, alloc, 3);
+    mark(rt, alloc);
+    check_put(rt, &mut putter, first, true);
+    check_put(rt, &mut putter, second, true);
+    check_put(rt, &mut putter, third, false);
+    check_taken(rt, &mut taker, 1);
+    check_taken(rt, &mut taker, 2);
+    assert!(rt; taker.take(rt).is_none());
+}
+
+#[test]
+fn a_queue_is_used(rt: HostRuntime) {
+    check_queue(&rt, rt.alloc());
+}
+
+// ---- reassembly
+
+fn packet_of<'a>(rt: &impl Abort, octets: &'a [u8]) -> Packet<'a> {
+    let frame = read_frame(CONSTANT, octets).expect(rt, "a frame");
+    read_packet(&frame).expect(rt, "a packet")
+}
+
+/// Whether a datagram is whole.
+fn is_whole(offered: &Offered<'_>) -> bool {
+    matches!(offered, Offered::Whole { .. })
+}
+
+fn check_reassembly(rt: &impl Abort, alloc: Global, case: &Case) {
+    let mut reassembly = Reassembly::new(alloc, 50_000).expect(rt, OWN);
+    mark(rt, alloc);
+    let last = case.rows.len().wrapping_sub(1);
+    for (place, row) in case.rows.iter().enumerate() {
+        let packet = packet_of(rt, &row.octets);
+        let offered = reassembly.offer(&packet, row.time);
+        assert!(rt; is_whole(&offered) == (place == last));
+    }
+}
+
+#[test]
+fn packets_are_joined(rt: HostRuntime) {
+    check_reassembly(&rt, rt.alloc(), &joined(&rt, rt.alloc()));
+}
+
+// ---- a system
+
+/// A frame that is too short is filtered, and then the system settles.
+fn check_system(rt: &(impl Abort + Wait), alloc: Global, case: &Case) {
+    let mut running = Running::open(alloc, &case.config, NoGate).expect(rt, OWN);
+    for row in &case.rows {
+        let received = running.receive(rt, alloc, A, row.time, &row.octets);
+        assert!(rt; received.expect(rt, OWN) != Reply::Filtered(FilterCause::TooShort));
+    }
+    mark(rt, alloc);
+    let reply = running.receive(rt, alloc, A, 2000, &[0; 59]);
+    assert!(rt; reply.expect(rt, "a reply") == Reply::Filtered(FilterCause::TooShort));
+    assert!(rt; running.pass(A).filtered(FilterCause::TooShort) == 1);
+    for link in &running.settle().links {
+        assert!(rt; link.history().len() == case.rows.len());
+    }
+}
+
+#[test]
+fn a_filtered_frame_is_received_and_a_system_settles(rt: HostRuntime) {
+    check_system(&rt, rt.alloc(), &joined(&rt, rt.alloc()));
+}
