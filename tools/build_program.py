@@ -73,9 +73,9 @@ def lay_crates(folder, names):
     """Lays copies of these crates and of all that they stand on, as a repository of its own."""
     wanted, lines = with_those_below(names), lines_of_crates()
     (folder / "crates").mkdir(parents=True, exist_ok=True)
-    for crate in (folder / "crates").iterdir():
-        if crate.name not in wanted:
-            shutil.rmtree(crate)
+    for part in (folder / "crates").glob("*/*"):
+        if part.parent.name not in wanted and part.name != "out":
+            shutil.rmtree(part)
     for name in wanted:
         for part in ("src", "specs", "proofs"):
             if (ROOT / "crates" / name / part).exists():

@@ -1,0 +1,1 @@
+"""What `run` and the scripts share, and what they import."""
