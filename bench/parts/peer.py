@@ -8,17 +8,15 @@ from parts.programs import BENCH
 
 PEER = os.path.join(BENCH, "peer")
 PROFILES = ["sampling", "queuing", "fragments", "mixed"]
-PLAYER = ["afdx_peer", "report", "receiver", "settings", "toml", "traces", "output", "command_line", "base"]
 
 
 def compiled(folder, name, *words):
     """Compiles a program into a folder, and returns its path."""
     program = os.path.join(folder, name)
-    files = [os.path.join(PEER, f"{each}.c") for each in (PLAYER if name == "afdx_peer" else [name])]
     compiler = os.environ.get("CC", "cc")
     if not shutil.which(compiler):
         sys.exit(f"bench: there is no C compiler {compiler}: set CC")
-    subprocess.run([compiler, "-std=c11", "-O2", *words, "-o", program, *files], check=True)
+    subprocess.run([os.path.join(PEER, "build"), name, program, *words], check=True)
     return program
 
 

@@ -9,8 +9,7 @@
  * --no-huge-pages doesn't advise the system to take huge pages. The configuration is read by toml.c, which leaves a few
  * things out.
  *
- * C11 with POSIX's open, read and write: cc -std=c11 -O2 -o afdx_peer afdx_peer.c report.c receiver.c settings.c toml.c
- * traces.c output.c command_line.c base.c
+ * C11 with POSIX's open, read and write; `build` beside it compiles it.
  */
 #define _DEFAULT_SOURCE
 #include "command_line.h"

@@ -35,6 +35,7 @@ class Link:
         self.place, self.number = place, 100 + place
         self.skew = r.choice([0, 100, 1000, 1000000])
         self.redundancy = r.random() < 0.85
+        self.window = r.choice([None, None, 1, 2, 3, 4])
         self.limit = r.choice([0, 500, 5000, 10000000])
         self.ports = [Port(r, place, i) for i in range(r.randint(0, 5))]
         self.sequence, self.ident = r.choice([0, 1, 250]), r.randrange(65536)
@@ -43,6 +44,8 @@ class Link:
         lines = ["[[link]]", f"vl = {self.number}", f"skew_max_us = {self.skew}", f"reassembly_us = {self.limit}"]
         if not self.redundancy:
             lines.append("redundancy = false")
+        if self.window is not None:
+            lines.append(f"window = {self.window}")
         for port in self.ports:
             lines += port.text(self.place)
         return lines
