@@ -66,6 +66,10 @@ def receiver(program, frames, profiles):
     return status
 
 
+def one_task(program):
+    return start(program)
+
+
 def epochs(program, links):
     return start(program, f"{links}\n")
 
@@ -127,6 +131,7 @@ WAYS = {
     "port": (ask_nothing, port),
     "link_reads": (ask_nothing, link_reads),
     "receiver": (ask_traces, receiver),
+    "one_task": (ask_nothing, one_task),
     "epochs": (functools.partial(ask_number, otherwise=10_000), epochs),
     "system": (functools.partial(ask_number, otherwise=1_000), system),
     "stress": (functools.partial(ask_number, otherwise=60), stress),

@@ -10,35 +10,33 @@ use Rattle.es_base.specs.Config.{Configuration}
 use Rattle.es_base.specs.Addressing.{addressed_link}
 use Rattle.es_base.specs.FilterTally.{HasFiltered, cause_kind}
 use Rattle.es_base.specs.Limits.{filter_causes, verdict_kinds}
-use Rattle.es_base.specs.Past.{Origin}
-use Rattle.es_base.specs.Tally.{AddsOne, Counts, HasCounts, IsKind, count_of, is_counted, one_more}
+use Rattle.es_base.specs.Tally.{AddsOne, Counts, HasCounts, count_of, is_counted, one_more}
 use Rattle.es_base.specs.Verdict.{kind_of}
 
 -- ---- events
 
 -- no count is greater than the number of events, with what was counted before them
-pub count_at_most : (o : Origin) (past : List Event) (net : Net) (kind : ℕ) → count_of o past net kind ≤ o.base.counts net kind + length past
-count_at_most o [] net kind = omega arith
-count_at_most o (e ∷ past) net kind =
-    let fewer = count_at_most o past net kind in
+pub count_at_most : (past : List Event) (net : Net) (kind : ℕ) → count_of past net kind ≤ length past
+count_at_most [] net kind = omega arith
+count_at_most (e ∷ past) net kind =
+    let fewer = count_at_most past net kind in
     ⊎_elim
     (λ (is : is_counted net kind e ≡ true). rw is (omega (arith, fewer)))
     (λ (is : is_counted net kind e ≡ false). rw is (omega (arith, fewer)))
     (cases_Bool (is_counted net kind e))
 
 -- so none stops
-none_stops : (o : Origin) (past : List Event) (net : Net) (kind : ℕ) → o.base.counts net kind ≤ o.base.taken → o.base.taken + length past < 2 ^ 64 - 1
-    → one_more (count_of o past net kind) ≡ count_of o past net kind + 1
-none_stops o past net kind before short =
-    let fewer = count_at_most o past net kind in
-    min-eq_left (omega (arith, fewer, before, short))
+none_stops : (past : List Event) (net : Net) (kind : ℕ) → length past < 2 ^ 64 - 1
+    → one_more (count_of past net kind) ≡ count_of past net kind + 1
+none_stops past net kind short =
+    let fewer = count_at_most past net kind in
+    min-eq_left (omega (arith, fewer, short))
 
 -- a tally that has one more of an event's kind counts the event
-pub one_event_more : (old new : Counts) (o : Origin) (past : List Event) (e : Event) → HasCounts old o past
-    → ((net : Net) (kind : ℕ) → IsKind verdict_kinds kind → o.base.counts net kind ≤ o.base.taken) → o.base.taken + length past < 2 ^ 64 - 1
-    → AddsOne verdict_kinds old new e.net (kind_of e.verdict) → HasCounts new o (e ∷ past)
-one_event_more old new o past e has before short adds net kind is =
-    rw (adds net kind is, has net kind is, none_stops o past net kind (before net kind is) short) refl
+pub one_event_more : (old new : Counts) (past : List Event) (e : Event) → HasCounts old past → length past < 2 ^ 64 - 1
+    → AddsOne verdict_kinds old new e.net (kind_of e.verdict) → HasCounts new (e ∷ past)
+one_event_more old new past e has short adds net kind is =
+    rw (adds net kind is, has net kind is, none_stops past net kind short) refl
 
 -- ---- filtered frames
 

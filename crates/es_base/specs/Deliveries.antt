@@ -1,5 +1,5 @@
 -- The messages that a link's events delivered to its ports (ARINC 664 Part 7, port services).
-use Rattle.std.specs.Prelude.{ℕ, ◌+◌, ◌-◌, ◌==◌, Bool, ◌&&◌, List, [], ◌∷◌, ◌++◌, length, slice_get, nat_lt, Option, if◌then◌else◌}
+use Rattle.std.specs.Prelude.{ℕ, ◌-◌, ◌==◌, Bool, ◌&&◌, List, [], ◌∷◌, ◌++◌, length, slice_get, nat_lt, Option, if◌then◌else◌}
 use Rattle.std.specs.Option.{option_map}
 use Rattle.es_base.specs.declared.place.PortNo.{PortNo}
 use Rattle.es_base.specs.declared.port.PortKind.{PortKind}
@@ -8,8 +8,9 @@ use Rattle.es_base.specs.declared.event.Event.{Event}
 use Rattle.es_base.specs.declared.event.Message.{Message}
 use Rattle.es_base.specs.declared.event.Sample.{Sample}
 use Rattle.es_base.specs.Limits.{most_samples}
-use Rattle.es_base.specs.Past.{Origin, arrival_of}
+use Rattle.es_base.specs.Past.{arrival_of}
 use Rattle.es_base.specs.Outcome.{Outcome, out_of_sequence, redundant, refused, brings, outcome}
+use Rattle.es_base.specs.Settings.{Settings}
 
 abbrev pub is_same_port : PortNo → PortNo → Bool
 is_same_port a b = a.0 == b.0
@@ -31,15 +32,15 @@ delivered out_of_sequence room time port before = []
 delivered redundant room time port before = []
 delivered (refused verdict) room time port before = []
 
--- the messages that a past delivered to a port, in order, without those before it
-abbrev pub deliveries : Origin → List Event → PortNo → List Message
-deliveries o [] port = []
-deliveries o (e ∷ past) port =
-    deliveries o past port ++ delivered (outcome o past (arrival_of e)) e.room e.time port (o.base.delivered port + length (deliveries o past port))
+-- the messages that a past delivered to a port, in order
+abbrev pub deliveries : Settings → List Event → PortNo → List Message
+deliveries settings [] port = []
+deliveries settings (e ∷ past) port =
+    deliveries settings past port ++ delivered (outcome settings past (arrival_of e)) e.room e.time port (length (deliveries settings past port))
 
--- how many messages were delivered to a port, before the past and in it
-abbrev pub number_delivered : Origin → List Event → PortNo → ℕ
-number_delivered o past port = o.base.delivered port + length (deliveries o past port)
+-- how many messages were delivered to a port
+abbrev pub number_delivered : Settings → List Event → PortNo → ℕ
+number_delivered settings past port = length (deliveries settings past port)
 
 -- the newest of a port's messages, and its message number
 abbrev pub newest_of : List Message → Option (ℕ × Message)

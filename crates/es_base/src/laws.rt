@@ -1,15 +1,13 @@
 //! What holds of every past.
-ghost use Rattle.std.specs.Prelude.{◌≡◌, ◌<◌, ◌≤◌, ◌+◌, ◌-◌, ◌^◌, ◌∷◌, ◌++◌, ℕ, List, Err, Ok, length};
-ghost use Rattle.es_base.specs.declared.place.Net.{Net};
+ghost use Rattle.std.specs.Prelude.{◌≡◌, ◌<◌, ◌-◌, ◌^◌, ◌∷◌, ◌++◌, Bool, List, Err, Ok, drop, length};
+ghost use Rattle.es_base.specs.declared.place.PortNo.{PortNo};
 ghost use Rattle.es_base.specs.declared.fault.FilterCause.{FilterCause};
 ghost use Rattle.es_base.specs.declared.event.Arrival.{Arrival};
 ghost use Rattle.es_base.specs.declared.event.Event.{Event};
 ghost use Rattle.es_base.specs.Settings.{Settings};
-ghost use Rattle.es_base.specs.declared.place.PortNo.{PortNo};
-ghost use Rattle.es_base.specs.Past.{Origin};
-ghost use Rattle.es_base.specs.Deliveries.{deliveries};
-ghost use Rattle.es_base.specs.Run.{IsRun};
-ghost use Rattle.es_base.specs.Base.{origin_after};
+ghost use Rattle.es_base.specs.Run.{IsRun, verdict_of};
+ghost use Rattle.es_base.specs.Left.{left_by};
+ghost use Rattle.es_base.specs.Deliveries.{deliveries, number_delivered};
 ghost use Rattle.es_base.specs.Config.{Configuration};
 ghost use Rattle.es_base.specs.Addressing.{addressed_link};
 ghost use Rattle.es_base.specs.FilterTally.{HasFiltered, cause_kind};
@@ -18,11 +16,10 @@ ghost use Rattle.es_base.specs.Tally.{AddsOne, Counts, HasCounts, IsKind};
 ghost use Rattle.es_base.specs.Verdict.{kind_of};
 
 /// A tally that has one more of an event's kind counts the event. No count has stopped, as long as the
-/// number of all events, those before the past among them, fits in 64 bits.
+/// number of all events fits in 64 bits.
 pub fn an_event_is_counted_once()
-    ensures { (old new : Counts) (o : Origin) (past : List Event) (e : Event) → HasCounts old o past
-        → ((net : Net) (kind : ℕ) → IsKind verdict_kinds kind → o.base.counts net kind ≤ o.base.taken) → o.base.taken + length past < 2 ^ 64 - 1
-        → AddsOne verdict_kinds old new e.net (kind_of e.verdict) → HasCounts new o (e ∷ past) }
+    ensures { (old new : Counts) (past : List Event) (e : Event) → HasCounts old past → length past < 2 ^ 64 - 1
+        → AddsOne verdict_kinds old new e.net (kind_of e.verdict) → HasCounts new (e ∷ past) }
 {}
 
 /// A tally of filtered frames that has one more of a frame's cause is that of these frames with it.
@@ -37,23 +34,38 @@ pub fn a_frame_of_a_link_is_not_filtered()
         → addressed_link c a.frame ≡ Ok link → HasFiltered counts c (a ∷ earlier) }
 {}
 
-/// If a run follows on a run, the two joined are a run.
-pub fn runs_join()
-    ensures { (o : Origin) (earlier later : List Event) → IsRun o earlier → IsRun (origin_after o earlier) later → IsRun o (later ++ earlier) }
+/// The rules read no more of a past than what it left: if two pasts left the same, so do they with the same events
+/// after them.
+pub fn what_is_left_goes_on()
+    ensures { (settings : Settings) (one two later : List Event) → left_by settings one ≡ left_by settings two →
+        left_by settings (later ++ one) ≡ left_by settings (later ++ two) }
 {}
 
-/// If two pasts joined are a run, the earlier is one, and the later is one from what the earlier leaves.
-pub fn runs_part()
-    ensures { (o : Origin) (earlier later : List Event) → IsRun o (later ++ earlier) → IsRun o earlier × IsRun (origin_after o earlier) later }
+/// And each frame comes to the same.
+pub fn verdicts_need_what_is_left()
+    ensures { (settings : Settings) (one two : List Event) → left_by settings one ≡ left_by settings two →
+        (a : Arrival) (room : Bool) → verdict_of settings one a room ≡ verdict_of settings two a room }
 {}
 
-/// What the later of two pasts leaves is what the two joined leave.
-pub fn bases_join()
-    ensures { (o : Origin) (earlier later : List Event) → origin_after (origin_after o earlier) later ≡ origin_after o (later ++ earlier) }
+/// So events that are a run after one of them are a run after the other.
+pub fn runs_alike()
+    ensures { (settings : Settings) (one two later : List Event) → left_by settings one ≡ left_by settings two → IsRun settings two →
+        IsRun settings (later ++ one) → IsRun settings (later ++ two) }
 {}
 
-/// What two pasts deliver to a port, one after the other, is what the two joined deliver.
-pub fn deliveries_join()
-    ensures { (o : Origin) (earlier later : List Event) (port : PortNo) →
-        deliveries o (later ++ earlier) port ≡ deliveries o earlier port ++ deliveries (origin_after o earlier) later port }
+/// The part of a run before its latest events is a run.
+pub fn a_run_begins_with_a_run()
+    ensures { (settings : Settings) (earlier later : List Event) → IsRun settings (later ++ earlier) → IsRun settings earlier }
+{}
+
+/// What was delivered to a port stays: later events only add messages after it.
+pub fn deliveries_go_on()
+    ensures { (settings : Settings) (earlier later : List Event) (port : PortNo) →
+        deliveries settings (later ++ earlier) port ≡ deliveries settings earlier port ++ drop (number_delivered settings earlier port) (deliveries settings (later ++ earlier) port) }
+{}
+
+/// What later events add to a port's messages follows from what was left before them.
+pub fn deliveries_alike()
+    ensures { (settings : Settings) (one two later : List Event) (port : PortNo) → left_by settings one ≡ left_by settings two →
+        drop (number_delivered settings one port) (deliveries settings (later ++ one) port) ≡ drop (number_delivered settings two port) (deliveries settings (later ++ two) port) }
 {}

@@ -1,5 +1,5 @@
 -- A history from its beginning, and its past.
-use Rattle.std.proofs.Common.{◌≡◌, ◌∙◌, ap, sym, ℕ, zero, suc, ◌<◌, List, [], ◌∷◌, ◌++◌, length, reverse, take, drop, Option, None, Some, refl, arith}
+use Rattle.std.proofs.Common.{◌≡◌, ◌∙◌, ap, sym, ℕ, zero, suc, ◌<◌, List, [], ◌∷◌, ◌++◌, length, reverse, take, drop, Option, None, Some, refl, arith, append_assoc}
 use Rattle.std.specs.List.{All, slice_get}
 use Rattle.std.proofs.lemmas.List.Elements.{All-cons, All-head, All-push, All-tail}
 use Rattle.std.proofs.lemmas.List.{reverse-append, take-append-drop}
@@ -7,9 +7,9 @@ use Rattle.std.proofs.lemmas.Option.{same_Some}
 use Rattle.es_base.specs.declared.event.Event.{Event}
 use Rattle.es_base.specs.Frame.{IsFrame}
 use Rattle.es_base.specs.Settings.{Settings}
-use Rattle.es_base.specs.Past.{AreFramesOf, Origin}
+use Rattle.es_base.specs.Past.{AreFramesOf}
 use Rattle.es_base.specs.Run.{IsRun}
-use Rattle.link_deliveries.specs.Message.{IsLawfulAfter}
+use Rattle.link_core.specs.Told.{IsLawfulAfter}
 
 take_more : {X : Type 0} (xs : List X) (i : ℕ) (x : X) → slice_get xs i ≡ Some x → take (suc i) xs ≡ take i xs ++ x ∷ []
 take_more [] i x there = cc
@@ -24,7 +24,7 @@ past_more history i e there = ap reverse (take_more history i e there) ∙ rever
 pub past_parts : (history : List Event) (n : ℕ) → reverse history ≡ reverse (drop n history) ++ reverse (take n history)
 past_parts history n = ap reverse (sym (take-append-drop n history)) ∙ reverse-append (take n history) (drop n history)
 
-earlier_run : (o : Origin) (later past : List Event) → IsRun o (later ++ past) → IsRun o past
+earlier_run : (o : Settings) (later past : List Event) → IsRun o (later ++ past) → IsRun o past
 earlier_run o [] past run = run
 earlier_run o (e ∷ later) past run = earlier_run o later past run.2
 
@@ -32,14 +32,18 @@ earlier_frames : (settings : Settings) (later past : List Event) → AreFramesOf
 earlier_frames settings [] past frames = frames
 earlier_frames settings (e ∷ later) past frames = earlier_frames settings later past frames.2
 
-pub run_before : (o : Origin) (history : List Event) (n : ℕ) → IsRun o (reverse history) → IsRun o (reverse (take n history))
-run_before o history n run = earlier_run o (reverse (drop n history)) (reverse (take n history)) (rw (past_parts history n) at run)
+-- and those before all of them
+pub parts_after : (history earlier : List Event) (n : ℕ) → reverse history ++ earlier ≡ reverse (drop n history) ++ (reverse (take n history) ++ earlier)
+parts_after history earlier n = ap (λ past. past ++ earlier) (past_parts history n) ∙ append_assoc (reverse (drop n history)) (reverse (take n history)) earlier
+
+pub run_before : (o : Settings) (history earlier : List Event) (n : ℕ) → IsRun o (reverse history ++ earlier) → IsRun o (reverse (take n history) ++ earlier)
+run_before o history earlier n run = earlier_run o (reverse (drop n history)) (reverse (take n history) ++ earlier) (rw (parts_after history earlier n) at run)
 
 pub frames_before : (settings : Settings) (history : List Event) (n : ℕ) → AreFramesOf settings (reverse history) → AreFramesOf settings (reverse (take n history))
 frames_before settings history n frames = earlier_frames settings (reverse (drop n history)) (reverse (take n history)) (rw (past_parts history n) at frames)
 
-pub lawful_at : (o : Origin) (history : List Event) (i : ℕ) (e : Event) → IsRun o (reverse history) → slice_get history i ≡ Some e → IsLawfulAfter o (reverse (take i history)) e
-lawful_at o history i e run there = (rw (past_more history i e there) at (run_before o history (suc i) run)).0
+pub lawful_at : (o : Settings) (history earlier : List Event) (i : ℕ) (e : Event) → IsRun o (reverse history ++ earlier) → slice_get history i ≡ Some e → IsLawfulAfter o (reverse (take i history) ++ earlier) e
+lawful_at o history earlier i e run there = (rw (past_more history i e there) at (run_before o history earlier (suc i) run)).0
 
 pub frame_at : (settings : Settings) (history : List Event) (i : ℕ) (e : Event) → AreFramesOf settings (reverse history) → slice_get history i ≡ Some e → IsFrame e.frame
 frame_at settings history i e frames there = (rw (past_more history i e there) at (frames_before settings history (suc i) frames)).0

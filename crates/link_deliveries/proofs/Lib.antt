@@ -1,4 +1,4 @@
-pub mod Brought
 pub mod Offers
 pub mod Verdicts
 pub mod History
+pub mod Since

@@ -1,12 +1,9 @@
 -- The message that comes of a packet.
 use Rattle.std.specs.Prelude.{◌≡◌, ℕ, Bool, true, false, List, Option, None, Some, Ok}
-use Rattle.es_base.specs.declared.event.Event.{Event}
 use Rattle.es_base.specs.declared.event.Message.{Message}
 use Rattle.es_base.specs.Packet.{PacketParts}
 use Rattle.es_base.specs.Udp.{UdpParts, udp_of}
 use Rattle.es_base.specs.Groups.{Group, whole, fate}
-use Rattle.es_base.specs.Past.{Origin, arrival_of}
-use Rattle.es_base.specs.Run.{verdict_of}
 
 -- where an event delivers a message, it is the payload of the UDP datagram that its packet has or
 -- completes; where it delivers none, there is none
@@ -16,7 +13,3 @@ IsMessageOf true limit groups packet time message =
     (parts : PacketParts) (octets : List ℕ) (joined : Bool) (udp : UdpParts)
     → packet ≡ Some parts → fate limit groups parts time ≡ whole octets joined → udp_of octets ≡ Ok udp
     → message ≡ Some (record { time = time; octets = udp.payload })
-
--- the event's verdict is what becomes of its frame after this past
-abbrev pub IsLawfulAfter : Origin → List Event → Event → Type 0
-IsLawfulAfter o past e = e.verdict ≡ verdict_of o past (arrival_of e) e.room

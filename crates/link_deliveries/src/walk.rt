@@ -3,21 +3,22 @@ ghost use Rattle.std.specs.Prelude.{◌≡◌, ◌<◌, ◌≤◌, ◌∷◌, �
 ghost use Rattle.std.specs.Option.{option_copied, option_to_list};
 ghost use Rattle.es_base.specs.declared.event.Event.{Event};
 ghost use Rattle.es_base.specs.Frame.{IsFrame};
-ghost use Rattle.es_base.specs.Past.{AreFramesOf, Base, Origin, arrival_of, origin_at};
+ghost use Rattle.es_base.specs.Past.{AreFramesOf, arrival_of};
 ghost use Rattle.es_base.specs.Reassembly.{groups_in};
 ghost use Rattle.es_base.specs.Outcome.{outcome};
-ghost use Rattle.es_base.specs.Deliveries.{delivered, deliveries, number_delivered};
+ghost use Rattle.es_base.specs.Deliveries.{delivered, number_delivered};
 ghost use Rattle.es_base.specs.Run.{IsRun};
 ghost use Rattle.ip_reassembly.specs.Kept.{StandsFor};
-ghost use Rattle.link_deliveries.specs.Message.{IsLawfulAfter};
-ghost use Rattle.link_deliveries.specs.Told.{AreDeliveredBefore, tells_delivered};
-ghost use Rattle.link_deliveries.specs.Before.{StoodBefore};
+ghost use Rattle.link_core.specs.Told.{IsLawfulAfter, tells_delivered};
+ghost use Rattle.link_deliveries.specs.Last.{AreDeliveredBefore};
+ghost use Rattle.link_deliveries.specs.Before.{AreSince, KeepsPieces};
+ghost use Rattle.es_base.specs.Settings.{Settings};
 
 use crate::offer::{offer, packet_of};
-use crate::told::tells_delivered;
 use block_list::BlockList;
 use es_base::{Event, LinkSettings, Memory, Message, PortNo};
 use ip_reassembly::Reassembly;
+use link_core::tells_delivered;
 use std::alloc::Global;
 
 /// The messages that a lawful history of a link delivered to a port, in order. `before` is the reassembly
@@ -31,32 +32,12 @@ pub fn deliveries(
     port: PortNo,
 ) -> Result<Vec<Message>, Memory>
     requires frames { AreFramesOf settings.now (reverse history.now.items) }
-    ensures { IfOk result (λ messages. (base : Base) →
-        StoodBefore (option_copied before.entry) settings.now base →
-        IsRun (origin_at settings.now base) (reverse history.now.items) →
-        messages.items ≡ deliveries (origin_at settings.now base) (reverse history.now.items) port) }
+    ensures { IfOk result (λ messages. (earlier : List Event) →
+        KeepsPieces (option_copied before.entry) settings.now earlier →
+        IsRun settings.now (reverse history.now.items ++ earlier) →
+        AreSince settings.now earlier (reverse history.now.items) port messages.items) }
 {
     let end = end_of(history, port);
-    deliveries_up_to(alloc, settings, before, history, end, port)
-}
-
-/// The messages that a lawful history of a link delivered to a port, in order, for a caller who knows that no
-/// event from this place on delivered one.
-pub fn deliveries_up_to(
-    alloc: Global,
-    settings: &LinkSettings,
-    before: Option<&Reassembly>,
-    history: &BlockList<Event>,
-    end: usize,
-    port: PortNo,
-) -> Result<Vec<Message>, Memory>
-    requires frames { AreFramesOf settings.now (reverse history.now.items) }
-    requires end { AreDeliveredBefore end port history.now.items }
-    ensures { IfOk result (λ messages. (base : Base) →
-        StoodBefore (option_copied before.entry) settings.now base →
-        IsRun (origin_at settings.now base) (reverse history.now.items) →
-        messages.items ≡ deliveries (origin_at settings.now base) (reverse history.now.items) port) }
-{
     if end == 0 {
         return Ok(Vec::new(alloc));
     }
@@ -96,10 +77,10 @@ fn deliveries_before(
 ) -> Result<Vec<Message>, Memory>
     requires frames { AreFramesOf settings.now (reverse history.now.items) }
     requires within { end ≤ length history.now.items }
-    ensures { IfOk result (λ messages. (base : Base) →
-        StoodBefore (option_copied before.entry) settings.now base →
-        IsRun (origin_at settings.now base) (reverse history.now.items) →
-        messages.items ≡ deliveries (origin_at settings.now base) (reverse (take end history.now.items)) port) }
+    ensures { IfOk result (λ messages. (earlier : List Event) →
+        KeepsPieces (option_copied before.entry) settings.now earlier →
+        IsRun settings.now (reverse history.now.items ++ earlier) →
+        AreSince settings.now earlier (reverse (take end history.now.items)) port messages.items) }
 {
     let mut reassembly = reassembly_from(alloc, settings, before)?;
     let mut messages = Vec::new(alloc);
@@ -118,9 +99,9 @@ fn reassembly_from(
     settings: &LinkSettings,
     before: Option<&Reassembly>,
 ) -> Result<Reassembly, Memory>
-    ensures { IfOk result (λ reassembly. (base : Base) →
-        StoodBefore (option_copied before.entry) settings.now base →
-        StandsFor reassembly settings.now.reassembly base.groups) }
+    ensures { IfOk result (λ reassembly. (earlier : List Event) →
+        KeepsPieces (option_copied before.entry) settings.now earlier →
+        StandsFor reassembly settings.now.reassembly (groups_in settings.now earlier)) }
 {
     match before {
         None => Reassembly::new(alloc, settings.reassembly()),
@@ -146,11 +127,11 @@ fn message_of(
     port: PortNo,
 ) -> Result<Option<Message>, Memory>
     requires { IsFrame event.now.frame }
-    ensures stands { (o : Origin) (past : List Event) → IsLawfulAfter o past event.now →
-        StandsFor reassembly.old o.settings.reassembly (groups_in o past) →
-        StandsFor reassembly.new o.settings.reassembly (groups_in o (event.now ∷ past)) }
-    ensures message { IfOk result (λ message. (o : Origin) (past : List Event) → IsLawfulAfter o past event.now →
-        StandsFor reassembly.old o.settings.reassembly (groups_in o past) →
+    ensures stands { (o : Settings) (past : List Event) → IsLawfulAfter o past event.now →
+        StandsFor reassembly.old o.reassembly (groups_in o past) →
+        StandsFor reassembly.new o.reassembly (groups_in o (event.now ∷ past)) }
+    ensures message { IfOk result (λ message. (o : Settings) (past : List Event) → IsLawfulAfter o past event.now →
+        StandsFor reassembly.old o.reassembly (groups_in o past) →
         option_to_list message ≡ delivered (outcome o past (arrival_of event.now)) event.now.room event.now.time port (number_delivered o past port)) }
 {
     let packet = packet_of(event);

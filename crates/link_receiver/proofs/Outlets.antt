@@ -1,27 +1,21 @@
 -- The outlets of a link's ports: before any message, and after one more.
 use Rattle.std.proofs.Common.{◌≡◌, ◌∙◌, ap, refl, ℕ, zero, suc, ◌+◌, ◌<◌, ◌≤◌, Bool, true, false, List, [], ◌∷◌, ◌++◌, length, map, Option, None, Some, IfSome, arith, length-append, append-nil, append_assoc}
 use Rattle.std.specs.List.{slice_get}
-use Rattle.std.specs.Vec.{vec_capacity}
 use Rattle.std.proofs.lemmas.List.{length-map, map-append}
 use Rattle.std.proofs.lemmas.List.Elements.{All-nil, All-push}
 use Rattle.std.proofs.lemmas.Bool.{ltb-true}
-use Rattle.es_base.specs.declared.place.PortNo.{PortNo}
 use Rattle.es_base.specs.declared.port.PortKind.{PortKind}
 use Rattle.es_base.specs.declared.port.PortKind.TheVariants.{Sampling, Queuing}
-use Rattle.es_base.specs.declared.verdict.Decision.TheVariants.{ByQueue}
 use Rattle.es_base.specs.declared.event.Message.{Message}
 use Rattle.es_base.specs.Deliveries.{takes_one_more}
-use Rattle.es_base.specs.Port.{Port}
-use Rattle.es_base.specs.Run.{decided_at}
+use Rattle.es_base.specs.Port.{Port, largest_payload}
 use Rattle.slot_core.specs.Octets.{AreOctets}
 use Rattle.queuing_port.specs.Queue.{Known, MayBeFull}
-use Rattle.link_receiver.specs.declared.change.Room.{Room}
 use Rattle.link_receiver.specs.declared.ends.PortEnd.{PortEnd}
 use Rattle.link_receiver.specs.declared.outlet.Outlet.{Outlet}
 use Rattle.link_receiver.specs.declared.outlet.Outlet.TheVariants as outlets
-use Rattle.link_receiver.specs.Change.{IsEnough}
 use Rattle.link_receiver.specs.Counted.{EndsIn}
-use Rattle.link_receiver.specs.Outlet.{Accepts, AreOpened, Delivers, Delivery, Fits, HasSpace, IsOfKind, IsOpened, IsOpenedAs, Shows, channel_of}
+use Rattle.link_receiver.specs.Outlet.{Accepts, AreOpened, Delivers, Delivery, Fits, HasSpace, IsEnough, IsOfKind, IsOpened, IsOpenedAs, Shows, channel_of}
 use Rattle.link_receiver.specs.Ends.{AreEndsOf, IsEndOf}
 use Rattle.link_receiver.specs.Link.{message_words}
 use Rattle.link_receiver.proofs.Places.{map-set_same, there}
@@ -131,29 +125,18 @@ channels_stay (Some delivery) room old new is within =
 
 -- ---- what one more message needs, and a full queue
 
-space_left : (kind : PortKind) (outlet : Outlet) (before : ℕ) (messages : List Message) (room : Room) → IsOfKind kind outlet → Shows (Some outlet) before messages
-    → takes_one_more kind true (before + length messages) ≡ true → IsEnough kind room.len (vec_capacity room.octets) → HasSpace outlet room
-space_left (Sampling refresh) (outlets.Sampling writer) before messages room of_kind shows takes enough =
+pub space_left : (kind : PortKind) (outlet : Outlet) (before : ℕ) (messages : List Message) (len room : ℕ) → IsOfKind kind outlet → Shows (Some outlet) before messages
+    → takes_one_more kind true (before + length messages) ≡ true → len ≤ largest_payload kind → IsEnough kind len room → HasSpace outlet len room
+space_left (Sampling refresh) (outlets.Sampling writer) before messages len room of_kind shows takes short enough =
     let words = map message_words messages in
     let ends = shows.0 in
     let many : length writer.published ≡ before + length messages =
     omega (arith, ends.1, ap length ends.2, length-append ends.0 words, length-map messages message_words) in
-    (omega (arith, many, ltb-true (before + length messages) _ takes), enough)
-space_left (Queuing depth) (outlets.Queuing queue) before messages room of_kind shows takes enough = enough
-space_left (Sampling refresh) (outlets.Queuing queue) before messages room of_kind shows takes enough = absurd of_kind
-space_left (Queuing depth) (outlets.Sampling writer) before messages room of_kind shows takes enough = absurd of_kind
-
-pub has_space_left : (port : Port) (found : Option Port) (outlet : Outlet) (before : ℕ) (messages : List Message) (room : Room) → found ≡ Some port → Fits found (Some outlet) → Shows (Some outlet) before messages
-    → takes_one_more port.kind true (before + length messages) ≡ true → IsEnough port.kind room.len (vec_capacity room.octets) → HasSpace outlet room
-has_space_left port found outlet before messages room is fits shows takes enough = space_left port.kind outlet before messages room (rw is at fits) shows takes enough
+    (omega (arith, many, ltb-true (before + length messages) _ takes), short)
+space_left (Queuing depth) (outlets.Queuing queue) before messages len room of_kind shows takes short enough = enough
+space_left (Sampling refresh) (outlets.Queuing queue) before messages len room of_kind shows takes short enough = absurd of_kind
+space_left (Queuing depth) (outlets.Sampling writer) before messages len room of_kind shows takes short enough = absurd of_kind
 
 -- as many messages were put as a full queue holds
 pub full_after : (queue : Known) → MayBeFull queue → queue.depth ≤ length queue.put
 full_after queue full = omega (arith, full.1, ap length full.2.1, length-append full.2.0 full.0)
-
--- ---- what becomes of a message at a queue
-
--- its queue is asked
-pub queue_is_asked : (kind : PortKind) (port : PortNo) (before : ℕ) (queue : Known) → IsOfKind kind (outlets.Queuing queue) → ByQueue port ≡ decided_at kind port before
-queue_is_asked (Queuing depth) port before queue of_kind = refl
-queue_is_asked (Sampling refresh) port before queue of_kind = absurd of_kind

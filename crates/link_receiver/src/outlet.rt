@@ -1,18 +1,49 @@
 //! Where the messages of a port go.
-ghost use Rattle.std.specs.Prelude.{◌≡◌, ◌<◌, ◌≤◌, Some, IfOk, length};
+ghost use Rattle.std.specs.Prelude.{◌≡◌, ◌<◌, ◌≤◌, Some, IfOk, [], length};
+ghost use Rattle.std.specs.Vec.{vec_capacity};
 ghost use Rattle.es_base.specs.Limits.{most_ports};
 ghost use Rattle.slot_core.specs.State.{StartsWith};
 ghost use Rattle.link_receiver.specs.Link.{queues, samples};
-ghost use Rattle.link_receiver.specs.Outlet.{Accepts, AreOpened, HasSpace, IsOpened, IsTold, Meets, channel_of};
+ghost use Rattle.link_receiver.specs.Outlet.{Accepts, AreOpened, Delivers, HasSpace, HasSpaceAt, IsOpened, IsTold, Meets, channel_of, delivery_of};
 
-use crate::change::Room;
 use crate::ends::PortEnd;
-use es_base::{Memory, PortKind, PortNo, PortSettings};
+use es_base::{Memory, Message, Octets, PortKind, PortNo, PortSettings};
+use link_core::Lent;
 use queuing_port::{Putter, Taker, open_queue};
 use sampling_port::{Reader, Writer, open_port};
 use slot_core::READERS;
 use std::alloc::Global;
 use std::sync::Wait;
+
+/// The message of this payload and this time, in microseconds.
+fn filled(room: Vec<u8>, payload: &[u8], time: u64) -> Message
+    requires long { length payload.now ≤ vec_capacity room }
+    requires empty { room.items ≡ [] }
+    ensures { result ≡ record { time = time; octets = payload.now } }
+{
+    let mut octets = room;
+    let _ = octets.extend_from_slice(payload);
+    let octets = Octets::from(octets);
+    Message { time, octets }
+}
+
+/// Gives a payload that came at `time` to its port, if there is one. Returns false if the port's queue was full.
+pub(crate) fn give<R: Wait>(
+    rt: &R,
+    outlets: &mut Vec<Outlet>,
+    payload: Option<Lent<'_>>,
+    time: u64,
+    room: Vec<u8>,
+) -> bool
+    requires space { HasSpaceAt outlets.old.items payload (vec_capacity room) }
+    requires empty { room.items ≡ [] }
+    ensures { Delivers outlets.old.items outlets.new.items (delivery_of time payload.entry) result }
+{
+    let Some(payload) = payload else {
+        return true;
+    };
+    outlets[payload.port.0 as usize].accept(rt, payload.octets, time, room)
+}
 
 /// Where the messages of a port go.
 #[derive(Drop)]
@@ -73,16 +104,22 @@ fn open_outlet(
 }
 
 impl Outlet {
-    /// Takes one message more: this payload, which came at `time` microseconds. Returns false if the queue was
-    /// full; then the message is lost.
-    pub(crate) fn accept<R: Wait>(&mut self, rt: &R, room: Room, payload: &[u8], time: u64) -> bool
-        requires space { HasSpace self.old room }
-        requires long { length payload.now ≡ room.len }
+    /// Takes one message more: this payload, which came at `time` microseconds; `room` is room for its octets, of
+    /// which a sampling port needs none. Returns false if the queue was full; then the message is lost.
+    pub(crate) fn accept<R: Wait>(
+        &mut self,
+        rt: &R,
+        payload: &[u8],
+        time: u64,
+        room: Vec<u8>,
+    ) -> bool
+        requires space { HasSpace self.old (length payload.now) (vec_capacity room) }
+        requires empty { room.items ≡ [] }
         ensures { Accepts self.old (record { time = time; octets = payload.now }) self.new result }
     {
         match self {
             Outlet::Sampling(writer) => writer.publish(time, payload).is_ok(),
-            Outlet::Queuing(putter) => putter.put(rt, room.filled(payload, time)).is_ok(),
+            Outlet::Queuing(putter) => putter.put(rt, filled(room, payload, time)).is_ok(),
         }
     }
 

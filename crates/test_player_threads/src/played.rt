@@ -62,22 +62,17 @@ pub(crate) fn threads_output<R: Abort + Threads + Wait + Sync>(
 }
 
 /// The output of one thread for these traces. It has no clause, as above.
-fn output_of<R: Wait>(
-    rt: &R,
-    alloc: Global,
-    config: &Config,
-    (a, b): (&str, &str),
-) -> Result<Vec<u8>, PlayFault> {
-    play_texts(rt, alloc, config, a.as_bytes(), b.as_bytes(), None)
+fn output_of(alloc: Global, config: &Config, (a, b): (&str, &str)) -> Result<Vec<u8>, PlayFault> {
+    play_texts(alloc, config, a.as_bytes(), b.as_bytes(), None)
 }
 
-pub(crate) fn output_of_one<R: Abort + Wait>(
+pub(crate) fn output_of_one<R: Abort>(
     rt: &R,
     alloc: Global,
     config: &Config,
     traces: (&str, &str),
 ) -> Vec<u8> {
-    output_of(rt, alloc, config, traces).expect(rt, "an output")
+    output_of(alloc, config, traces).expect(rt, "an output")
 }
 
 /// Adds the line of the smallest frame of this link, with this sequence number, that came at `time` microseconds.

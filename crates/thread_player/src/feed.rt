@@ -97,7 +97,7 @@ fn add_line(
                 time,
                 net,
                 vl,
-                place: place as usize,
+                place,
                 verdict: VerdictText { verdict, ports },
             };
             writeln!(lines, "{line}")

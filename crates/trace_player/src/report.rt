@@ -1,114 +1,125 @@
 //! The report of a run: what the ports show, and how many events and filtered frames there were.
-ghost use Rattle.std.specs.Prelude.{◌≡◌, ◌<◌, ◌++◌, List, OnOk, Some, length, slice_get, string_bytes};
+ghost use Rattle.std.specs.Prelude.{◌≡◌, ◌<◌, ◌++◌, ℕ, List, OnOk, Some, length, map, slice_get, string_bytes};
 ghost use Rattle.es_base.specs.declared.event.Arrival.{Arrival};
-ghost use Rattle.es_base.specs.Config.{Configuration};
-ghost use Rattle.es_base.specs.FilterTally.{HasFiltered};
-ghost use Rattle.es_base.specs.Past.{origin_of};
+ghost use Rattle.es_base.specs.declared.event.Event.{Event};
+ghost use Rattle.es_base.specs.declared.event.Message.{Message};
+ghost use Rattle.es_base.specs.Deliveries.{deliveries};
 ghost use Rattle.es_base.specs.Port.{Port};
+ghost use Rattle.es_base.specs.Settings.{Settings};
 ghost use Rattle.es_base.specs.Tally.{count_of};
-ghost use Rattle.link_receiver.specs.Whole.{deliveries_of, past_of};
-ghost use Rattle.output_lines.specs.Report.{count_lines, link_lines, port_lines};
-ghost use Rattle.trace_player.specs.Histories.{states_after};
+ghost use Rattle.link_core.specs.Counted.{port_no};
+ghost use Rattle.receiver.specs.Link.{IsPastOf};
+ghost use Rattle.kept_messages.specs.Outlet.{ShowsKept};
+ghost use Rattle.output_lines.specs.Line.{queue_text};
+ghost use Rattle.output_lines.specs.Report.{all_count_lines, all_link_lines, count_lines, line, link_lines, message_lines, port_lines};
 ghost use Rattle.trace_player.specs.Output.{report_after};
-ghost use Rattle.trace_player.specs.Report.{lines_of_counts, lines_of_ports};
+ghost use Rattle.trace_player.specs.Played.{HavePasts, IsAfter, IsShortPastOf, settings_of};
 
-use es_base::{FilterTally, Memory, PortKind, PortNo};
-use link_receiver::UnreadLink;
-use output_lines::{write_counts, write_filtered, write_newest, write_queue};
-use std::alloc::Global;
+use es_base::{Memory, PortKind, PortNo};
+use kept_messages::{First, KeptOutlet, first_at, newest_at};
+use output_lines::{MessageLine, QueueLine, write_counts, write_filtered, write_newest};
+use receiver::{OpenLink, Receiver};
 
 /// Adds the report at a time, in microseconds, to the text.
 pub(crate) fn write_report(
-    alloc: Global,
-    states: &mut [UnreadLink],
-    filtered: &FilterTally,
+    receiver: &Receiver<KeptOutlet>,
     at: u64,
     text: &mut String,
 ) -> Result<(), Memory>
-    ensures states { states.new ≡ states.old }
-    ensures text { OnOk result ((c : Configuration) (frames : List Arrival) → states.old ≡ states_after c frames → HasFiltered filtered.now c frames
-        → string_bytes text.new ≡ string_bytes text.old ++ report_after c frames at) }
+    ensures { OnOk result ((frames : List Arrival) → IsAfter frames receiver.now
+        → string_bytes text.new ≡ string_bytes text.old ++ report_after receiver.now.config frames at) }
 {
-    write_all_ports(alloc, states, at, text)?;
-    write_all_counts(states, text)?;
-    write_filtered(text, filtered)
+    write_all_ports(receiver.links(), at, text)?;
+    write_all_counts(receiver.links(), text)?;
+    write_filtered(text, receiver.filter_tally())
 }
 
 /// Adds the lines of all ports, link by link.
-fn write_all_ports(
-    alloc: Global,
-    states: &mut [UnreadLink],
-    at: u64,
-    text: &mut String,
-) -> Result<(), Memory>
-    ensures states { states.new ≡ states.old }
-    ensures text { OnOk result (string_bytes text.new ≡ string_bytes text.old ++ lines_of_ports at states.old) }
+fn write_all_ports(links: &[OpenLink<KeptOutlet>], at: u64, text: &mut String) -> Result<(), Memory>
+    ensures { OnOk result ((past_of : Settings → List Event) → HavePasts past_of links.now
+        → string_bytes text.new ≡ string_bytes text.old ++ all_link_lines at past_of (map settings_of links.now)) }
 {
-    'links: for place in 0..states.len() {
-        write_ports(alloc, &mut states[place], at, text)?;
+    'links: for link in links {
+        write_ports(link, at, text)?;
     }
     Ok(())
 }
 
 /// Adds the lines of a link's ports, in the order of its settings.
-fn write_ports(
-    alloc: Global,
-    state: &mut UnreadLink,
-    at: u64,
-    text: &mut String,
-) -> Result<(), Memory>
-    ensures state { state.new ≡ state.old }
-    ensures text { OnOk result (string_bytes text.new ≡ string_bytes text.old ++ link_lines at state.old.settings (past_of state.old)) }
+fn write_ports(link: &OpenLink<KeptOutlet>, at: u64, text: &mut String) -> Result<(), Memory>
+    ensures { OnOk result ((past : List Event) → IsPastOf ShowsKept link.now past
+        → string_bytes text.new ≡ string_bytes text.old ++ link_lines at link.now.core.settings past) }
 {
-    'ports: for place in 0..state.settings().ports().len() {
-        write_port(alloc, state, place, at, text)?;
+    'ports: for place in 0..link.settings().ports().len() {
+        write_port(link, place, at, text)?;
     }
     Ok(())
 }
 
-/// Adds the lines of the port at this place of a link: its newest message, as a reader reads it, or all that
-/// were delivered to it, since none of a queue is ever taken.
+/// Adds the lines of the port at this place of a link: its newest message, or all that were delivered to it, since
+/// none of a queue is ever taken.
 fn write_port(
-    alloc: Global,
-    state: &mut UnreadLink,
+    link: &OpenLink<KeptOutlet>,
     place: usize,
     at: u64,
     text: &mut String,
 ) -> Result<(), Memory>
-    requires { place < length state.old.settings.ports }
-    ensures state { state.new ≡ state.old }
-    ensures text { OnOk result ((port : Port) → slice_get state.old.settings.ports place ≡ Some port →
-        string_bytes text.new ≡ string_bytes text.old ++ port_lines at port (deliveries_of state.old (record { 0 = place }))) }
+    requires { place < length link.now.core.settings.ports }
+    ensures { OnOk result ((past : List Event) (port : Port) → IsPastOf ShowsKept link.now past → slice_get link.now.core.settings.ports place ≡ Some port →
+        string_bytes text.new ≡ string_bytes text.old ++ port_lines at port (deliveries link.now.core.settings past (port_no place))) }
 {
-    let port = &state.settings().ports()[place];
-    let name = port.name().copy();
+    let port = &link.settings().ports()[place];
+    let name = port.name().as_str();
     let number = PortNo(place as u8);
     match port.kind() {
         PortKind::Sampling { refresh } => {
-            let mut out = [0; 1471];
-            let newest = state.newest(number, &mut out);
-            write_newest(text, at, name.as_str(), refresh, newest)
+            write_newest(text, at, name, refresh, newest_at(link, number))
         }
-        PortKind::Queuing { depth: _ } => {
-            let messages = state.deliveries(alloc, number)?;
-            write_queue(text, name.as_str(), &messages)
-        }
+        PortKind::Queuing { depth: _ } => match first_at(link, number) {
+            Some(first) => write_first(text, name, first),
+            None => Ok(()),
+        },
     }
 }
 
-/// Adds the counts of all links' events, link by link.
-fn write_all_counts(states: &[UnreadLink], text: &mut String) -> Result<(), Memory>
-    ensures { OnOk result (string_bytes text.new ≡ string_bytes text.old ++ lines_of_counts states.now) }
+/// Adds the lines of a queuing port, with all its messages.
+fn write_first(text: &mut String, name: &str, first: &First) -> Result<(), Memory>
+    ensures { OnOk result (string_bytes text.new ≡ string_bytes text.old
+        ++ (line (queue_text name.now (length first.now.messages)) ++ message_lines name.now first.now.messages)) }
 {
-    'links: for state in states {
-        write_link_counts(state, text)?;
+    let line = QueueLine {
+        name,
+        count: first.len(),
+    };
+    writeln!(text, "{line}")?;
+    'messages: for place in 0..first.len() {
+        if let Some(message) = first.message(place) {
+            let line = MessageLine {
+                name,
+                time: message.time,
+                octets: message.octets,
+            };
+            writeln!(text, "{line}")?;
+        }
+    }
+    Ok(())
+}
+
+/// Adds the counts of all links' events, link by link.
+fn write_all_counts(links: &[OpenLink<KeptOutlet>], text: &mut String) -> Result<(), Memory>
+    ensures { OnOk result ((past_of : Settings → List Event) → HavePasts past_of links.now
+        → string_bytes text.new ≡ string_bytes text.old ++ all_count_lines past_of (map settings_of links.now)) }
+{
+    'links: for link in links {
+        write_link_counts(link, text)?;
     }
     Ok(())
 }
 
 /// Adds the counts of a link's events.
-fn write_link_counts(state: &UnreadLink, text: &mut String) -> Result<(), Memory>
-    ensures { OnOk result (string_bytes text.new ≡ string_bytes text.old ++ count_lines state.now.settings.vl (count_of (origin_of state.now.settings) (past_of state.now))) }
+fn write_link_counts(link: &OpenLink<KeptOutlet>, text: &mut String) -> Result<(), Memory>
+    ensures { OnOk result ((past : List Event) → IsShortPastOf link.now past
+        → string_bytes text.new ≡ string_bytes text.old ++ count_lines link.now.core.settings.vl (count_of past)) }
 {
-    write_counts(text, state.settings(), state.tally())
+    write_counts(text, link.settings(), link.tally())
 }

@@ -1,149 +1,122 @@
-use Rattle.std.proofs.Common.{◌<◌, ◌∙◌, arith, length, refl, reverse, sym, ap, map}
-use Rattle.es_base.specs.declared.event.Event.{Event}
-use Rattle.es_base.specs.Past.{event_of}
-use Rattle.es_base.specs.Reassembly.{groups_in}
-use Rattle.es_base.specs.Run.{settled}
-use Rattle.es_base.proofs.Counted.{one_event_more}
-use Rattle.link_receiver.specs.Counted.{port_no}
-use Rattle.link_receiver.specs.Link.{Link, LinkFrom, Takes, from}
+use Rattle.std.proofs.Common.{◌∙◌, ap, map}
+use Rattle.es_base.specs.Past.{arrived, event_of}
+use Rattle.link_receiver.specs.Link.{Link, Takes}
 use Rattle.link_receiver.specs.Outlet.{channel_of}
 use Rattle.link_receiver.proofs.Kept.{kept_more}
-use Rattle.link_receiver.proofs.Numbers.{counted_before, few_events, number_more, port_within, room_to_deliver}
-use Rattle.link_receiver.proofs.Offers.{holds_at_port, is_room_in}
 use Rattle.link_receiver.proofs.Outlets.{channels_stay}
-use Rattle.link_receiver.proofs.Refusals.{delivers_if, has_outlet, has_space, may_answer}
+use Rattle.link_receiver.proofs.Steps.{IsGiven, IsLooked, becomes, has_its_outlet, may, next, place_in, same_delivers, space, within}
 use Rattle.link_receiver.proofs.Taken.{one_more}
 use Rattle.link_receiver.proofs.link.LinkState.take_arrival.Goals as goal
 
-pub offer-had_room-requires-clause-fills : goal.offer-had_room-requires-clause-fills
-offer-had_room-requires-clause-fills g c =
+pub offer-payload-requires : goal.offer-payload-requires
+offer-payload-requires g c =
     let s = c.self.inside in
-    let base = c.self.invariant.base.0 in
-    let stands = c.self.invariant.base.2 in
-    let link : Link = record { settings = s.settings; before = s.before; history = s.history.items; channels = map channel_of s.outlets.items } in
-    let changes = rw c.in-Ok.ensures.items at c.in-Ok-change_by.ensures in
-    let change = changes base stands in
-    let kept = c.self.invariant.after base stands in
-    rw change.packet (is_room_in (from base link) c.args.arrival s.kept.reassembly c.in-Ok-change_by.change.room kept.keeps.waiting change.room)
+    let a = c.args.arrival in
+    let step = c.look-step.result in
+    let looked : IsLooked s.settings s.kept a step c.place-place.result = record {
+      came = c.look-step.ensures.came ∙ ap (arrived a.net a.time) (c.frame_in-frame.ensures ∙ c.as_slice.ensures);
+      is = c.look-step.ensures.step;
+      at = c.place-place.ensures.at;
+      value = c.place-place.ensures.value;
+    } in
+    place_in s.settings s.before s.history.items s.kept s.outlets.items c.self.invariant a step c.place-place.result looked
 
-pub offer-had_room-requires-clause-space : goal.offer-had_room-requires-clause-space
-offer-had_room-requires-clause-space g c =
+pub give-had_room-requires-clause-space : goal.give-had_room-requires-clause-space
+give-had_room-requires-clause-space g c =
     let s = c.self.inside in
-    let outlets = s.outlets.items in
-    let base = c.self.invariant.base.0 in
-    let stands = c.self.invariant.base.2 in
-    let link : Link = record { settings = s.settings; before = s.before; history = s.history.items; channels = map channel_of outlets } in
-    let changes = rw c.in-Ok.ensures.items at c.in-Ok-change_by.ensures in
-    let change = changes base stands in
-    let kept = c.self.invariant.after base stands in
-    has_space (from base link) c.in-Ok-change_by.change.room outlets change.has_place c.self.invariant.as_many c.self.invariant.kinds kept.shown
+    let a = c.args.arrival in
+    let step = c.look-step.result in
+    let looked : IsLooked s.settings s.kept a step c.place-place.result = record {
+      came = c.look-step.ensures.came ∙ ap (arrived a.net a.time) (c.frame_in-frame.ensures ∙ c.as_slice.ensures);
+      is = c.look-step.ensures.step;
+      at = c.place-place.ensures.at;
+      value = c.place-place.ensures.value;
+    } in
+    space s.settings s.before s.history.items s.kept s.outlets.items c.self.invariant a step c.place-place.result looked c.offer-payload.result _ c.offer-payload.ensures.placed c.in-Ok-room_for.ensures.enough
 
-pub note-requires-2-clause-delivered : goal.note-requires-2-clause-delivered
-note-requires-2-clause-delivered g c =
+pub note-requires : goal.note-requires
+note-requires g c =
     let s = c.self.inside in
-    room_to_deliver s.settings s.before s.history.items s.kept s.outlets.items c.self.invariant
+    let a = c.args.arrival in
+    let step = c.look-step.result in
+    let looked : IsLooked s.settings s.kept a step c.place-place.result = record {
+      came = c.look-step.ensures.came ∙ ap (arrived a.net a.time) (c.frame_in-frame.ensures ∙ c.as_slice.ensures);
+      is = c.look-step.ensures.step;
+      at = c.place-place.ensures.at;
+      value = c.place-place.ensures.value;
+    } in
+    let given : IsGiven s.settings s.kept c.offer-payload.follows.lender-at-none s.outlets.items c.give-had_room.new.outlets.items step c.place-place.result c.offer-payload.result c.give-had_room.result c.settled-verdict.result = record {
+      decision = c.decide-decision.result;
+      decides = c.decide-decision.ensures;
+      settles = c.settled-verdict.ensures;
+      fills = c.offer-payload.ensures.fills;
+      placed = c.offer-payload.ensures.placed;
+      offered = c.offer-payload.follows.holds-at-none;
+      delivers = rw (ap (λ (x : _). x.time) c.look-step.ensures.came) c.give-had_room.ensures;
+    } in
+    within s.settings s.before s.history.items s.kept s.outlets.items c.self.invariant a step c.place-place.result looked c.offer-payload.follows.lender-at-none c.give-had_room.new.outlets.items c.offer-payload.result c.give-had_room.result c.settled-verdict.result given
 
-pub note-requires-2-clause-place : goal.note-requires-2-clause-place
-note-requires-2-clause-place g c =
+pub invariant_of-self-2 : goal.invariant_of-self-2
+invariant_of-self-2 g c =
     let s = c.self.inside in
-    let outlets = s.outlets.items in
-    let past = reverse s.history.items in
-    let had = c.offer-had_room.result in
-    let after = c.offer-had_room.new.outlets.items in
-    let link : Link = record { settings = s.settings; before = s.before; history = s.history.items; channels = map channel_of outlets } in
-    let changes = rw c.in-Ok.ensures.items at c.in-Ok-change_by.ensures in
-    let room = c.in-Ok-change_by.change.room in
-    let base = c.self.invariant.base.0 in
-    let stands = c.self.invariant.base.2 in
-    let change = changes base stands in
-    let kept = c.self.invariant.after base stands in
-    let view : LinkFrom = from base link in
-    let delivers = rw change.packet at (c.offer-had_room.ensures.delivers s.settings.reassembly (groups_in view.origin past) kept.keeps.waiting) in
-    let delivery = delivers.0 in
-    let fills = delivers.1 in
-    let within = holds_at_port view c.args.arrival room delivery (λ port. port.0 < length outlets) change.room fills (has_outlet view room outlets change.has_place c.self.invariant.as_many) in
-    let may = may_answer view c.args.arrival room delivery outlets after had change.room fills delivers.2 within c.self.invariant.kinds kept.shown in
-    port_within view.origin past c.args.arrival had delivery (length outlets) _ c.settled-verdict.result
-    (omega (arith, c.self.invariant.as_many, c.self.invariant.few_ports)) within (c.settled-verdict.ensures ∙ ap (λ d. settled d had) change.decision)
-    (delivers_if view c.args.arrival room delivery had change.room fills may)
-
-pub invariant_of-self-3 : goal.invariant_of-self-3
-invariant_of-self-3 g c =
-    let s = c.self.inside in
-    let outlets = s.outlets.items in
-    let past = reverse s.history.items in
-    let had = c.offer-had_room.result in
-    let after = c.offer-had_room.new.outlets.items in
-    let e : Event = event_of c.args.arrival had c.settled-verdict.result in
-    let link : Link = record { settings = s.settings; before = s.before; history = s.history.items; channels = map channel_of outlets } in
-    let changes = rw c.in-Ok.ensures.items at c.in-Ok-change_by.ensures in
-    let room = c.in-Ok-change_by.change.room in
+    let a = c.args.arrival in
+    let step = c.look-step.result in
+    let looked : IsLooked s.settings s.kept a step c.place-place.result = record {
+      came = c.look-step.ensures.came ∙ ap (arrived a.net a.time) (c.frame_in-frame.ensures ∙ c.as_slice.ensures);
+      is = c.look-step.ensures.step;
+      at = c.place-place.ensures.at;
+      value = c.place-place.ensures.value;
+    } in
+    let given : IsGiven s.settings s.kept c.offer-payload.follows.lender-at-none s.outlets.items c.give-had_room.new.outlets.items step c.place-place.result c.offer-payload.result c.give-had_room.result c.settled-verdict.result = record {
+      decision = c.decide-decision.result;
+      decides = c.decide-decision.ensures;
+      settles = c.settled-verdict.ensures;
+      fills = c.offer-payload.ensures.fills;
+      placed = c.offer-payload.ensures.placed;
+      offered = c.offer-payload.follows.holds-at-none;
+      delivers = rw (ap (λ (x : _). x.time) c.look-step.ensures.came) c.give-had_room.ensures;
+    } in
     let more = rw (c.of.ensures, c.in-Ok.ensures.items) at c.push_reserved.ensures.items in
-    kept_more s.settings s.before s.history.items c.push_reserved.new.self.items s.kept c.note-2.new.self outlets after e more c.in-Ok.ensures.few c.self.invariant
-    (λ base stands.
-    let kept = c.self.invariant.after base stands in
-    let change = changes base stands in
-    let view : LinkFrom = from base link in
-    let o = view.origin in
-    let delivers = rw change.packet at (c.offer-had_room.ensures.delivers s.settings.reassembly (groups_in o past) kept.keeps.waiting) in
-    let delivery = delivers.0 in
-    let fills = delivers.1 in
-    let within = holds_at_port view c.args.arrival room delivery (λ port. port.0 < length outlets) change.room fills (has_outlet view room outlets change.has_place c.self.invariant.as_many) in
-    let waits = rw change.packet at (c.offer-had_room.ensures.stands s.settings.reassembly (groups_in o past) kept.keeps.waiting) in
-    let stand = c.note.ensures o past e kept.keeps.checked refl (sym change.numbered) refl (sym change.forwarded) in
-    let may = may_answer view c.args.arrival room delivery outlets after had change.room fills delivers.2 within c.self.invariant.kinds kept.shown in
-    let becomes = c.settled-verdict.ensures ∙ ap (λ d. settled d had) change.decision in
-    record {
-      verdict = becomes;
-      may = may;
-      keeps = record {
-        checked = rw c.note-2.ensures.checks stand;
-        waiting = rw c.note-2.ensures.reassembly waits;
-        counted = one_event_more s.kept.tally c.note-2.new.self.tally o past e kept.keeps.counted
-            (counted_before s.settings s.before s.history.items s.kept outlets c.self.invariant base stands)
-            (few_events s.settings s.before s.history.items s.kept outlets c.self.invariant base stands) c.note-2.ensures.tally;
-        numbered = λ port. number_more o past e (port_no port) _ _ becomes (kept.keeps.numbered port) (c.note-2.ensures.delivered port);
-        many = let was = kept.keeps.many in let now = c.note-2.ensures.taken in omega (arith, was, now);
-      };
-      delivery = delivery;
-      publishes = delivers.2;
-      within = within;
-      delivers = delivers_if view c.args.arrival room delivery had change.room fills may;
-    })
+    kept_more s.settings s.before s.history.items c.push_reserved.new.self.items s.kept c.note.new.self s.outlets.items c.give-had_room.new.outlets.items
+    (event_of a c.give-had_room.result c.settled-verdict.result) more c.in-Ok.ensures.few c.self.invariant
+    (next s.settings s.before s.history.items s.kept s.outlets.items c.self.invariant a step c.place-place.result looked c.offer-payload.follows.lender-at-none c.give-had_room.new.outlets.items c.offer-payload.result c.give-had_room.result c.settled-verdict.result given
+    c.note.new.self c.note.ensures.checks c.note.ensures.reassembly c.note.ensures.tally c.note.ensures.delivered)
     c.requires.frame (rw (← c.self.view_is) at c.requires.link)
 
 pub returns-clause-ok : goal.returns-clause-ok
 returns-clause-ok g c =
     let s = c.self.inside in
-    let outlets = s.outlets.items in
-    let past = reverse s.history.items in
-    let had = c.offer-had_room.result in
-    let after = c.offer-had_room.new.outlets.items in
+    let a = c.args.arrival in
+    let step = c.look-step.result in
+    let looked : IsLooked s.settings s.kept a step c.place-place.result = record {
+      came = c.look-step.ensures.came ∙ ap (arrived a.net a.time) (c.frame_in-frame.ensures ∙ c.as_slice.ensures);
+      is = c.look-step.ensures.step;
+      at = c.place-place.ensures.at;
+      value = c.place-place.ensures.value;
+    } in
+    let after = c.give-had_room.new.outlets.items in
+    let had = c.give-had_room.result in
     let verdict = c.settled-verdict.result in
-    let link : Link = record { settings = s.settings; before = s.before; history = s.history.items; channels = map channel_of outlets } in
-    let changes = rw c.in-Ok.ensures.items at c.in-Ok-change_by.ensures in
-    let room = c.in-Ok-change_by.change.room in
+    let given : IsGiven s.settings s.kept c.offer-payload.follows.lender-at-none s.outlets.items after step c.place-place.result c.offer-payload.result had verdict = record {
+      decision = c.decide-decision.result;
+      decides = c.decide-decision.ensures;
+      settles = c.settled-verdict.ensures;
+      fills = c.offer-payload.ensures.fills;
+      placed = c.offer-payload.ensures.placed;
+      offered = c.offer-payload.follows.holds-at-none;
+      delivers = rw (ap (λ (x : _). x.time) c.look-step.ensures.came) c.give-had_room.ensures;
+    } in
     let more = rw (c.of.ensures, c.in-Ok.ensures.items) at c.push_reserved.ensures.items in
-    let base = c.self.invariant.base.0 in
-    let stands = c.self.invariant.base.2 in
-    let change = changes base stands in
-    let kept = c.self.invariant.after base stands in
-    let view : LinkFrom = from base link in
-    let delivers = rw change.packet at (c.offer-had_room.ensures.delivers s.settings.reassembly (groups_in view.origin past) kept.keeps.waiting) in
-    let within = holds_at_port view c.args.arrival room delivers.0 (λ port. port.0 < length outlets) change.room delivers.1 (has_outlet view room outlets change.has_place c.self.invariant.as_many) in
-    let taken : Takes link c.args.arrival verdict (record { settings = s.settings; before = s.before; history = c.push_reserved.new.self.items; channels = map channel_of after }) = record {
+    let link : Link = record { settings = s.settings; before = s.before; history = s.history.items; channels = map channel_of s.outlets.items } in
+    let stay = channels_stay _ had s.outlets.items after (same_delivers s.settings s.before s.history.items s.kept s.outlets.items c.self.invariant a step c.place-place.result looked c.offer-payload.follows.lender-at-none after c.offer-payload.result had verdict given)
+    (has_its_outlet s.settings s.before s.history.items s.kept s.outlets.items c.self.invariant a step c.place-place.result looked c.offer-payload.follows.lender-at-none after c.offer-payload.result had verdict given) in
+    let taken : Takes link a verdict (record { settings = s.settings; before = s.before; history = c.push_reserved.new.self.items; channels = map channel_of after }) = record {
       few = c.in-Ok.ensures.few;
       room = had;
-      becomes = λ base stands.
-          let kept = c.self.invariant.after base stands in
-          let change = changes base stands in
-          let view : LinkFrom = from base link in
-          let delivers = rw change.packet at (c.offer-had_room.ensures.delivers s.settings.reassembly (groups_in view.origin past) kept.keeps.waiting) in
-          let within = holds_at_port view c.args.arrival room delivers.0 (λ port. port.0 < length outlets) change.room delivers.1 (has_outlet view room outlets change.has_place c.self.invariant.as_many) in
-          record {
-            may = may_answer view c.args.arrival room delivers.0 outlets after had change.room delivers.1 delivers.2 within c.self.invariant.kinds kept.shown;
-            becomes = c.settled-verdict.ensures ∙ ap (λ d. settled d had) change.decision;
-          };
-      event = one_more link c.args.arrival had verdict c.push_reserved.new.self.items (map channel_of after) more (channels_stay delivers.0 had outlets after delivers.2 within);
+      becomes = λ earlier stood. record {
+        may = may s.settings s.before s.history.items s.kept s.outlets.items c.self.invariant a step c.place-place.result looked c.offer-payload.follows.lender-at-none after c.offer-payload.result had verdict given earlier stood;
+        becomes = becomes s.settings s.before s.history.items s.kept s.outlets.items c.self.invariant a step c.place-place.result looked c.offer-payload.follows.lender-at-none after c.offer-payload.result had verdict given earlier stood;
+      };
+      event = one_more link a had verdict c.push_reserved.new.self.items (map channel_of after) more stay;
     } in
     rw (← c.self.view_is) taken

@@ -1,7 +1,0 @@
-use Rattle.link_receiver.proofs.checks.Checks.passes.Goals as goal
-
-pub returns-in-A : goal.returns-in-A
-returns-in-A c = λ o past a have net number. rw (net, c.in-A.is, number) (c.check.ensures _ _ have.a)
-
-pub returns-in-B : goal.returns-in-B
-returns-in-B c = λ o past a have net number. rw (net, c.in-B.is, number) (c.check-in-B.ensures _ _ have.b)

@@ -1,0 +1,218 @@
+//! The queue of a queuing port, in memory that is taken when it is opened: messages in order, none twice, and every
+//! loss told (ARINC 664 Part 7, queuing service; depth own). One end puts and the other takes, and two threads may use
+//! both at once. No call waits for the other end, and none takes or frees memory.
+//!
+//! ```text
+//! let (mut putter, mut taker) = open_ring(alloc, 1, 100)?;
+//! putter.put(5, b"first")     // Ok(())
+//! putter.put(6, b"second")    // Err(Full)
+//! taker.take(&mut out)        // Some(Taken { time: 5, len: 5 }), and `out` begins with b"first"
+//! taker.take(&mut out)        // None: the queue is empty
+//! ```
+#![tactic(auto)]
+
+mod ends;
+mod head;
+
+ghost use Rattle.std.specs.Prelude.{◌≡◌, ◌+◌, ◌*◌, ◌<◌, ◌≤◌, length, take, drop, slice_get, Some, IfOk, OnOk, OnErr, IfSome, IfNone, IsOk, IsSome, IsTrue, IsFalse};
+ghost use Rattle.message_ring.specs.Ends.{width};
+ghost use Rattle.message_ring.specs.Queue.{BeginsWith, Holds, MayBeEmpty, MayBeFull, message, opened, with_put, with_taken};
+
+use crate::ends::{has_room, next_head, pop_octets, push_octets};
+use crate::head::{HEAD, Head, write_message};
+use circular_buffer::HeapCircularBuffer;
+use rtrb::{Consumer, Producer, RingBuffer};
+use std::alloc::{AllocError, Global};
+use std::marker::Model;
+
+/// The queue is full: the message was not put.
+#[derive(Debug, Clone, Copy, PartialEq, Eq)]
+pub struct Full;
+
+/// The message that was taken: when it came, and how many octets of `out` it fills.
+#[derive(Debug, Clone, Copy, PartialEq, Eq)]
+pub struct Taken {
+    pub time: u64,
+    pub len: usize,
+}
+
+/// The end that puts messages. Contracts see what it knows: the whole put list, and that part of the
+/// taken list of which it learned.
+#[derive(Drop)]
+pub struct RingPutter {
+    ring: Producer<u8>,
+    max: usize,
+    depth: usize,
+    // How many octets have to be free, if fewer messages wait than the queue holds.
+    needed: usize,
+    // The sizes of the messages that were put last, one fewer than the queue holds.
+    latest: HeapCircularBuffer<u16>,
+    // Room for one message, where it is written before it is put.
+    room: Vec<u8>,
+}
+
+impl Model for RingPutter {
+    ghost use Rattle.std.specs.Prelude.{◌≡◌, length};
+    ghost use Rattle.message_ring.specs.Queue.{Known};
+    ghost use Rattle.message_ring.specs.Ends.{KeepsPut, putter_of, width};
+
+    ghost Value = { Known };
+
+    ghost view = { λ p. putter_of p.ring p.max p.depth };
+
+    ghost invariant = { λ p. KeepsPut p.ring p.max p.depth p.latest p.needed × (length p.room.items ≡ width p.max) };
+}
+
+/// The end that takes messages. Contracts see what it knows: the whole taken list, and that part of the
+/// put list of which it learned.
+#[derive(Drop)]
+pub struct RingTaker {
+    ring: Consumer<u8>,
+    max: usize,
+    depth: usize,
+    // The head of a message whose octets this end has not seen yet.
+    begun: Option<Head>,
+}
+
+impl Model for RingTaker {
+    ghost use Rattle.rtrb.specs.Ring.{received};
+    ghost use Rattle.message_ring.specs.Queue.{Known};
+    ghost use Rattle.message_ring.specs.Ends.{IsBegun, taker_of};
+
+    ghost Value = { Known };
+
+    ghost view = { λ t. taker_of t.ring t.max t.depth };
+
+    ghost invariant = { λ t. IsBegun t.max (received t.ring) t.begun };
+}
+
+/// Both ends of a new queue, which holds up to `depth` messages of up to `max` octets. All memory of the queue is
+/// taken here.
+pub fn open_ring(
+    alloc: Global,
+    depth: usize,
+    max: usize,
+) -> Result<(RingPutter, RingTaker), AllocError>
+    requires { (0 < depth) × (depth ≤ 64) × (max ≤ 8192) }
+    ensures putter { IfOk result (λ ends. (ends.0 ≡ opened ends.0.queue depth) × (ends.0.queue.max ≡ max)) }
+    ensures taker { IfOk result (λ ends. ends.1 ≡ ends.0) }
+{
+    let width = HEAD + max;
+    let room = Vec::from_elem(alloc, 0u8, width)?;
+    let latest = HeapCircularBuffer::with_capacity(alloc, depth - 1)?;
+    let (producer, consumer) = RingBuffer::new(alloc, depth * width)?;
+    let putter = RingPutter {
+        ring: producer,
+        max,
+        depth,
+        needed: depth * width,
+        latest,
+        room,
+    };
+    let taker = RingTaker {
+        ring: consumer,
+        max,
+        depth,
+        begun: None,
+    };
+    Ok((putter, taker))
+}
+
+/// The two ends of one queue meet: each then knows at least what the other did. Nothing else changes.
+pub fn meet(putter: &mut RingPutter, taker: &mut RingTaker)
+    requires { (taker.old.queue ≡ putter.old.queue) × (taker.old.depth ≡ putter.old.depth) }
+    ensures putter { (putter.new.queue ≡ putter.old.queue) × (putter.new.depth ≡ putter.old.depth) × (putter.new.put ≡ putter.old.put) }
+    ensures told { BeginsWith putter.new.taken taker.old.taken }
+    ensures kept { BeginsWith putter.new.taken putter.old.taken }
+    ensures taker { (taker.new.queue ≡ taker.old.queue) × (taker.new.depth ≡ taker.old.depth) × (taker.new.taken ≡ taker.old.taken) × (taker.new.put ≡ putter.old.put) }
+    ensures known { BeginsWith taker.new.put taker.old.put }
+    ensures begins { BeginsWith taker.new.put taker.new.taken }
+    ensures held { length taker.new.put ≤ length taker.new.taken + taker.old.depth }
+{
+    putter.ring.slots_beside(&mut taker.ring);
+    taker.ring.slots_beside(&mut putter.ring);
+}
+
+impl RingPutter {
+    /// How many octets a message may have.
+    pub fn max(&self) -> usize
+        ensures { result ≡ self.now.queue.max }
+    {
+        self.max
+    }
+
+    /// Whether there is room for one message more, which then stays, whatever the other end does. False: as many messages
+    /// as the queue holds were put that this end doesn't know to be taken. True wherever it knows of room before the call.
+    pub fn has_room(&mut self) -> bool
+        ensures end { self.new ≡ record self.old { taken = self.new.taken } }
+        ensures told { BeginsWith self.new.taken self.old.taken }
+        ensures room { IsTrue result → length self.new.put < length self.new.taken + self.new.depth }
+        ensures full { IsFalse result → MayBeFull self.old }
+        ensures room_is_known { length self.old.put < length self.old.taken + self.old.depth → IsTrue result }
+    {
+        has_room(&mut self.ring, self.needed)
+    }
+
+    /// Puts a message at the end of the queue. `Err`: as many messages as the queue holds were put that this end doesn't
+    /// know to be taken.
+    pub fn put(&mut self, time: u64, octets: &[u8]) -> Result<(), Full>
+        requires { length octets.now ≤ self.old.queue.max }
+        ensures ok { OnOk result (self.new ≡ with_put self.old (message time octets.now) self.new.taken) }
+        ensures told { BeginsWith self.new.taken self.old.taken }
+        ensures depth { length self.new.put ≤ length self.new.taken + self.old.depth }
+        ensures err { OnErr result (self.new ≡ self.old) }
+        ensures may_be_full { OnErr result (MayBeFull self.old) }
+        ensures room_is_known { length self.old.put < length self.old.taken + self.old.depth → IsOk result }
+    {
+        if !has_room(&mut self.ring, self.needed) {
+            return Err(Full);
+        }
+        let size = HEAD + octets.len();
+        write_message(&mut self.room, time, octets);
+        push_octets(&mut self.ring, &self.room[..size]);
+        let oldest = self.latest.push_back(size as u16).unwrap_or(0);
+        self.needed = self.needed - size + oldest as usize;
+        Ok(())
+    }
+}
+
+impl RingTaker {
+    /// How many octets a message may have.
+    pub fn max(&self) -> usize
+        ensures { result ≡ self.now.queue.max }
+    {
+        self.max
+    }
+
+    /// Takes the oldest message, and copies its octets to the beginning of `out`. None only if this end took all messages
+    /// that it knows to be put.
+    pub fn take(&mut self, out: &mut [u8]) -> Option<Taken>
+        requires { self.old.queue.max ≤ length out.old }
+        ensures some { IfSome result (λ got. (got.len ≤ self.old.queue.max) × (self.new ≡ with_taken self.old (message got.time (take got.len out.new)) self.new.put)) }
+        ensures rest { IfSome result (λ got. drop got.len out.new ≡ drop got.len out.old) }
+        ensures told { BeginsWith self.new.put self.old.put }
+        ensures begins { BeginsWith self.new.put self.new.taken }
+        ensures none { IfNone result ((self.new ≡ self.old) × (out.new ≡ out.old)) }
+        ensures may_be_empty { IfNone result (MayBeEmpty self.old) }
+        ensures next_is_known { length self.old.taken < length self.old.put → IsSome result }
+        ensures next { IfSome result (λ got. length self.old.taken < length self.old.put →
+            slice_get self.old.put (length self.old.taken) ≡ Some (message got.time (take got.len out.new))) }
+    {
+        let Some(head) = next_head(&mut self.ring, self.begun) else {
+            return None;
+        };
+        if pop_octets(&mut self.ring, self.max, head.len, out) {
+            self.begun = None;
+            Some(Taken {
+                time: head.time,
+                len: head.len,
+            })
+        } else {
+            self.begun = Some(head);
+            None
+        }
+    }
+}
+
+#[cfg(test)]
+mod tests;

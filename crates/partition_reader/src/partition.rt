@@ -1,0 +1,125 @@
+//! The reader that a partition gets.
+ghost use Rattle.std.specs.Prelude.{◌≡◌, ℕ, ◌+◌, ◌/◌, ◌≤◌, min, length, IfErr, IfOk};
+ghost use Rattle.slot_core.specs.Limits.{longest_message};
+ghost use Rattle.slot_core.specs.State.{StartsWith, last_of};
+ghost use Rattle.sampling_port.specs.Age.{freshness as freshness_at};
+ghost use Rattle.sampling_port.specs.Ends.{IsCopy, IsHeadOf, IsHeldAfter, IsNotHeld, IsNothing, IsOvertaken};
+ghost use Rattle.partition_reader.specs.Reads.{IfBusy, IfEmpty, IfMessage, IsCopyThatFits, IsSamePort, most_tries};
+
+use crate::copy::read_moved;
+use crate::held::HeldMessage;
+use crate::reading::Reading;
+use core::mem::replace_with;
+use sampling_port::{MOST_TRIES, NotHeld, Read, Reader, freshness};
+use slot_core::READERS;
+use std::marker::Model;
+
+/// The end of a sampling port that a partition reads, with what it has to know of the port. Contracts see the reader's
+/// end, the refresh period and the longest message.
+#[derive(Drop)]
+pub struct PartitionReader {
+    reader: Reader<READERS>,
+    refresh: u64,
+    max: usize,
+}
+
+impl Model for PartitionReader {
+    ghost use Rattle.std.specs.Prelude.{◌≤◌};
+    ghost use Rattle.slot_core.specs.Limits.{longest_message};
+    ghost use Rattle.partition_reader.specs.Reads.{PortReader};
+
+    ghost Value = { PortReader };
+
+    ghost view = { λ r. record { end = r.reader; refresh = r.refresh; max = r.max } };
+
+    ghost invariant = { λ r. r.max ≤ longest_message };
+}
+
+impl PartitionReader {
+    /// A reader of a port with this refresh period, in microseconds, and this longest message, in octets.
+    pub fn new(reader: Reader<READERS>, refresh: u64, max: usize) -> PartitionReader
+        requires { max ≤ longest_message }
+        ensures { result ≡ record { end = reader; refresh = refresh; max = max } }
+    {
+        PartitionReader {
+            reader,
+            refresh,
+            max,
+        }
+    }
+
+    /// The port's reader.
+    pub fn into_reader(self) -> Reader<READERS>
+        ensures { result ≡ self.end }
+    {
+        self.reader
+    }
+
+    /// The refresh period of the port, in microseconds.
+    pub fn refresh(&self) -> u64
+        ensures { result ≡ self.now.refresh }
+    {
+        self.refresh
+    }
+
+    /// The longest message of the port, in octets: an `out` of this length has room for each message that the port's
+    /// settings allow.
+    pub fn max(&self) -> usize
+        ensures value { result ≡ self.now.max }
+        ensures short { result ≤ longest_message }
+    {
+        self.max
+    }
+
+    /// Reads the newest message at `now` microseconds, which is of the clock of the arrival times. It looks again up
+    /// to 8 times, and waits for nobody. The octets that fit are copied to the beginning of `out`, and `len` is the
+    /// length of the whole message: if it is at most that of `out`, all of the message is there, and what follows is as
+    /// it was. Without a message all of `out` is as it was.
+    pub fn read(&mut self, now: u64, out: &mut [u8]) -> Reading
+        ensures port { IsSamePort self.old self.new }
+        ensures seen { StartsWith self.new.end.seen self.old.end.seen }
+        ensures head { IfMessage result (λ number time len _. IsHeadOf self.new.end.seen number time len) }
+        ensures octets { IfMessage result (λ _ _ len _. IsCopyThatFits (last_of self.new.end.seen) out.old out.new len) }
+        ensures whole { IfMessage result (λ _ _ len _. len ≤ length out.new → IsCopy (last_of self.new.end.seen) out.old out.new len) }
+        ensures validity { IfMessage result (λ _ time _ validity. validity ≡ freshness_at now time self.old.refresh) }
+        ensures newest { IfMessage result (λ _ _ len _.
+            IsHeldAfter self.old.end self.new.end most_tries (3 + (min len (length out.old) + 7) / 8)) }
+        ensures empty { IfEmpty result (IsNothing self.old.end self.new.end × (out.new ≡ out.old)) }
+        ensures busy { IfBusy result (λ number. IsOvertaken self.old.end self.new.end most_tries number × (out.new ≡ out.old)) }
+    {
+        let (_, answer) = replace_with(&mut self.reader, out, read_moved);
+        match answer {
+            Read::Message { number, time, len } => Reading::Message {
+                number,
+                time,
+                len,
+                validity: freshness(now, time, self.refresh),
+            },
+            Read::Empty => Reading::Empty,
+            Read::Busy { number } => Reading::Busy { number },
+        }
+    }
+
+    /// Holds the newest message, without copying it. It looks again up to 8 times, and waits for nobody. If nothing is
+    /// held it hands the reader back.
+    ///
+    /// ```text
+    /// let Ok(held) = reader.hold() else { .. };
+    /// held.validity(2000)      // Fresh
+    /// let reader = held.release();
+    /// ```
+    pub fn hold(self) -> Result<HeldMessage, (PartitionReader, NotHeld)>
+        ensures held { IfOk result (λ held. IsSamePort self held × IsHeldAfter self.end held.end most_tries 2) }
+        ensures not { IfErr result (λ not. IsSamePort self not.0 × IsNotHeld self.end not.0.end most_tries not.1) }
+    {
+        let Self {
+            reader,
+            refresh,
+            max,
+        } = self;
+        match reader.hold(MOST_TRIES) {
+            Ok(held) => Ok(HeldMessage::of(held, refresh, max)),
+            Err((reader, fault)) => Err((PartitionReader::new(reader, refresh, max), fault)),
+        }
+    }
+}

@@ -1,0 +1,11 @@
+pub mod Places
+pub mod Given
+pub mod Asked
+pub mod Frames
+pub mod Opens
+pub mod Links
+pub mod Losing
+pub mod Stays
+pub mod Runs
+pub mod Meets
+pub mod HandedOut

@@ -1,0 +1,46 @@
+use Rattle.std.proofs.Common.{◌≡◌, ◌∙◌, ap, Some}
+use Rattle.std.specs.List.{slice_get}
+use Rattle.std.proofs.lemmas.Option.{slice_get-get_or, slice_get_within}
+use Rattle.receiver.specs.Link.{IsPastOf, ported}
+use Rattle.receiver.specs.Port.{ShowsPort}
+use Rattle.receiver.proofs.Meets.{seen}
+use Rattle.receiver.proofs.Places.{set_same, slice_get-set_same}
+use Rattle.receiver.proofs.meetings.OpenLink+PortOutlet.meet_reader.Goals as goal
+
+pub invariant_of-self : goal.invariant_of-self
+invariant_of-self c =
+    let s = c.self.inside in
+    let opened = s.outlets.items in
+    let at = c.args.port.0 in
+    let was : slice_get opened at ≡ Some c.requires.0 = rw (← c.self.view_is) at c.requires.1 in
+    let there : slice_get opened at ≡ Some c.index_mut.result.now = rw c.index_mut.ensures.value (slice_get-get_or opened at _ (slice_get_within opened at c.requires.0 was)) in
+    rw (set_same opened at c.index_mut.result.now c.meet_reader.new.self there c.meet_reader.ensures.outlet) c.self.invariant
+
+pub returns-clause-link : goal.returns-clause-link
+returns-clause-link c =
+    let s = c.self.inside in
+    let opened = s.outlets.items in
+    let at = c.args.port.0 in
+    let was : slice_get opened at ≡ Some c.requires.0 = rw (← c.self.view_is) at c.requires.1 in
+    let there : slice_get opened at ≡ Some c.index_mut.result.now = rw c.index_mut.ensures.value (slice_get-get_or opened at _ (slice_get_within opened at c.requires.0 was)) in
+    ap (λ outlets. ported s.core outlets s.came) (set_same opened at c.index_mut.result.now c.meet_reader.new.self there c.meet_reader.ensures.outlet) ∙ c.self.view_is
+
+pub returns-clause-met : goal.returns-clause-met
+returns-clause-met c =
+    let s = c.self.inside in
+    let opened = s.outlets.items in
+    let at = c.args.port.0 in
+    let was : slice_get opened at ≡ Some c.requires.0 = rw (← c.self.view_is) at c.requires.1 in
+    let there : slice_get opened at ≡ Some c.index_mut.result.now = rw c.index_mut.ensures.value (slice_get-get_or opened at _ (slice_get_within opened at c.requires.0 was)) in
+    (c.meet_reader.new.self, slice_get-set_same opened at c.meet_reader.new.self (slice_get_within opened at c.requires.0 was), c.meet_reader.ensures.met)
+
+pub returns-clause-seen : goal.returns-clause-seen
+returns-clause-seen c = λ past is.
+    let s = c.self.inside in
+    let opened = s.outlets.items in
+    let at = c.args.port.0 in
+    let was : slice_get opened at ≡ Some c.requires.0 = rw (← c.self.view_is) at c.requires.1 in
+    let there : slice_get opened at ≡ Some c.index_mut.result.now = rw c.index_mut.ensures.value (slice_get-get_or opened at _ (slice_get_within opened at c.requires.0 was)) in
+    let here : slice_get opened at ≡ Some c.meet_reader.new.self = rw c.meet_reader.ensures.outlet there in
+    let past_is : IsPastOf ShowsPort (ported s.core opened s.came) past = rw (← c.self.view_is) at is in
+    rw (← c.self.view_is) (seen _ c.meet_reader.new.self c.meet_reader.new.reader _ (rw here at (past_is.shown at)) c.meet_reader.ensures.met)

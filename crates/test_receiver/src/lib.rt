@@ -1,0 +1,12 @@
+//! The receiver for one task: worked frames, what partitions find at its ports, and what outlets
+//! of plain memory keep.
+#![tactic(auto)]
+
+#[cfg(test)]
+mod frames;
+#[cfg(test)]
+mod kept;
+#[cfg(test)]
+mod opened;
+#[cfg(test)]
+mod ports;

@@ -1,0 +1,96 @@
+//! What partitions find at the ports.
+use crate::opened::{Given, check_count, check_frames, opened};
+use es_base::Net::A;
+use es_base::Verdict;
+use es_base::Verdict::{Overflow, Queued, Sampled};
+use message_ring::RingTaker;
+use sampling_port::{MOST_TRIES, Read, Reader};
+use slot_core::READERS;
+use std::alloc::Global;
+use std::process::Abort;
+use test_inputs::rows::{FrameRow, NAV, NAV_UDP, POS};
+use test_inputs::{IP, PAYLOAD, UDP};
+
+/// The octets of `PAYLOAD`.
+pub(crate) const OCTETS: [u8; 17] = [1, 2, 3, 4, 5, 6, 7, 8, 9, 10, 11, 12, 13, 14, 15, 16, 17];
+
+/// A reader reads this message: its number, and its time in microseconds.
+fn check_read(rt: &impl Abort, reader: &mut Reader<READERS>, (number, time): (u64, u64)) {
+    let mut out = [0; 1471];
+    let len = 17;
+    let wanted = Read::Message { number, time, len };
+    assert!(rt; reader.read(MOST_TRIES, &mut out) == wanted);
+    assert!(rt; out.starts_with(&OCTETS));
+}
+
+/// A datagram for `pos`, a millisecond after the one before.
+fn bring_sample(rt: &impl Abort, alloc: Global, given: &mut Given, number: u8) {
+    let time = u64::from(number) * 1000;
+    let verdict = Sampled(POS, u64::from(number));
+    let row: FrameRow<'static> = (A, time, number, IP, UDP, PAYLOAD, verdict);
+    check_frames(rt, alloc, &mut given.receiver, &[row]);
+}
+
+fn check_all_read(rt: &impl Abort, alloc: Global) {
+    let mut given = opened(rt, alloc);
+    for reader in &mut given.readers {
+        assert!(rt; reader.read(MOST_TRIES, &mut [0; 1471]) == Read::Empty);
+    }
+    bring_sample(rt, alloc, &mut given, 1);
+    bring_sample(rt, alloc, &mut given, 2);
+    for reader in &mut given.readers {
+        check_read(rt, reader, (2, 2000));
+    }
+}
+
+#[test]
+fn every_reader_of_a_port_reads_the_newest_message(rt: HostRuntime) {
+    check_all_read(&rt, rt.alloc());
+}
+
+/// The taker takes the message of this time.
+fn take(rt: &impl Abort, taker: &mut RingTaker, time: u64) {
+    let mut out = [0; 8192];
+    assert!(rt; taker.max() <= out.len());
+    let got = taker.take(&mut out).expect(rt, "a message");
+    assert!(rt; got.time == time && got.len == 17);
+    assert!(rt; out.starts_with(&OCTETS));
+}
+
+/// The taker finds no message.
+fn check_empty(rt: &impl Abort, taker: &mut RingTaker) {
+    let mut out = [0; 8192];
+    assert!(rt; taker.max() <= out.len());
+    assert!(rt; taker.take(&mut out).is_none());
+}
+
+/// A datagram for `nav`, a millisecond after the one before.
+fn bring(rt: &impl Abort, alloc: Global, given: &mut Given, number: u8, verdict: Verdict) {
+    let time = u64::from(number) * 1000;
+    let row: FrameRow<'static> = (A, time, number, IP, NAV_UDP, PAYLOAD, verdict);
+    check_frames(rt, alloc, &mut given.receiver, &[row]);
+}
+
+/// The queue of `nav` holds four messages.
+fn check_queue(rt: &impl Abort, alloc: Global) {
+    let mut given = opened(rt, alloc);
+    check_empty(rt, &mut given.taker);
+    for number in 1..=4 {
+        bring(rt, alloc, &mut given, number, Queued(NAV));
+    }
+    bring(rt, alloc, &mut given, 5, Overflow(NAV));
+    take(rt, &mut given.taker, 1000);
+    bring(rt, alloc, &mut given, 6, Queued(NAV));
+    bring(rt, alloc, &mut given, 7, Overflow(NAV));
+    for time in [2000, 3000, 4000, 6000] {
+        take(rt, &mut given.taker, time);
+    }
+    check_empty(rt, &mut given.taker);
+    check_count(rt, &given, A, Queued(NAV).kind(), 5);
+    check_count(rt, &given, A, Overflow(NAV).kind(), 2);
+}
+
+#[test]
+fn a_taker_takes_in_order_and_makes_room(rt: HostRuntime) {
+    check_queue(&rt, rt.alloc());
+}
