@@ -15,6 +15,5 @@ PORT_KINDS = {
     "too-long": None, "fragmented-sample": "sampling", "sampled": "sampling", "exhausted": "sampling",
     "queued": "queuing", "overflow": "queuing",
 }
-# The kinds of a word alone, and those whose word only the name of a port follows.
-PLAIN_KINDS = tuple(kind for kind in KINDS if kind != "bad-header" and kind not in PORT_KINDS)
+# The kinds whose word only the name of a port follows.
 NAMED_KINDS = tuple(kind for kind in PORT_KINDS if kind != "sampled")

@@ -1,14 +1,13 @@
-"""The page of draw.py: totals, an overview, the words, a section for each link, filtered frames and counters."""
+"""The page: totals, an overview, faults, the words, a section for each link, and filtered frames."""
 from html import escape
 
-from drawing.gather import FRAMES_OF_SILENCE, ROWS, WAITS_OF_SILENCE
-from drawing.pair import PATIENCE
+from drawing.gather import ROWS
 from drawing.picture import (
-    CLASSES, Row, Times, age_picture, class_of, delay_picture, filtered_rows, mark, path, picture, queue_picture,
-    rows_picture, strip,
+    CLASSES, Row, Times, age_picture, class_of, delay_picture, filtered_rows, mark, path, queue_picture, rows_picture,
+    strip,
 )
 from drawing.style import PATTERNS, SCRIPT, STYLE
-from verdict_words import FILTER_CAUSES, FIRST_FORWARDED, KINDS, NETWORKS, OUT_OF_SEQUENCE, REDUNDANT
+from verdict_words import FIRST_FORWARDED, KINDS, NETWORKS, OUT_OF_SEQUENCE, REDUNDANT
 
 # Sections that are open at first; points and stretches of all pictures of ports together.
 OPEN_LINKS, POINTS_OF_PORTS, STRETCHES_OF_PORTS = 3, 80_000, 4_000
@@ -22,9 +21,11 @@ MEANINGS = [
      "queue, so that each queue overflows in the end"),
     ("redundant", "redundant", "it passed integrity checking, and redundancy management didn't forward it"),
     ("out", "out-of-sequence", "integrity checking discarded it: its sequence number may not come next on its network"),
-    ("alone", "(no verdict)", "a forwarded frame that no redundant frame of the other network is paired with: its copy "
-     "was lost or discarded, or comes after the last line, or the pairing is wrong. Drawn for links with redundant "
-     "frames only, and beside the frame's own verdict"),
+    ("alone", "(no verdict)", "a forwarded frame of whose number the other network brought no redundant frame: its copy "
+     "was lost or discarded, or comes after the last line. Drawn for links with redundant frames only, and beside the "
+     "frame's own verdict"),
+    ("missing", "(no verdict)", "sequence numbers that a network left out, at the frame that came next; the rows are "
+     "hatched from the frame before it on. A late frame fills no gap"),
     ("filtered", "filtered CAUSE", "octets that are no frame of a configured link; no link's picture has them"),
 ]
 
@@ -38,10 +39,6 @@ def share(part, whole):
         return "–"
     percent = 100 * part / whole
     return "0 %" if not part else "under 0.01 %" if percent < 0.01 else f"{percent:.2f} %"
-
-
-def share_bar(part, whole):
-    return f'<span class="share" style="width:{100 * part / whole:.2f}%"></span>' if part else ""
 
 
 def plural(number, one, many=None):
@@ -70,7 +67,7 @@ KINDS_OF = {name: [kind for kind, word in enumerate(KINDS) if class_of(word) == 
 # ---- the head of the page
 
 
-def totals(output, source):
+def head(output, source):
     links = output.links.values()
     filtered = sum(map(sum, output.filtered))
     counted = {name: sum(sum_of(link, kinds) for link in links) for name, kinds in KINDS_OF.items()}
@@ -89,35 +86,25 @@ def totals(output, source):
     body = "".join(
         f'<tr><td class="word">{key(name) if name else ""} {escape(said)}</td>'
         f'<td data-total="{escape(said)}">{number:,}</td>'
-        f'<td>{share(number, output.frames)}</td><td class="bar">{share_bar(number, output.frames)}</td></tr>'
+        f'<td>{share(number, output.frames)}</td><td class="bar"><span class="share" '
+        f'style="width:{100 * number / (output.frames or 1):.2f}%"></span></td></tr>'
         for name, said, number in rows)
-    return (f"<h1>What became of each frame</h1><p>Drawn from the player’s output {escape(source)}.</p>"
+    return (f"<h1>What became of each frame</h1><p>Drawn from {escape(source)}.</p>"
             f'<dl class="totals">{shown}</dl><table><thead><tr><th class="word">what became of it</th><th>frames</th>'
             f'<th>of all frames</th><th></th></tr></thead><tbody>{body}</tbody></table>')
-
-
-def notes(output, has_config):
-    said = []
-    if output.by_network:
-        said.append("This output has the lines by network, as with <code>--threads</code>. The pictures stand in order "
-                    "of time all the same. Which network’s frame a link took first was up to the threads then, and "
-                    "with it which copy was forwarded: a redundant frame that came before the forwarded one isn’t "
-                    "paired with it.")
-    if not has_config:
-        said.append("No configuration was given (<code>--config</code>), so that refresh periods and depths aren’t "
-                    "drawn.")
-    return "".join(f'<p class="note">{text}</p>' for text in said)
 
 
 def overview(output, gathered, times):
     rows = []
     for link in output.links.values():
         drawn = gathered.links[link.number]
-        alone = sum(map(sum, drawn.alone)) if drawn.has_redundant else None
-        medians = [f"first on {NETWORKS[n]}: {d.median():,}" for n, d in enumerate(drawn.delays) if d.number]
-        least = min((d.median() for d in drawn.delays if d.number), default=-1)
+        alone = sum(each.total for each in drawn.copies.alone) if drawn.has_redundant else None
+        delays = drawn.copies.delays
+        medians = [f"first on {NETWORKS[n]}: {d.median():,}" for n, d in enumerate(delays) if d.number]
+        least = min((d.median() for d in delays if d.number), default=-1)
         cells = [link.events(0), link.events(1), sum_of(link, FORWARDED_KINDS), sum_of(link, [REDUNDANT]),
-                 sum_of(link, [OUT_OF_SEQUENCE]), sum_of(link, KINDS_OF["refused"]), sum_of(link, KINDS_OF["overflow"])]
+                 sum_of(link, [OUT_OF_SEQUENCE]), sum_of(link, KINDS_OF["refused"]), sum_of(link, KINDS_OF["overflow"]),
+                 *(gaps.missing.total for gaps in drawn.gaps)]
         label = (f"Link {link.number} in small: {cells[0]} frames on A, {cells[1]} on B, {cells[4]} out of sequence, "
                  f"{cells[5]} refused")
         number = f'<td class="word" data-value="{link.number}"><a href="#link-{link.number}">{link.number}</a></td>'
@@ -125,7 +112,7 @@ def overview(output, gathered, times):
                     + ("<td>–</td>" if alone is None else number_cell(alone))
                     + f'<td data-value="{least}">{"<br>".join(medians) or "–"}</td></tr>')
     heads = ["frames on A", "frames on B", "forwarded", "redundant", "out of sequence", "refused", "overflow",
-             "no second copy", "median delay in µs"]
+             "numbers missing on A", "numbers missing on B", "no second copy", "median delay in µs"]
     span = f"{output.first:,} to {output.last:,} µs" if output.frames else "no frame"
     head = (f'<th class="word">link</th><th class="word fixed">{span}: A up, B down</th>'
             + "".join(f"<th>{head}</th>" for head in heads))
@@ -136,10 +123,7 @@ def overview(output, gathered, times):
 
 
 def number_cell(number):
-    return f'<td data-value="{number}"{"" if number else ZERO}>{number:,}</td>'
-
-
-ZERO = ' class="zero"'
+    return f'<td data-value="{number}" class="{"some" if number else "zero"}">{number:,}</td>'
 
 
 def words(gathered):
@@ -147,33 +131,48 @@ def words(gathered):
                    f'<td class="word"><code>{escape(kinds)}</code></td><td class="word">{escape(meaning)}</td></tr>'
                    for name, kinds, meaning in MEANINGS)
     bins = gathered.bins
-    silent = picture(40, 14, "hatch of a silence", ['<rect class="silent" width="40" height="14"/>'], "key wide-key")
-    return f"""<h2 id="words">How to read the pictures</h2>
+    return f"""<details id="words"><summary>How to read the pictures</summary>
 <div class="scroll"><table><thead><tr><th></th><th class="word">mark</th><th class="word">verdicts</th>
 <th class="word">meaning</th></tr></thead><tbody>{rows}</tbody></table></div>
 <p><b>Rows.</b> The time from the first frame to the last one is cut into {plural(bins.number, "bin")} of
 {bins.width:,} µs each, and a link’s picture has a row for each kind of verdict that occurs, for network A above and
 for B below. A bar’s height is the number of frames in its bin; each row has its own scale: “full bar” is the number
 that its highest bar stands for, and “frames” counts all of the row. A row of few frames has a mark for each. Rest the
-pointer on a bin for its numbers.</p>
-<p><b>Gaps.</b> The output has no sequence numbers, so no picture says that a frame was lost. Three things may come
-from a loss: <i>out of sequence</i>; <i>no second copy</i>; and a <i>silence</i>, hatched {silent} over the rows of a
-network: it brought no frame of the link while the other one brought {FRAMES_OF_SILENCE} or more that aren’t
-redundant, for more than {WAITS_OF_SILENCE} times as long as any redundant frame of the link came after the latest
-forwarded one. A network that is late, or whose trace begins later or ends earlier, looks like that too.</p>
-<p><b>Second copies.</b> A redundant frame is paired with a frame of its link that the other network forwarded before.
-If a link has no frame out of sequence and each network has as many redundant frames as the other has forwarded ones,
-the n-th is paired with the n-th: right if no copy was lost. Else a redundant frame takes the latest forwarded frame
-that isn’t paired, and pairs that were made one inside the other are made anew in order. A forwarded frame waits no
-longer for its copy once the other network brings a frame that is itself forwarded, or once the delay would be longer
-than any redundant frame of the link came after the latest forwarded one, or if later frames wait too, once it has
-waited {PATIENCE} times the median of those times. All of this is a guess: after a loss some pairs next to it may be
-wrong, and where a link’s frames follow each other faster than their second copies come, delays may be too short by
-whole intervals between frames.</p>
+pointer on a bin, or go there by the arrow keys, for its numbers and for its first frame in the input.</p>
+<p><b>Second copies.</b> A redundant frame is paired with the frame of its link and sequence number that the other
+network forwarded last.</p>
 <p><b>Ports.</b> A sampling port’s picture has the age of its newest message: in each bin the greatest one, from the
-first message to the last frame of the output. Above the refresh period it is hatched: the message is stale there.
-Whether the newest message is fresh or stale in the report holds for the time of the report, which the output doesn’t
-say. A queuing port’s picture has the messages that wait: the player takes none, so that a queue only fills.</p>"""
+first message to the last frame. Above the refresh period it is hatched: the message is stale there. Whether the newest
+message is fresh or stale in the report holds for the time of the report. A queuing port’s picture has the messages that
+wait: the player takes none, so that a queue only fills.</p></details>"""
+
+
+# ---- faults and gaps
+
+def faults_part(faults, gathered, unit):
+    rows = [[kind, f"{count:,}", ", ".join(faults.first[kind])] for kind, count in sorted(faults.counts.items())]
+    gaps = [[number, net, gaps.number, gaps.missing.total, gaps.behind, ", ".join(gaps.first)]
+            for number, link in gathered.links.items() for net, gaps in zip(NETWORKS, link.gaps)
+            if gaps.number or gaps.behind]
+    crossed = ("<p class=\"note\">Crossed networks: most source addresses of A say interface 2, and most of B interface 1."
+               "</p>" if faults.are_crossed() else "")
+    return "".join([
+        f'<h2 id="faults">Faults and gaps, by {unit}</h2>{crossed}', table(["kind", "frames", f"first {unit}s"], rows),
+        "<p>Gaps in the sequence numbers: how many, how many numbers are missing in them, how many frames came late or "
+        f"again, and the first {unit}s after a gap.</p>",
+        table(["link", "network", "gaps", "missing", "late or again", f"first {unit}s"], gaps)])
+
+
+def table(heads, rows):
+    if not rows:
+        return "<p>None.</p>"
+    head, *body = (f"<tr>{''.join(cell(tag, one) for one in row)}</tr>"
+                   for tag, row in [("th", heads), *(("td", row) for row in rows)])
+    return f'<div class="scroll"><table><thead>{head}</thead><tbody>{"".join(body)}</tbody></table></div>'
+
+
+def cell(tag, value):
+    return f'<{tag} class="word">{"" if value is None else escape(str(value))}</{tag}>'
 
 
 # ---- the links
@@ -181,25 +180,22 @@ say. A queuing port’s picture has the messages that wait: the player takes non
 
 def rows_of(drawn, network):
     """The rows of a network that have a frame, in the order of the verdicts; the two that aren't forwarded are last."""
-    rows, found = drawn.rows[network], []
+    rows = drawn.rows[network]
     names = [name for name in ROWS if ROWS[name] >= FIRST_FORWARDED]
     names.sort(key=lambda name: list(CLASSES).index(class_of(name)))
-    for name in (*names, "redundant", "out-of-sequence"):
-        if rows.get(name):
-            found.append(Row(name, class_of(name), rows.get(name)))
-    if drawn.has_redundant and any(drawn.alone[network]):
-        found.append(Row(f"no second copy on {NETWORKS[1 - network]}", "alone", drawn.alone[network]))
+    found = [Row(name, class_of(name), rows[name]) for name in (*names, "redundant", "out-of-sequence") if name in rows]
+    if drawn.has_redundant and drawn.copies.alone[network].total:
+        found.append(Row(f"no second copy on {NETWORKS[1 - network]}", "alone", drawn.copies.alone[network]))
+    if drawn.gaps[network].number:
+        found.append(Row("numbers missing", "missing", drawn.gaps[network].missing))
     return found
 
 
-def silence_of(drawn, network):
-    number, longest = drawn.silences.number[network], drawn.silences.longest[network]
-    if not number:
-        return ""
-    length, begin, others = longest
-    times = "once, for" if number == 1 else f"{number:,} times, longest for"
-    return (f" It was silent {times} {length:,} µs from {begin:,} µs on, while {NETWORKS[1 - network]} brought "
-            f"{others:,} frames that aren’t redundant.")
+def gaps_of(gaps):
+    missing, behind = gaps.missing.total, gaps.behind
+    said = (f" {plural(missing, 'sequence number is', 'sequence numbers are')} missing in {plural(gaps.number, 'gap')}."
+            if missing else "")
+    return said + (f" {plural(behind, 'frame came', 'frames came')} late or again." if behind else "")
 
 
 def verdicts_figure(drawn, times):
@@ -207,75 +203,65 @@ def verdicts_figure(drawn, times):
     for network, name in enumerate(NETWORKS):
         rows = rows_of(drawn, network)
         events = drawn.link.events(network)
-        bands.append((f"Network {name}: {plural(events, 'frame')}", rows, drawn.silences.runs[network]))
-        counts = listed(f"{row.total:,} {row.name}" for row in rows if row.of_class != "alone")
+        bands.append((f"Network {name}: {plural(events, 'frame')}", rows, drawn.gaps[network].runs))
+        counts = listed(f"{row.total:,} {row.name}" for row in rows if row.of_class not in ("alone", "missing"))
         alone = "".join(f" {row.total:,} of them {'has' if row.total == 1 else 'have'} {row.name}."
                         for row in rows if row.of_class == "alone")
         said.append(f"Network {name} brought {plural(events, 'frame')}{': ' + counts if events else ''}.{alone}"
-                    f"{silence_of(drawn, network)}")
+                    f"{gaps_of(drawn.gaps[network])}")
     caption = " ".join(said)
-    silent = {f"silent_{name.lower()}": " ".join(map(str, (drawn.silences.number[n], *drawn.silences.longest[n])))
-              for n, name in enumerate(NETWORKS) if drawn.silences.number[n]}
+    found = {f"gaps_{name.lower()}": f"{gaps.number} {gaps.missing.total} {gaps.behind}"
+             for name, gaps in zip(NETWORKS, drawn.gaps)}
     return figure(rows_picture(f"Verdicts of link {number} over time, network A above and B below", times, bands),
-                  caption, verdicts=number, **silent)
+                  caption, verdicts=number, **found)
 
 
 def delays_figure(drawn):
-    link = drawn.link
+    link, both = drawn.link, drawn.copies.delays
     if not drawn.has_redundant:
-        why = (", since redundancy management is off" if link.redundancy is False else
-               ": redundancy management is off, or no second copy came")
+        why = ", since redundancy management is off" if not link.redundancy else ": no second copy came"
         return f"<p>No frame of this link is redundant{why}.</p>"
     said = []
-    for network, delays in enumerate(drawn.delays):
+    for network, delays in enumerate(both):
         if delays.number:
             exact = "" if delays.step == 1 else f" (to {delays.step} µs)"
             said.append(f"First on {NETWORKS[network]}, {'solid' if network == 0 else 'hatched'}: "
                         f"{plural(delays.number, 'pair')}, delays of {delays.least:,} µs at least, "
                         f"{delays.median():,} µs in the median{exact}, {delays.greatest:,} µs at most.")
-    redundant, paired = sum_of(link, [REDUNDANT]), sum(delays.number for delays in drawn.delays)
-    how = ("the n-th forwarded frame with the n-th redundant one, as their numbers are equal" if drawn.in_order else
-           "with the latest forwarded frame that waits, in order where several wait")
-    skew = "" if link.skew_max is None else f" The link’s SkewMax is {link.skew_max:,} µs."
-    caption = (f"{paired:,} of {plural(redundant, 'redundant frame')} {'is' if paired == 1 else 'are'} paired, {how}. "
-               + " ".join(said) + skew)
+    redundant, paired = sum_of(link, [REDUNDANT]), sum(delays.number for delays in both)
+    caption = (f"{paired:,} of {plural(redundant, 'redundant frame')} {'is' if paired == 1 else 'are'} paired by their "
+               f"sequence numbers. {' '.join(said)} The link’s SkewMax is {link.skew_max:,} µs.")
     if not paired:
         return f"<p>{escape(caption)}</p>"
     pairs = {f"first_{name.lower()}": f"{d.number} {d.least} {d.median()} {d.greatest}"
-             for name, d in zip(NETWORKS, drawn.delays) if d.number}
-    return figure(delay_picture(f"Delays of second copies of link {link.number}", drawn.delays), caption,
-                  delays=link.number, **pairs)
+             for name, d in zip(NETWORKS, both) if d.number}
+    return figure(delay_picture(f"Delays of second copies of link {link.number}", both), caption, delays=link.number,
+                  **pairs)
 
 
 def age_caption(port, ages, last):
-    said = [f"{plural(ages.messages, 'message')}, the first at {ages.first:,} µs and the newest at {ages.latest:,} µs.",
-            f"The greatest age up to the last frame was {ages.oldest:,} µs."]
-    if ages.refresh is not None:
-        said.append(f"The refresh period is {ages.refresh:,} µs;")
-        part = share(ages.stale_time, max(1, last - ages.first))
-        said.append(f"the message was stale (hatched) {plural(ages.stale_stretches, 'time')}, for "
-                    f"{ages.stale_time:,} µs in all, {part} of the time since the first message."
-                    if ages.stale_stretches else "no message was stale.")
-    if port.state in ("fresh", "stale"):
-        said.append(f"In the report it is {port.state}.")
-    return " ".join(said)
+    part = share(ages.stale_time, max(1, last - ages.first))
+    stale = (f"the message was stale (hatched) {plural(ages.stale_stretches, 'time')}, for {ages.stale_time:,} µs in "
+             f"all, {part} of the time since the first message." if ages.stale_stretches else "no message was stale.")
+    return (f"{plural(ages.messages, 'message')}, the first at {ages.first:,} µs and the newest at {ages.latest:,} µs. "
+            f"The greatest age up to the last frame was {ages.oldest:,} µs. The refresh period is {ages.refresh:,} µs; "
+            f"{stale} In the report it is {port.state}.")
 
 
-def queue_caption(queue):
+def queue_caption(queue, unit):
     said = [plural(len(queue.times), "message") + " queued"]
     if queue.times:
         said.append(f", the first at {queue.times[0]:,} µs and the last at {queue.times[-1]:,} µs")
-    said.append(f"; {plural(queue.overflow, 'overflow')}" if queue.overflow else "; no overflow")
-    if queue.overflow:
-        said.append(f", the first at {queue.first_overflow:,} µs")
-    if queue.depth is not None:
-        said.append(f". The queue holds {plural(queue.depth, 'message')}")
+    said.append(f"; {plural(queue.overflows.total, 'overflow')}" if queue.overflows.total else "; no overflow")
+    if queue.overflows.total:
+        said.append(f", the first at {queue.first_overflow[0]:,} µs ({unit} {queue.first_overflow[1]})")
+    said.append(f". The queue holds {plural(queue.depth, 'message')}")
     return "".join(said) + "."
 
 
 def ports_part(output, gathered, times, number):
     """The pictures of a link's ports, and the names of those that got nothing."""
-    of_all = max(1, len(gathered.ages) + len(gathered.queues))
+    of_all = max(1, len(output.ports))
     points = max(40, POINTS_OF_PORTS // of_all)
     size = -(-gathered.bins.number // points)
     stretches = min(60, STRETCHES_OF_PORTS // of_all)
@@ -285,16 +271,16 @@ def ports_part(output, gathered, times, number):
         if port.link != number:
             continue
         ages, queue = gathered.ages.get(port.name), gathered.queues.get(port.name)
-        if ages:
+        if ages and ages.messages:
             caption = age_caption(port, ages, gathered.bins.last)
             drawn = age_picture(port.name, times, ages, size, hover_size)
             data = {"sampling": port.name, "messages": ages.messages, "oldest": ages.oldest, "stale": ages.stale_time}
             parts.append(f"<h3>Sampling port {port.name}: age of its newest message</h3>")
             parts.append(figure(drawn, caption, **data))
-        elif queue and (queue.times or queue.overflow):
-            caption = queue_caption(queue)
+        elif queue and queue.times:
+            caption = queue_caption(queue, output.unit)
             drawn = queue_picture(port.name, times, queue, size, hover_size)
-            data = {"queuing": port.name, "queued": len(queue.times), "overflow": queue.overflow}
+            data = {"queuing": port.name, "queued": len(queue.times), "overflow": queue.overflows.total}
             parts.append(f"<h3>Queuing port {port.name}: messages in its queue</h3>")
             parts.append(figure(drawn, caption, **data))
         else:
@@ -319,29 +305,17 @@ def link_section(output, gathered, times, place, link):
 
 
 def links_part(output, gathered, times):
-    parts = ['<h2 id="links">Link by link</h2><p><button type="button" data-open="all" hidden>Open all</button> '
-             '<button type="button" data-open="none" hidden>Close all</button></p>']
-    parts += [link_section(output, gathered, times, place, link) for place, link in enumerate(output.links.values())]
-    homeless = [f"{port.name} ({port.kind})" for port in output.ports.values() if port.link is None]
-    if homeless:
-        parts.append(f"<p>No line of a frame names these ports, so that the output doesn’t say their links: "
-                     f"{escape(listed(homeless))}.</p>")
-    return "".join(parts)
+    sections = (link_section(output, gathered, times, place, link) for place, link in enumerate(output.links.values()))
+    return f'<h2 id="links">Link by link</h2>{"".join(sections)}'
 
 
-# ---- filtered frames and counters
+# ---- filtered frames
 
 
 def filtered_part(output, gathered, times):
     head = '<h2 id="filtered">Filtered frames</h2>'
-    heads = "".join(f"<th>{cause}</th>" for cause in FILTER_CAUSES)
-    rows = "".join(f'<tr data-filtered="{name}"><td class="word">{name}</td>'
-                   + "".join(map(number_cell, output.filtered[n])) + number_cell(sum(output.filtered[n])) + "</tr>"
-                   for n, name in enumerate(NETWORKS))
-    table = (f'<table><thead><tr><th class="word">network</th>{heads}<th>all</th></tr></thead>'
-             f"<tbody>{rows}</tbody></table>")
     if not any(map(sum, output.filtered)):
-        return f"{head}<p>No frame was filtered.</p>{table}"
+        return f"{head}<p>No frame was filtered.</p>"
     bands, said = [], []
     for network, name in enumerate(NETWORKS):
         found = filtered_rows(gathered.filtered[network])
@@ -351,43 +325,25 @@ def filtered_part(output, gathered, times):
                     + (": " + listed(f"{row.total:,} {row.name}" for row in found) if number else "") + ".")
     caption = " ".join(said)
     drawn = rows_picture("Filtered frames over time by cause, network A above and B below", times, bands)
-    return head + figure(drawn, caption) + table
+    return head + figure(drawn, caption, **{f"filtered_{net.lower()}": " ".join(map(str, found))
+                                            for net, found in zip(NETWORKS, output.filtered)})
 
 
-def counters_part(output):
-    heads = "".join(f"<th>{kind.replace('-', '-<wbr>')}</th>" for kind in KINDS)
-    rows, sums = [], [0] * len(KINDS)
-    for link in output.links.values():
-        for network, name in enumerate(NETWORKS):
-            counts = link.counts[network]
-            sums = [total + number for total, number in zip(sums, counts)]
-            cells = "".join(map(number_cell, (*counts, sum(counts))))
-            rows.append(f'<tr data-count="{link.number} {name}"><td class="word" data-value="{link.number}">'
-                        f'{link.number}</td><td class="word">{name}</td>{cells}</tr>')
-    foot = "".join(f"<td>{number:,}</td>" for number in (*sums, sum(sums)))
-    head = f'<th class="word">link</th><th class="word">net-<wbr>work</th>{heads}<th>all</th>'
-    return ('<h2 id="counters">Counters</h2><p>The report’s <code>count</code> lines; the lines of the frames have the '
-            'same numbers. With scripts a heading sorts the table.</p><div class="scroll" id="count-lines">'
-            f'<table class="sort"><thead><tr>{head}</tr></thead><tbody>{"".join(rows)}</tbody>'
-            f'<tfoot><tr><td class="word" colspan="2">all</td>{foot}</tr></tfoot></table></div>')
-
-
-def page(output, gathered, source, has_config):
+def page(output, gathered, source, faults):
     """The whole page, as text."""
-    times = Times(gathered.bins)
+    times = Times(gathered.bins, output.unit)
     parts = [
         '<!DOCTYPE html>\n<html lang="en"><head><meta charset="utf-8">'
         '<meta name="viewport" content="width=device-width,initial-scale=1">'
         f"<title>What became of each frame: {escape(source)}</title><style>{STYLE}</style></head><body>"
         f'<svg width="0" height="0" aria-hidden="true" style="position:absolute"><defs>{PATTERNS}{times.definition()}'
         "</defs></svg>",
-        totals(output, source),
-        '<nav aria-label="parts of the page"><a href="#overview">All links</a>'
+        head(output, source),
+        '<nav aria-label="parts of the page"><a href="#overview">All links</a><a href="#faults">Faults and gaps</a>'
         '<a href="#words">How to read the pictures</a><a href="#links">Link by link</a>'
-        '<a href="#filtered">Filtered frames</a><a href="#counters">Counters</a></nav>',
-        notes(output, has_config),
-        overview(output, gathered, times), words(gathered), links_part(output, gathered, times),
-        filtered_part(output, gathered, times), counters_part(output),
+        '<a href="#filtered">Filtered frames</a></nav>',
+        overview(output, gathered, times), faults_part(faults, gathered, output.unit), words(gathered),
+        links_part(output, gathered, times), filtered_part(output, gathered, times),
         f"<script>{SCRIPT}</script></body></html>\n",
     ]
     return "".join(parts)

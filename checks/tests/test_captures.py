@@ -1,0 +1,306 @@
+"""Captures of the kernel's own stack, read as tshark reads them, and captures that are torn or forged."""
+import argparse
+import os
+import random
+import struct
+import subprocess
+
+import pytest
+from conftest import CAPTURES, CONFIG, PROGRAM, ROOT, TOOL, done, fault, run, tshark, verdicts
+from workbench import captures, traces
+from workbench.faults import Fault
+
+KERNELS = sorted(path.name for path in CAPTURES.iterdir() if "pcap" in path.suffix)
+BOTH = CAPTURES / "both.pcapng"
+
+
+def read(path):
+    with open(path, "rb") as file:
+        return list(captures.packets(file, file.read(4)))
+
+
+def play(*names):
+    return done("play", "--config", CONFIG, *names)
+
+
+@pytest.mark.parametrize("name", KERNELS)
+def test_packets_are_those_of_tshark(name):
+    path = CAPTURES / name
+    shown = tshark(path, *(word for field in ("frame.number", "frame.interface_id", "frame.time_epoch", "frame.len",
+                                              "frame.cap_len") for word in ("-e", field)))
+    found = [[str(packet.number), str(packet.interface), f"{packet.time // 10**9}.{packet.time % 10**9:09d}",
+              str(packet.length), str(len(packet.octets))] for packet in read(path)]
+    assert found == [[number, interface or "0", *rest] for number, interface, *rest in shown]
+
+
+@pytest.mark.parametrize("name", ["a.pcap", "a_nano.pcap", "both.pcapng"])
+def test_octets_are_those_of_scapy(name):
+    utils = pytest.importorskip("scapy.utils")
+    assert [packet.octets for packet in read(CAPTURES / name)] == \
+        [octets for octets, _ in utils.RawPcapReader(str(CAPTURES / name))]
+
+
+@pytest.mark.parametrize("form", ["pcap", "nsecpcap", "pcapng"])
+def test_every_form_gives_the_same_verdicts(form, tmp_path):
+    made = []
+    for net in "ab":
+        subprocess.run(["editcap", "-F", form, CAPTURES / f"{net}_nano.pcap", tmp_path / net], check=True)
+        made.append(tmp_path / net)
+    assert verdicts(play(*made)) == verdicts(play(CAPTURES / "a.pcap", CAPTURES / "b.pcap"))
+
+
+def test_both_byte_orders(written):
+    """The other byte order of what the kernel's tcpdump wrote."""
+    whole, changed = (CAPTURES / "a.pcap").read_bytes(), b""
+    changed += struct.pack(">IHHiIII", *struct.unpack("<IHHiIII", whole[:24]))
+    place = 24
+    while place < len(whole):
+        head = struct.unpack("<4I", whole[place:place + 16])
+        changed += struct.pack(">4I", *head) + whole[place + 16:place + 16 + head[2]]
+        place += 16 + head[2]
+    assert play(written("big.pcap", changed), CAPTURES / "b.pcap") == play(CAPTURES / "a.pcap", CAPTURES / "b.pcap")
+
+
+def test_two_files_two_interfaces_and_a_pipe_agree(tmp_path):
+    merged = tmp_path / "merged.pcapng"
+    subprocess.run(["mergecap", "-I", "none", "-w", merged, CAPTURES / "a_nano.pcap", CAPTURES / "b_nano.pcap"], check=True)
+    expected = play(CAPTURES / "a_nano.pcap", CAPTURES / "b_nano.pcap")
+    assert play(merged) == expected
+    assert done("play", "--config", CONFIG, "-", data=merged.read_bytes()) == expected
+    swapped = done("play", "--config", CONFIG, "--interfaces", "1,0", merged)
+    assert sum(words.startswith(b"A") for words in verdicts(swapped)) == 15
+
+
+def test_packets_that_dumpcap_wrote_out_of_order_are_put_in_order():
+    found = run("play", "--config", CONFIG, BOTH)
+    assert b"put in order" in found.stderr and b"left out" not in found.stderr
+    assert sorted(verdicts(found.stdout)) == sorted(verdicts(play(CAPTURES / "a.pcap", CAPTURES / "b.pcap")))
+
+
+def test_the_window_of_order(written):
+    """The third packet stands after the eighth."""
+    whole = (CAPTURES / "a.pcap").read_bytes()
+    head, records = whole[:24], [whole[16 + place:16 + place + size + 16] for place, size in places(whole)]
+    path = written("late.pcap", head + b"".join(records[:2] + records[3:8] + [records[2]] + records[8:]))
+    assert play("--reorder", "5", path) == play(CAPTURES / "a.pcap")
+    late = run("play", "--config", CONFIG, "--reorder", "4", path)
+    assert late.returncode == 0 and b"left out, too late for its place: packet 8\n" in late.stderr
+
+
+def places(pcap):
+    """Sixteen octets before each record of a pcap, and how many octets its packet has."""
+    place = 24
+    while place < len(pcap):
+        size = struct.unpack("<I", pcap[place + 8:place + 12])[0]
+        yield place - 16, size
+        place += 16 + size
+
+
+def test_times_are_microseconds_since_the_first_packet():
+    found = run("play", "--config", CONFIG, CAPTURES / "a_nano.pcap", CAPTURES / "b_nano.pcap")
+    times = sorted(packet.time for net in "ab" for packet in read(CAPTURES / f"{net}_nano.pcap"))
+    base = times[0]
+    assert [int(line.split()[0]) for line in found.stdout.splitlines() if line[:1].isdigit()] == \
+        [(time - base) // 1000 for time in times]
+    assert f"time 0 is {base // 10**9}.{base % 10**9:09d} seconds of 1970".encode() in found.stderr
+
+
+def test_check_sequences_are_cut_off():
+    found = run("play", "--config", CONFIG, CAPTURES / "a_fcs.pcap", CAPTURES / "b_fcs.pcap")
+    assert b"17 check sequences cut off" in found.stderr
+    assert verdicts(found.stdout) == verdicts(play(CAPTURES / "a.pcap", CAPTURES / "b.pcap"))
+    kept = done("play", "--config", CONFIG, "--fcs", "no", CAPTURES / "a_fcs.pcap")
+    assert verdicts(kept) != verdicts(play(CAPTURES / "a_fcs.pcap"))
+
+
+@pytest.mark.parametrize("link_type", [1, 1 | 1 << 26 | 2 << 28])
+def test_a_wrong_check_sequence_is_left_out_where_the_capture_has_them(link_type, written):
+    """By pcap's own bits for the length of the check sequence, or since all packets before had one."""
+    data = bytearray((CAPTURES / "a_fcs.pcap").read_bytes())
+    data[20:24] = struct.pack("<I", link_type)
+    data[-1] ^= 1
+    found = run("play", "--config", CONFIG, written("a.pcap", data))
+    assert b"left out, wrong frame check sequence: packet 17" in found.stderr
+
+
+@pytest.mark.parametrize("name, reason", [("a_snapshot.pcap", b"cut by the snapshot length: packet 2, "),
+                                          ("a_tagged.pcap", b"VLAN tag: packet 4")])
+def test_packets_that_no_trace_can_have_are_told_and_left_out(name, reason):
+    found = run("play", "--config", CONFIG, CAPTURES / name)
+    assert found.returncode == 0 and b"left out, " + reason in found.stderr
+    assert 0 < len(verdicts(found.stdout)) < 17
+
+
+def test_an_empty_capture_and_an_empty_file(written):
+    for name in (CAPTURES / "empty.pcap", written("nothing", b"")):
+        assert verdicts(play(name)) == []
+    assert verdicts(play(CAPTURES / "empty.pcap", CAPTURES / "b.pcap"))
+
+
+def test_another_link_type_is_refused():
+    assert fault(1, "play", "--config", CONFIG, CAPTURES / "cooked.pcap") == \
+        "yelunnavi: cooked.pcap: packet 1 isn't Ethernet, but of link type 276"
+
+
+@pytest.mark.parametrize("name", ["a.pcap", "both.pcapng"])
+def test_a_capture_cut_anywhere(name, written):
+    """Whole packets are played, and the torn one is told; no other place makes more than a line."""
+    whole = (CAPTURES / name).read_bytes()
+    rng = random.Random(1)
+    for size in [0, 1, 3, 4, 23, 24, 25, *sorted(rng.sample(range(len(whole)), 40))]:
+        found = run("play", "--config", CONFIG, written("cut", whole[:size]))
+        assert found.returncode in (0, 1) and b"Traceback" not in found.stderr, (size, found.stderr)
+        assert found.returncode == 0 or found.stderr.count(b"\n") == 1
+    assert b"cut by the end of the capture: packet 17" in \
+        run("play", "--config", CONFIG, written("cut", (CAPTURES / "a.pcap").read_bytes()[:-1])).stderr
+
+
+@pytest.mark.parametrize("place, octets, told", [
+    (32, b"\xff\xff\xff\x7f", "packet 1 has an absurd length, 2147483647 octets"),
+    (20, b"\x71\0\0\0", "packet 1 isn't Ethernet, but of link type 113"),
+])
+def test_forged_pcap(place, octets, told, written):
+    data = bytearray((CAPTURES / "a.pcap").read_bytes())
+    data[place:place + len(octets)] = octets
+    assert fault(1, "play", "--config", CONFIG, written("x.pcap", data)) == f"yelunnavi: x.pcap: {told}"
+
+
+def section(order="<"):
+    return struct.pack(order + "IIIHHqI", 0x0A0D0D0A, 28, 0x1A2B3C4D, 1, 0, -1, 28)
+
+
+def block(kind, body, order="<"):
+    return struct.pack(order + "II", kind, 12 + len(body)) + body + struct.pack(order + "I", 12 + len(body))
+
+
+def an_interface(options=b"", link_type=1, snapshot=0, order="<"):
+    return block(1, struct.pack(order + "HxxI", link_type, snapshot) + options, order)
+
+
+def a_packet(interface=0, time=0, octets=bytes(60), kept=None, order="<"):
+    kept = len(octets) if kept is None else kept
+    return block(6, struct.pack(order + "5I", interface, time >> 32, time & 0xFFFFFFFF, kept, kept) + octets, order)
+
+
+@pytest.mark.parametrize("data, told", [
+    (section() + struct.pack("<II", 6, 0xFFFFFFFC), "a block of an absurd length, 4294967292 octets"),
+    (section() + struct.pack("<II", 6, 8), "a block of an absurd length, 8 octets"),
+    (section() + struct.pack("<II", 6, 33) + bytes(40), "a block of an absurd length, 33 octets"),
+    (section()[:8] + bytes(20), "a section without its byte-order magic"),
+    (section() + an_interface()[:-1] + b"\x01", "a block that doesn't end with its length"),
+    (section() + a_packet(), "packet 1 is of interface 0, which the capture hasn't"),
+    (section() + an_interface() + a_packet(kept=10_000), "packet 1 has an absurd length, 10000 octets"),
+    (section() + an_interface() + block(6, bytes(8)), "packet 1 has no room for its lengths"),
+    (section() + an_interface(b"\x09\0\xff\xff\x09\0\0\0"), "an option that is longer than its block"),
+    (section() + block(1, bytes(4)), "an interface without its link type"),
+])
+def test_forged_pcapng(data, told, written):
+    assert fault(1, "play", "--config", CONFIG, written("x.pcapng", data)) == f"yelunnavi: x.pcapng: {told}"
+
+
+@pytest.mark.parametrize("options, ticks, expected", [
+    (b"", 1_500_000, 1_500_000_000), (b"\x09\0\x01\0\x09\0\0\0", 1_500_000_001, 1_500_000_001),
+    (b"\x09\0\x01\0\x8a\0\0\0", 1536, 1_500_000_000), (b"\x09\0\x01\0\x00\0\0\0", 2, 2_000_000_000),
+    (b"\x0e\0\x08\0" + (7).to_bytes(8, "little"), 1, 7_000_001_000),
+])
+def test_resolutions_and_offsets_of_time(options, ticks, expected, written):
+    path = written("x.pcapng", section() + an_interface(options) + a_packet(time=ticks))
+    assert [packet.time for packet in read(path)] == [expected]
+    assert tshark(path, "-e", "frame.time_epoch")[0][0].replace(".", "").lstrip("0") == str(expected)
+
+
+def test_sections_number_their_interfaces_anew(written):
+    one = section() + an_interface() + a_packet(time=5) + section(">") + an_interface(order=">") + a_packet(time=9, order=">")
+    path = written("x.pcapng", one)
+    assert [(packet.number, packet.interface, packet.time) for packet in read(path)] == [(1, 0, 5000), (2, 0, 9000)]
+    assert tshark(path, "-e", "frame.number", "-e", "frame.interface_id") == [["1", "0"], ["2", "0"]]
+
+
+def test_a_packet_without_a_time_is_left_out(written):
+    path = written("x.pcapng", section() + an_interface(snapshot=60) + a_packet() + block(3, struct.pack("<I", 60) + bytes(60)))
+    assert b"left out, no time that a trace can have: packet 2" in run("play", "--config", CONFIG, path).stderr
+
+
+def test_a_block_of_many_options_takes_no_time(written):
+    """A million empty comments of an interface."""
+    path = written("x.pcapng", section() + an_interface(b"\x01\0\0\0" * 1_000_000) + a_packet())
+    assert len(read(path)) == 1
+
+
+def test_too_many_interfaces(written):
+    told = "more than 65536 interfaces"
+    assert fault(1, "play", "--config", CONFIG, written("x", section() + an_interface() * 65_537)) == f"yelunnavi: x: {told}"
+
+
+def test_a_file_that_grows(tmp_path):
+    """Whole packets up to some moment are played; the last may be torn."""
+    whole, path = (CAPTURES / "a.pcap").read_bytes(), tmp_path / "grows.pcap"
+    path.write_bytes(whole)
+    process = subprocess.Popen([TOOL, "play", "--config", CONFIG, "--packets", path], stdout=subprocess.PIPE,
+                               stderr=subprocess.PIPE)
+    with open(path, "ab", buffering=0) as file:
+        while process.poll() is None and file.tell() < 20_000_000:
+            file.write(whole[24:1000])
+            file.write(whole[1000:])
+    out, told = process.communicate(timeout=60)
+    assert process.returncode == 0 and b"Traceback" not in told
+    numbers = [line.split()[0] for line in out.splitlines() if line[:1].isdigit()]
+    assert len(numbers) == len(set(numbers)) >= 17
+
+
+def test_a_standard_input_that_does_not_wait():
+    read_end, write_end = os.pipe()
+    os.set_blocking(read_end, False)
+    found = subprocess.run([TOOL, "play", "--config", CONFIG, "-"], stdin=read_end, capture_output=True)
+    os.close(read_end)
+    os.close(write_end)
+    assert (found.returncode, found.stdout) == (3, b"") and b"gives nothing without a wait" in found.stderr
+
+
+def mutated(rng, seeds):
+    data = bytearray(rng.choice(seeds))
+    for _ in range(rng.choice([1, 1, 2, 8])):
+        place = rng.randrange(len(data)) if rng.random() < 0.5 else rng.randrange(min(len(data), 400))
+        data[place] = rng.choice([0, 1, 0x7F, 0x80, 0xFF, rng.randrange(256)])
+    return data[:rng.randrange(len(data))] if rng.random() < 0.3 else data
+
+
+def test_mutated_captures_make_traces_or_one_fault(written, tmp_path, capsys):
+    """A bounded fuzz: there is no other exception, and the program takes every trace that is made. Each packet of a
+    network is a line of its trace or was left out."""
+    rng, made = random.Random(7), 0
+    seeds = [(CAPTURES / name).read_bytes() for name in ("a.pcap", "both.pcapng", "a_nano.pcap", "a_fcs.pcap")]
+    for case in range(600):
+        path = written("mutated", mutated(rng, seeds))
+        given = argparse.Namespace(name="draw", files=[path], interfaces=(0, 1), fcs=rng.choice([None, True]), reorder=5)
+        try:
+            pair = traces.traces_of(given, tmp_path)
+        except Fault as refused:
+            assert "\n" not in str(refused)
+            continue
+        if not all(isinstance(trace, traces.Captured) for trace in pair):
+            continue
+        made += 1
+        entries = [entry for trace in pair for entry in trace.entries()]
+        lines = sum(1 for trace in pair for _ in open(trace.path, "rb"))
+        assert sum(not entry.left_out for entry in entries) == lines
+        if case % 10 == 0:
+            words = [PROGRAM, "--config", CONFIG, "--a", pair[0].path, "--b", pair[1].path]
+            played = subprocess.run(words, capture_output=True)
+            assert played.returncode == 0, played.stderr
+    assert made > 100 and "Traceback" not in capsys.readouterr().err
+
+
+def test_what_is_neither_is_refused_with_a_hint(written):
+    for data, hint in [(b"\x1f\x8b\x08\0", "compressed: gunzip it"), (b"\xef\xbb\xbf1000 00", "a byte order mark"),
+                       (b"snoop\0\0\0", "`editcap -F pcapng FILE -`"), (b"\xff\xfe1\0", "UTF-16")]:
+        assert hint in fault(1, "play", "--config", CONFIG, written("x", data))
+
+
+def test_one_capture_and_one_trace_are_refused(written):
+    assert "times have nothing in common" in fault(1, "play", "--config", CONFIG, CAPTURES / "a.pcap", written("t", "1 00\n"))
+
+
+def test_examples_are_small():
+    assert sum(path.stat().st_size for path in CAPTURES.iterdir()) < 200_000
+    assert os.path.exists(ROOT / "checks" / "tests" / "make_captures.py")

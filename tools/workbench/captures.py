@@ -1,0 +1,208 @@
+"""Captures, packet by packet: pcap and pcapng are read, pcapng is written, with a comment beside each packet.
+
+Why no library: scapy 2.5 and dpkt 1.9 lose the interface of a pcapng packet or its original length, and take the end of
+a torn file, or a block of an absurd length, for the end of the capture. What is needed here is small and fixed
+(draft-ietf-opsawg-pcap and -pcapng), and the tests compare it with tshark, packet by packet.
+"""
+import struct
+from typing import NamedTuple, Optional
+
+from workbench.faults import Fault
+
+ETHERNET = 1
+MOST_OCTETS, MOST_BLOCK = 262_144, 1 << 24  # of a packet and of a block, as Wireshark takes them
+MOST_INTERFACES = 1 << 16
+SECOND = 10**9
+
+# Each magic number of pcap: its byte order, and the nanoseconds of the smaller part of its times.
+PCAP = {b"\xd4\xc3\xb2\xa1": ("<", 1000), b"\xa1\xb2\xc3\xd4": (">", 1000),
+        b"\x4d\x3c\xb2\xa1": ("<", 1), b"\xa1\xb2\x3c\x4d": (">", 1)}
+SECTION, INTERFACE, OBSOLETE_PACKET, SIMPLE_PACKET, PACKET = 0x0A0D0D0A, 1, 2, 3, 6
+SECTION_MAGIC = b"\x0a\x0d\x0d\x0a"
+ORDERS = {b"\x4d\x3c\x2b\x1a": "<", b"\x1a\x2b\x3c\x4d": ">"}
+LENGTHS = {order: struct.Struct(order + "I") for order in "<>"}
+HEADS = {(order, kind): struct.Struct(order + fields) for order in "<>"
+         for kind, fields in [(PACKET, "5I"), (OBSOLETE_PACKET, "HxxIIII"), (SIMPLE_PACKET, "I")]}
+END, COMMENT, NAME, DESCRIPTION, RESOLUTION, FCS_LENGTH, OFFSET = 0, 1, 2, 3, 9, 13, 14
+
+
+class Interface(NamedTuple):
+    """What the capture says of where its packets came from. `fcs` is whether they end with a frame check sequence,
+    None if that isn't said."""
+    link_type: int
+    fcs: Optional[bool]
+    snapshot: int = 0
+    units: int = SECOND  # of a second, of times in pcapng
+    offset: int = 0  # of times in pcapng, in seconds
+
+
+class Packet(NamedTuple):
+    """Its number counts from 1, as Wireshark's does. The time is in nanoseconds of 1970, None if there is none.
+    `length` is what it had before the snapshot length cut it."""
+    number: int
+    interface: int
+    time: Optional[int]
+    octets: bytes
+    length: int
+    about: Interface
+
+
+class Cut(Exception):
+    """The file ends in the middle of something."""
+
+
+def is_capture(magic):
+    return magic in PCAP or magic == SECTION_MAGIC
+
+
+def packets(file, magic):
+    """The packets of a capture whose first four octets were read. Ends with `Cut` where the file is cut short, and
+    with a `Fault` where it isn't of its form."""
+    return pcap(file, *PCAP[magic]) if magic in PCAP else pcapng(file, magic)
+
+
+def exactly(file, count):
+    octets = file.read(count)
+    if len(octets) < count:
+        raise Cut
+    return octets
+
+
+def pcap(file, order, unit):
+    snapshot, network = struct.unpack(order + "12xII", exactly(file, 20))
+    about = Interface(network & 0xFFFF, network >> 28 == 2 if network & 1 << 26 else None, snapshot)
+    head, number = struct.Struct(order + "4I"), 0
+    while first := file.read(16):
+        number += 1
+        if len(first) < 16:
+            raise Cut
+        seconds, part, kept, length = head.unpack(first)
+        if kept > MOST_OCTETS:
+            raise Fault(f"packet {number} has an absurd length, {kept} octets")
+        yield Packet(number, 0, seconds * SECOND + part * unit, exactly(file, kept), length, about)
+
+
+def pcapng(file, magic):
+    """Each section of a file numbers its interfaces anew, and packets are numbered on, as tshark does."""
+    order, interfaces, number = "<", [], 0
+    while magic:
+        if len(magic) < 4:
+            raise Cut
+        if magic == SECTION_MAGIC:
+            order, interfaces = begin_section(file), []
+        else:
+            kind, body = block(file, order, magic)
+            if kind == INTERFACE:
+                interfaces.append(interface(order, body, len(interfaces)))
+            elif kind in (PACKET, SIMPLE_PACKET, OBSOLETE_PACKET):
+                number += 1
+                yield packet(order, kind, body, number, interfaces)
+        magic = file.read(4)
+
+
+def begin_section(file):
+    """Skips the header of a section; its magic number says the byte order."""
+    length, magic = exactly(file, 4), exactly(file, 4)
+    if magic not in ORDERS:
+        raise Fault("a section without its byte-order magic")
+    if exactly(file, length_of_block(ORDERS[magic], length, 28) - 12)[-4:] != length:
+        raise Fault("a section header that doesn't end with its length")
+    return ORDERS[magic]
+
+
+def length_of_block(order, octets, least):
+    size, = LENGTHS[order].unpack(octets)
+    if size < least or size % 4 or size > MOST_BLOCK:
+        raise Fault(f"a block of an absurd length, {size} octets")
+    return size
+
+
+def block(file, order, magic):
+    length = exactly(file, 4)
+    body = exactly(file, length_of_block(order, length, 12) - 8)
+    if body[-4:] != length:
+        raise Fault("a block that doesn't end with its length")
+    return LENGTHS[order].unpack(magic)[0], body[:-4]
+
+
+def options(order, octets):
+    """Code and value of each option."""
+    head, place = struct.Struct(order + "HH"), 0
+    while place + 4 <= len(octets):
+        code, length = head.unpack_from(octets, place)
+        if code == END:
+            return
+        if place + 4 + length > len(octets):
+            raise Fault("an option that is longer than its block")
+        yield code, octets[place + 4:place + 4 + length]
+        place += 4 + length + -length % 4
+
+
+def interface(order, body, before):
+    if before == MOST_INTERFACES:
+        raise Fault(f"more than {MOST_INTERFACES} interfaces")
+    if len(body) < 8:
+        raise Fault("an interface without its link type")
+    link_type, snapshot = struct.unpack(order + "HxxI", body[:8])
+    units, offset, fcs = 10**6, 0, None
+    for code, value in options(order, body[8:]):
+        if code == RESOLUTION and len(value) == 1:
+            units = (2 if value[0] & 0x80 else 10) ** (value[0] & 0x7F)
+        elif code == OFFSET and len(value) == 8:
+            offset = struct.unpack(order + "q", value)[0]
+        elif code == FCS_LENGTH and len(value) == 1:
+            fcs = value[0] in (4, 32)  # octets, or bits: both are written
+    return Interface(link_type, fcs, snapshot, units, offset)
+
+
+def packet(order, kind, body, number, interfaces):
+    head = HEADS[order, kind]
+    size = head.size
+    if len(body) < size:
+        raise Fault(f"packet {number} has no room for its lengths")
+    found = head.unpack_from(body)
+    own = 0 if kind == SIMPLE_PACKET else found[0]
+    if own >= len(interfaces):
+        raise Fault(f"packet {number} is of interface {own}, which the capture hasn't")
+    about = interfaces[own]
+    if kind == SIMPLE_PACKET:
+        kept = min(found[0], about.snapshot or found[0])
+        time = None
+    else:
+        kept = found[3]
+        time = (found[1] << 32 | found[2]) * SECOND // about.units + about.offset * SECOND
+    if kept > MOST_OCTETS or size + kept > len(body):
+        raise Fault(f"packet {number} has an absurd length, {kept} octets")
+    return Packet(number, own, time, body[size:size + kept], found[-1], about)
+
+
+# ---- writing
+
+def written_block(kind, body, *chosen):
+    """A block with options: pairs of code and octets."""
+    parts = [body]
+    if chosen:
+        parts += [struct.pack("<HH", code, len(value)) + padded(value) for code, value in (*chosen, (END, b""))]
+    body = b"".join(parts)
+    size = struct.pack("<I", 12 + len(body))
+    return struct.pack("<I", kind) + size + body + size
+
+
+def padded(octets):
+    return octets + bytes(-len(octets) % 4)
+
+
+def written_section(program):
+    return written_block(SECTION, struct.pack("<IHHq", 0x1A2B3C4D, 1, 0, -1), (4, program.encode()))
+
+
+def written_interface(name, description):
+    """An interface of Ethernet without frame check sequences, whose times are in nanoseconds."""
+    return written_block(INTERFACE, struct.pack("<HxxI", ETHERNET, MOST_OCTETS), (NAME, name.encode()),
+                         (DESCRIPTION, description.encode()), (RESOLUTION, b"\x09"), (FCS_LENGTH, b"\x00"))
+
+
+def written_packet(interface, time, octets, length, comment):
+    """`length` is that before the snapshot length cut it, None if nothing did."""
+    head = struct.pack("<5I", interface, time >> 32, time & 0xFFFFFFFF, len(octets), length or len(octets))
+    return written_block(PACKET, head + padded(octets), (COMMENT, comment.encode()))

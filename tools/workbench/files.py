@@ -1,0 +1,146 @@
+"""Files and the terminal: inputs with a progress bar, outputs that are whole or not there, folders that go again."""
+import contextlib
+import io
+import os
+import stat
+import sys
+import tempfile
+import time
+
+from workbench.faults import NOT_READ, Fault, plain
+
+BLOCK = 1 << 20
+QUIET_SECONDS, REDRAW_SECONDS, WIDTH = 1.0, 0.2, 30
+
+
+class Bar:
+    """How far the work is, on a terminal, once it has taken a second."""
+
+    def __init__(self, what, total):
+        self.what, self.total, self.done = what, total, 0
+        self.next = time.monotonic() + QUIET_SECONDS if sys.stderr and sys.stderr.isatty() else float("inf")
+        self.shown = False
+
+    def __enter__(self):
+        return self
+
+    def __exit__(self, *_):
+        self.clear()
+
+    def add(self, amount):
+        self.done += amount
+        if time.monotonic() >= self.next:
+            self.next, self.shown = time.monotonic() + REDRAW_SECONDS, True
+            sys.stderr.write(f"\r\x1b[K{self.what} {self.state()}")
+            sys.stderr.flush()
+
+    def state(self):
+        if not self.total:
+            return f"{self.done:,}"
+        share = min(self.done / self.total, 1)
+        return f"[{'#' * int(WIDTH * share):{WIDTH}}] {share:.0%}"
+
+    def clear(self):
+        if self.shown:
+            sys.stderr.write("\r\x1b[K")
+            sys.stderr.flush()
+            self.shown = False
+
+
+class Watched(io.RawIOBase):
+    """A file whose reading moves a bar, and whose faults are lines."""
+
+    def __init__(self, raw, name, bar):
+        self.raw, self.name, self.bar = raw, name, bar
+
+    def readable(self):
+        return True
+
+    def readinto(self, buffer):
+        try:
+            count = self.raw.readinto(buffer)
+        except OSError as error:
+            raise not_read(self.name, error) from None
+        if count is None:
+            raise Fault(f"{self.name}: not read: it gives nothing without a wait (O_NONBLOCK)", NOT_READ)
+        self.bar.add(count)
+        return count
+
+
+@contextlib.contextmanager
+def reading(name, what):
+    """The octets of a file, or of the standard input if its name is `-`."""
+    try:
+        raw = open(0 if name == "-" else name, "rb", buffering=0, closefd=name != "-")
+    except OSError as error:
+        raise not_read(name, error) from None
+    with raw:
+        about = os.fstat(raw.fileno())
+        with Bar(f"{what} {plain(name)}", about.st_size if stat.S_ISREG(about.st_mode) else 0) as bar:
+            yield io.BufferedReader(Watched(raw, name, bar), BLOCK)
+
+
+def not_read(name, error):
+    return Fault(f"{name}: not read: {error.strerror or error}", NOT_READ)
+
+
+def not_written(name, error, more=""):
+    return Fault(f"{name}: not written: {error.strerror or error}{more}", NOT_READ)
+
+
+def not_kept(folder, error):
+    """A fault of what is kept while a run lasts."""
+    return not_written(error.filename or folder, error, " (--scratch and TMPDIR choose another folder)")
+
+
+@contextlib.contextmanager
+def writing(name):
+    """A file that has its name once it is whole; `-` is the standard output. A device or a pipe is written as it is."""
+    if name == "-":
+        with output() as file:
+            yield file
+        return
+    try:
+        whole = beside(name) if os.path.isfile(name) or not os.path.exists(name) else open(name, "wb", BLOCK)
+        with whole as file:
+            yield file
+    except OSError as error:
+        raise not_written(name, error) from None
+
+
+@contextlib.contextmanager
+def beside(name):
+    """A file in the same folder, which takes the name at its end. It goes if the caller fails."""
+    name = os.path.realpath(name)
+    mask = os.umask(0)
+    os.umask(mask)
+    number, path = tempfile.mkstemp(prefix=".yelunnavi-", dir=os.path.dirname(name))
+    try:
+        with open(number, "wb", BLOCK) as file:
+            os.fchmod(number, 0o666 & ~mask)
+            yield file
+        os.replace(path, name)
+    except BaseException:
+        os.unlink(path)
+        raise
+
+
+@contextlib.contextmanager
+def output():
+    """The standard output. What a reader that is gone left in it goes nowhere."""
+    try:
+        with open(1, "wb", BLOCK, closefd=False) as file:
+            yield file
+    except OSError:
+        raise Fault("output not written", NOT_READ) from None
+
+
+@contextlib.contextmanager
+def scratch(parent):
+    """A folder that goes with the run."""
+    try:
+        folder = tempfile.TemporaryDirectory(prefix="yelunnavi-", dir=parent and os.path.abspath(parent))
+    except OSError as error:
+        raise not_kept(parent or tempfile.gettempdir(), error) from None
+    with folder as name:
+        yield name
