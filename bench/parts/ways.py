@@ -56,7 +56,7 @@ def link_reads(program):
     return start(program)
 
 
-def receiver(program, frames, profiles):
+def link_takes(program, frames, profiles):
     status = 0
     for profile in profiles:
         with tempfile.TemporaryDirectory() as folder:
@@ -130,7 +130,7 @@ WAYS = {
     "queue": (ask_nothing, queue),
     "port": (ask_nothing, port),
     "link_reads": (ask_nothing, link_reads),
-    "receiver": (ask_traces, receiver),
+    "link_takes": (ask_traces, link_takes),
     "one_task": (ask_nothing, one_task),
     "epochs": (functools.partial(ask_number, otherwise=10_000), epochs),
     "system": (functools.partial(ask_number, otherwise=1_000), system),
