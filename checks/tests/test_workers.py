@@ -285,6 +285,24 @@ def test_a_worker_that_is_stopped(long_case, tmp_path):
             assert ends_well(process, expected)
 
 
+def test_a_worker_that_is_stopped_and_the_other_one_killed(long_case, tmp_path):
+    """What was moved to a worker that is gone is done by the one that comes after it."""
+    (a, b), expected, shared = long_case
+    with scheduler(shared) as (address, _, nannies):
+        process = playing(a, b, "--scheduler", address, "--scratch", shared, "--program", sleeping_first(f"{tmp_path}/slow"),
+                          tool=IMPATIENT)
+        assert wait_for(nannies.pid, b"sleep")
+        first, second = named(children(nannies.pid), b"spawn_main")
+        with stopped([first]):
+            idle_since = time.monotonic()
+            while time.monotonic() < idle_since + 1:  # its own tasks are done
+                idle_since = time.monotonic() if list(named(children(second), b"sleep")) else idle_since
+                time.sleep(0.05)
+            assert wait_for(second, b"sleep")
+            os.kill(second, signal.SIGKILL)
+            assert ends_well(process, expected)
+
+
 @pytest.mark.parametrize("what", ["workers", "scheduler"])
 def test_all_that_are_stopped(what, long_case, slow):
     (a, b), _, shared = long_case

@@ -169,7 +169,7 @@ class Plays:
     """Calls of `play_group` as tasks."""
 
     def __init__(self, client, calls):
-        self.client, self.life, self.moved = client, Life(client), set()
+        self.client, self.life, self.moved, self.given = client, Life(client), set(), {}
         self.pending = dict(zip(client.map(play_group, *zip(*calls), pure=False, retries=TRIES - 1), calls))
 
     def results(self):
@@ -188,15 +188,16 @@ class Plays:
                 self.move(*self.life.still())
 
     def move(self, still, others):
-        """Has the tasks of workers that stand still done by others."""
+        """Has the tasks of workers that stand still done by others; and what was given to workers that are gone."""
         new = [address for address in still if address not in self.moved]
         self.moved = set(still)
         held = self.life.asked(self.client.scheduler.processing, workers=new) if new else {}
         keys = {key for found in held.values() for key in found}
+        keys |= {key for key, given in self.given.items() if others and given.isdisjoint(others)}
         for future in [one for one in self.pending if one.key in keys]:
             call = self.pending.pop(future)
             again = self.client.submit(play_group, *call, pure=False, retries=TRIES - 1, workers=others)
-            self.pending[again] = call
+            self.pending[again], self.given[again.key] = call, set(others)
 
 
 @contextlib.contextmanager
