@@ -255,6 +255,19 @@ def test_copies_are_paired_by_their_numbers(written):
     assert any(row[:1] == ["7"] and row[-1].startswith("2 (3 after 1)") for row in found.rows)
 
 
+@pytest.mark.parametrize("numbers, gaps", [
+    ([1, 2, 90, 3, 4, 5], "0 0 1"),  # 90 is astray
+    ([1, 2, 90, 4, 5], "1 1 1"),  # and 3 lost
+    ([1, 2, 90], "1 87 0"),  # whether it is so the end leaves open
+    ([1, 2, 7, 8], "1 4 0"), ([1, 2, 7, 12, 17, 18], "3 12 0"), ([1, 2, 7, 0, 1], "1 4 0"),  # lost numbers
+    ([1, 2, 4, 3, 5], "1 1 1"), ([1, 2, 2, 3], "0 0 1"),  # late, and again
+])
+def test_numbers_that_are_astray_make_no_gap(numbers, gaps, written):
+    trace = written("a", "".join(f"{100 * place} {frame(7, number, '', 1, 8)}\n" for place, number in enumerate(numbers)))
+    found = compare(trace, config=written("two.toml", TWO))
+    assert found.figure("data-verdicts", "7")["data-gaps-a"] == gaps
+
+
 def test_many_frames_make_a_bounded_page(written):
     """Some 120,000 frames of 16 links: the page and the memory stay small."""
     config = "".join(f'[[link]]\nvl = {vl}\nskew_max_us = 2000\nreassembly_us = 50000\nport = [{{name = "p{vl}", kind = '

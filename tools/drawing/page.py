@@ -25,7 +25,8 @@ MEANINGS = [
      "was lost or discarded, or comes after the last line. Drawn for links with redundant frames only, and beside the "
      "frame's own verdict"),
     ("missing", "(no verdict)", "sequence numbers that a network left out, at the frame that came next; the rows are "
-     "hatched from the frame before it on. A late frame fills no gap"),
+     "hatched from the frame before it on. A late frame fills no gap. A refused number that the "
+     "next frame is behind was astray"),
     ("filtered", "filtered CAUSE", "octets that are no frame of a configured link; no link's picture has them"),
 ]
 
@@ -158,9 +159,9 @@ def faults_part(faults, gathered, unit):
                "</p>" if faults.are_crossed() else "")
     return "".join([
         f'<h2 id="faults">Faults and gaps, by {unit}</h2>{crossed}', table(["kind", "frames", f"first {unit}s"], rows),
-        "<p>Gaps in the sequence numbers: how many, how many numbers are missing in them, how many frames came late or "
-        f"again, and the first {unit}s after a gap.</p>",
-        table(["link", "network", "gaps", "missing", "late or again", f"first {unit}s"], gaps)])
+        "<p>Gaps in the sequence numbers: how many, how many numbers are missing in them, how many frames came late, again "
+        f"or astray, and the first {unit}s after a gap.</p>",
+        table(["link", "network", "gaps", "missing", "late, again or astray", f"first {unit}s"], gaps)])
 
 
 def table(heads, rows):
@@ -195,7 +196,7 @@ def gaps_of(gaps):
     missing, behind = gaps.missing.total, gaps.behind
     said = (f" {plural(missing, 'sequence number is', 'sequence numbers are')} missing in {plural(gaps.number, 'gap')}."
             if missing else "")
-    return said + (f" {plural(behind, 'frame came', 'frames came')} late or again." if behind else "")
+    return said + (f" {plural(behind, 'frame came', 'frames came')} late, again or astray." if behind else "")
 
 
 def verdicts_figure(drawn, times):
