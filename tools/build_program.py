@@ -32,7 +32,6 @@ def build_folder(name):
 
 # ---- the crates
 
-
 def lines_of_crates():
     """The lines of crates.txt by their crate, each with the crates and libraries that it names."""
     found = {}
@@ -90,7 +89,6 @@ def lay_crates(folder, names):
 
 
 # ---- proving
-
 
 def side_by_side():
     """How many checks fit the machine: one a processor, as many as memory holds."""

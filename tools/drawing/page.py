@@ -67,7 +67,6 @@ KINDS_OF = {name: [kind for kind, word in enumerate(KINDS) if class_of(word) == 
 
 # ---- the head of the page
 
-
 def head(output, source):
     links = output.links.values()
     filtered = sum(map(sum, output.filtered))
@@ -78,11 +77,10 @@ def head(output, source):
              for name in ("delivered", "held", "refused", "overflow")]
     rows += [(name, CLASSES[name][1], counted[name]) for name in ("redundant", "out")]
     rows.append(("filtered", "filtered", filtered))
-    none = "none"
     figures = [("frames", f"{output.frames:,}"), ("links", f"{len(links):,}"), ("ports", f"{len(output.ports):,}"),
-               ("first frame", none if output.first is None else f"{output.first:,} µs"),
-               ("last frame", none if output.last is None else f"{output.last:,} µs"),
-               ("from first to last", none if output.first is None else f"{output.last - output.first:,} µs")]
+               ("first frame", "none" if output.first is None else f"{output.first:,} µs"),
+               ("last frame", "none" if output.last is None else f"{output.last:,} µs"),
+               ("from first to last", "none" if output.first is None else f"{output.last - output.first:,} µs")]
     shown = "".join(f"<div><dt>{name}</dt><dd>{value}</dd></div>" for name, value in figures)
     body = "".join(
         f'<tr><td class="word">{key(name) if name else ""} {escape(said)}</td>'
@@ -177,7 +175,6 @@ def cell(tag, value):
 
 
 # ---- the links
-
 
 def rows_of(drawn, network):
     """The rows of a network that have a frame, in the order of the verdicts; the two that aren't forwarded are last."""
@@ -311,7 +308,6 @@ def links_part(output, gathered, times):
 
 
 # ---- filtered frames
-
 
 def filtered_part(output, gathered, times):
     head = '<h2 id="filtered">Filtered frames</h2>'
