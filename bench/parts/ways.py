@@ -88,6 +88,28 @@ def stress(program, seconds):
     return status
 
 
+def three_roofs(program, runs):
+    return start(program, f"{runs}\n")
+
+
+RECEIVES = ["verdicts", "ports", "longest"]
+
+
+def ask_receives(words):
+    if set(words) - set(RECEIVES):
+        raise Refused(f"its words are {', '.join(RECEIVES)}")
+    return [words or RECEIVES]
+
+
+def receives(program, parts):
+    status = 0
+    for part in parts:
+        print_load()
+        status = max(status, start(program, f"{part}\n"))
+    print_load()
+    return status
+
+
 # ---- a port beside one in C
 
 BESIDE = [1, 4, 8]
@@ -134,6 +156,8 @@ WAYS = {
     "one_task": (ask_nothing, one_task),
     "epochs": (functools.partial(ask_number, otherwise=10_000), epochs),
     "system": (functools.partial(ask_number, otherwise=1_000), system),
+    "three_roofs": (functools.partial(ask_number, otherwise=100), three_roofs),
+    "receives": (ask_receives, receives),
     "stress": (functools.partial(ask_number, otherwise=60), stress),
 }
 

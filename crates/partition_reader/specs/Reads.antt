@@ -2,7 +2,7 @@
 use Rattle.std.specs.Prelude.{◌≡◌, ℕ, ◌+◌, ◌-◌, ◌/◌, ◌<◌, ◌≤◌, min, List, length, slice_index}
 use Rattle.slot_core.specs.Octets.{octet_at}
 use Rattle.slot_core.specs.State.{last_of}
-use Rattle.sampling_port.specs.Ends.{IsHeadOf, IsHeldAfter, IsNothing, IsOvertaken, IsSameEnd, ReaderEnd}
+use Rattle.sampling_port.specs.Ends.{IsHeadOf, IsHeldAfter, IsNothing, IsOvertaken, IsSameEnd, ReaderEnd, is_told}
 use Rattle.sampling_port.specs.declared.reader.Read.{Read}
 use Rattle.sampling_port.specs.declared.reader.Read.TheVariants.{Message as Found, Empty as Nothing, Busy as Overtaken}
 use Rattle.sampling_port.specs.declared.state.Freshness.{Freshness}
@@ -25,6 +25,10 @@ pub record IsSamePort (v w : PortReader) : Type 0 where
 -- it made so many more steps
 abbrev pub after_steps : PortReader → ℕ → PortReader
 after_steps v more = record { end = record v.end { steps = v.end.steps + more }; refresh = v.refresh; max = v.max }
+
+-- the same reader, which knows that these were published
+abbrev pub told : PortReader → List (List ℕ) → PortReader
+told v published = record { end = is_told v.end published; refresh = v.refresh; max = v.max }
 
 -- how often a read or a hold looks again
 abbrev pub most_tries : ℕ
@@ -52,6 +56,14 @@ IfEmpty _ P = Unit {0}
 abbrev pub IfBusy : Reading → (ℕ → Type 0) → Type 0
 IfBusy (Busy number) P = P number
 IfBusy _ P = Unit {0}
+
+-- what a read by this reader into `out` says, all in all
+pub record IsRead (v w : PortReader) (before out : List ℕ) (answer : Reading) : Type 0 where
+  pub head : IfMessage answer (λ number time len _. IsHeadOf w.end.seen number time len)
+  pub octets : IfMessage answer (λ _ _ len _. IsCopyThatFits (last_of w.end.seen) before out len)
+  pub newest : IfMessage answer (λ _ _ len _. IsHeldAfter v.end w.end most_tries (3 + (min len (length before) + 7) / 8))
+  pub empty : IfEmpty answer (IsNothing v.end w.end × (out ≡ before))
+  pub busy : IfBusy answer (λ number. IsOvertaken v.end w.end most_tries number × (out ≡ before))
 
 -- the same without the validity
 abbrev pub PlainAnswer : ReaderEnd → ReaderEnd → List ℕ → List ℕ → Read → Type 0

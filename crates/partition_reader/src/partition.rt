@@ -4,13 +4,13 @@ ghost use Rattle.slot_core.specs.Limits.{longest_message};
 ghost use Rattle.slot_core.specs.State.{StartsWith, last_of};
 ghost use Rattle.sampling_port.specs.Age.{freshness as freshness_at};
 ghost use Rattle.sampling_port.specs.Ends.{IsCopy, IsHeadOf, IsHeldAfter, IsNotHeld, IsNothing, IsOvertaken};
-ghost use Rattle.partition_reader.specs.Reads.{IfBusy, IfEmpty, IfMessage, IsCopyThatFits, IsSamePort, most_tries};
+ghost use Rattle.partition_reader.specs.Reads.{IfBusy, IfEmpty, IfMessage, IsCopyThatFits, IsSamePort, most_tries, told};
 
 use crate::copy::read_moved;
 use crate::held::HeldMessage;
 use crate::reading::Reading;
 use core::mem::replace_with;
-use sampling_port::{MOST_TRIES, NotHeld, Read, Reader, freshness};
+use sampling_port::{MOST_TRIES, NotHeld, Read, Reader, Writer, freshness, meet};
 use slot_core::READERS;
 use std::marker::Model;
 
@@ -69,6 +69,16 @@ impl PartitionReader {
         ensures short { result ≤ longest_message }
     {
         self.max
+    }
+
+    /// The reader and the end of its port that publishes meet: it then knows all that was published. Nothing else changes.
+    pub fn meet(&mut self, writer: &mut Writer<READERS>)
+        requires { self.old.end.port ≡ writer.old.port }
+        ensures reader { self.new ≡ told self.old writer.old.published }
+        ensures writer { writer.new ≡ writer.old }
+        ensures before { StartsWith writer.old.published self.old.end.seen }
+    {
+        meet(writer, &mut self.reader);
     }
 
     /// Reads the newest message at `now` microseconds, which is of the clock of the arrival times. It looks again up

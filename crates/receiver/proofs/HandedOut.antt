@@ -1,9 +1,9 @@
 -- The ends that are handed out are those of the outlets, and stay so.
-use Rattle.std.proofs.Common.{◌≡◌, ◌∙◌, ap, sym, subst, refl, ℕ, zero, suc, ◌+◌, List, [], ◌∷◌, Option, None, Some, ⊎_elim, arith}
+use Rattle.std.proofs.Common.{◌≡◌, ◌∙◌, ap, sym, subst, refl, ℕ, zero, suc, ◌+◌, List, [], ◌∷◌, Option, None, Some, ⊎_elim, arith, map}
 use Rattle.std.specs.List.{All, slice_get, slice_set}
 use Rattle.std.proofs.lemmas.Bool.{cases_eq}
 use Rattle.std.proofs.lemmas.List.{map-append}
-use Rattle.std.proofs.lemmas.List.Elements.{All-nil, All-push}
+use Rattle.std.proofs.lemmas.List.Elements.{All-map, All-nil, All-push}
 use Rattle.std.proofs.lemmas.Option.{same_Some, slice_get_within}
 use Rattle.es_base.specs.declared.event.Arrival.{Arrival}
 use Rattle.es_base.specs.declared.event.Message.{Message}
@@ -14,14 +14,15 @@ use Rattle.es_base.specs.declared.port.PortKind.TheVariants.{Sampling, Queuing}
 use Rattle.es_base.specs.Config.{Configuration}
 use Rattle.es_base.specs.Port.{Port}
 use Rattle.es_base.specs.Settings.{Settings}
-use Rattle.message_ring.specs.Queue.{opened}
+use Rattle.message_ring.specs.Queue.{Known, opened}
+use Rattle.partition_reader.specs.Reads.{PortReader}
 use Rattle.sampling_port.specs.Ends.{PortId, ReaderEnd, end_of, new_readers, new_writer}
 use Rattle.sampling_port.specs.Seats.{new_seat, new_seats}
 use Rattle.slot_core.specs.Limits.{port_readers}
 use Rattle.receiver.specs.declared.ends.LinkEnds.{LinkEnds}
 use Rattle.receiver.specs.declared.ends.PortEnd.{PortEnd}
-use Rattle.receiver.specs.declared.port.PartitionEnd.{PartitionEnd}
-use Rattle.receiver.specs.declared.port.PartitionEnd.TheVariants as ends
+use Rattle.receiver.specs.declared.partition.PartitionEnd.{PartitionEnd}
+use Rattle.receiver.specs.declared.partition.PartitionEnd.TheVariants as ends
 use Rattle.receiver.specs.declared.port.PortOutlet.{PortOutlet}
 use Rattle.receiver.specs.declared.port.PortOutlet.TheVariants as outlets
 use Rattle.receiver.specs.declared.receiver.Reply.TheVariants.{Filtered, Link}
@@ -30,7 +31,7 @@ use Rattle.receiver.specs.Ends.{AreOpened}
 use Rattle.receiver.specs.Link.{Ported}
 use Rattle.receiver.specs.Meetings.{HasOutlet, HasOutletAt, IsEndOf}
 use Rattle.receiver.specs.Outlet.{GivesAt}
-use Rattle.receiver.specs.Port.{AnswersPort, GivesPort, IsPortOf, ReadsAs, ReadsPort, ShowsPort}
+use Rattle.receiver.specs.Port.{AnswersPort, AreReadersOf, GivesPort, IsPortOf, IsQueueOf, ReadsAs, ReadsPort, ShowsPort, port_reader}
 use Rattle.receiver.specs.Receiver.{AreNewLinks, IsNew, LinkStaysAt, Links, TakesAt}
 use Rattle.receiver.specs.Run.{Call, Makes, came, met}
 use Rattle.receiver.proofs.Places.{slice_get-set_other, slice_get-set_same}
@@ -43,14 +44,21 @@ readers_are outlet id (suc n) each =
     let P : ReaderEnd → Type 0 = λ reader. IsPortOf outlet reader in
     rw (map-append end_of (new_seats id n) (new_seat id n ∷ [])) (All-push P (new_readers id n) (end_of (new_seat id n)) (readers_are outlet id n each) (each (end_of (new_seat id n)) refl))
 
-reads_it : (kind : PortKind) (outlet : PortOutlet) (end : PartitionEnd) → ReadsAs kind outlet end → IsEndOf outlet end
-reads_it (Sampling refresh) outlet end reads =
+sampled : (refresh max : ℕ) (outlet : PortOutlet) (end : PartitionEnd) → AreReadersOf refresh max outlet end → IsEndOf outlet end
+sampled refresh max outlet (ends.Readers readers) are =
+    let id = are.0 in
+    let Of : PortOutlet → List PortReader → Type 0 = λ o all. All (λ (reader : PortReader). IsPortOf o reader.end) all in
+    let mine = readers_are (outlets.Sampling (new_writer id)) id port_readers (λ reader same. same) in
+    let all : Of (outlets.Sampling (new_writer id)) (map (port_reader refresh max) (new_readers id port_readers)) =
+    All-map (λ (reader : PortReader). IsPortOf (outlets.Sampling (new_writer id)) reader.end) (port_reader refresh max) (new_readers id port_readers) mine in
+    subst (λ (o : PortOutlet). Of o readers.items) (sym are.1) (subst (λ (l : List PortReader). Of (outlets.Sampling (new_writer id)) l) (sym are.2) all)
+sampled refresh max outlet (ends.Taker taker) are = absurd are
+
+reads_it : (kind : PortKind) (max : ℕ) (outlet : PortOutlet) (end : PartitionEnd) → ReadsAs kind max outlet end → IsEndOf outlet end
+reads_it (Sampling refresh) max outlet end reads = sampled refresh max outlet end reads
+reads_it (Queuing depth) max outlet end reads =
     let id = reads.0 in
-    let mine : IsEndOf (outlets.Sampling (new_writer id)) (ends.Readers (new_readers id port_readers)) = readers_are (outlets.Sampling (new_writer id)) id port_readers (λ reader same. same) in
-    subst (λ (o : PortOutlet). IsEndOf o end) (sym reads.1) (subst (λ (e : PartitionEnd). IsEndOf (outlets.Sampling (new_writer id)) e) (sym reads.2) mine)
-reads_it (Queuing depth) outlet end reads =
-    let id = reads.0 in
-    let mine : IsEndOf (outlets.Queuing (opened id depth)) (ends.Taker (opened id depth)) = (refl, refl) in
+    let mine : IsEndOf (outlets.Queuing (opened id depth)) (ends.Taker (Some (opened id depth))) = (refl, refl) in
     subst (λ (o : PortOutlet). IsEndOf o end) (sym reads.1) (subst (λ (e : PartitionEnd). IsEndOf (outlets.Queuing (opened id depth)) e) (sym reads.2) mine)
 
 -- the outlet of an end, which stands at the end's place
@@ -61,7 +69,7 @@ of_opened first [] [] [] are at end there = cc
 of_opened first (port ∷ ports) (outlet ∷ outs) (e ∷ of_link) are zero end there =
     let same : e ≡ end = same_Some e end there in
     let at : first + 0 ≡ first = omega arith in
-    rw (← same) (outlet, refl, reads_it port.kind outlet e.reads are.0.read, are.0.at ∙ ap port_no (sym at))
+    rw (← same) (outlet, refl, reads_it port.kind port.max outlet e.reads are.0.read, are.0.at ∙ ap port_no (sym at))
 of_opened first (port ∷ ports) (outlet ∷ outs) (e ∷ of_link) are (suc at) end there =
     let found = of_opened (first + 1) ports outs of_link are.1 at end there in
     let next : first + 1 + at ≡ first + suc at = omega arith in
@@ -95,54 +103,75 @@ handed_out c receiver all new place at of_link end found there = of_links c.link
 
 -- ---- afterwards
 
-gives_reader : (old new : PortOutlet) (messages : List Message) (reader : ReaderEnd) → GivesPort old new messages → IsPortOf old reader → IsPortOf new reader
-gives_reader (outlets.Sampling x) (outlets.Sampling y) messages reader gives is = is ∙ sym gives.0
-gives_reader (outlets.Queuing x) y messages reader gives is = absurd is
-gives_reader (outlets.Sampling x) (outlets.Queuing y) messages reader gives is = absurd gives
+-- what holds of an outlet whatever it is given
+abbrev pub IsKept : (PortOutlet → Type 0) → Type 0
+IsKept Is = (old new : PortOutlet) (messages : List Message) → GivesPort old new messages → Is old → Is new
 
-gives_end : (old new : PortOutlet) (messages : List Message) (end : PartitionEnd) → GivesPort old new messages → IsEndOf old end → IsEndOf new end
-gives_end old new messages (ends.Readers readers) gives is = λ k d low. gives_reader old new messages _ gives (is k d low)
-gives_end (outlets.Queuing x) (outlets.Queuing y) messages (ends.Taker taker) gives is = (is.0 ∙ sym gives.0, is.1 ∙ sym gives.1)
-gives_end (outlets.Sampling x) y messages (ends.Taker taker) gives is = absurd is
-gives_end (outlets.Queuing x) (outlets.Sampling y) messages (ends.Taker taker) gives is = absurd gives
+pub stays_port : (reader : ReaderEnd) → IsKept (λ outlet. IsPortOf outlet reader)
+stays_port reader (outlets.Sampling x) (outlets.Sampling y) messages gives is = is ∙ sym gives.0
+stays_port reader (outlets.Queuing x) y messages gives is = absurd is
+stays_port reader (outlets.Sampling x) (outlets.Queuing y) messages gives is = absurd gives
 
-at_place : (old new : Option PortOutlet) (messages : List Message) (end : PartitionEnd) → GivesAt GivesPort old new messages → (outlet : PortOutlet) → old ≡ Some outlet → IsEndOf outlet end
-    → (after : PortOutlet) × (new ≡ Some after) × IsEndOf after end
-at_place None new messages end gives outlet there is = cc
-at_place (Some old) None messages end gives outlet there is = absurd gives
-at_place (Some old) (Some new) messages end gives outlet there is =
-    let same : old ≡ outlet = same_Some old outlet there in
-    (new, refl, gives_end old new messages end gives (rw same is))
+pub stays_queue : (taker : Known) → IsKept (λ outlet. IsQueueOf outlet taker)
+stays_queue taker (outlets.Queuing x) (outlets.Queuing y) messages gives is = (is.0 ∙ sym gives.0, is.1 ∙ sym gives.1)
+stays_queue taker (outlets.Sampling x) y messages gives is = absurd is
+stays_queue taker (outlets.Queuing x) (outlets.Sampling y) messages gives is = absurd gives
 
-taken_stays : (old new : Links PortOutlet) (a : Arrival) (at : ℕ) (vl : LinkNo) (number : ℕ) (verdict : _) → TakesAt ShowsPort GivesPort AnswersPort old new a at vl number verdict
-    → (place : ℕ) (port : PortNo) (end : PartitionEnd) → HasOutlet old place port (λ outlet. IsEndOf outlet end) → HasOutlet new place port (λ outlet. IsEndOf outlet end)
-taken_stays old new a at vl number verdict takes place port end has =
-    let links_are : new.links ≡ slice_set old.links at takes.after = ap (λ (l : Links PortOutlet). l.links) takes.is in
-    ⊎_elim
-    (λ (same : place ≡ at).
-    let here : slice_get old.links at ≡ Some has.0 = rw same at has.1 in
-    let link_is : has.0 ≡ takes.before = same_Some has.0 takes.before (sym here ∙ takes.there) in
-    let was : slice_get takes.before.outlets port.0 ≡ Some has.2.0 = rw link_is at has.2.1 in
-    let past = takes.takes.before in
-    let its = at_place (slice_get takes.before.outlets port.0) (slice_get takes.after.outlets port.0) _ end (takes.takes.given past.0 past.1.is_past.keeps port.0) has.2.0 was has.2.2 in
-    let now : slice_get new.links place ≡ Some takes.after = rw (links_are, same) (slice_get-set_same old.links at takes.after (slice_get_within old.links at takes.before takes.there)) in
-    (takes.after, now, its))
-    (λ (other : place ≡ at → ⊥).
-    let now : slice_get new.links place ≡ Some has.0 = rw links_are (slice_get-set_other old.links at place takes.after other ∙ has.1) in
-    (has.0, now, has.2))
-    (cases_eq place at)
+pub stays_end : (end : PartitionEnd) → IsKept (λ outlet. IsEndOf outlet end)
+stays_end (ends.Readers readers) old new messages gives is = λ k d low. stays_port _ old new messages gives (is k d low)
+stays_end (ends.Taker (Some taker)) old new messages gives is = stays_queue taker old new messages gives is
+stays_end (ends.Taker None) old new messages gives is = tt
 
-link_stays : (old new : Option (Ported PortOutlet)) → LinkStaysAt GivesPort old new → (port : PortNo) (end : PartitionEnd) (link : Ported PortOutlet) → old ≡ Some link → HasOutletAt link port (λ outlet. IsEndOf outlet end)
-    → (after : Ported PortOutlet) × (new ≡ Some after) × HasOutletAt after port (λ outlet. IsEndOf outlet end)
-link_stays None new stays port end link there has = cc
-link_stays (Some old) None stays port end link there has = absurd stays
-link_stays (Some old) (Some new) stays port end link there has =
-    let same : old ≡ link = same_Some old link there in
-    let was : slice_get old.outlets port.0 ≡ Some has.0 = rw same has.1 in
-    (new, refl, at_place (slice_get old.outlets port.0) (slice_get new.outlets port.0) [] end (stays.outlets port.0) has.0 was has.2)
+module _ (Is : PortOutlet → Type 0) (keeps : IsKept Is) where
+  at_place : (old new : Option PortOutlet) (messages : List Message) → GivesAt GivesPort old new messages → (outlet : PortOutlet) → old ≡ Some outlet → Is outlet
+      → (after : PortOutlet) × (new ≡ Some after) × Is after
+  at_place None new messages gives outlet there is = cc
+  at_place (Some old) None messages gives outlet there is = absurd gives
+  at_place (Some old) (Some new) messages gives outlet there is =
+      let same : old ≡ outlet = same_Some old outlet there in
+      (new, refl, keeps old new messages gives (rw same is))
+
+  taken_stays : (old new : Links PortOutlet) (a : Arrival) (at : ℕ) (vl : LinkNo) (number : ℕ) (verdict : _) → TakesAt ShowsPort GivesPort AnswersPort old new a at vl number verdict
+      → (place : ℕ) (port : PortNo) → HasOutlet old place port Is → HasOutlet new place port Is
+  taken_stays old new a at vl number verdict takes place port has =
+      let links_are : new.links ≡ slice_set old.links at takes.after = ap (λ (l : Links PortOutlet). l.links) takes.is in
+      ⊎_elim
+      (λ (same : place ≡ at).
+      let here : slice_get old.links at ≡ Some has.0 = rw same at has.1 in
+      let link_is : has.0 ≡ takes.before = same_Some has.0 takes.before (sym here ∙ takes.there) in
+      let was : slice_get takes.before.outlets port.0 ≡ Some has.2.0 = rw link_is at has.2.1 in
+      let past = takes.takes.before in
+      let its = at_place (slice_get takes.before.outlets port.0) (slice_get takes.after.outlets port.0) _ (takes.takes.given past.0 past.1.is_past.keeps port.0) has.2.0 was has.2.2 in
+      let now : slice_get new.links place ≡ Some takes.after = rw (links_are, same) (slice_get-set_same old.links at takes.after (slice_get_within old.links at takes.before takes.there)) in
+      (takes.after, now, its))
+      (λ (other : place ≡ at → ⊥).
+      let now : slice_get new.links place ≡ Some has.0 = rw links_are (slice_get-set_other old.links at place takes.after other ∙ has.1) in
+      (has.0, now, has.2))
+      (cases_eq place at)
+
+  link_stays : (old new : Option (Ported PortOutlet)) → LinkStaysAt GivesPort old new → (port : PortNo) (link : Ported PortOutlet) → old ≡ Some link → HasOutletAt link port Is
+      → (after : Ported PortOutlet) × (new ≡ Some after) × HasOutletAt after port Is
+  link_stays None new stays port link there has = cc
+  link_stays (Some old) None stays port link there has = absurd stays
+  link_stays (Some old) (Some new) stays port link there has =
+      let same : old ≡ link = same_Some old link there in
+      let was : slice_get old.outlets port.0 ≡ Some has.0 = rw same has.1 in
+      (new, refl, at_place (slice_get old.outlets port.0) (slice_get new.outlets port.0) [] (stays.outlets port.0) has.0 was has.2)
+
+  pub stays_so : (call : Call) (old new : Links PortOutlet) → Makes ShowsPort GivesPort AnswersPort call old new
+      → (place : ℕ) (port : PortNo) → HasOutlet old place port Is → HasOutlet new place port Is
+  stays_so (came a (Filtered cause)) old new makes place port has = (has.0, rw makes.2 has.1, has.2)
+  stays_so (came a (Link at vl number verdict)) old new makes place port has = taken_stays old new a at vl number verdict makes place port has
+  stays_so met old new makes place port has = link_stays (slice_get old.links place) (slice_get new.links place) (makes.links place) port has.0 has.1 has.2
 
 pub stays_handed_out : (call : Call) (old new : Links PortOutlet) → Makes ShowsPort GivesPort AnswersPort call old new
     → (place : ℕ) (port : PortNo) (end : PartitionEnd) → HasOutlet old place port (λ outlet. IsEndOf outlet end) → HasOutlet new place port (λ outlet. IsEndOf outlet end)
-stays_handed_out (came a (Filtered cause)) old new makes place port end has = (has.0, rw makes.2 has.1, has.2)
-stays_handed_out (came a (Link at vl number verdict)) old new makes place port end has = taken_stays old new a at vl number verdict makes place port end has
-stays_handed_out met old new makes place port end has = link_stays (slice_get old.links place) (slice_get new.links place) (makes.links place) port end has.0 has.1 has.2
+stays_handed_out call old new makes place port end has = stays_so (λ outlet. IsEndOf outlet end) (stays_end end) call old new makes place port has
+
+pub reader_stays : (call : Call) (old new : Links PortOutlet) → Makes ShowsPort GivesPort AnswersPort call old new
+    → (place : ℕ) (port : PortNo) (reader : ReaderEnd) → HasOutlet old place port (λ outlet. IsPortOf outlet reader) → HasOutlet new place port (λ outlet. IsPortOf outlet reader)
+reader_stays call old new makes place port reader has = stays_so (λ outlet. IsPortOf outlet reader) (stays_port reader) call old new makes place port has
+
+pub taker_stays : (call : Call) (old new : Links PortOutlet) → Makes ShowsPort GivesPort AnswersPort call old new
+    → (place : ℕ) (port : PortNo) (taker : Known) → HasOutlet old place port (λ outlet. IsQueueOf outlet taker) → HasOutlet new place port (λ outlet. IsQueueOf outlet taker)
+taker_stays call old new makes place port taker has = stays_so (λ outlet. IsQueueOf outlet taker) (stays_queue taker) call old new makes place port has

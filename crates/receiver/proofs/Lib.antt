@@ -8,4 +8,6 @@ pub mod Losing
 pub mod Stays
 pub mod Runs
 pub mod Meets
+pub mod Readings
 pub mod HandedOut
+pub mod Handed

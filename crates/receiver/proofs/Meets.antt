@@ -1,5 +1,5 @@
 -- A link after one of its outlets met an end.
-use Rattle.std.proofs.Common.{◌≡◌, ◌∙◌, ap, refl, sym, ℕ, ◌+◌, ◌<◌, List, [], ◌∷◌, length, map, Option, None, Some, append-nil, arith, length-append}
+use Rattle.std.proofs.Common.{◌≡◌, ◌∙◌, ap, refl, ℕ, ◌+◌, ◌<◌, List, [], length, map, Option, None, Some, append-nil, arith, length-append}
 use Rattle.std.specs.List.{slice_get, slice_set}
 use Rattle.es_base.specs.declared.event.Event.{Event}
 use Rattle.es_base.specs.declared.event.Message.{Message}
@@ -7,11 +7,7 @@ use Rattle.es_base.specs.declared.port.PortKind.{PortKind}
 use Rattle.es_base.specs.declared.port.PortKind.TheVariants.{Sampling, Queuing}
 use Rattle.es_base.specs.Deliveries.{deliveries}
 use Rattle.es_base.specs.Port.{Port}
-use Rattle.std.proofs.lemmas.List.{length-map}
-use Rattle.sampling_port.specs.declared.reader.Read.{Read}
-use Rattle.sampling_port.specs.declared.reader.Read.TheVariants as read
-use Rattle.sampling_port.specs.Ends.{ReadAnswer, ReaderEnd}
-use Rattle.receiver.specs.Meetings.{IsNoOlder}
+use Rattle.sampling_port.specs.Ends.{ReaderEnd}
 use Rattle.message_ring.specs.Queue.{Known}
 use Rattle.link_core.specs.Link.{Link}
 use Rattle.link_core.specs.Counted.{port_no}
@@ -60,20 +56,3 @@ room_again (outlets.Queuing queue) taker has_met less =
     let more = length-append taker.taken has_met.3.0 in
     omega (arith, less, put, taken, more, has_met.1)
 room_again (outlets.Sampling writer) taker has_met less = tt
-
-no_message : (messages : List Message) → map message_words messages ≡ [] → messages ≡ []
-no_message [] none = refl
-no_message (m ∷ messages) none = cc
-
-pub no_older : (messages : List Message) (reader later : ReaderEnd) (tries : ℕ) (before out : List ℕ) (answer : Read) → reader.seen ≡ map message_words messages → ReadAnswer reader later tries before out answer
-    → IsNoOlder messages answer
-no_older messages reader later tries before out (read.Message number time len) told answer =
-    let all = ap (λ (l : List (List ℕ)). length l) (answer.2.seen.1) in
-    let more = length-append reader.seen answer.2.seen.0 in
-    let count = ap (λ (l : List (List ℕ)). length l) told in
-    omega (arith, all, more, count, length-map messages message_words, answer.0.number)
-no_older messages reader later tries before out read.Empty told answer = no_message messages (sym told ∙ answer.0.before)
-no_older messages reader later tries before out (read.Busy number) told answer =
-    let newer = answer.0.newer in
-    let count = ap (λ (l : List (List ℕ)). length l) told in
-    omega (arith, newer, count, length-map messages message_words, answer.0.number)

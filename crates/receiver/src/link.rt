@@ -3,16 +3,18 @@ ghost use Rattle.std.specs.Prelude.{◌≡◌, ◌<◌, ◌≤◌, List, IfOk, l
 ghost use Rattle.std.specs.Option.{option_copied};
 ghost use Rattle.es_base.specs.declared.event.Event.{Event};
 ghost use Rattle.es_base.specs.Frame.{link_number_of};
-ghost use Rattle.es_base.specs.Limits.{most_ports, verdict_kinds};
+ghost use Rattle.es_base.specs.Limits.{most_ports};
 ghost use Rattle.es_base.specs.Past.{arrived};
-ghost use Rattle.es_base.specs.Tally.{IsKind, count_of};
+ghost use Rattle.es_base.specs.Tally.{count_of};
 ghost use Rattle.link_core.specs.Counted.{ShowsCounts, port_no, shown};
 ghost use Rattle.link_core.specs.Link.{StandsFor};
 ghost use Rattle.receiver.specs.Outlet.{ArePut, HasPlace, IsAnswer};
 ghost use Rattle.receiver.specs.Ends.{AreOpened, IsOpened};
+ghost use Rattle.receiver.specs.Kind.{kind_number};
 ghost use Rattle.receiver.specs.Link.{IsNewLink, IsPastOf, IsPorted, Takes, TakesIfKnown};
 
 use crate::ends::PortEnd;
+use crate::kind::VerdictKind;
 use crate::outlet::Outlet;
 use es_base::{Decision, LinkSettings, Memory, Net, PortNo, PortSettings, Verdict, VerdictTally};
 use frame_reader::Frame;
@@ -69,13 +71,11 @@ impl<P: Outlet> OpenLink<P> {
         self.core.settings()
     }
 
-    /// How many frames came on this network with a verdict of this kind, 1 to 13. A count stops at the greatest number
-    /// of 64 bits.
-    pub fn count(&self, net: Net, kind: usize) -> u64
-        requires { IsKind verdict_kinds kind }
-        ensures { (past : List Event) → StandsFor self.now.core past → result ≡ shown (count_of past net kind) }
+    /// How many frames came on this network with a verdict of this kind. A count stops at the greatest number of 64 bits.
+    pub fn count(&self, net: Net, kind: VerdictKind) -> u64
+        ensures { (past : List Event) → StandsFor self.now.core past → result ≡ shown (count_of past net (kind_number kind)) }
     {
-        self.core.count(net, kind)
+        self.core.count(net, kind.number())
     }
 
     /// How many frames came on each network with each kind of verdict. A count stops at the greatest number of 64 bits.

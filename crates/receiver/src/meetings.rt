@@ -3,7 +3,7 @@ ghost use Rattle.std.specs.Prelude.{◌≡◌, ◌≢◌, ◌+◌, ◌≤◌, �
 ghost use Rattle.es_base.specs.declared.event.Event.{Event};
 ghost use Rattle.es_base.specs.Deliveries.{deliveries};
 ghost use Rattle.slot_core.specs.State.{StartsWith};
-ghost use Rattle.sampling_port.specs.Ends.{is_told};
+ghost use Rattle.partition_reader.specs.Reads.{told};
 ghost use Rattle.message_ring.specs.Queue.{BeginsWith};
 ghost use Rattle.receiver.specs.declared.port.PortOutlet.{PortOutlet as Port};
 ghost use Rattle.receiver.specs.Link.{IsPastOf, Ported};
@@ -17,8 +17,7 @@ use crate::port::PortOutlet;
 use crate::receiver::Receiver;
 use es_base::PortNo;
 use message_ring::RingTaker;
-use sampling_port::Reader;
-use slot_core::READERS;
+use partition_reader::PartitionReader;
 
 impl OpenLink<PortOutlet> {
     /// A queuing port and the end that takes of it meet: the taker then knows all messages that were delivered to the
@@ -43,13 +42,13 @@ impl OpenLink<PortOutlet> {
 
     /// A sampling port and a reader of it meet: the reader then knows all messages that were delivered to the port.
     /// Nothing else changes. Takes no memory, and waits for nobody.
-    pub fn meet_reader(&mut self, port: PortNo, reader: &mut Reader<READERS>)
-        requires { HasOutletAt self.old port (λ outlet. IsPortOf outlet reader.old) }
+    pub fn meet_reader(&mut self, port: PortNo, reader: &mut PartitionReader)
+        requires { HasOutletAt self.old port (λ outlet. IsPortOf outlet reader.old.end) }
         ensures link { self.new ≡ self.old }
-        ensures reader { reader.new ≡ is_told reader.old reader.new.seen }
-        ensures before { StartsWith reader.new.seen reader.old.seen }
-        ensures met { HasOutletAt self.new port (λ outlet. HasMetPort outlet reader.new) }
-        ensures seen { (past : List Event) → IsPastOf ShowsPort self.old past → reader.new.seen ≡ map message_words (deliveries self.old.core.settings past port) }
+        ensures reader { reader.new ≡ told reader.old reader.new.end.seen }
+        ensures before { StartsWith reader.new.end.seen reader.old.end.seen }
+        ensures met { HasOutletAt self.new port (λ outlet. HasMetPort outlet reader.new.end) }
+        ensures seen { (past : List Event) → IsPastOf ShowsPort self.old past → reader.new.end.seen ≡ map message_words (deliveries self.old.core.settings past port) }
     {
         self.outlets[port.0 as usize].meet_reader(reader);
     }
@@ -76,15 +75,15 @@ impl Receiver<PortOutlet> {
 
     /// A sampling port of the link at this place and a reader of it meet: the reader then knows all messages that were
     /// delivered to the port. Nothing else changes. Takes no memory, and waits for nobody.
-    pub fn meet_reader(&mut self, place: usize, port: PortNo, reader: &mut Reader<READERS>)
-        requires { HasOutlet self.old place port (λ outlet. IsPortOf outlet reader.old) }
+    pub fn meet_reader(&mut self, place: usize, port: PortNo, reader: &mut PartitionReader)
+        requires { HasOutlet self.old place port (λ outlet. IsPortOf outlet reader.old.end) }
         ensures links { self.new ≡ self.old }
         ensures stays { LinksStay GivesPort self.old self.new }
-        ensures reader { reader.new ≡ is_told reader.old reader.new.seen }
-        ensures before { StartsWith reader.new.seen reader.old.seen }
-        ensures met { HasOutlet self.new place port (λ outlet. HasMetPort outlet reader.new) }
+        ensures reader { reader.new ≡ told reader.old reader.new.end.seen }
+        ensures before { StartsWith reader.new.end.seen reader.old.end.seen }
+        ensures met { HasOutlet self.new place port (λ outlet. HasMetPort outlet reader.new.end) }
         ensures seen { (link : Ported Port) (past : List Event) → slice_get self.old.links place ≡ Some link → IsPastOf ShowsPort link past →
-            reader.new.seen ≡ map message_words (deliveries link.core.settings past port) }
+            reader.new.end.seen ≡ map message_words (deliveries link.core.settings past port) }
     {
         self.links[place].meet_reader(port, reader);
     }

@@ -3,14 +3,16 @@
 ghost use Rattle.std.specs.Prelude.{◌≡◌, ◌≤◌};
 ghost use Rattle.sampling_port.specs.Ends.{new_readers};
 
-use crate::cases::{Case, joined};
+use crate::cases::{Case, joined, overflowed};
 use crate::refusal::OWN;
 use end_system::{NoGate, Reply};
-use es_base::Net::A;
+use es_base::Net::{A, B};
 use es_base::{FilterCause, Message, Octets};
 use frame_reader::{Packet, read_frame, read_packet};
 use ip_reassembly::{Offered, Reassembly};
+use message_ring::open_ring;
 use queuing_port::{Putter, Taker, open_queue};
+use receiver::{PartitionReader, PortOutlet, Reading, Receiver, RingTaker, Taken, VerdictKind};
 use sampling_port::{MOST_TRIES, Read, Reader, Writer, meet, open_port};
 use slot_core::READERS;
 use std::alloc::Global;
@@ -171,4 +173,107 @@ fn check_system(rt: &(impl Abort + Wait), alloc: Global, case: &Case) {
 #[test]
 fn a_filtered_frame_is_received_and_a_system_settles(rt: HostRuntime) {
     check_system(&rt, rt.alloc(), &joined(&rt, rt.alloc()));
+}
+
+// ---- a queue in memory that is taken when it is opened
+
+fn check_ring(rt: &impl Abort, alloc: Global) {
+    let (mut putter, mut taker) = open_ring(alloc, 2, 3).ok().expect(rt, OWN);
+    let mut out = [0; 3];
+    mark(rt, alloc);
+    assert!(rt; putter.put(1, &[7, 8, 9]).is_ok());
+    assert!(rt; putter.put(2, &[7]).is_ok());
+    assert!(rt; !putter.has_room() && putter.put(3, &[7]).is_err());
+    message_ring::meet(&mut putter, &mut taker);
+    assert!(rt; taker.take(&mut out) == Some(Taken { time: 1, len: 3 }) && out == [7, 8, 9]);
+    assert!(rt; taker.take(&mut out) == Some(Taken { time: 2, len: 1 }));
+    assert!(rt; taker.take(&mut out).is_none());
+}
+
+#[test]
+fn a_ring_is_used(rt: HostRuntime) {
+    check_ring(&rt, rt.alloc());
+}
+
+// ---- a partition that only reads
+
+fn check_reading(rt: &impl Abort, reading: Reading, wanted: u64) {
+    match reading {
+        Reading::Message { number, .. } => assert!(rt; number == wanted),
+        _ => panic!(rt; "a message"),
+    }
+}
+
+fn check_partition(rt: &impl Abort, alloc: Global) {
+    let (mut writer, readers) = open::<READERS>(rt, alloc);
+    let (first, second) = first_two(readers);
+    mark(rt, alloc);
+    drop(second);
+    let mut reader = PartitionReader::new(first, 20_000, 16);
+    let mut out = [0; 16];
+    assert!(rt; reader.read(1000, &mut out) == Reading::Empty);
+    assert_eq!(rt; writer.publish(1000, &[7, 8, 9]), Ok(1));
+    check_reading(rt, reader.read(1000, &mut out), 1);
+    match reader.hold() {
+        Ok(mut held) => {
+            if held.len() >= 2 {
+                held.copy_range(1, &mut out[..1]);
+            }
+            let mut reader = held.release();
+            check_reading(rt, reader.read(2000, &mut out), 1);
+        }
+        Err(_) => panic!(rt; "a message"),
+    }
+}
+
+#[test]
+fn a_partition_reads(rt: HostRuntime) {
+    check_partition(&rt, rt.alloc());
+}
+
+// ---- a receiver for one task
+
+/// A receiver of the case's configuration, a reader of `pos`, and the taker of `nav`.
+fn open_receiver(
+    rt: &impl Abort,
+    alloc: Global,
+    case: &Case,
+) -> (Receiver<PortOutlet>, PartitionReader, RingTaker) {
+    let mut opened = Receiver::<PortOutlet>::open(alloc, &case.config).expect(rt, OWN);
+    let reader = opened.take_reader("pos").expect(rt, "a reader");
+    let taker = opened.take_taker("nav").expect(rt, "a taker");
+    (opened.receiver, reader, taker)
+}
+
+/// The frames come on both networks, again and again, with all that partitions do and all counts between them.
+fn check_receiver(rt: &impl Abort, alloc: Global, case: &Case) {
+    let (mut receiver, mut reader, mut taker) = open_receiver(rt, alloc, case);
+    let mut out = [0; 8192];
+    let mut taken = 0u64;
+    mark(rt, alloc);
+    for _ in 0..100 {
+        for row in &case.rows {
+            let _reply = receiver.receive(A, row.time, &row.octets);
+            let _reply = receiver.receive(B, row.time, &row.octets);
+            let _reading = reader.read(row.time, &mut out);
+        }
+        if taker.max() <= out.len() && taker.take(&mut out).is_some() {
+            taken = taken.wrapping_add(1);
+        }
+        let _reply = receiver.receive(A, 2000, &[0; 59]);
+    }
+    assert!(rt; taken > 0 && receiver.filtered(A, FilterCause::TooShort) == 100);
+    let link = receiver.link(0).expect(rt, "a link");
+    assert!(rt; link.count(B, VerdictKind::Redundant) == link.tally().count(B, 2));
+    assert!(rt; link.came() == (case.rows.len() as u64).wrapping_mul(200));
+}
+
+#[test]
+fn a_receiver_for_one_task_is_used(rt: HostRuntime) {
+    check_receiver(&rt, rt.alloc(), &joined(&rt, rt.alloc()));
+}
+
+#[test]
+fn a_receiver_for_one_task_with_a_full_queue_is_used(rt: HostRuntime) {
+    check_receiver(&rt, rt.alloc(), &overflowed(&rt, rt.alloc()));
 }

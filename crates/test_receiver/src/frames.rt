@@ -1,14 +1,13 @@
 //! Worked frames, frames that come to no link, and many frames of all kinds.
 use crate::opened::{Given, check_count, check_frames, octets_of, opened};
-use es_base::Net::{A, B};
-use es_base::{FilterCause, Net, VERDICT_KINDS, Verdict};
-use receiver::Reply;
+use receiver::Net::{A, B};
+use receiver::{FilterCause, Net, Reply, Verdict, VerdictKind};
 use std::alloc::Global;
 use std::process::Abort;
 use test_inputs::rows::{
     FrameRow, NAV, POS, bad_and_good, copy_after_skew_max, copy_at_skew_max, copy_before_its_first,
-    five_begin, in_order, joined_for_a_sampling_port, last_first, packet_row, reset_after_255,
-    smallest_row, turn, two_frames_late, window,
+    first_twice, five_begin, in_order, joined_for_a_sampling_port, last_first, packet_row,
+    reset_after_255, smallest_row, turn, two_frames_late, window,
 };
 use test_inputs::{longest, smallest};
 
@@ -29,6 +28,7 @@ fn check_worked(rt: &impl Abort, alloc: Global) {
     check_rows(rt, alloc, &bad_and_good());
     check_rows(rt, alloc, &in_order().map(packet_row));
     check_rows(rt, alloc, &last_first().map(packet_row));
+    check_rows(rt, alloc, &first_twice().map(packet_row));
     check_rows(rt, alloc, &five_begin().map(packet_row));
     check_rows(rt, alloc, &joined_for_a_sampling_port().map(packet_row));
 }
@@ -120,15 +120,39 @@ fn give_all(given: &mut Given, frames: &mut [Vec<u8>], last: (u8, u64)) -> (u8, 
 fn take_and_read(rt: &impl Abort, given: &mut Given) -> bool {
     let mut out = [0; 8192];
     assert!(rt; given.taker.max() <= out.len());
-    let _ = given.readers[0].read(8, &mut [0; 1471]);
+    if let Some(reader) = given.readers.last_mut() {
+        let _ = reader.read(0, &mut [0; 16]);
+    }
     given.taker.take(&mut out).is_some()
+}
+
+/// All kinds of verdicts, by their numbers.
+fn all_kinds() -> [VerdictKind; 13] {
+    [
+        VerdictKind::OutOfSequence,
+        VerdictKind::Redundant,
+        VerdictKind::BadHeader,
+        VerdictKind::BadFragment,
+        VerdictKind::FragmentHeld,
+        VerdictKind::BadUdp,
+        VerdictKind::NoPort,
+        VerdictKind::TooLong,
+        VerdictKind::FragmentedSample,
+        VerdictKind::Sampled,
+        VerdictKind::Queued,
+        VerdictKind::Overflow,
+        VerdictKind::Exhausted,
+    ]
 }
 
 /// How many frames of link 17 came.
 fn count_all(rt: &impl Abort, given: &Given) -> u64 {
     let link = given.receiver.link(0).expect(rt, "a link");
     let mut all = 0u64;
-    for kind in 1..=VERDICT_KINDS {
+    let mut number = 0usize;
+    for kind in all_kinds() {
+        number = number.wrapping_add(1);
+        assert!(rt; kind.number() == number);
         all = all.wrapping_add(link.count(A, kind));
         all = all.wrapping_add(link.count(B, kind));
     }
@@ -151,9 +175,9 @@ fn check_many(rt: &impl Abort, alloc: Global) {
     }
     assert!(rt; taken == 334, "{taken}");
     check_filtered(rt, &given, B, FilterCause::TooShort, 13_000);
-    check_count(rt, &given, A, Verdict::Sampled(POS, 1).kind(), 5000);
-    check_count(rt, &given, A, Verdict::Queued(NAV).kind(), 337);
-    check_count(rt, &given, B, Verdict::Redundant.kind(), 13_000);
+    check_count(rt, &given, A, Verdict::Sampled(POS, 1), 5000);
+    check_count(rt, &given, A, Verdict::Queued(NAV), 337);
+    check_count(rt, &given, B, Verdict::Redundant, 13_000);
     assert!(rt; count_all(rt, &given) == 26_000);
 }
 

@@ -7,6 +7,10 @@ mod frames;
 #[cfg(test)]
 mod kept;
 #[cfg(test)]
+mod meetings;
+#[cfg(test)]
+mod names;
+#[cfg(test)]
 mod opened;
 #[cfg(test)]
 mod ports;

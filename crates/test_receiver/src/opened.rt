@@ -1,8 +1,8 @@
 //! A receiver of the built-in configuration and a second link, the ends of link 17, and what the tests ask of them.
-use es_base::{Config, Net, VERDICT_KINDS, Verdict};
-use message_ring::RingTaker;
-use receiver::{Opened, Outlet, PartitionEnd, PortEnd, PortOutlet, Receiver, Reply};
-use sampling_port::Reader;
+use receiver::{
+    Config, Net, Opened, Outlet, PartitionReader, PortOutlet, Receiver, Reply, RingTaker, Verdict,
+    VerdictKind,
+};
 use slot_core::READERS;
 use std::alloc::Global;
 use std::process::Abort;
@@ -24,50 +24,34 @@ pub(crate) fn config(rt: &impl Abort, alloc: Global) -> Config {
 #[derive(Drop)]
 pub(crate) struct Given {
     pub receiver: Receiver<PortOutlet>,
-    pub readers: [Reader<READERS>; READERS],
+    pub readers: Vec<PartitionReader>,
     pub taker: RingTaker,
 }
 
-/// The readers of a sampling port.
-fn readers_of(rt: &impl Abort, reads: PartitionEnd) -> [Reader<READERS>; READERS] {
-    match reads {
-        PartitionEnd::Readers(readers) => readers,
-        PartitionEnd::Taker(_) => panic!(rt; "a sampling port"),
-    }
-}
-
-/// The taker of a queuing port.
-fn taker_of(rt: &impl Abort, reads: PartitionEnd) -> RingTaker {
-    match reads {
-        PartitionEnd::Taker(taker) => taker,
-        PartitionEnd::Readers(_) => panic!(rt; "a queuing port"),
-    }
-}
-
-/// The end of the port with this name, which stands at this place of its link.
-fn end_of(
+/// All readers of the sampling port with this name: eight, and then none.
+pub(crate) fn readers_of(
     rt: &impl Abort,
+    alloc: Global,
     opened: &mut Opened<PortOutlet>,
     name: &str,
-    place: u8,
-) -> PortEnd<PartitionEnd> {
-    let end = opened.take_end(name).expect(rt, "an end");
-    assert!(rt; end.port.0 == place && end.name.as_str() == name);
-    assert!(rt; opened.take_end(name).is_none());
-    end
+) -> Vec<PartitionReader> {
+    let mut readers = Vec::with_capacity(alloc, READERS).expect(rt, "memory");
+    for _ in 0..READERS {
+        let reader = opened.take_reader(name).expect(rt, "a reader");
+        readers.push(reader).expect(rt, "memory");
+    }
+    assert!(rt; opened.take_reader(name).is_none());
+    readers
 }
 
 pub(crate) fn opened(rt: &impl Abort, alloc: Global) -> Given {
     let config = config(rt, alloc);
     let mut opened = Receiver::<PortOutlet>::open(alloc, &config).expect(rt, "memory");
-    let nav = end_of(rt, &mut opened, "nav", 1);
-    let pos = end_of(rt, &mut opened, "pos", 0);
-    assert!(rt; pos.max == 1471 && nav.max == 8192);
-    let readers = readers_of(rt, pos.reads);
-    let taker = taker_of(rt, nav.reads);
-    let Opened { receiver, ends: _ } = opened;
+    let readers = readers_of(rt, alloc, &mut opened, "pos");
+    let taker = opened.take_taker("nav").expect(rt, "a taker");
+    assert!(rt; opened.take_taker("nav").is_none());
     Given {
-        receiver,
+        receiver: opened.receiver,
         readers,
         taker,
     }
@@ -115,11 +99,10 @@ pub(crate) fn check_frames<P: Outlet>(
     }
 }
 
-/// So many frames of link 17 came on this network with a verdict of this kind.
-pub(crate) fn check_count(rt: &impl Abort, given: &Given, net: Net, kind: usize, wanted: u64) {
-    assert!(rt; 1 <= kind && kind <= VERDICT_KINDS);
+/// So many frames of link 17 came on this network with a verdict of the kind of this one.
+pub(crate) fn check_count(rt: &impl Abort, given: &Given, net: Net, of: Verdict, wanted: u64) {
     let link = given.receiver.link(0).expect(rt, "a link");
-    let count = link.count(net, kind);
-    assert!(rt; count == wanted, "{net} {kind}: {count}");
-    assert!(rt; link.tally().count(net, kind) == wanted);
+    let count = link.count(net, VerdictKind::of(&of));
+    assert!(rt; count == wanted, "{net} {count}");
+    assert!(rt; link.tally().count(net, VerdictKind::of(&of).number()) == wanted);
 }

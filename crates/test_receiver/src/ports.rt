@@ -1,11 +1,8 @@
 //! What partitions find at the ports.
 use crate::opened::{Given, check_count, check_frames, opened};
-use es_base::Net::A;
-use es_base::Verdict;
-use es_base::Verdict::{Overflow, Queued, Sampled};
-use message_ring::RingTaker;
-use sampling_port::{MOST_TRIES, Read, Reader};
-use slot_core::READERS;
+use receiver::Net::A;
+use receiver::Verdict::{Overflow, Queued, Sampled};
+use receiver::{Freshness, PartitionReader, Reading, RingTaker, Verdict};
 use std::alloc::Global;
 use std::process::Abort;
 use test_inputs::rows::{FrameRow, NAV, NAV_UDP, POS};
@@ -14,13 +11,25 @@ use test_inputs::{IP, PAYLOAD, UDP};
 /// The octets of `PAYLOAD`.
 pub(crate) const OCTETS: [u8; 17] = [1, 2, 3, 4, 5, 6, 7, 8, 9, 10, 11, 12, 13, 14, 15, 16, 17];
 
-/// A reader reads this message: its number, and its time in microseconds.
-fn check_read(rt: &impl Abort, reader: &mut Reader<READERS>, (number, time): (u64, u64)) {
-    let mut out = [0; 1471];
-    let len = 17;
-    let wanted = Read::Message { number, time, len };
-    assert!(rt; reader.read(MOST_TRIES, &mut out) == wanted);
-    assert!(rt; out.starts_with(&OCTETS));
+/// A reader reads this message at its time: its number, and its time in microseconds. `pos` has a refresh period of
+/// 20 milliseconds.
+fn check_read(rt: &impl Abort, reader: &mut PartitionReader, (number, time): (u64, u64)) {
+    let mut out = [0; 17];
+    for (now, validity) in [
+        (time, Freshness::Fresh),
+        (time.saturating_add(20_000), Freshness::Fresh),
+        (time.saturating_add(20_001), Freshness::Stale),
+    ] {
+        let len = 17;
+        let wanted = Reading::Message {
+            number,
+            time,
+            len,
+            validity,
+        };
+        assert!(rt; reader.read(now, &mut out) == wanted);
+        assert!(rt; out == OCTETS);
+    }
 }
 
 /// A datagram for `pos`, a millisecond after the one before.
@@ -34,7 +43,8 @@ fn bring_sample(rt: &impl Abort, alloc: Global, given: &mut Given, number: u8) {
 fn check_all_read(rt: &impl Abort, alloc: Global) {
     let mut given = opened(rt, alloc);
     for reader in &mut given.readers {
-        assert!(rt; reader.read(MOST_TRIES, &mut [0; 1471]) == Read::Empty);
+        assert!(rt; reader.max() == 1471 && reader.refresh() == 20_000);
+        assert!(rt; reader.read(0, &mut [0; 17]) == Reading::Empty);
     }
     bring_sample(rt, alloc, &mut given, 1);
     bring_sample(rt, alloc, &mut given, 2);
@@ -86,8 +96,8 @@ fn check_queue(rt: &impl Abort, alloc: Global) {
         take(rt, &mut given.taker, time);
     }
     check_empty(rt, &mut given.taker);
-    check_count(rt, &given, A, Queued(NAV).kind(), 5);
-    check_count(rt, &given, A, Overflow(NAV).kind(), 2);
+    check_count(rt, &given, A, Queued(NAV), 5);
+    check_count(rt, &given, A, Overflow(NAV), 2);
 }
 
 #[test]

@@ -43,4 +43,4 @@ returns-clause-seen c = λ past is.
     let there : slice_get opened at ≡ Some c.index_mut.result.now = rw c.index_mut.ensures.value (slice_get-get_or opened at _ (slice_get_within opened at c.requires.0 was)) in
     let here : slice_get opened at ≡ Some c.meet_reader.new.self = rw c.meet_reader.ensures.outlet there in
     let past_is : IsPastOf ShowsPort (ported s.core opened s.came) past = rw (← c.self.view_is) at is in
-    rw (← c.self.view_is) (seen _ c.meet_reader.new.self c.meet_reader.new.reader _ (rw here at (past_is.shown at)) c.meet_reader.ensures.met)
+    rw (← c.self.view_is) (seen _ c.meet_reader.new.self c.meet_reader.new.reader.end _ (rw here at (past_is.shown at)) c.meet_reader.ensures.met)
