@@ -10,29 +10,16 @@
 #include <stdlib.h>
 #include <unistd.h>
 
+#include "own_code.h"
+
 void *__libc_malloc(size_t);
 void *__libc_realloc(void *, size_t);
 
-static uintptr_t first, end;
 static long wanted;
 static size_t mark;
 static int report = -1;
 static atomic_long asked;
 static atomic_int marked;
-
-/* The program itself is listed first. */
-static int find_program(struct dl_phdr_info *info, size_t size, void *data)
-{
-    (void)size, (void)data;
-    for (int i = 0; i < info->dlpi_phnum; i++)
-        if (info->dlpi_phdr[i].p_type == PT_LOAD) {
-            uintptr_t start = info->dlpi_addr + info->dlpi_phdr[i].p_vaddr;
-            if (first == 0)
-                first = start;
-            end = start + info->dlpi_phdr[i].p_memsz;
-        }
-    return 1;
-}
 
 __attribute__((constructor)) static void begin(void)
 {
