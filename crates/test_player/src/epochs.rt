@@ -96,8 +96,8 @@ fn trace_of(rt: &impl Abort, alloc: Global, net: Net, epochs: &[Epoch]) -> Strin
 }
 
 /// The lines of the epochs' events, each at its place from the first epoch on.
-fn lines_of(rt: &impl Abort, alloc: Global, settings: &LinkSettings, epochs: &[Epoch]) -> String {
-    let mut lines = String::new(alloc);
+fn lines_of(rt: &impl Abort, alloc: Global, settings: &LinkSettings, epochs: &[Epoch]) -> Vec<u8> {
+    let mut lines = Vec::new(alloc);
     for epoch in epochs {
         let events = epoch.events();
         for place in 0..events.len() {
@@ -117,7 +117,7 @@ fn lines_of(rt: &impl Abort, alloc: Global, settings: &LinkSettings, epochs: &[E
                     ports: settings.ports(),
                 },
             };
-            writeln!(lines, "{line}").expect(rt, "memory");
+            line.add_to(&mut lines).expect(rt, "memory");
         }
     }
     lines
@@ -130,7 +130,8 @@ fn check_epochs(rt: &(impl Abort + Wait), alloc: Global) {
     let a = trace_of(rt, alloc, A, &epochs);
     let b = trace_of(rt, alloc, B, &epochs);
     let settings = config.links().first().expect(rt, "a link");
-    assert_eq!(rt; lines_of(rt, alloc, settings, &epochs).as_str(), LINES);
+    let lines = lines_of(rt, alloc, settings, &epochs);
+    assert!(rt; lines.as_slice() == LINES.as_bytes());
     let mut a = Device::new(a.as_bytes());
     let mut b = Device::new(b.as_bytes());
     let mut out = Device::new(Vec::new(alloc));

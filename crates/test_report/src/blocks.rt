@@ -32,10 +32,10 @@ fn check_newest(rt: &impl Abort, alloc: Global, at: u64, count: usize, line: &st
         time: message.time,
         octets: message.octets.as_slice(),
     });
-    let mut text = String::new(alloc);
+    let mut text = Vec::new(alloc);
     let answer = write_newest(&mut text, at, "pos", 200, newest);
     assert!(rt; answer.is_ok());
-    assert!(rt; text.as_str() == line, "{text}");
+    assert!(rt; text.as_slice() == line.as_bytes());
 }
 
 #[test]
@@ -50,10 +50,10 @@ fn a_sampling_port_shows_its_newest_message(rt: HostRuntime) {
 /// The lines of a queuing port, after this number of messages.
 fn check_queue(rt: &impl Abort, alloc: Global, count: usize, lines: &str) {
     let messages = messages(rt, alloc);
-    let mut text = String::new(alloc);
+    let mut text = Vec::new(alloc);
     let answer = write_queue(&mut text, "nav", &messages[..count.min(3)]);
     assert!(rt; answer.is_ok());
-    assert!(rt; text.as_str() == lines, "{text}");
+    assert!(rt; text.as_slice() == lines.as_bytes());
 }
 
 #[test]
@@ -67,11 +67,11 @@ fn a_queuing_port_shows_all_its_messages_in_order(rt: HostRuntime) {
 /// The counts of link 17 and of filtered frames, before any frame came, are these four lines.
 fn check_zeros(rt: &impl Abort, alloc: Global) {
     let link = LINK.settings(alloc).expect(rt, "settings");
-    let mut text = String::new(alloc);
+    let mut text = Vec::new(alloc);
     let counts = write_counts(&mut text, &link, &VerdictTally::opening());
     let filtered = write_filtered(&mut text, &FilterTally::opening());
     assert!(rt; counts.is_ok() && filtered.is_ok());
-    assert!(rt; text.as_str() == ZEROS, "{text}");
+    assert!(rt; text.as_slice() == ZEROS.as_bytes());
 }
 
 const ZEROS: &str = "count 17 A 0 0 0 0 0 0 0 0 0 0 0 0 0

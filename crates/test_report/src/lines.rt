@@ -17,7 +17,7 @@ fn check_line<L: Display + Drop>(rt: &impl Abort, alloc: Global, line: L, text: 
     assert!(rt; printed.as_str() == text, "{printed}");
 }
 
-/// The fourth event of link 17, with this verdict, is printed as this text.
+/// The line of the fourth event of link 17, with this verdict, is this text.
 fn check_event(rt: &impl Abort, alloc: Global, verdict: Verdict, text: &str) {
     let ports = LINK.ports(alloc).expect(rt, "ports");
     let line = EventLine {
@@ -30,14 +30,16 @@ fn check_event(rt: &impl Abort, alloc: Global, verdict: Verdict, text: &str) {
             ports: ports.as_slice(),
         },
     };
-    check_line(rt, alloc, line, text);
+    let mut printed = Vec::new(alloc);
+    line.add_to(&mut printed).expect(rt, "memory");
+    assert!(rt; printed.as_slice() == text.as_bytes());
 }
 
 /// No trace of a test is long enough to come to this verdict.
 #[test]
 fn a_port_that_has_used_up_its_message_numbers_is_named(rt: HostRuntime) {
     let exhausted = Verdict::Exhausted(PortNo(0));
-    check_event(&rt, rt.alloc(), exhausted, "7 A vl 17 3 exhausted pos");
+    check_event(&rt, rt.alloc(), exhausted, "7 A vl 17 3 exhausted pos\n");
 }
 
 fn check_empty_port(rt: &impl Abort, alloc: Global) {

@@ -1,5 +1,5 @@
 //! What one thread does: it gives the frames of its trace to its network's pass, one after another.
-ghost use Rattle.std.specs.Prelude.{◌≡◌, ◌++◌, IfOk, OnOk, string_bytes};
+ghost use Rattle.std.specs.Prelude.{◌≡◌, ◌++◌, IfOk, OnOk};
 ghost use Rattle.end_system.specs.System.{IsPassOf};
 ghost use Rattle.thread_player.specs.Line.{ports_of, reply_line};
 
@@ -16,7 +16,7 @@ use trace_player::{Frames, TimedFrame};
 pub(crate) struct Fed {
     pub pass: NetPass,
     /// A line for each frame, in the order of the trace.
-    pub lines: String,
+    pub lines: Vec<u8>,
     /// The time of the last frame, in microseconds; 0 if there was none.
     pub latest: u64,
 }
@@ -39,7 +39,7 @@ pub(crate) fn feed<R: Wait, G: Gate>(
     let mut frames = frames;
     let mut fed = Fed {
         pass,
-        lines: String::new(alloc),
+        lines: Vec::new(alloc),
         latest: 0,
     };
     'frames: while let Some(frame) = frames.next() {
@@ -78,18 +78,18 @@ fn give<R: Wait, G: Gate>(
 
 /// Adds the line of a frame that came at `time`, in microseconds, and got this reply.
 fn add_line(
-    lines: &mut String,
+    lines: &mut Vec<u8>,
     config: &Config,
     time: u64,
     net: Net,
     reply: Reply,
 ) -> Result<(), Memory>
-    ensures { OnOk result (string_bytes lines.new ≡ string_bytes lines.old ++ reply_line config.now time net reply) }
+    ensures { OnOk result (lines.new.items ≡ lines.old.items ++ reply_line config.now time net reply) }
 {
     match reply {
         Reply::Filtered(cause) => {
             let line = FilteredLine { time, net, cause };
-            writeln!(lines, "{line}")
+            line.add_to(lines)
         }
         Reply::Link { vl, place, verdict } => {
             let ports = ports_of(config, vl);
@@ -100,7 +100,7 @@ fn add_line(
                 place,
                 verdict: VerdictText { verdict, ports },
             };
-            writeln!(lines, "{line}")
+            line.add_to(lines)
         }
     }
 }

@@ -1,5 +1,5 @@
 //! A whole run with two threads.
-ghost use Rattle.std.specs.Prelude.{◌≡◌, IfErr, IfOk, false, string_bytes};
+ghost use Rattle.std.specs.Prelude.{◌≡◌, IfErr, IfOk, false};
 ghost use Rattle.es_base.specs.declared.place.Net.TheVariants.{A as net_a, B as net_b};
 ghost use Rattle.end_system.specs.System.{IsPassOf};
 ghost use Rattle.trace_player.specs.Play.{IsFaultOfTrace};
@@ -41,7 +41,7 @@ pub fn play_threads<R: Threads + Wait + Sync, A: Source, B: Source, W: Sink>(
 {
     let (frames_a, frames_b) = read_both(alloc, a, b)?;
     let text = text_of(rt, alloc, config, frames_a, frames_b, at)?;
-    write_whole(out, text.as_bytes())
+    write_whole(out, &text)
 }
 
 /// The lines of the frames of both traces and the report after them.
@@ -52,8 +52,8 @@ fn text_of<R: Threads + Wait + Sync>(
     frames_a: Frames,
     frames_b: Frames,
     at: Option<u64>,
-) -> Result<String, Memory>
-    ensures { IfOk result (λ text. EndsAsReport (string_bytes text)) }
+) -> Result<Vec<u8>, Memory>
+    ensures { IfOk result (λ text. EndsAsReport text.items) }
 {
     let Opened {
         system,
@@ -65,7 +65,7 @@ fn text_of<R: Threads + Wait + Sync>(
     let (a, b) = (a?, b?);
     let at = at.unwrap_or(a.latest.max(b.latest));
     let mut text = a.lines;
-    text.push_str(b.lines.as_str())?;
+    text.extend_from_slice(&b.lines)?;
     let settled = system.settle(a.pass, b.pass);
     write_report(rt, alloc, &settled, &mut ends, at, &mut text)?;
     Ok(text)

@@ -18,7 +18,7 @@ pub(crate) fn write_ports<R: Wait>(
     ports: &[PortSettings],
     ends: &mut [PortEnd],
     at: u64,
-    text: &mut String,
+    text: &mut Vec<u8>,
 ) -> Result<(), Memory> {
     'ports: for (port, end) in ports.iter().zip(ends.iter_mut()) {
         write_port(rt, alloc, port, end, at, text)?;
@@ -33,7 +33,7 @@ fn write_port<R: Wait>(
     port: &PortSettings,
     end: &mut PortEnd,
     at: u64,
-    text: &mut String,
+    text: &mut Vec<u8>,
 ) -> Result<(), Memory> {
     let name = port.name().as_str();
     match end {
@@ -60,7 +60,7 @@ fn write_sampled(
     name: &str,
     refresh: u64,
     at: u64,
-    text: &mut String,
+    text: &mut Vec<u8>,
 ) -> Result<(), Memory> {
     let mut out = [0; 1471];
     match reader.read(MOST_TRIES, &mut out) {
@@ -84,7 +84,7 @@ fn write_taken<R: Wait>(
     alloc: Global,
     taker: &mut Taker,
     name: &str,
-    text: &mut String,
+    text: &mut Vec<u8>,
 ) -> Result<(), Memory> {
     let mut messages = Vec::new(alloc);
     'messages: for _ in rt.forever() {

@@ -1,6 +1,6 @@
 //! The report after both threads: what the ends of the ports give, and how many events and filtered frames there
 //! were.
-ghost use Rattle.std.specs.Prelude.{OnOk, string_bytes};
+ghost use Rattle.std.specs.Prelude.{OnOk};
 ghost use Rattle.thread_player.specs.Played.{EndsAsReport};
 
 use crate::ports::write_ports;
@@ -18,9 +18,9 @@ pub(crate) fn write_report<R: Wait>(
     settled: &Settled,
     ends: &mut [LinkEnds],
     at: u64,
-    text: &mut String,
+    text: &mut Vec<u8>,
 ) -> Result<(), Memory>
-    ensures { OnOk result (EndsAsReport (string_bytes text.new)) }
+    ensures { OnOk result (EndsAsReport text.new.items) }
 {
     write_all_ports(rt, alloc, &settled.links, ends, at, text)?;
     write_all_counts(&settled.links, text)?;
@@ -34,7 +34,7 @@ fn write_all_ports<R: Wait>(
     links: &[LinkState],
     ends: &mut [LinkEnds],
     at: u64,
-    text: &mut String,
+    text: &mut Vec<u8>,
 ) -> Result<(), Memory> {
     'links: for (link, ends) in links.iter().zip(ends.iter_mut()) {
         write_ports(
@@ -50,7 +50,7 @@ fn write_all_ports<R: Wait>(
 }
 
 /// Adds the counts of all links' events, link by link.
-fn write_all_counts(links: &[LinkState], text: &mut String) -> Result<(), Memory> {
+fn write_all_counts(links: &[LinkState], text: &mut Vec<u8>) -> Result<(), Memory> {
     'links: for link in links {
         write_counts(text, link.settings(), link.tally())?;
     }

@@ -1,5 +1,5 @@
 //! The report of a run: what the ports show, and how many events and filtered frames there were.
-ghost use Rattle.std.specs.Prelude.{◌≡◌, ◌<◌, ◌++◌, ℕ, List, OnOk, Some, length, map, slice_get, string_bytes};
+ghost use Rattle.std.specs.Prelude.{◌≡◌, ◌<◌, ◌++◌, ℕ, List, OnOk, Some, length, map, slice_get};
 ghost use Rattle.es_base.specs.declared.event.Arrival.{Arrival};
 ghost use Rattle.es_base.specs.declared.event.Event.{Event};
 ghost use Rattle.es_base.specs.declared.event.Message.{Message};
@@ -17,17 +17,17 @@ ghost use Rattle.trace_player.specs.Played.{HavePasts, IsAfter, IsShortPastOf, s
 
 use es_base::{Memory, PortKind, PortNo};
 use kept_messages::{First, KeptOutlet, first_at, newest_at};
-use output_lines::{MessageLine, QueueLine, write_counts, write_filtered, write_newest};
+use output_lines::{MessageLine, QueueLine, add_line, write_counts, write_filtered, write_newest};
 use receiver::{OpenLink, Receiver};
 
 /// Adds the report at a time, in microseconds, to the text.
 pub(crate) fn write_report(
     receiver: &Receiver<KeptOutlet>,
     at: u64,
-    text: &mut String,
+    text: &mut Vec<u8>,
 ) -> Result<(), Memory>
     ensures { OnOk result ((frames : List Arrival) → IsAfter frames receiver.now
-        → string_bytes text.new ≡ string_bytes text.old ++ report_after receiver.now.config frames at) }
+        → text.new.items ≡ text.old.items ++ report_after receiver.now.config frames at) }
 {
     write_all_ports(receiver.links(), at, text)?;
     write_all_counts(receiver.links(), text)?;
@@ -35,9 +35,13 @@ pub(crate) fn write_report(
 }
 
 /// Adds the lines of all ports, link by link.
-fn write_all_ports(links: &[OpenLink<KeptOutlet>], at: u64, text: &mut String) -> Result<(), Memory>
+fn write_all_ports(
+    links: &[OpenLink<KeptOutlet>],
+    at: u64,
+    text: &mut Vec<u8>,
+) -> Result<(), Memory>
     ensures { OnOk result ((past_of : Settings → List Event) → HavePasts past_of links.now
-        → string_bytes text.new ≡ string_bytes text.old ++ all_link_lines at past_of (map settings_of links.now)) }
+        → text.new.items ≡ text.old.items ++ all_link_lines at past_of (map settings_of links.now)) }
 {
     'links: for link in links {
         write_ports(link, at, text)?;
@@ -46,9 +50,9 @@ fn write_all_ports(links: &[OpenLink<KeptOutlet>], at: u64, text: &mut String) -
 }
 
 /// Adds the lines of a link's ports, in the order of its settings.
-fn write_ports(link: &OpenLink<KeptOutlet>, at: u64, text: &mut String) -> Result<(), Memory>
+fn write_ports(link: &OpenLink<KeptOutlet>, at: u64, text: &mut Vec<u8>) -> Result<(), Memory>
     ensures { OnOk result ((past : List Event) → IsPastOf ShowsKept link.now past
-        → string_bytes text.new ≡ string_bytes text.old ++ link_lines at link.now.core.settings past) }
+        → text.new.items ≡ text.old.items ++ link_lines at link.now.core.settings past) }
 {
     'ports: for place in 0..link.settings().ports().len() {
         write_port(link, place, at, text)?;
@@ -62,11 +66,11 @@ fn write_port(
     link: &OpenLink<KeptOutlet>,
     place: usize,
     at: u64,
-    text: &mut String,
+    text: &mut Vec<u8>,
 ) -> Result<(), Memory>
     requires { place < length link.now.core.settings.ports }
     ensures { OnOk result ((past : List Event) (port : Port) → IsPastOf ShowsKept link.now past → slice_get link.now.core.settings.ports place ≡ Some port →
-        string_bytes text.new ≡ string_bytes text.old ++ port_lines at port (deliveries link.now.core.settings past (port_no place))) }
+        text.new.items ≡ text.old.items ++ port_lines at port (deliveries link.now.core.settings past (port_no place))) }
 {
     let port = &link.settings().ports()[place];
     let name = port.name().as_str();
@@ -83,15 +87,15 @@ fn write_port(
 }
 
 /// Adds the lines of a queuing port, with all its messages.
-fn write_first(text: &mut String, name: &str, first: &First) -> Result<(), Memory>
-    ensures { OnOk result (string_bytes text.new ≡ string_bytes text.old
+fn write_first(text: &mut Vec<u8>, name: &str, first: &First) -> Result<(), Memory>
+    ensures { OnOk result (text.new.items ≡ text.old.items
         ++ (line (queue_text name.now (length first.now.messages)) ++ message_lines name.now first.now.messages)) }
 {
     let line = QueueLine {
         name,
         count: first.len(),
     };
-    writeln!(text, "{line}")?;
+    add_line(text, line)?;
     'messages: for place in 0..first.len() {
         if let Some(message) = first.message(place) {
             let line = MessageLine {
@@ -99,16 +103,16 @@ fn write_first(text: &mut String, name: &str, first: &First) -> Result<(), Memor
                 time: message.time,
                 octets: message.octets,
             };
-            writeln!(text, "{line}")?;
+            add_line(text, line)?;
         }
     }
     Ok(())
 }
 
 /// Adds the counts of all links' events, link by link.
-fn write_all_counts(links: &[OpenLink<KeptOutlet>], text: &mut String) -> Result<(), Memory>
+fn write_all_counts(links: &[OpenLink<KeptOutlet>], text: &mut Vec<u8>) -> Result<(), Memory>
     ensures { OnOk result ((past_of : Settings → List Event) → HavePasts past_of links.now
-        → string_bytes text.new ≡ string_bytes text.old ++ all_count_lines past_of (map settings_of links.now)) }
+        → text.new.items ≡ text.old.items ++ all_count_lines past_of (map settings_of links.now)) }
 {
     'links: for link in links {
         write_link_counts(link, text)?;
@@ -117,9 +121,9 @@ fn write_all_counts(links: &[OpenLink<KeptOutlet>], text: &mut String) -> Result
 }
 
 /// Adds the counts of a link's events.
-fn write_link_counts(link: &OpenLink<KeptOutlet>, text: &mut String) -> Result<(), Memory>
+fn write_link_counts(link: &OpenLink<KeptOutlet>, text: &mut Vec<u8>) -> Result<(), Memory>
     ensures { OnOk result ((past : List Event) → IsShortPastOf link.now past
-        → string_bytes text.new ≡ string_bytes text.old ++ count_lines link.now.core.settings.vl (count_of past)) }
+        → text.new.items ≡ text.old.items ++ count_lines link.now.core.settings.vl (count_of past)) }
 {
     write_counts(text, link.settings(), link.tally())
 }

@@ -1,5 +1,5 @@
 //! The frames of two traces through the receiver, and the text of what they came to.
-ghost use Rattle.std.specs.Prelude.{◌≡◌, ◌++◌, List, [], ◌∷◌, IfOk, OnOk, max, string_bytes};
+ghost use Rattle.std.specs.Prelude.{◌≡◌, ◌++◌, List, [], ◌∷◌, IfOk, OnOk, max};
 ghost use Rattle.es_base.specs.declared.event.Arrival.{Arrival};
 ghost use Rattle.trace_player.specs.Output.{line_of, output_of};
 ghost use Rattle.trace_player.specs.Played.{IsAfter};
@@ -20,8 +20,8 @@ pub(crate) fn text_of(
     a: Frames,
     b: Frames,
     at: Option<u64>,
-) -> Result<String, Memory>
-    ensures { IfOk result (λ text. string_bytes text ≡ output_of config.now a b at) }
+) -> Result<Vec<u8>, Memory>
+    ensures { IfOk result (λ text. text.items ≡ output_of config.now a b at) }
 {
     let mut run = Run::open(alloc, config)?;
     let mut frames = Merge { a, b };
@@ -39,7 +39,7 @@ struct Run {
     /// The greatest arrival time, in microseconds.
     latest: u64,
     /// The lines of the frames.
-    text: String,
+    text: Vec<u8>,
 }
 
 impl Run {
@@ -47,13 +47,13 @@ impl Run {
     fn open(alloc: Global, config: &Config) -> Result<Run, Memory>
         ensures config { IfOk result (λ run. run.receiver.config ≡ config.now) }
         ensures after { IfOk result (λ run. IsAfter [] run.receiver) }
-        ensures rest { IfOk result (λ run. (run.latest ≡ 0) × (string_bytes run.text ≡ [])) }
+        ensures rest { IfOk result (λ run. (run.latest ≡ 0) × (run.text.items ≡ [])) }
     {
         let Opened { receiver, ends: _ } = Receiver::open(alloc, config)?;
         Ok(Run {
             receiver,
             latest: 0,
-            text: String::new(alloc),
+            text: Vec::new(alloc),
         })
     }
 
@@ -65,14 +65,14 @@ impl Run {
             → IsAfter (arrival ∷ earlier) self.new.receiver) }
         ensures latest { OnOk result (self.new.latest ≡ max arrival.time self.old.latest) }
         ensures line { OnOk result ((earlier : List Arrival) → IsAfter earlier self.old.receiver
-            → string_bytes self.new.text ≡ string_bytes self.old.text ++ line_of self.old.receiver.config earlier arrival) }
+            → self.new.text.items ≡ self.old.text.items ++ line_of self.old.receiver.config earlier arrival) }
     {
         let (time, net) = (arrival.time, arrival.net);
         self.latest = time.max(self.latest);
         match self.receiver.receive(net, time, arrival.frame.as_slice()) {
             Reply::Filtered(cause) => {
                 let line = FilteredLine { time, net, cause };
-                writeln!(self.text, "{line}")
+                line.add_to(&mut self.text)
             }
             Reply::Link {
                 at,
@@ -91,7 +91,7 @@ impl Run {
                     place,
                     verdict: VerdictText { verdict, ports },
                 };
-                writeln!(self.text, "{line}")
+                line.add_to(&mut self.text)
             }
         }
     }

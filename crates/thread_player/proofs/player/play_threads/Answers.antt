@@ -20,5 +20,5 @@ returns-clause-played g c =
     let read = c.in_ok-frames_a in
     written _ _ g.W.Sink.contents g.W.Sink.has_failed c.args.out.now c.write_whole.new.out _ c.write_whole.result
     (read.frames_a, (read.frames_b, read.ensures.a, read.ensures.b, tt))
-    (rw c.as_bytes.ensures.value c.in_ok-text.ensures)
+    (rw c.deref.ensures.value c.in_ok-text.ensures)
     c.write_whole.ensures

@@ -1,4 +1,4 @@
-use Rattle.std.proofs.Common.{◌≡◌, ◌∙◌, ◌++◌, ap, get_or, sym, true, false, string_bytes}
+use Rattle.std.proofs.Common.{◌≡◌, ◌∙◌, ◌++◌, ap, get_or, sym, true, false}
 use Rattle.std.proofs.lemmas.Option.{get_or_from_slice_get, same_Some}
 use Rattle.std.proofs.lemmas.Result.{on_ok_weaker}
 use Rattle.es_base.specs.declared.port.PortKind.TheVariants.{Sampling, Queuing}
@@ -14,7 +14,7 @@ returns-in-Sampling c =
     let link = c.args.link.now in
     let place = c.args.place in
     let found = c.index-ports-place.result in
-    let text = string_bytes c.args.text.now in
+    let text = c.args.text.now.items in
     let listed : c.ports.result.now ≡ link.core.settings.ports = c.ports.ensures.value ∙ ap (λ (s : Settings). s.ports) c.settings.ensures.value in
     on_ok_weaker c.write_newest.result
     (λ wrote past port is there.
@@ -31,7 +31,7 @@ returns-in-Some c =
     let link = c.args.link.now in
     let place = c.args.place in
     let found = c.index-ports-place.result in
-    let text = string_bytes c.args.text.now in
+    let text = c.args.text.now.items in
     let listed : c.ports.result.now ≡ link.core.settings.ports = c.ports.ensures.value ∙ ap (λ (s : Settings). s.ports) c.settings.ensures.value in
     on_ok_weaker c.write_first.result
     (λ wrote past port is there.

@@ -1,4 +1,4 @@
-use Rattle.std.proofs.Common.{◌≡◌, ◌+◌, ◌++◌, [], List, length, reverse, string_bytes}
+use Rattle.std.proofs.Common.{◌≡◌, ◌+◌, ◌++◌, [], List, length, reverse}
 use Rattle.es_base.specs.declared.event.Arrival.{Arrival}
 use Rattle.trace_player.specs.Merge.{merged}
 use Rattle.trace_player.specs.Output.{greatest_time, lines_of}
@@ -13,7 +13,7 @@ invariant-frames l =
     × (l.run.receiver.config ≡ l.config)
     × IsAfter earlier l.run.receiver
     × (reverse earlier ++ merged l.frames.a l.frames.b ≡ merged l.fn.a l.fn.b)
-    × (string_bytes l.run.text ++ lines_of l.config earlier (merged l.frames.a l.frames.b) ≡ lines_of l.config [] (merged l.fn.a l.fn.b))
+    × (l.run.text.items ++ lines_of l.config earlier (merged l.frames.a l.frames.b) ≡ lines_of l.config [] (merged l.fn.a l.fn.b))
     × (l.run.latest ≡ greatest_time earlier)
 
 abbrev pub decreases-frames : goal.decreases-frames
