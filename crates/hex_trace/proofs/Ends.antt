@@ -7,7 +7,7 @@ use Rattle.std.proofs.lemmas.List.{drop-append-le, length-append, take-append-le
 use Rattle.std.proofs.lemmas.List.Elements.{All-head, All-tail}
 use Rattle.std.proofs.lemmas.List.Splits.{slice_split-cons_no, slice_split-cons_yes, slice_split_none, slice_split_first}
 use Rattle.std.proofs.lemmas.List.Sums.{position_or_len_is}
-use Rattle.hex_trace.specs.declared.frames.TimedFrame.{TimedFrame}
+use Rattle.hex_trace.specs.Frames.{TimedFrame}
 use Rattle.hex_trace.specs.declared.fault.TraceCause.{TraceCause}
 use Rattle.hex_trace.specs.declared.fault.TraceCause.TheVariants.{LongLine}
 use Rattle.hex_trace.specs.declared.lines.Lines.{Lines}

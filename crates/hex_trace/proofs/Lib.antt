@@ -1,3 +1,4 @@
+pub mod Block
 pub mod Bytes
 pub mod Digits
 pub mod Ends

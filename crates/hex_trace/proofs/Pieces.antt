@@ -2,7 +2,7 @@
 use Rattle.std.proofs.Common.{◌≡◌, ◌∙◌, ℕ, ◌+◌, ◌≤◌, false, List, [], ◌++◌, Result, Ok, Err, length, take, drop, append-nil, sym, ap}
 use Rattle.std.proofs.lemmas.List.{take-append-drop, length-take-le}
 use Rattle.std.proofs.Math.Seq.{take-append-add, take-length, drop-length}
-use Rattle.hex_trace.specs.declared.frames.TimedFrame.{TimedFrame}
+use Rattle.hex_trace.specs.Frames.{TimedFrame}
 use Rattle.hex_trace.specs.declared.fault.TraceCause.{TraceCause}
 use Rattle.hex_trace.specs.declared.fault.TraceFault.{TraceFault}
 use Rattle.hex_trace.specs.declared.fault.TraceFault.TheVariants.{Line, Read, Memory}

@@ -1,6 +1,27 @@
 -- The frames of a trace.
-use Rattle.std.specs.Prelude.{ℕ, List, [], ◌∷◌, Option, None, Some}
-use Rattle.hex_trace.specs.declared.frames.TimedFrame.{TimedFrame}
+use Rattle.std.specs.Prelude.{◌≤◌, ℕ, ◌-◌, List, [], ◌∷◌, Option, None, Some, length, take, drop}
+use Rattle.std.specs.List.{All}
+use Rattle.hex_trace.specs.declared.frames.Entry.{Entry}
+use Rattle.hex_trace.specs.declared.frames.LentFrame.{LentFrame}
+
+-- a frame, and when it came, in microseconds
+pub record TimedFrame : Type 0 where
+  pub time : ℕ
+  pub frame : List ℕ
+
+abbrev pub timed : ℕ → List ℕ → TimedFrame
+timed time octets = record { time = time; frame = octets }
+
+-- a frame as it was lent
+abbrev pub lent_as : LentFrame → TimedFrame
+lent_as lent = timed lent.time lent.octets.now
+
+-- the frame of an entry, whose octets lie in the block
+abbrev pub frame_in : List ℕ → Entry → TimedFrame
+frame_in block entry = timed entry.time (take (entry.end - entry.start) (drop entry.start block))
+
+abbrev pub AreWithin : List ℕ → List Entry → Type 0
+AreWithin block entries = All (λ (e : Entry). (e.start ≤ e.end) × (e.end ≤ length block)) entries
 
 -- when the first of these frames came
 abbrev pub first_time : List TimedFrame → Option ℕ

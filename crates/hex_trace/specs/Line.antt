@@ -1,16 +1,13 @@
 -- What one line of a trace says (own).
-use Rattle.std.specs.Prelude.{◌≡◌, ℕ, ◌^◌, ◌==◌, Bool, ◌&&◌, ◌||◌, List, length, take, drop, take_while, slice_index, nat_lt, Option, None, Some, Result, Ok, Err, if◌then◌else◌}
+use Rattle.std.specs.Prelude.{ℕ, ◌^◌, ◌==◌, Bool, ◌&&◌, ◌||◌, List, length, take, drop, take_while, slice_index, nat_lt, Option, None, Some, Result, Ok, Err, if◌then◌else◌}
 use Rattle.std.specs.Char.{is_ascii_digit}
 use Rattle.std.specs.Str.Parse.{digits_value}
 use Rattle.es_base.specs.Returns.{◌>>=◌}
 use Rattle.hex.specs.Hex.{decode_of}
 use Rattle.hex.specs.declared.error.FromHexError.{FromHexError}
-use Rattle.hex.specs.declared.error.FromHexError.TheVariants.{OutOfMemory}
-use Rattle.hex_trace.specs.declared.frames.TimedFrame.{TimedFrame}
+use Rattle.hex_trace.specs.Frames.{TimedFrame}
 use Rattle.hex_trace.specs.declared.fault.TraceCause.{TraceCause}
 use Rattle.hex_trace.specs.declared.fault.TraceCause.TheVariants as causes
-use Rattle.hex_trace.specs.declared.line.BadLine.{BadLine}
-use Rattle.hex_trace.specs.declared.line.BadLine.TheVariants.{Cause, Memory}
 
 -- the longest line, in bytes, without its end
 abbrev pub longest_line : ℕ
@@ -63,14 +60,3 @@ frame_from before line =
       digits ← after_space (drop (length (time_digits line)) line)
       octets ← octets_from digits
       if nat_lt time before then Err causes.Falls else Ok (Some (record { time = time; frame = octets }))
-
--- why digits weren't decoded
-abbrev pub digits_fault : FromHexError → BadLine
-digits_fault OutOfMemory = Memory
-digits_fault _ = Cause causes.Hex
-
--- what is returned is what the line says, unless memory ran out
-abbrev pub Reads : {X : Type 0} → Result X BadLine → Result X TraceCause → Type 0
-Reads (Ok x) said = said ≡ Ok x
-Reads (Err (Cause cause)) said = said ≡ Err cause
-Reads (Err Memory) said = Unit {0}

@@ -43,7 +43,7 @@ const CASE: u8 = b'a' - b'A';
 /// There is no early return, and the function stands alone in the program, so that the compiler makes
 /// vector code of it.
 #[inline(never)]
-fn decode_pairs(digits: &[u8], octets: &mut [u8]) -> bool
+pub(crate) fn decode_pairs(digits: &[u8], octets: &mut [u8]) -> bool
     requires { length digits.now ≡ 2 * length octets.old }
     ensures { MatchResult (decode_of digits.now)
         (λ said. (result ≡ true) × (octets.new ≡ said))

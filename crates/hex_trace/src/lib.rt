@@ -17,7 +17,7 @@ mod trace;
 pub use decode::decode_digits;
 pub use device::{Device, Failed, told};
 pub use fault::{TraceCause, TraceFault};
-pub use frames::{Frames, TimedFrame};
+pub use frames::{Frames, LentFrame};
 pub use line::LONGEST_LINE;
 pub use source::Source;
 pub use trace::read_trace;

@@ -1,15 +1,14 @@
 //! One line of a trace: a frame's time, a space and its octets; or a line that is skipped.
 ghost use Rattle.std.specs.Prelude.{◌≡◌, ◌≤◌, ◌<◌, ◌+◌, ◌-◌, ◌*◌, ◌^◌, SomeIff, IfOk, IfErr, Ok, Err, length, true};
+ghost use Rattle.std.specs.Option.{option_map};
 ghost use Rattle.std.specs.Char.{is_ascii_digit};
 ghost use Rattle.std.specs.List.{prefix_len};
 ghost use Rattle.std.specs.Str.{all_ascii_digits};
-ghost use Rattle.hex_trace.specs.Line.{time_digits, time_from, after_space, digits_fault, octets_from, frame_from, Reads};
-ghost use Rattle.hex_trace.specs.declared.line.BadLine.TheVariants.{Cause as line_cause};
+ghost use Rattle.hex_trace.specs.Frames.{lent_as};
+ghost use Rattle.hex_trace.specs.Line.{longest_line, time_digits, time_from, after_space, octets_from, frame_from};
 
-use crate::{TimedFrame, TraceCause, decode_digits};
-use es_base::Octets;
-use hex::FromHexError;
-use std::alloc::Global;
+use crate::decode::decode_pairs;
+use crate::{LentFrame, TraceCause};
 
 /// The longest line of a trace, in bytes, without its end (own).
 pub const LONGEST_LINE: usize = 8192;
@@ -23,46 +22,34 @@ const SPACE: u8 = b' ';
 /// A time that begins with this digit has no other.
 const ZERO: u8 = b'0';
 
-/// Why a line isn't read.
-#[derive(Clone, Copy, Debug, Drop, PartialEq, Eq)]
-pub(crate) enum BadLine {
-    Cause(TraceCause),
-    /// Memory ran out.
-    Memory,
-}
-
-impl From<TraceCause> for BadLine {
-    ghost from_gives = { λ cause fault. fault ≡ line_cause cause };
-
-    fn from(cause: TraceCause) -> BadLine {
-        BadLine::Cause(cause)
-    }
-}
+/// The most octets that a line has room for.
+pub(crate) const MOST_OCTETS: usize = LONGEST_LINE / 2;
 
 /// The frame of a line that follows one with a frame of the time `before`, in microseconds. None
-/// if the line is skipped: it is empty, or begins with `COMMENT`.
+/// if the line is skipped: it is empty, or begins with `COMMENT`. The octets are written to the front of `scratch`.
 #[tactic(auto, unfolding(crate::specs::Line::frame_from))]
-pub(crate) fn frame_from(
-    alloc: Global,
+pub(crate) fn frame_from<'s>(
     before: u64,
     line: &[u8],
-) -> Result<Option<TimedFrame>, BadLine>
-    ensures { Reads result (frame_from before line.now) }
+    scratch: &'s mut [u8; MOST_OCTETS],
+) -> Result<Option<LentFrame<'s>>, TraceCause>
+    ensures frame { IfOk result (λ frame. frame_from before line.now ≡ Ok (option_map lent_as frame)) }
+    ensures cause { IfErr result (λ cause. frame_from before line.now ≡ Err cause) }
 {
     if line.len() > LONGEST_LINE {
-        return Err(BadLine::Cause(TraceCause::LongLine));
+        return Err(TraceCause::LongLine);
     }
     if line.is_empty() || line[0] == COMMENT {
         return Ok(None);
     }
     let digits = time_digits(line);
     let time = time_from(digits)?;
-    let octets = after_space(&line[digits.len()..])?;
-    let frame = octets_from(alloc, octets)?;
+    let digits = after_space(&line[digits.len()..])?;
+    let octets = octets_from(digits, scratch)?;
     if time < before {
-        return Err(BadLine::Cause(TraceCause::Falls));
+        return Err(TraceCause::Falls);
     }
-    Ok(Some(TimedFrame { time, frame }))
+    Ok(Some(LentFrame { time, octets }))
 }
 
 /// The digits of a line's time. A first `ZERO` ends them.
@@ -123,22 +110,22 @@ fn after_space(rest: &[u8]) -> Result<&[u8], TraceCause>
     }
 }
 
-/// The octets that hexadecimal digits say.
-fn octets_from(alloc: Global, digits: &[u8]) -> Result<Octets, BadLine>
-    ensures { Reads result (octets_from digits.now) }
+/// The octets that hexadecimal digits say, written to the front of `scratch`.
+fn octets_from<'s>(
+    digits: &[u8],
+    scratch: &'s mut [u8; MOST_OCTETS],
+) -> Result<&'s [u8], TraceCause>
+    requires { length digits.now ≤ longest_line }
+    ensures octets { IfOk result (λ octets. octets_from digits.now ≡ Ok octets.now) }
+    ensures cause { IfErr result (λ cause. octets_from digits.now ≡ Err cause) }
 {
-    match decode_digits(alloc, digits) {
-        Ok(octets) => Ok(Octets::from(octets)),
-        Err(error) => Err(digits_fault(error)),
+    if digits.len() % 2 == 1 {
+        return Err(TraceCause::Hex);
     }
-}
-
-/// Why digits weren't decoded.
-fn digits_fault(error: FromHexError) -> BadLine
-    ensures { result ≡ digits_fault error }
-{
-    match error {
-        FromHexError::OutOfMemory => BadLine::Memory,
-        _ => BadLine::Cause(TraceCause::Hex),
+    let octets = &mut scratch[..digits.len() / 2];
+    if decode_pairs(digits, octets) {
+        Ok(octets)
+    } else {
+        Err(TraceCause::Hex)
     }
 }

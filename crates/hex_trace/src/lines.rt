@@ -5,7 +5,7 @@ ghost use Rattle.hex_trace.specs.Line.{frame_from};
 ghost use Rattle.hex_trace.specs.Trace.{is_line_end, frames_in};
 ghost use Rattle.hex_trace.specs.Lines.{said_with, said_by, skipped_after, HasNoEnd, Tells};
 
-use crate::line::{BadLine, LONGEST_LINE, frame_from};
+use crate::line::{LONGEST_LINE, MOST_OCTETS, frame_from};
 use crate::{Frames, TraceCause, TraceFault};
 use es_base::Memory;
 use memchr::memchr;
@@ -46,31 +46,32 @@ impl Lines {
 
     /// Takes the whole lines that a text begins with, up to the first fault, and returns how many bytes they
     /// have with their ends.
-    pub(crate) fn take_lines(&mut self, alloc: Global, text: &[u8]) -> Result<usize, Memory>
+    pub(crate) fn take_lines(&mut self, text: &[u8]) -> Result<usize, Memory>
         ensures said { IfOk result (λ taken. (more : List ℕ)
             → said_by self.new (drop taken text.now ++ more) ≡ said_by self.old (text.now ++ more)) }
         ensures rest { IfOk result (λ taken. self.new.fault ≡ None → HasNoEnd (drop taken text.now)) }
         ensures within { IfOk result (λ taken. taken ≤ length text.now) }
     {
+        let mut scratch = [0; MOST_OCTETS];
         let mut rest = text;
         'lines: while self.fault.is_none() {
             let Some((line, more)) = cut_line(rest) else {
                 self.refuse_long(rest);
                 break;
             };
-            self.take_line(alloc, line)?;
+            self.take_line(line, &mut scratch)?;
             rest = more;
         }
         Ok(text.len() - rest.len())
     }
 
     /// The frames of the trace, or its first fault, if this line is the last.
-    pub(crate) fn finish(mut self, alloc: Global, last: &[u8]) -> Result<Frames, TraceFault>
+    pub(crate) fn finish(mut self, last: &[u8]) -> Result<Frames, TraceFault>
         requires { self.fault ≡ None → HasNoEnd last.now }
         ensures { Tells (said_by self last.now) result }
     {
         if self.fault.is_none() {
-            self.take_line(alloc, last)?;
+            self.take_line(last, &mut [0; MOST_OCTETS])?;
         }
         match self.fault {
             Some((line, cause)) => Err(TraceFault::Line { line, cause }),
@@ -78,24 +79,23 @@ impl Lines {
         }
     }
 
-    /// Takes one line. A skipped one is kept, with its end.
-    fn take_line(&mut self, alloc: Global, line: &[u8]) -> Result<(), Memory>
+    /// Takes one line; its octets are decoded in `scratch`. A skipped one is kept, with its end.
+    fn take_line(&mut self, line: &[u8], scratch: &mut [u8; MOST_OCTETS]) -> Result<(), Memory>
         requires { self.old.fault ≡ None }
         ensures said { OnOk result ((more : List (List ℕ)) → said_with self.new more ≡ said_with self.old (line.now ∷ more)) }
         ensures kept { OnOk result (self.new.skipped.items
             ≡ skipped_after self.old.skipped.items line.now (frame_from self.old.before line.now)) }
     {
-        match frame_from(alloc, self.before, line) {
+        match frame_from(self.before, line, scratch) {
             Ok(Some(frame)) => {
                 self.before = frame.time;
-                self.frames.push(frame)?;
+                self.frames.push(frame.time, frame.octets)?;
             }
             Ok(None) => {
                 self.skipped.extend_from_slice(line)?;
                 self.skipped.push(LINE_END)?;
             }
-            Err(BadLine::Cause(cause)) => self.fault = Some((self.line_number, cause)),
-            Err(BadLine::Memory) => return Err(AllocError),
+            Err(cause) => self.fault = Some((self.line_number, cause)),
         }
         self.line_number = self.line_number.checked_add(1).ok_or(AllocError)?;
         Ok(())

@@ -31,11 +31,11 @@ fn fault_of(length: usize) -> Option<TraceFault> {
 }
 
 /// The frame of a line of this length has one octet for two digits; an empty line has none.
-fn check_frame(rt: &impl Abort, alloc: Global, frames: &mut Frames, length: usize) {
-    match frames.next() {
+fn check_frame(rt: &impl Abort, alloc: Global, frames: &Frames, length: usize) {
+    match frames.first() {
         Some(frame) => {
             let wanted = octets(rt, alloc, length.saturating_sub(2) / 2);
-            assert!(rt; frame.frame.as_slice() == wanted.as_slice(), "{length}");
+            assert!(rt; frame.octets == wanted.as_slice(), "{length}");
         }
         None => assert_eq!(rt; length, 0),
     }
@@ -43,9 +43,9 @@ fn check_frame(rt: &impl Abort, alloc: Global, frames: &mut Frames, length: usiz
 
 fn check_length(rt: &impl Abort, alloc: Global, text: &mut Vec<u8>, trace: &[u8], length: usize) {
     match read(alloc, trace, text) {
-        Ok(mut frames) => {
+        Ok(frames) => {
             assert!(rt; fault_of(length).is_none(), "{length}");
-            check_frame(rt, alloc, &mut frames, length);
+            check_frame(rt, alloc, &frames, length);
         }
         Err(fault) => assert!(rt; fault_of(length) == Some(fault), "{length}"),
     }

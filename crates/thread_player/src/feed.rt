@@ -9,7 +9,7 @@ use output_lines::{EventLine, FilteredLine, VerdictText};
 use std::alloc::{AllocError, Global};
 use std::sync::Wait;
 use std::sync::atomic::{AtomicBool, Ordering};
-use trace_player::{Frames, TimedFrame};
+use trace_player::{Frames, LentFrame};
 
 /// What a thread has when its trace is at its end.
 #[derive(Drop)]
@@ -42,7 +42,7 @@ pub(crate) fn feed<R: Wait, G: Gate>(
         lines: Vec::new(alloc),
         latest: 0,
     };
-    'frames: while let Some(frame) = frames.next() {
+    'frames: while let Some(frame) = frames.first() {
         if stop.load(Ordering::SeqCst) {
             return Err(AllocError);
         }
@@ -50,6 +50,7 @@ pub(crate) fn feed<R: Wait, G: Gate>(
             stop.store(true, Ordering::SeqCst);
             return Err(error);
         }
+        frames.skip();
     }
     Ok(fed)
 }
@@ -61,19 +62,17 @@ fn give<R: Wait, G: Gate>(
     system: &EndSystem<G>,
     config: &Config,
     fed: &mut Fed,
-    timed: TimedFrame,
+    frame: LentFrame<'_>,
 ) -> Result<(), Memory>
     requires { IsPassOf system.now fed.old.pass }
     ensures own { IsPassOf system.now fed.new.pass }
     ensures net { OnOk result (fed.new.pass.net ≡ fed.old.pass.net) }
 {
-    let TimedFrame { time, frame } = timed;
+    let LentFrame { time, octets } = frame;
     let net = fed.pass.net();
     fed.latest = time;
-    match system.receive_arrival(rt, alloc, &mut fed.pass, time, frame) {
-        Ok(reply) => add_line(&mut fed.lines, config, time, net, reply),
-        Err(_) => Err(AllocError),
-    }
+    let reply = system.receive(rt, alloc, &mut fed.pass, time, octets)?;
+    add_line(&mut fed.lines, config, time, net, reply)
 }
 
 /// Adds the line of a frame that came at `time`, in microseconds, and got this reply.

@@ -1,5 +1,5 @@
 -- What one more frame leaves of a receiver whose messages nobody takes.
-use Rattle.std.proofs.Common.{◌≡◌, ◌∙◌, ap, refl, sym, subst, ℕ, ◌+◌, ◌-◌, ◌<◌, ◌&&◌, ◌^◌, min, Bool, true, false, List, [], ◌∷◌, ◌++◌, get_or, length, Some, Result, Ok, Err, OnOk, ⊎_elim, arith}
+use Rattle.std.proofs.Common.{◌≡◌, ◌∙◌, ap, refl, sym, subst, ℕ, ◌-◌, ◌<◌, ◌^◌, min, Bool, true, false, List, [], ◌∷◌, ◌++◌, get_or, length, Some, Result, Ok, Err, OnOk, ⊎_elim, arith}
 use Rattle.std.specs.List.{slice_get, slice_set}
 use Rattle.std.specs.Option.{option_map}
 use Rattle.std.proofs.Math.Nat.{min-eq_left, min-eq_right}
@@ -20,7 +20,7 @@ use Rattle.es_base.specs.Port.{Port}
 use Rattle.es_base.specs.Past.{event_of}
 use Rattle.es_base.specs.Run.{room_unread, verdict_of}
 use Rattle.es_base.specs.Settings.{Settings}
-use Rattle.es_base.specs.Tally.{AddsOne, Counts}
+use Rattle.es_base.specs.Tally.{AddsOne}
 use Rattle.es_base.proofs.Addressed.{link_at}
 use Rattle.es_base.proofs.Counted.{one_frame_more}
 use Rattle.receiver.specs.Link.{IsPastOf, Ported, Takes}

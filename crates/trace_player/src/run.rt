@@ -1,12 +1,13 @@
 //! The frames of two traces through the receiver, and the text of what they came to.
 ghost use Rattle.std.specs.Prelude.{◌≡◌, ◌++◌, List, [], ◌∷◌, IfOk, OnOk, max};
 ghost use Rattle.es_base.specs.declared.event.Arrival.{Arrival};
+ghost use Rattle.es_base.specs.Past.{arrived};
 ghost use Rattle.trace_player.specs.Output.{line_of, output_of};
 ghost use Rattle.trace_player.specs.Played.{IsAfter};
 
 use crate::merge::Merge;
 use crate::report::write_report;
-use es_base::{Arrival, Config, Memory};
+use es_base::{Config, Memory, Net};
 use hex_trace::Frames;
 use kept_messages::KeptOutlet;
 use output_lines::{EventLine, FilteredLine, VerdictText};
@@ -25,8 +26,9 @@ pub(crate) fn text_of(
 {
     let mut run = Run::open(alloc, config)?;
     let mut frames = Merge { a, b };
-    'frames: while let Some(arrival) = frames.next() {
-        run.take(arrival)?;
+    'frames: while let Some((net, frame)) = frames.first() {
+        run.take(net, frame.time, frame.octets)?;
+        frames.skip();
     }
     write_report(&run.receiver, at.unwrap_or(run.latest), &mut run.text)?;
     Ok(run.text)
@@ -57,19 +59,18 @@ impl Run {
         })
     }
 
-    /// One frame more, and its line.
-    fn take(&mut self, arrival: Arrival) -> Result<(), Memory>
+    /// One frame more, that came at `time`, in microseconds, and its line.
+    fn take(&mut self, net: Net, time: u64, octets: &[u8]) -> Result<(), Memory>
         requires { (earlier : List Arrival) × IsAfter earlier self.old.receiver }
         ensures config { OnOk result (self.new.receiver.config ≡ self.old.receiver.config) }
         ensures after { OnOk result ((earlier : List Arrival) → IsAfter earlier self.old.receiver
-            → IsAfter (arrival ∷ earlier) self.new.receiver) }
-        ensures latest { OnOk result (self.new.latest ≡ max arrival.time self.old.latest) }
+            → IsAfter (arrived net time octets.now ∷ earlier) self.new.receiver) }
+        ensures latest { OnOk result (self.new.latest ≡ max time self.old.latest) }
         ensures line { OnOk result ((earlier : List Arrival) → IsAfter earlier self.old.receiver
-            → self.new.text.items ≡ self.old.text.items ++ line_of self.old.receiver.config earlier arrival) }
+            → self.new.text.items ≡ self.old.text.items ++ line_of self.old.receiver.config earlier (arrived net time octets.now)) }
     {
-        let (time, net) = (arrival.time, arrival.net);
         self.latest = time.max(self.latest);
-        match self.receiver.receive(net, time, arrival.frame.as_slice()) {
+        match self.receiver.receive(net, time, octets) {
             Reply::Filtered(cause) => {
                 let line = FilteredLine { time, net, cause };
                 line.add_to(&mut self.text)

@@ -1,4 +1,5 @@
-use Rattle.std.proofs.Common.{◌∙◌, [], ◌∷◌, rules}
+use Rattle.std.proofs.Common.{◌∙◌, [], ◌∷◌, ap, sym, rules}
+use Rattle.es_base.specs.Past.{arrived}
 use Rattle.trace_player.proofs.Turns.{ends_as, frames_go_on, lines_go_on}
 use Rattle.trace_player.proofs.run.text_of.Goals as goal
 
@@ -12,9 +13,9 @@ pub frames-preserved : goal.frames-preserved
 frames-preserved c =
     let config = c.args.config.now in
     let earlier = c.frames.invariant.0 in
-    let a = c.in-Some.arrival in
+    let a = arrived c.in-Some.net c.in-Some.frame.time c.in-Some.frame.octets.now in
     let after = c.frames.invariant.2 in
-    let next = c.in-Some.ensures.frames in
+    let next = c.in-Some.ensures.next ∙ ap (λ later. a ∷ later) (sym c.skip.ensures) in
     let grown = rw c.frames.invariant.1 at (c.in_ok-take.ensures.line earlier after) in (
       a ∷ earlier,
       c.in_ok-take.ensures.config ∙ c.frames.invariant.1,

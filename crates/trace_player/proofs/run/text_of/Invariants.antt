@@ -1,4 +1,4 @@
-use Rattle.std.proofs.Common.{◌≡◌, ◌+◌, ◌++◌, [], List, length, reverse}
+use Rattle.std.proofs.Common.{◌≡◌, ◌++◌, [], List, length, reverse}
 use Rattle.es_base.specs.declared.event.Arrival.{Arrival}
 use Rattle.trace_player.specs.Merge.{merged}
 use Rattle.trace_player.specs.Output.{greatest_time, lines_of}
@@ -17,4 +17,4 @@ invariant-frames l =
     × (l.run.latest ≡ greatest_time earlier)
 
 abbrev pub decreases-frames : goal.decreases-frames
-decreases-frames l = length l.frames.a + length l.frames.b
+decreases-frames l = length (merged l.frames.a l.frames.b)
