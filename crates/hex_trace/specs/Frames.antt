@@ -1,7 +1,7 @@
 -- The frames of a trace.
-use Rattle.std.specs.Prelude.{◌≤◌, ℕ, ◌-◌, List, [], ◌∷◌, Option, None, Some, length, take, drop}
+use Rattle.std.specs.Prelude.{◌≤◌, ◌<◌, ℕ, ◌-◌, List, [], ◌∷◌, ◌++◌, Option, None, Some, length, take, drop}
 use Rattle.std.specs.List.{All}
-use Rattle.hex_trace.specs.declared.frames.Entry.{Entry}
+use Rattle.hex_trace.specs.declared.block.Entry.{Entry}
 use Rattle.hex_trace.specs.declared.frames.LentFrame.{LentFrame}
 
 -- a frame, and when it came, in microseconds
@@ -27,3 +27,16 @@ AreWithin block entries = All (λ (e : Entry). (e.start ≤ e.end) × (e.end ≤
 abbrev pub first_time : List TimedFrame → Option ℕ
 first_time [] = None
 first_time (frame ∷ frames) = Some frame.time
+
+-- the frames of all blocks, one block after another
+abbrev pub joined : List (List TimedFrame) → List TimedFrame
+joined [] = []
+joined (block ∷ blocks) = block ++ joined blocks
+
+abbrev pub NoneIsEmpty : List (List TimedFrame) → Type 0
+NoneIsEmpty blocks = All (λ (block : List TimedFrame). 0 < length block) blocks
+
+-- the first block has a frame at this place, if there is a block
+abbrev pub IsInFirst : ℕ → List (List TimedFrame) → Type 0
+IsInFirst at [] = Unit {0}
+IsInFirst at (block ∷ blocks) = at < length block

@@ -1,12 +1,14 @@
 //! The frames of a trace, in their order.
-ghost use Rattle.std.specs.Prelude.{◌≡◌, ◌++◌, [], ◌∷◌, OnOk, drop, slice_get};
+ghost use Rattle.std.specs.Prelude.{◌≡◌, ◌++◌, [], ◌∷◌, IfOk, OnOk, drop, slice_get};
 ghost use Rattle.std.specs.Option.{option_map};
 ghost use Rattle.hex_trace.specs.Frames.{first_time, lent_as, timed};
 
+use crate::block::Block;
 use es_base::Memory;
 use std::alloc::Global;
 use std::collections::VecDeque;
 use std::marker::Model;
+use std::mem;
 
 /// A frame of a trace.
 #[derive(Clone, Copy)]
@@ -16,71 +18,95 @@ pub struct LentFrame<'a> {
     pub octets: &'a [u8],
 }
 
-/// When a frame came, in microseconds, and where its octets begin and end in the block.
-#[derive(Clone, Copy)]
-pub(crate) struct Entry {
-    time: u64,
-    start: usize,
-    end: usize,
-}
-
-/// The frames of a trace that are left to play. The octets of all frames of the trace lie one after another in one
-/// block, so that none has memory of its own.
+/// The frames of a trace that were read so far.
 #[derive(Drop)]
-pub struct Frames {
-    entries: VecDeque<Entry>,
-    block: Vec<u8>,
+pub(crate) struct ReadFrames {
+    full: VecDeque<Block>,
+    last: Block,
 }
 
-impl Model for Frames {
-    ghost use Rattle.std.specs.Prelude.{List, map};
-    ghost use Rattle.hex_trace.specs.Frames.{TimedFrame, AreWithin, frame_in};
+impl Model for ReadFrames {
+    ghost use Rattle.std.specs.Prelude.{◌++◌, List};
+    ghost use Rattle.hex_trace.specs.Frames.{TimedFrame, NoneIsEmpty, joined};
 
     ghost Value = { List TimedFrame };
 
-    ghost view = { λ f. map (frame_in f.block.items) f.entries.items };
+    ghost view = { λ f. joined f.full.items ++ f.last };
 
-    ghost invariant = { λ f. AreWithin f.block.items f.entries.items };
+    ghost invariant = { λ f. NoneIsEmpty f.full.items };
 }
 
-impl Frames {
+impl ReadFrames {
     /// No frames.
-    pub(crate) fn new(alloc: Global) -> Frames
+    pub(crate) fn new(alloc: Global) -> ReadFrames
         ensures { result ≡ [] }
     {
-        Frames {
-            entries: VecDeque::new(alloc),
-            block: Vec::new(alloc),
+        ReadFrames {
+            full: VecDeque::new(alloc),
+            last: Block::new(alloc),
         }
     }
 
     /// Adds a frame that came at `time`, in microseconds, after the others.
-    pub(crate) fn push(&mut self, time: u64, octets: &[u8]) -> Result<(), Memory>
+    pub(crate) fn push(&mut self, alloc: Global, time: u64, octets: &[u8]) -> Result<(), Memory>
         ensures { OnOk result (self.new ≡ self.old ++ timed time octets.now ∷ []) }
     {
-        let start = self.block.len();
-        self.block.extend_from_slice(octets)?;
-        let end = self.block.len();
-        self.entries.push_back(Entry { time, start, end })?;
-        Ok(())
+        if !self.last.is_full() {
+            return self.last.push(time, octets);
+        }
+        let full = mem::replace(&mut self.last, Block::open(alloc)?);
+        self.full.push_back(full)?;
+        self.last.push(time, octets)
     }
 
+    /// The frames, to be played.
+    pub(crate) fn close(self) -> Result<Frames, Memory>
+        ensures { IfOk result (λ frames. frames ≡ self) }
+    {
+        let ReadFrames { full, last } = self;
+        let mut blocks = full;
+        if last.len() == 0 {
+            return Ok(Frames { blocks, at: 0 });
+        }
+        blocks.push_back(last)?;
+        Ok(Frames { blocks, at: 0 })
+    }
+}
+
+/// The frames of a trace that are left to play. Their octets lie in blocks, and the memory of each is given back once
+/// its frames were left out.
+#[derive(Drop)]
+pub struct Frames {
+    blocks: VecDeque<Block>,
+    /// The place of the next frame in the first block.
+    at: usize,
+}
+
+impl Model for Frames {
+    ghost use Rattle.std.specs.Prelude.{List, drop};
+    ghost use Rattle.hex_trace.specs.Frames.{TimedFrame, NoneIsEmpty, IsInFirst, joined};
+
+    ghost Value = { List TimedFrame };
+
+    ghost view = { λ f. drop f.at (joined f.blocks.items) };
+
+    ghost invariant = { λ f. NoneIsEmpty f.blocks.items × IsInFirst f.at f.blocks.items };
+}
+
+impl Frames {
     /// When the next frame came, in microseconds.
     pub fn time(&self) -> Option<u64>
         ensures { result ≡ first_time self.now }
     {
-        self.entries.front().map(|entry| entry.time)
+        self.first().map(|frame| frame.time)
     }
 
     /// The next frame.
     pub fn first(&self) -> Option<LentFrame<'_>>
         ensures { option_map lent_as result ≡ slice_get self.now 0 }
     {
-        match self.entries.front() {
-            Some(entry) => Some(LentFrame {
-                time: entry.time,
-                octets: &self.block[entry.start..entry.end],
-            }),
+        match self.blocks.front() {
+            Some(block) => block.frame(self.at),
             None => None,
         }
     }
@@ -89,6 +115,15 @@ impl Frames {
     pub fn skip(&mut self)
         ensures { self.new ≡ drop 1 self.old }
     {
-        self.entries.pop_front();
+        let Some(block) = self.blocks.front() else {
+            return;
+        };
+        let len = block.len();
+        if self.at + 1 < len {
+            self.at += 1;
+        } else {
+            self.blocks.pop_front();
+            self.at = 0;
+        }
     }
 }

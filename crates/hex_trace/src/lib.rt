@@ -4,6 +4,7 @@
 //! a failed read exactly if one failed.
 #![tactic(auto)]
 
+mod block;
 mod decode;
 mod device;
 mod fault;

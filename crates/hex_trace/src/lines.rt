@@ -5,6 +5,7 @@ ghost use Rattle.hex_trace.specs.Line.{frame_from};
 ghost use Rattle.hex_trace.specs.Trace.{is_line_end, frames_in};
 ghost use Rattle.hex_trace.specs.Lines.{said_with, said_by, skipped_after, HasNoEnd, Tells};
 
+use crate::frames::ReadFrames;
 use crate::line::{LONGEST_LINE, MOST_OCTETS, frame_from};
 use crate::{Frames, TraceCause, TraceFault};
 use es_base::Memory;
@@ -17,7 +18,7 @@ const LINE_END: u8 = b'\n';
 /// The lines of a trace that were read: their frames, up to the first fault.
 #[derive(Drop)]
 pub(crate) struct Lines {
-    frames: Frames,
+    frames: ReadFrames,
     /// The line number of the next line, counted from 1.
     line_number: u64,
     /// The time of the frame before it, in microseconds.
@@ -36,7 +37,7 @@ impl Lines {
         ensures fault { result.fault ≡ None }
     {
         Lines {
-            frames: Frames::new(alloc),
+            frames: ReadFrames::new(alloc),
             line_number: 1,
             before: 0,
             fault: None,
@@ -46,7 +47,7 @@ impl Lines {
 
     /// Takes the whole lines that a text begins with, up to the first fault, and returns how many bytes they
     /// have with their ends.
-    pub(crate) fn take_lines(&mut self, text: &[u8]) -> Result<usize, Memory>
+    pub(crate) fn take_lines(&mut self, alloc: Global, text: &[u8]) -> Result<usize, Memory>
         ensures said { IfOk result (λ taken. (more : List ℕ)
             → said_by self.new (drop taken text.now ++ more) ≡ said_by self.old (text.now ++ more)) }
         ensures rest { IfOk result (λ taken. self.new.fault ≡ None → HasNoEnd (drop taken text.now)) }
@@ -59,28 +60,33 @@ impl Lines {
                 self.refuse_long(rest);
                 break;
             };
-            self.take_line(line, &mut scratch)?;
+            self.take_line(alloc, line, &mut scratch)?;
             rest = more;
         }
         Ok(text.len() - rest.len())
     }
 
     /// The frames of the trace, or its first fault, if this line is the last.
-    pub(crate) fn finish(mut self, last: &[u8]) -> Result<Frames, TraceFault>
+    pub(crate) fn finish(mut self, alloc: Global, last: &[u8]) -> Result<Frames, TraceFault>
         requires { self.fault ≡ None → HasNoEnd last.now }
         ensures { Tells (said_by self last.now) result }
     {
         if self.fault.is_none() {
-            self.take_line(last, &mut [0; MOST_OCTETS])?;
+            self.take_line(alloc, last, &mut [0; MOST_OCTETS])?;
         }
         match self.fault {
             Some((line, cause)) => Err(TraceFault::Line { line, cause }),
-            None => Ok(self.frames),
+            None => Ok(self.frames.close()?),
         }
     }
 
     /// Takes one line; its octets are decoded in `scratch`. A skipped one is kept, with its end.
-    fn take_line(&mut self, line: &[u8], scratch: &mut [u8; MOST_OCTETS]) -> Result<(), Memory>
+    fn take_line(
+        &mut self,
+        alloc: Global,
+        line: &[u8],
+        scratch: &mut [u8; MOST_OCTETS],
+    ) -> Result<(), Memory>
         requires { self.old.fault ≡ None }
         ensures said { OnOk result ((more : List (List ℕ)) → said_with self.new more ≡ said_with self.old (line.now ∷ more)) }
         ensures kept { OnOk result (self.new.skipped.items
@@ -89,7 +95,7 @@ impl Lines {
         match frame_from(self.before, line, scratch) {
             Ok(Some(frame)) => {
                 self.before = frame.time;
-                self.frames.push(frame.time, frame.octets)?;
+                self.frames.push(alloc, frame.time, frame.octets)?;
             }
             Ok(None) => {
                 self.skipped.extend_from_slice(line)?;

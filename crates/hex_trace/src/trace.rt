@@ -32,16 +32,21 @@ pub fn read_trace<S: Source>(
     'pieces: for _ in 0..u64::MAX {
         let count = read_more(source, text, filled)?;
         if count == 0 {
-            return lines.finish(&text[..filled]);
+            return lines.finish(alloc, &text[..filled]);
         }
-        filled = take_piece(&mut lines, text, filled + count)?;
+        filled = take_piece(alloc, &mut lines, text, filled + count)?;
     }
     Err(TraceFault::Memory)
 }
 
 /// Takes the whole lines of the first `filled` bytes of a text. What is left of them moves to its front;
 /// returns how many bytes that is.
-fn take_piece(lines: &mut Lines, text: &mut [u8], filled: usize) -> Result<usize, Memory>
+fn take_piece(
+    alloc: Global,
+    lines: &mut Lines,
+    text: &mut [u8],
+    filled: usize,
+) -> Result<usize, Memory>
     requires { filled ≤ length text.old }
     ensures said { IfOk result (λ left. (more : List ℕ)
         → said_by lines.new (take left text.new ++ more) ≡ said_by lines.old (take filled text.old ++ more)) }
@@ -49,7 +54,7 @@ fn take_piece(lines: &mut Lines, text: &mut [u8], filled: usize) -> Result<usize
     ensures within { IfOk result (λ left. left ≤ length text.new) }
     ensures whole { length text.new ≡ length text.old }
 {
-    let taken = lines.take_lines(&text[..filled])?;
+    let taken = lines.take_lines(alloc, &text[..filled])?;
     move_to_front(text, taken, filled);
     Ok(filled - taken)
 }

@@ -12,10 +12,10 @@ returns-in-Some c = elim c.if-is_none.branch [
   | else-is_none w ↦ told_fault c.args.self _ _ (ap (λ s. s.fault) (sym w.self-is) ∙ c.in-Some.is)
 ]
 
-pub returns-in-None : goal.returns-in-None
-returns-in-None c = elim c.if-is_none.branch [
+pub returns-in_ok-close-in-None : goal.returns-in_ok-close-in-None
+returns-in_ok-close-in-None c = elim c.if-is_none.branch [
   | then-is_none+in_ok-take_line w ↦
       let none : c.args.self.fault ≡ None = search rules in
-      ap (said_with c.args.self) (one_line c.args.last.now (c.requires none)) ∙ sym (w.in_ok-take_line.ensures.said []) ∙ told_frames w.take_line.new.self (ap (λ s. s.fault) (sym w.self-is) ∙ c.in-None.is) ∙ ap (λ s. Ok s.frames) (sym w.self-is)
+      ap (said_with c.args.self) (one_line c.args.last.now (c.requires none)) ∙ sym (w.in_ok-take_line.ensures.said []) ∙ told_frames w.take_line.new.self (ap (λ s. s.fault) (sym w.self-is) ∙ c.in-None.is) ∙ ap (λ s. Ok s.frames) (sym w.self-is) ∙ ap Ok (sym c.in_ok-close-in-None.ensures)
   | else-is_none w ↦ search rules
 ]

@@ -2,7 +2,7 @@
 use Rattle.std.proofs.Common.{◌≡◌, ◌∙◌, ap, ap₂, refl, ℕ, suc, ◌+◌, ◌-◌, ◌≤◌, List, [], ◌∷◌, ◌++◌, length, map, take, drop, arith, length-append, length-drop}
 use Rattle.std.proofs.lemmas.List.{take-append-le, drop-append-le, map-append}
 use Rattle.std.proofs.Math.Seq.{drop-append_seam, take-length}
-use Rattle.hex_trace.specs.declared.frames.Entry.{Entry}
+use Rattle.hex_trace.specs.declared.block.Entry.{Entry}
 use Rattle.hex_trace.specs.Frames.{AreWithin, TimedFrame, frame_in, timed}
 
 -- a part of a block stays as the block grows

@@ -1,0 +1,34 @@
+-- Frames in blocks, one block after another.
+use Rattle.std.proofs.Common.{◌≡◌, ◌∙◌, ap, subst, sym, ℕ, suc, ◌+◌, ◌<◌, List, [], ◌∷◌, ◌++◌, length, drop, append-nil, append_assoc, arith}
+use Rattle.std.specs.List.{slice_index_or}
+use Rattle.std.proofs.Math.Seq.{drop-append_seam}
+use Rattle.hex_trace.specs.Frames.{TimedFrame, IsInFirst, NoneIsEmpty, joined}
+
+pub joined_append : (blocks : List (List TimedFrame)) (block : List TimedFrame) → joined (blocks ++ block ∷ []) ≡ joined blocks ++ block
+joined_append [] block = append-nil block
+joined_append (b ∷ bs) block = ap (λ (t : List TimedFrame). b ++ t) (joined_append bs block) ∙ sym (append_assoc b (joined bs) block)
+
+later_blocks : (b : List TimedFrame) (bs : List (List TimedFrame)) → NoneIsEmpty (b ∷ bs) → NoneIsEmpty bs
+later_blocks b bs none = λ k d low. none (suc k) d (omega (arith, low))
+
+-- the first block has a first frame
+pub first_is_there : (blocks : List (List TimedFrame)) → NoneIsEmpty blocks → IsInFirst 0 blocks
+first_is_there [] none = tt
+first_is_there (b ∷ bs) none = none 0 b (omega arith)
+
+pub within_first : (at : ℕ) (blocks : List (List TimedFrame)) (block : List TimedFrame) → block ≡ slice_index_or blocks 0 block → 0 < length blocks → IsInFirst at blocks → at < length block
+within_first at [] block is some inside = absurd (omega (arith, some))
+within_first at (b ∷ bs) block is some inside = subst (λ (x : List TimedFrame). at < length x) (sym is) inside
+
+-- the first block was left out
+pub after_pop : (blocks rest : List (List TimedFrame)) → rest ≡ drop 1 blocks → NoneIsEmpty blocks → NoneIsEmpty rest × IsInFirst 0 rest
+after_pop [] rest new none = subst (λ (l : List (List TimedFrame)). NoneIsEmpty l × IsInFirst 0 l) (sym new) (none, tt)
+after_pop (b ∷ bs) rest new none =
+    let later = later_blocks b bs none in
+    subst (λ (l : List (List TimedFrame)). NoneIsEmpty l × IsInFirst 0 l) (sym new) (later, first_is_there bs later)
+
+pub last_of_first : (at : ℕ) (blocks rest : List (List TimedFrame)) (block : List TimedFrame) → block ≡ slice_index_or blocks 0 block → 0 < length blocks → at + 1 ≡ length block → rest ≡ drop 1 blocks
+    → joined rest ≡ drop (at + 1) (joined blocks)
+last_of_first at [] rest block is some last new = absurd (omega (arith, some))
+last_of_first at (b ∷ bs) rest block is some last new =
+    ap joined new ∙ sym (drop-append_seam b (joined bs)) ∙ ap (λ (n : ℕ). drop n (b ++ joined bs)) (sym (last ∙ ap length is))
