@@ -14,7 +14,7 @@ ghost use Rattle.link_core.specs.Offer.{IsPlaceAt};
 ghost use Rattle.slot_core.specs.Octets.{AreOctets};
 ghost use Rattle.slot_core.specs.State.{StartsWith};
 ghost use Rattle.sampling_port.specs.Ends.{is_told};
-ghost use Rattle.queuing_port.specs.Queue.{Holds};
+ghost use Rattle.queuing_port.specs.Queue.{BeginsWith, Holds};
 ghost use Rattle.link_receiver.specs.Ends.{AreEndsOf, IsNewLink, IsOfItsPort, IsWithinDepth};
 ghost use Rattle.link_receiver.specs.Link.{Takes, decision_after, deliveries_of, from, number_before, past_of, published_at, queues, samples};
 ghost use Rattle.link_receiver.specs.Before.{StoodBefore, taken_out};
@@ -201,14 +201,16 @@ impl LinkState {
     }
 
     /// A queuing port of this link and the end that takes of it meet: the taker then knows all that was
-    /// delivered to the port. Returns how many of these messages it hasn't taken: at most the depth of
-    /// the queue. Nothing else changes.
+    /// delivered to the port, before the history and in it. What it knew before is a beginning of that.
+    /// Returns how many of these messages it hasn't taken: at most the depth of the queue. Nothing else
+    /// changes.
     pub fn meet_taker<R: Wait>(&mut self, rt: &R, port: PortNo, taker: &mut Taker) -> usize
         requires { slice_get self.old.channels port.0 ≡ Some (queues taker.old.queue) }
         ensures link { self.new ≡ self.old }
         ensures taker { taker.new ≡ record taker.old { put = taker.new.put } }
         ensures put { (earlier : List Event) → StoodBefore self.old.before self.old.settings earlier →
             EndsIn taker.new.put (number_before (from earlier self.old) port) (deliveries_of (from earlier self.old) port) }
+        ensures before { BeginsWith taker.new.put taker.old.put }
         ensures held { Holds taker.new result }
         ensures depth { IsWithinDepth (slice_get self.old.settings.ports port.0) result }
     {

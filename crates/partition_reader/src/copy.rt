@@ -25,6 +25,7 @@ pub(crate) fn copy_octets(held: &mut Held<READERS>, first: usize, out: &mut [u8]
     ensures octets { (k : ℕ) → k < length out.new → slice_index out.new k ≡ octet_at (last_of held.old.seen) (first + k) }
     ensures steps { held.new ≡ record held.old { steps = held.old.steps + words_of_range first (length out.new) } }
 {
+    // It is asked for its contract: at most 1471 octets, so no sum here wraps.
     let _len = held.len();
     let end = first + out.len();
     for place in first / 8..(end + 7) / 8 {

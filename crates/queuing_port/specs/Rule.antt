@@ -10,7 +10,25 @@ use Rattle.queuing_port.specs.declared.rule.Log.{Log}
 use Rattle.queuing_port.specs.Queue.{BeginsWith, TakerFinds}
 
 abbrev pub log : Bool → Bool → List Message → List Message → Log
-log puts takes put taken = record { puts = puts; takes = takes; put = put; taken = taken }
+log puts takes put taken = record {
+  puts = puts;
+  takes = takes;
+  put = put;
+  taken = taken;
+  put_before = [];
+  taken_before = [];
+}
+
+-- the pass in which two ends met: it knows both lists whole, and what each end knew of the other's before
+abbrev pub joined : Log → Log → Log
+joined putter taker = record {
+  puts = true;
+  takes = true;
+  put = putter.put;
+  taken = taker.taken;
+  put_before = taker.put;
+  taken_before = putter.taken;
+}
 
 -- Only one pass may put, and it knows the put list and a beginning of the taken list. Only one may take,
 -- and it knows the taken list and a beginning of the put list.
@@ -18,6 +36,10 @@ abbrev pub Fits : ℕ → ℕ → List Message → List Message → ℕ → Log 
 Fits putter taker put taken number view =
     (view.puts ≡ true → (number ≡ putter) × (view.put ≡ put) × BeginsWith taken view.taken)
     × (view.takes ≡ true → (number ≡ taker) × (view.taken ≡ taken) × BeginsWith put view.put)
+
+-- what the ends of a pass knew before they met begins what was put and what was taken
+abbrev pub FitsBefore : List Message → List Message → ℕ → Log → Type 0
+FitsBefore put taken number view = BeginsWith put view.put_before × BeginsWith taken view.taken_before
 
 -- what was put is what was taken and then what the queue holds
 pub record InOrder (held : List Message) (views : List Log) : Type 0 where
@@ -27,6 +49,7 @@ pub record InOrder (held : List Message) (views : List Log) : Type 0 where
   pub taken : List Message
   pub rest : put ≡ taken ++ held
   pub each : (number : ℕ) (view : Log) → get_elem? views number ≡ some view → Fits putter taker put taken number view
+  pub before : (number : ℕ) (view : Log) → get_elem? views number ≡ some view → FitsBefore put taken number view
 
 -- ---- the steps: a view before, the message, and the view after
 

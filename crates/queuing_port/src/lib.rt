@@ -18,7 +18,7 @@ mod rule;
 ghost use Rattle.std.specs.Prelude.{◌≡◌, ◌+◌, ◌<◌, ◌≤◌, true, length, slice_get, IfOk, OnOk, IfErr, OnErr, IfSome, IfNone, IsOk};
 ghost use Rattle.es_base.specs.Port.{is_kind_within_limits};
 ghost use Rattle.es_base.specs.declared.port.PortKind.TheVariants.{Queuing};
-ghost use Rattle.queuing_port.specs.Queue.{Holds, MayBeEmpty, MayBeFull, MayBeOldest, opened, with_put, with_taken};
+ghost use Rattle.queuing_port.specs.Queue.{BeginsWith, Holds, MayBeEmpty, MayBeFull, MayBeOldest, opened, with_put, with_taken};
 
 use crate::rule::{Ends, Looks, Puts, Queue, Right, Spare, Takes};
 use es_base::{Memory, Message};
@@ -100,14 +100,15 @@ pub fn open_queue(alloc: Global, depth: u8) -> Result<(Putter, Taker), Memory>
     Ok((putter, taker))
 }
 
-/// The two ends of one queue meet: each then knows what the other did. Returns how many messages the
-/// queue holds: those that were put and not taken, at most its depth. Nothing else changes, and there is
-/// nobody to wait for, since both ends are here.
+/// The two ends of one queue meet: each then knows what the other did, and what it knew of that before is
+/// the beginning of it. Returns how many messages the queue holds: those that were put and not taken, at
+/// most its depth. Nothing else changes, and there is nobody to wait for, since both ends are here.
 pub fn meet<R: Wait>(rt: &R, putter: &mut Putter, taker: &mut Taker) -> usize
     requires { taker.old.queue ≡ putter.old.queue }
     ensures putter { putter.new ≡ record putter.old { taken = taker.old.taken } }
     ensures taker { taker.new ≡ record taker.old { put = putter.old.put } }
     ensures same { taker.new ≡ putter.new }
+    ensures before { BeginsWith taker.new.put taker.old.put × BeginsWith putter.new.taken putter.old.taken }
     ensures held { Holds putter.new result }
     ensures depth { result ≤ putter.old.depth }
 {

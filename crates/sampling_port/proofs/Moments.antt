@@ -1,5 +1,6 @@
 -- The laws of a running port.
-use Rattle.std.proofs.Common.{◌≡◌, ◌≢◌, ℕ, ◌<◌, List, [], ◌++◌, length, get_or, append-nil, length-append, sym, ap, ◌∙◌, arith, subst}
+use Rattle.std.proofs.Common.{◌≡◌, ◌≢◌, ℕ, ◌<◌, ◌≤◌, ⊎_elim, List, [], ◌++◌, length, get_or, append-nil, length-append, sym, ap, ◌∙◌, arith, subst}
+use Rattle.std.proofs.lemmas.Bool.{cases_lt}
 use Rattle.std.proofs.lemmas.List.{nil_from_length}
 use Rattle.slot_core.specs.declared.view.Phase.TheVariants.{Holding}
 use Rattle.slot_core.specs.declared.view.ReaderView.{ReaderView}
@@ -19,7 +20,8 @@ use Rattle.sampling_port.specs.declared.rule.ReaderLog.{ReaderLog}
 use Rattle.sampling_port.specs.declared.rule.WriterLog.{WriterLog}
 use Rattle.sampling_port.specs.declared.rule.SeatView.TheVariants.{Reads, Writes}
 use Rattle.sampling_port.specs.Ends.{IsCopy, IsLastOf, ReadAnswer, ReaderEnd}
-use Rattle.sampling_port.specs.Moments.{PortState, SeatKnows}
+use Rattle.sampling_port.specs.Moments.{IsFoundIn, IsLook, PortState, SeatKnows, SeatStep}
+use Rattle.sampling_port.specs.Plays.{At, first, second}
 use Rattle.sampling_port.specs.Rule.{Kept}
 use Rattle.sampling_port.proofs.Turns.{below, core, reader_is, reader_known, writer_is}
 
@@ -76,3 +78,12 @@ last_is_read published v w tries before out (Busy number) told some read begins 
 
 pub is_what_was_published : (octets before out : List ℕ) (time place : ℕ) → AreOctets octets → IsCopy (words_of octets time) before out (length octets) → place < length octets → get_or out place 0 ≡ get_or octets place 0
 is_what_was_published octets before out time place are copy low = copy.octets place low ∙ octet_is octets time are place low
+
+pub finds_nothing_published : (n m found : ℕ) (s : PortState) (k : Kept n m s) (load : SeatStep) (me after : At) → IsFoundIn s load found → IsLook m load me found after → found ≡ 0 → k.writer.published ≡ []
+finds_nothing_published n m found s k load me after there look zero =
+    let at_latest : load.word ≡ 0 = ⊎_elim (λ (x : first m load me found after). x.0) (λ (x : second m load me found after). x.0) look in
+    let empty : latest s.words ≡ 0 = sym (there ∙ ap (λ (i : ℕ). get_or s.words i 0) at_latest) ∙ zero in
+    nil_from_length k.writer.published (⊎_elim
+    (λ (some : 0 < length k.writer.published). absurd (let shown = (k.lawful.newest.shown some).0 in omega (arith, some, shown, empty)))
+    (λ (none : length k.writer.published ≤ 0). omega (arith, none))
+    (cases_lt 0 (length k.writer.published)))

@@ -220,7 +220,7 @@ module _ (n m : ℕ) (id : ℕ) where
           turns n m s k id r me.1.2 v' _ _ (Meets w r (learns v all))
               (me.0, (subst (λ (z : ℕ). r < z) (sym (length-set k.readers r v')) lt, get_or-set_same k.readers r v' newcomer lt, me.1.2))
               (subst (λ (z : List ℕ). Lawful n m (core z k.writer (set k.readers r v'))) (sym (set-get_or s.words 0 0)) ok),
-          (refl, subst (λ (z : WriterView). StartsWith z.published v.view.seen) (sym same) old.seen),
+          (refl, refl, subst (λ (z : WriterView). StartsWith z.published v.view.seen) (sym same) old.seen),
         )
 
   pub tell_at : (slots r : ℕ) (w : WriterLog) (v : ReaderLog) (me : At) → me.0 ≡ Meets w r v → v.view.phase ≡ Idle → Allows (Kept n m) slots id me 0 (λ x. x) (told (step slots 0 0 0 none) me)

@@ -140,7 +140,7 @@ module _ (n m slots id : ℕ) where
       keeps,
       tt,
       reader_loads n m s k id r v mine 0 _ _ (at_view n m s k id r v mine (λ _. s.words) (λ z. begins z (latest s.words) all) (load_first_keeps n m _ k.lawful r lt (subst MayBegin (sym is) may))),
-      (all, refl, look s k mine),
+      (refl, (all, refl, look s k mine)),
     )
 
     pub second_allowed : MayLookAgain v.view → Allows (Kept n m) slots id (Reads r v, c) 0 (λ x. x) (second m (step slots 0 0 0 none) (Reads r v, c))
@@ -149,7 +149,7 @@ module _ (n m slots id : ℕ) where
       keeps,
       tt,
       reader_loads n m s k id r v mine 0 _ _ (at_view n m s k id r v mine (λ _. s.words) (λ z. again z (latest s.words) all) (load_second_keeps n m _ k.lawful r lt may')),
-      (all, refl, look s k mine, subst (λ (z : ReaderView). latest s.words ≢ word_of z.phase → length z.seen < length all) is (failed_look_is_later n m (core s.words k.writer k.readers) r k.lawful (lt, may'))),
+      (refl, (all, refl, look s k mine, subst (λ (z : ReaderView). latest s.words ≢ word_of z.phase → length z.seen < length all) is (failed_look_is_later n m (core s.words k.writer k.readers) r k.lawful (lt, may')))),
     )
 
     pub announce_allowed : (x : ℕ) → MayAnnounce v.view → x ≡ word_of v.view.phase → Allows (Kept n m) slots id (Reads r v, c) (1 + r) (λ _. x) (λ _. announced (step slots (1 + r) x 0 none) (Reads r v, c) x)
@@ -159,7 +159,7 @@ module _ (n m slots id : ℕ) where
       tt,
       reader_turns n m s k id r v mine _ _ _ (subst (λ (y : ℕ). Lawful n m (core (set s.words (1 + r) y) k.writer (set k.readers r (announces v.view)))) (sym now)
           (at_view n m s k id r v mine (λ z. set s.words (1 + r) (word_of z.phase)) announces (announce_keeps n m _ k.lawful r lt (subst MayAnnounce (sym is) may)))),
-      refl,
+      (refl, refl),
     )
 
     pub get_allowed : (a at_i : ℕ) → v.view.phase ≡ Holding a → Allows (Kept n m) slots id (Reads r v, c) at_i (λ x. x) (got n (step slots at_i 0 0 none) (Reads r v, c))
@@ -177,7 +177,7 @@ module _ (n m slots id : ℕ) where
       keeps,
       tt,
       reader_turns n m s k id r v mine _ _ _ (at_view n m s k id r v mine (λ _. set s.words (1 + r) 0) clears (clear_keeps n m _ k.lawful r lt)),
-      refl,
+      (refl, refl),
     )
 
   module _ (w : WriterLog) (c : List (ℕ × Unit {0})) where
@@ -187,7 +187,7 @@ module _ (n m slots id : ℕ) where
       keeps,
       tt,
       writer_loads n m s k id w mine (1 + r) _ _ (scan_keeps n m (core s.words w.view k.readers) (writer_lawful n m s k id w mine) r may),
-      refl,
+      (ap (λ (z : ℕ). 1 + z) may.next, refl),
     )
 
     pub store_allowed : (slot index x at : ℕ) → at ≡ place_of n slot index → MayStore n m w.view slot index x
@@ -208,7 +208,7 @@ module _ (n m slots id : ℕ) where
       keeps,
       tt,
       writer_turns n m s k id w mine _ _ _ (store_latest_keeps n m (core s.words w.view k.readers) (writer_lawful n m s k id w mine) few may),
-      refl,
+      (refl, refl),
     )
 
   -- the same, at a seat that is known by an equation

@@ -1,4 +1,5 @@
--- What each step tells its seat: the event of the core, on the seat's view.
+-- What each step tells its seat: which word of the table was loaded or stored, and the event of the core, on the
+-- seat's view.
 use Rattle.std.specs.Prelude.{◌≡◌, ◌≢◌, ℕ, ◌+◌, ◌<◌, ◌==◌, Bool, false, List, [], ◌∷◌, ◌++◌, length, slice_index}
 use Rattle.atomic_table.specs.Table.{Me, Step}
 use Rattle.slot_core.specs.declared.view.WriterView.{WriterView}
@@ -17,6 +18,16 @@ use Rattle.sampling_port.specs.declared.rule.SeatView.TheVariants.{Opens, Writes
 -- a seat, before or after a step
 abbrev pub At : Type 0
 At = Me (Unit {0}) SeatView
+
+-- ---- which word of the table is loaded or stored
+
+-- `latest`
+abbrev pub latest_place : ℕ
+latest_place = 0
+
+-- the announcement of the reader at this place
+abbrev pub announcement_place : ℕ → ℕ
+announcement_place reader = 1 + reader
 
 -- ---- what a seat knows, if it is the writer's or a reader's
 
@@ -41,9 +52,10 @@ place_at _ = 0
 abbrev pub writes : WriterLog → WriterView → WriterLog
 writes writer view = record { view = view; steps = writer.steps + 1 }
 
--- it loaded an announcement
+-- it loaded the announcement of the next reader
 abbrev pub scanned : Step (Unit {0}) → At → ℕ → At → Type 0
-scanned step me found me' = me'.0 ≡ Writes (writes (writer_of me.0) (scans (writer_of me.0).view found))
+scanned step me found me' = (step.word ≡ announcement_place (length (writer_of me.0).view.scanned))
+    × (me'.0 ≡ Writes (writes (writer_of me.0) (scans (writer_of me.0).view found)))
 
 -- it stored the next word of the message in a slot of a port with this many readers
 abbrev pub stored : ℕ → Step (Unit {0}) → At → ℕ → At → Type 0
@@ -52,7 +64,7 @@ stored readers step me found me' = (slot : ℕ) → step.word ≡ place_of reade
 
 -- it stored `latest`
 abbrev pub published : Step (Unit {0}) → At → ℕ → At → Type 0
-published step me found me' = me'.0 ≡ Writes (writes (writer_of me.0) (publishes (writer_of me.0).view))
+published step me found me' = (step.word ≡ latest_place) × (me'.0 ≡ Writes (writes (writer_of me.0) (publishes (writer_of me.0).view)))
 
 -- ---- a reader's steps
 
@@ -78,19 +90,21 @@ pub record Looks (slots : ℕ) (v : ReaderView) (found : ℕ) (all : List (List 
   pub some : 0 < length all → Shows slots found (length all)
   pub message : 0 < length all → IsMessage (last_of all)
 
+-- it loaded `latest`
 abbrev pub first : ℕ → Step (Unit {0}) → At → ℕ → At → Type 0
-first slots step me found me' = (all : List (List ℕ))
-    × (me'.0 ≡ Reads (place_at me.0) (looks_first (reader_of me.0) found all)) × Looks slots (reader_of me.0).view found all
+first slots step me found me' = (step.word ≡ latest_place) × ((all : List (List ℕ))
+    × (me'.0 ≡ Reads (place_at me.0) (looks_first (reader_of me.0) found all)) × Looks slots (reader_of me.0).view found all)
 
--- if it found another word than the one it announced, there is more than it had seen
+-- it loaded `latest` again; if it found another word than the one it announced, there is more than it had seen
 abbrev pub second : ℕ → Step (Unit {0}) → At → ℕ → At → Type 0
-second slots step me found me' = (all : List (List ℕ))
+second slots step me found me' = (step.word ≡ latest_place) × ((all : List (List ℕ))
     × (me'.0 ≡ Reads (place_at me.0) (looks_again (reader_of me.0) found all)) × Looks slots (reader_of me.0).view found all
-    × (found ≢ word_of (reader_of me.0).view.phase → length (reader_of me.0).view.seen < length all)
+    × (found ≢ word_of (reader_of me.0).view.phase → length (reader_of me.0).view.seen < length all))
 
 -- it stored its announcement
 abbrev pub announced : Step (Unit {0}) → At → ℕ → At → Type 0
-announced step me found me' = me'.0 ≡ Reads (place_at me.0) (reads (reader_of me.0) (announces (reader_of me.0).view))
+announced step me found me' = (step.word ≡ announcement_place (place_at me.0))
+    × (me'.0 ≡ Reads (place_at me.0) (reads (reader_of me.0) (announces (reader_of me.0).view)))
 
 -- it loaded a word of the message that it holds, in a port with this many readers
 abbrev pub got : ℕ → Step (Unit {0}) → At → ℕ → At → Type 0
@@ -101,7 +115,8 @@ got readers step me found me' = (me'.0 ≡ Reads (place_at me.0) (reads (reader_
 
 -- it cleared its announcement
 abbrev pub cleared : Step (Unit {0}) → At → ℕ → At → Type 0
-cleared step me found me' = me'.0 ≡ Reads (place_at me.0) (reads (reader_of me.0) (clears (reader_of me.0).view))
+cleared step me found me' = (step.word ≡ announcement_place (place_at me.0))
+    × (me'.0 ≡ Reads (place_at me.0) (reads (reader_of me.0) (clears (reader_of me.0).view)))
 
 -- ---- the opening: the readers are parted off one by one, and at last the writer
 
@@ -126,10 +141,10 @@ abbrev pub met : SeatView → SeatView → SeatView
 met (Reads place reader) (Writes writer) = Meets writer place reader
 met view other = view
 
--- what the reader had seen begins what is published
+-- it loaded `latest`; what the reader had seen begins what is published
 abbrev pub told : Step (Unit {0}) → At → ℕ → At → Type 0
-told step me found me' =
-    (me'.0 ≡ Meets (writer_of me.0) (place_at me.0) (learns (reader_of me.0) (writer_of me.0).view.published))
+told step me found me' = (step.word ≡ latest_place)
+    × (me'.0 ≡ Meets (writer_of me.0) (place_at me.0) (learns (reader_of me.0) (writer_of me.0).view.published))
     × StartsWith (writer_of me.0).view.published (reader_of me.0).view.seen
 
 abbrev pub parted : SeatView → SeatView

@@ -1,6 +1,6 @@
 //! What holds of a running port in every state that keeps the rule of its table, and so at every moment,
 //! whatever its threads do. Each law is a function without work: its contract is the statement.
-ghost use Rattle.std.specs.Prelude.{◌≡◌, ◌≢◌, ℕ, ◌+◌, ◌/◌, ◌<◌, ◌≤◌, List, length, slice_index};
+ghost use Rattle.std.specs.Prelude.{◌≡◌, ◌≢◌, ℕ, ◌+◌, ◌/◌, ◌<◌, ◌≤◌, List, [], length, slice_index};
 ghost use Rattle.slot_core.specs.Allowed.{MayStore};
 ghost use Rattle.slot_core.specs.Limits.{most_slots};
 ghost use Rattle.slot_core.specs.Message.{IsMessage};
@@ -13,7 +13,8 @@ ghost use Rattle.sampling_port.specs.declared.rule.ReaderLog.{ReaderLog};
 ghost use Rattle.sampling_port.specs.declared.rule.WriterLog.{WriterLog};
 ghost use Rattle.sampling_port.specs.declared.rule.SeatView.TheVariants.{Reads, Writes};
 ghost use Rattle.sampling_port.specs.Ends.{IsCopy, IsLastOf, ReadAnswer, ReaderEnd};
-ghost use Rattle.sampling_port.specs.Moments.{PortState, SeatKnows};
+ghost use Rattle.sampling_port.specs.Moments.{IsFoundIn, IsLook, PortState, SeatKnows, SeatStep};
+ghost use Rattle.sampling_port.specs.Plays.{At};
 ghost use Rattle.sampling_port.specs.Rule.{Kept, slots_for};
 ghost use Rattle.sampling_port.specs.Writes.{steps_to_publish};
 
@@ -37,6 +38,13 @@ pub fn who_has_the_newest_word_has_seen_all()
     ensures { (readers slots : ℕ) (s : PortState) (writer reader place : ℕ) (w : WriterLog) (v : ReaderLog) →
         Kept readers slots s → SeatKnows s writer (Writes w) → SeatKnows s reader (Reads place v) →
         HasWord v.view.phase (latest s.words) → v.view.seen ≡ w.view.published }
+{}
+
+/// A look that finds 0 finds nothing published. What it finds is the word that it loads, and by what the step tells
+/// its seat that is `latest`. So Empty says that nothing was published at its one look.
+pub fn a_look_that_finds_0_finds_nothing_published()
+    ensures { (readers slots found : ℕ) (s : PortState) (kept : Kept readers slots s) (load : SeatStep) (me after : At) →
+        IsFoundIn s load found → IsLook slots load me found after → found ≡ 0 → kept.writer.published ≡ [] }
 {}
 
 /// What a reader reads that was told all before and has seen no more than that after: the last message, or

@@ -62,8 +62,8 @@
 //!
 //! A message that is read or held is whole, with its own number and time, and it was the newest when the reader
 //! looked last. It stays so until it is released. `Empty` says that nothing was published at the one look, and
-//! `Busy` that each try found a newer message than the one before. All of this is in the contracts, under every
-//! schedule, for any number of readers up to 14.
+//! `Busy` that each try found a newer message than the one before. All of this is in the contracts and in [`laws`],
+//! under every schedule, for any number of readers up to 14.
 //!
 //! It rests on the rule of the table (`Kept` in `specs/Rule.antt`): its words, and what the writer and each
 //! reader know, are a lawful state of `slot_core`. Each call of [`steps`] is one step of that core, with the core's

@@ -1,5 +1,5 @@
 //! The seats of a port's ends, and the ends that are made of them.
-ghost use Rattle.std.specs.Prelude.{◌≡◌, ◌<◌, ◌≤◌, [], ◌∷◌, Some, slice_get};
+ghost use Rattle.std.specs.Prelude.{◌≡◌, ◌≢◌, ◌<◌, ◌≤◌, [], ◌∷◌, Some, slice_get};
 ghost use Rattle.slot_core.specs.Allowed.{MayBegin};
 ghost use Rattle.slot_core.specs.Message.{IsMessage};
 ghost use Rattle.slot_core.specs.State.{last_of};
@@ -36,7 +36,8 @@ pub(crate) fn look_again<const READERS: usize>(
     wanted: u64,
 )
     requires turn { reader.old.knows.view.phase ≡ Loaded word }
-    ensures { reader.new.knows.view.own ≡ word }
+    ensures own { reader.new.knows.view.own ≡ word }
+    ensures loaded { wanted ≢ word → reader.new.knows.view.phase ≡ Loaded wanted }
 {
     reader.announce(word);
     let found = reader.load_second();
@@ -76,6 +77,80 @@ fn a_late_look_finds_the_newest_message(rt: HostRuntime) {
     check_late_look(&rt, writer, &mut seats[0]);
     let (writer, mut seats) = open_seats::<8>(rt.alloc()).expect(&rt, "memory");
     check_late_look(&rt, writer, &mut seats[0]);
+}
+
+// ---- a reader that is overtaken at each of its tries
+
+/// A message of this number is published, and the next look finds its word in place of the one that it announced.
+fn overtake<const READERS: usize>(
+    rt: &impl Abort,
+    writer: &mut Writer<READERS>,
+    seat: &mut ReaderSeat<READERS>,
+    number: u64,
+    word: u64,
+    wanted: u64,
+)
+    requires turn { seat.old.knows.view.phase ≡ Loaded word }
+    requires other { wanted ≢ word }
+    ensures own { seat.new.knows.view.own ≡ word }
+    ensures loaded { seat.new.knows.view.phase ≡ Loaded wanted }
+{
+    publish(rt, writer, 0, &[], number);
+    look_again(rt, seat, word, wanted);
+}
+
+/// The looks of a read with eight tries, each of which finds a newer message: it is Busy, and the newest that it saw is
+/// message 9. No slot that it announced is written: the messages go into the slots 0, 1, 2, 0, 2, 1, 0, 2, 1.
+fn overtake_eight_times<const READERS: usize>(
+    rt: &impl Abort,
+    writer: &mut Writer<READERS>,
+    seat: &mut ReaderSeat<READERS>,
+)
+    requires { seat.old.knows ≡ first_reader }
+    ensures { seat.new.knows.view.own ≢ 0 }
+{
+    publish(rt, writer, 0, &[], 1);
+    load_first(rt, seat, 16);
+    overtake(rt, writer, seat, 2, 16, 33);
+    overtake(rt, writer, seat, 3, 33, 50);
+    overtake(rt, writer, seat, 4, 50, 64);
+    overtake(rt, writer, seat, 5, 64, 81);
+    overtake(rt, writer, seat, 6, 81, 98);
+    overtake(rt, writer, seat, 7, 98, 112);
+    overtake(rt, writer, seat, 8, 112, 129);
+    overtake(rt, writer, seat, 9, 129, 146);
+}
+
+/// After Clear, the last step of such a read, the reader of the seat gets message 9.
+fn check_overtaken<const READERS: usize>(
+    rt: &impl Abort,
+    writer: WriterSeat<READERS>,
+    mut seat: ReaderSeat<READERS>,
+)
+    requires few { READERS ≤ 14 }
+    requires writer { writer.knows ≡ first_writer }
+    requires reader { seat.knows ≡ first_reader }
+{
+    let mut writer = Writer::from_seat(writer);
+    overtake_eight_times(rt, &mut writer, &mut seat);
+    seat.clear();
+    let wanted = Read::Message {
+        number: 9,
+        time: 0,
+        len: 0,
+    };
+    check_read(rt, &mut Reader::from_seat(seat), &mut [0; 1471], wanted);
+}
+
+#[test]
+fn a_reader_that_is_overtaken_at_each_try_is_busy(rt: HostRuntime) {
+    let (writer, seats) = open_seats::<4>(rt.alloc()).expect(&rt, "memory");
+    let (seat, _, _, _) = apart(seats);
+    check_overtaken(&rt, writer, seat);
+    let (writer, seats) = open_seats::<8>(rt.alloc()).expect(&rt, "memory");
+    let (_, seats) = apart_eight(seats);
+    let (_, _, _, seat) = seats;
+    check_overtaken(&rt, writer, seat);
 }
 
 // ---- ends of seats

@@ -1,4 +1,5 @@
 //! What a pass counts, before the system ends and after.
+use crate::histories::check_events;
 use crate::rows::{LINK_17, check_frame, check_frames, opened, rows_of};
 use end_system::{NetPass, PassCounts, Settled};
 use es_base::Net::{A, B};
@@ -7,6 +8,7 @@ use std::alloc::Global;
 use std::process::Abort;
 use std::sync::Wait;
 use test_inputs::rows::two_frames_late;
+use test_inputs_systems::Given;
 
 /// So many frames of a kind were given to the link with this number.
 pub(crate) type Count = (u16, usize, u64);
@@ -49,8 +51,8 @@ pub(crate) fn check_counts(
     }
 }
 
-/// Two frames of network A became samples, and their copies on B are redundant.
-fn check_settled(rt: &impl Abort, settled: &Settled) {
+/// Two frames of network A became samples, and their copies on B are redundant. The link's history is what it was given.
+fn check_settled(rt: &impl Abort, settled: &Settled, given: &[Given]) {
     let Settled { links, a, b } = settled;
     assert!(rt; links.len() == 1 && a.net() == A && b.net() == B);
     check_counts(rt, a, 17, 10, 2);
@@ -58,7 +60,7 @@ fn check_settled(rt: &impl Abort, settled: &Settled) {
     check_counts(rt, a, 18, 1, 0);
     check_counts(rt, b, 18, 1, 0);
     for link in links {
-        assert!(rt; link.history().len() == 4);
+        check_events(rt, 0, link.history(), given);
     }
 }
 
@@ -67,12 +69,12 @@ fn check_two_frames(rt: &(impl Abort + Wait), alloc: Global) {
     assert!(rt; running.pass(A).net() == A && running.pass(B).net() == B);
     check_pass(rt, running.pass(A), 17, 1, 0);
     let rows = rows_of(rt, alloc, &two_frames_late());
-    check_frames(rt, alloc, &mut running, &rows);
+    let given = check_frames(rt, alloc, &mut running, &rows);
     check_pass(rt, running.pass(A), 17, 10, 2);
     check_pass(rt, running.pass(B), 17, 2, 2);
     check_pass(rt, running.pass(A), 18, 1, 0);
     check_pass(rt, running.pass(B), 18, 1, 0);
-    check_settled(rt, &running.settle());
+    check_settled(rt, &running.settle(), &given);
 }
 
 #[test]

@@ -1,5 +1,7 @@
 //! Frames that come to no link, the longest frame that comes to one, and how often the gate is entered.
 use crate::counts::{check_counts, check_pass};
+use crate::histories::check_events;
+use crate::ports::check_readers_of;
 use crate::rows::{LINK_17, opened_with, receive};
 use end_system::{Gate, Reply};
 use es_base::FilterCause::{ForeignConstant, NotIp, TooLong, TooShort, UnknownLink};
@@ -12,7 +14,7 @@ use std::sync::Wait;
 use std::sync::atomic::{AtomicU64, Ordering};
 use test_inputs::longest;
 use test_inputs::rows::POS;
-use test_inputs_systems::{BUILT_IN, Running, filtered_frames};
+use test_inputs_systems::{BUILT_IN, Given, Running, filtered_frames};
 
 /// Counts how often it is entered, and asks for link 17.
 #[derive(Clone, Copy)]
@@ -58,32 +60,44 @@ fn check_all_filtered<G: Gate + Drop>(
     }
 }
 
-/// The longest frame becomes the first message of `pos`.
+/// The longest frame becomes the first message of `pos`. Returns what link 17 was given.
 fn check_longest<G: Gate + Drop>(
     rt: &(impl Abort + Wait),
     alloc: Global,
     running: &mut Running<G>,
-) {
+) -> Given {
     let frame = longest(alloc, 0).expect(rt, "octets");
     let reply = receive(rt, alloc, running, A, 1000, &frame);
-    let wanted = Reply::Link {
-        vl: LINK_17,
-        place: 0,
-        verdict: Sampled(POS, 1),
-    };
+    let (place, verdict) = (0, Sampled(POS, 1));
+    let vl = LINK_17;
+    let wanted = Reply::Link { vl, place, verdict };
     assert!(rt; reply == wanted, "{reply:?}");
+    Given {
+        net: A,
+        time: 1000,
+        frame,
+        place,
+        verdict,
+    }
+}
+
+/// Each reader of `pos` reads all 1471 octets of it.
+fn check_longest_read<G: Gate + Drop>(rt: &impl Abort, running: &mut Running<G>) {
+    let mut end = running.take_end("pos").expect(rt, "an end");
+    check_readers_of(rt, &mut end, &[0x5a; 1471]);
 }
 
 /// One frame is filtered for each cause, all on network A, and the longest frame is the only event.
-fn check_settled<G: Gate + Drop>(rt: &impl Abort, running: Running<G>) {
+fn check_settled<G: Gate + Drop>(rt: &impl Abort, running: Running<G>, given: Given) {
     let settled = running.settle();
     for cause in [TooShort, TooLong, NotIp, ForeignConstant, UnknownLink] {
         assert!(rt; settled.a.filtered(cause) == 1 && settled.b.filtered(cause) == 0);
     }
     check_counts(rt, &settled.a, 17, 10, 1);
     check_counts(rt, &settled.b, 17, 10, 0);
+    let given = [given];
     for link in &settled.links {
-        assert!(rt; link.history().len() == 1);
+        check_events(rt, 0, link.history(), &given);
     }
 }
 
@@ -98,10 +112,11 @@ fn check_gate(rt: &(impl Abort + Wait), alloc: Global) {
     check_all_filtered(rt, alloc, &mut running);
     check_pass(rt, running.pass(A), 17, 10, 0);
     assert!(rt; entries.load(Ordering::SeqCst) == 0);
-    check_longest(rt, alloc, &mut running);
+    let given = check_longest(rt, alloc, &mut running);
     assert!(rt; entries.load(Ordering::SeqCst) == 1);
     assert!(rt; others.load(Ordering::SeqCst) == 0);
-    check_settled(rt, running);
+    check_longest_read(rt, &mut running);
+    check_settled(rt, running, given);
 }
 
 #[test]

@@ -38,18 +38,23 @@ fn is_pos(end: &PortEnd) -> bool {
     }
 }
 
-/// Each reader of the end reads the message of number 1 and time 1000, with the payload of the smallest frame.
-fn check_readers(rt: &impl Abort, alloc: Global, end: &mut PortEnd) {
-    let octets = hex::decode(alloc, PAYLOAD).expect(rt, "octets");
+/// Each reader of the end reads the message of number 1 and time 1000, with these octets.
+pub(crate) fn check_readers_of(rt: &impl Abort, end: &mut PortEnd, octets: &[u8]) {
     assert!(rt; is_pos(end));
     match end {
         PortEnd::Sampling { readers, .. } => {
             for reader in readers {
-                check_read(rt, reader, (1, 1000), &octets);
+                check_read(rt, reader, (1, 1000), octets);
             }
         }
         PortEnd::Queuing { .. } => panic!(rt; "a sampling port"),
     }
+}
+
+/// Each reader of the end reads that message, with the payload of the smallest frame.
+fn check_readers(rt: &impl Abort, alloc: Global, end: &mut PortEnd) {
+    let octets = hex::decode(alloc, PAYLOAD).expect(rt, "octets");
+    check_readers_of(rt, end, &octets);
 }
 
 /// The end is moved out.
