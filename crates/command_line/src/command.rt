@@ -6,7 +6,8 @@ ghost use Rattle.command_line.specs.Command.{file_option, flag_option, play_comm
 use clap::{Arg, ArgAction, Command, value_parser};
 use std::alloc::{AllocError, Global};
 
-const THREADS: &str = "a thread for each network; the lines of A come first, and then those of B";
+const THREADS: &str =
+    "a thread for each network, as fast as it can: which frame a link takes first isn't told by its time";
 
 const TIME_OF_THE_REPORT: &str =
     "the time of the report, in microseconds; by default the greatest arrival time";

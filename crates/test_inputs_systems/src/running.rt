@@ -40,6 +40,11 @@ impl<G: Gate + Drop> Running<G> {
         self.opened.take_end(name)
     }
 
+    /// Lends the end of the port with this name.
+    pub fn end_of(&mut self, name: &str) -> Option<&mut PortEnd> {
+        self.opened.end_of(name)
+    }
+
     /// The pass of this network.
     pub fn pass(&self, net: Net) -> &NetPass {
         match net {

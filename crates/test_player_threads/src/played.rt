@@ -87,7 +87,18 @@ pub(crate) fn add_frame(
     let ethernet = format!(in alloc; "03000000{vl:04x}0200000001200800").expect(rt, "memory");
     let texts = [ethernet.as_str(), IP, UDP, PAYLOAD];
     let frame = frame_of(alloc, &texts, sequence_number).expect(rt, "a frame");
-    let digits = hex::encode(alloc, &frame).expect(rt, "memory");
+    add_line(rt, alloc, trace, time, &frame);
+}
+
+/// Adds the line of a frame with these octets that came at `time` microseconds.
+pub(crate) fn add_line(
+    rt: &impl Abort,
+    alloc: Global,
+    trace: &mut String,
+    time: u64,
+    frame: &[u8],
+) {
+    let digits = hex::encode(alloc, frame).expect(rt, "memory");
     writeln!(trace, "{time} {digits}").expect(rt, "memory");
 }
 

@@ -100,7 +100,7 @@ Options:
       --a <FILE>           the trace of network A
       --b <FILE>           the trace of network B
       --at <MICROSECONDS>  the time of the report, in microseconds; by default the greatest arrival time
-      --threads            a thread for each network; the lines of A come first, and then those of B
+      --threads            a thread for each network, as fast as it can: which frame a link takes first isn't told by its time
   -h, --help               Print help
 ";
     check_line(&rt, rt.alloc(), "--help", expected);

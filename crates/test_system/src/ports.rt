@@ -1,8 +1,9 @@
 //! What partitions read and take at the ports of a system, each by an end that was found by its port's name.
 use crate::rows::{check_frame, check_frames, check_history, opened, opened_with, packet_rows};
 use end_system::{Gate, NoGate};
-use es_base::Net::A;
-use es_base::Verdict::{Overflow, Queued, Sampled};
+use es_base::FilterCause::{ForeignConstant, NotIp, TooLong, TooShort, UnknownLink};
+use es_base::Net::{A, B};
+use es_base::Verdict::{Overflow, Queued, Redundant, Sampled};
 use link_receiver::PortEnd;
 use queuing_port::Taker;
 use sampling_port::{MOST_TRIES, Read, Reader};
@@ -67,14 +68,27 @@ fn check_taken_end(rt: &(impl Abort + Wait), alloc: Global) {
     check_history(rt, running, &given);
 }
 
-/// The end is lent.
+/// No frame was filtered on either network.
+fn check_none_filtered<G: Gate + Drop>(rt: &impl Abort, running: &Running<G>) {
+    for cause in [TooShort, TooLong, NotIp, ForeignConstant, UnknownLink] {
+        assert!(rt; running.pass(A).filtered(cause) == 0);
+        assert!(rt; running.pass(B).filtered(cause) == 0);
+    }
+}
+
+/// The end is lent, and both networks go on after it.
 fn check_lent_end(rt: &(impl Abort + Wait), alloc: Global) {
     let mut running = opened(rt, alloc);
     let row = smallest_row((A, 1000, 0, Sampled(POS, 1)));
-    check_frames(rt, alloc, &mut running, &[row]);
-    let mut opened = running.apart();
-    let end = opened.end_of("pos").expect(rt, "an end");
+    let first = check_frame(rt, alloc, &mut running, 0, row);
+    let end = running.end_of("pos").expect(rt, "an end");
     check_readers(rt, alloc, end);
+    check_none_filtered(rt, &running);
+    let row = smallest_row((B, 1100, 0, Redundant));
+    let copy = check_frame(rt, alloc, &mut running, 1, row);
+    let row = smallest_row((A, 1200, 1, Sampled(POS, 2)));
+    let second = check_frame(rt, alloc, &mut running, 2, row);
+    check_history(rt, running, &[first, copy, second]);
 }
 
 #[test]

@@ -1,46 +1,84 @@
 //! The lines of a link's ports, each by the end from which a partition reads.
-ghost use Rattle.std.specs.Prelude.{◌≡◌};
-ghost use Rattle.thread_player.specs.Report.{refresh_of};
+ghost use Rattle.std.specs.Prelude.{◌≡◌, ◌++◌, [], IfOk, OnOk, Some, slice_get};
+ghost use Rattle.std.specs.Option.{option_map};
+ghost use Rattle.es_base.specs.Deliveries.{newest_of, read_as};
+ghost use Rattle.es_base.specs.Port.{Port};
+ghost use Rattle.link_receiver.specs.Counted.{port_no};
+ghost use Rattle.link_receiver.specs.Ends.{AreEndsOf};
+ghost use Rattle.link_receiver.specs.Link.{queues, samples};
+ghost use Rattle.output_lines.specs.Report.{link_lines, port_lines};
+ghost use Rattle.thread_player.specs.Report.{IsEndAt, IsWhole, messages_at, number_of, past_in, refresh_of};
 
-use es_base::{Memory, PortKind, PortSettings, Sample};
-use link_receiver::PortEnd;
-use output_lines::{write_busy, write_newest, write_queue};
+use es_base::{Memory, Message, PortKind, PortNo, Sample};
+use link_receiver::{LinkState, PortEnd};
+use output_lines::{write_newest, write_queue};
 use queuing_port::Taker;
 use sampling_port::{MOST_TRIES, Read, Reader};
 use slot_core::READERS;
 use std::alloc::Global;
 use std::sync::Wait;
 
-/// Adds the lines of these ports, in their order, at a time in microseconds. The ends are in the same order.
+/// Adds the lines of a link's ports, in their order, at a time in microseconds. The ends are in the same order, and
+/// nothing was taken out of the link or its queues.
 pub(crate) fn write_ports<R: Wait>(
     rt: &R,
     alloc: Global,
-    ports: &[PortSettings],
+    link: &mut LinkState,
     ends: &mut [PortEnd],
     at: u64,
     text: &mut Vec<u8>,
-) -> Result<(), Memory> {
-    'ports: for (port, end) in ports.iter().zip(ends.iter_mut()) {
-        write_port(rt, alloc, port, end, at, text)?;
+) -> Result<(), Memory>
+    requires whole { IsWhole link.old }
+    requires ends { AreEndsOf 0 link.old.settings.ports link.old.channels ends.old }
+    ensures link { link.new ≡ link.old }
+    ensures lines { OnOk result (text.new.items ≡ text.old.items ++ link_lines at link.old.settings (past_in link.old)) }
+{
+    'ports: for place in 0..ends.len() {
+        write_port(rt, alloc, link, place, &mut ends[place], at, text)?;
     }
     Ok(())
 }
 
-/// Adds the lines of a port, by its end.
+/// Adds the lines of the port at this place, by its end: its newest message, or all that its queue holds.
 fn write_port<R: Wait>(
     rt: &R,
     alloc: Global,
-    port: &PortSettings,
+    link: &mut LinkState,
+    place: usize,
     end: &mut PortEnd,
     at: u64,
     text: &mut Vec<u8>,
-) -> Result<(), Memory> {
-    let name = port.name().as_str();
+) -> Result<(), Memory>
+    requires whole { IsWhole link.old }
+    requires end { IsEndAt link.old place end.old }
+    ensures link { link.new ≡ link.old }
+    ensures lines { OnOk result ((port : Port) → slice_get link.old.settings.ports place ≡ Some port →
+        text.new.items ≡ text.old.items ++ port_lines at port (messages_at link.old (port_no place))) }
+{
+    let port = number_of(end);
+    let refresh = refresh_of(link.settings().ports()[place].kind());
     match end {
         PortEnd::Sampling { readers, .. } => {
-            write_sampled(&mut readers[0], name, refresh_of(port.kind()), at, text)
+            let mut out = [0; 1471];
+            let newest = newest_read(link, port, &mut readers[0], &mut out);
+            let name = link.settings().ports()[place].name();
+            write_newest(text, at, name.as_str(), refresh, newest)
         }
-        PortEnd::Queuing { taker, .. } => write_taken(rt, alloc, taker, name, text),
+        PortEnd::Queuing { taker, .. } => {
+            let messages = take_all(rt, alloc, link, port, taker)?;
+            let name = link.settings().ports()[place].name();
+            write_queue(text, name.as_str(), &messages)
+        }
+    }
+}
+
+/// The place of the port in the link's settings.
+fn number_of(end: &PortEnd) -> PortNo
+    ensures { result ≡ number_of end.now }
+{
+    match end {
+        PortEnd::Sampling { port, .. } => *port,
+        PortEnd::Queuing { port, .. } => *port,
     }
 }
 
@@ -54,44 +92,53 @@ fn refresh_of(kind: PortKind) -> u64
     }
 }
 
-/// Adds the line of a sampling port, as one of its readers reads it.
-fn write_sampled(
+/// Reads the newest message of a sampling port, with a reader of it. The two meet before and after: so nothing newer was
+/// published while it read, and it is never that the reader was overtaken.
+fn newest_read<'a>(
+    link: &mut LinkState,
+    port: PortNo,
     reader: &mut Reader<READERS>,
-    name: &str,
-    refresh: u64,
-    at: u64,
-    text: &mut Vec<u8>,
-) -> Result<(), Memory> {
-    let mut out = [0; 1471];
-    match reader.read(MOST_TRIES, &mut out) {
-        Read::Message { number, time, len } => {
-            let octets = &out[..len];
-            let newest = Sample {
-                number,
-                time,
-                octets,
-            };
-            write_newest(text, at, name, refresh, Some(newest))
-        }
-        Read::Empty => write_newest(text, at, name, refresh, None),
-        Read::Busy { .. } => write_busy(text, name),
+    out: &'a mut [u8; 1471],
+) -> Option<Sample<'a>>
+    requires whole { IsWhole link.old }
+    requires reader { slice_get link.old.channels port.0 ≡ Some (samples reader.old.port) }
+    ensures link { link.new ≡ link.old }
+    ensures newest { option_map read_as result ≡ newest_of (messages_at link.old port) }
+{
+    link.meet(port, reader);
+    let answer = reader.read(MOST_TRIES, out);
+    link.meet(port, reader);
+    match answer {
+        Read::Message { number, time, len } => Some(Sample {
+            number,
+            time,
+            octets: &out[..len],
+        }),
+        Read::Empty | Read::Busy { number: _ } => None,
     }
 }
 
-/// Adds the lines of a queuing port, and takes all messages out of its queue.
-fn write_taken<R: Wait>(
+/// Takes all messages that were delivered to a queuing port, of whose queue none was taken.
+fn take_all<R: Wait>(
     rt: &R,
     alloc: Global,
+    link: &mut LinkState,
+    port: PortNo,
     taker: &mut Taker,
-    name: &str,
-    text: &mut Vec<u8>,
-) -> Result<(), Memory> {
+) -> Result<Vec<Message>, Memory>
+    requires whole { IsWhole link.old }
+    requires taker { slice_get link.old.channels port.0 ≡ Some (queues taker.old.queue) }
+    requires none { taker.old.taken ≡ [] }
+    ensures link { link.new ≡ link.old }
+    ensures messages { IfOk result (λ messages. messages.items ≡ messages_at link.old port) }
+{
+    let held = link.meet_taker(rt, port, taker);
     let mut messages = Vec::new(alloc);
-    'messages: for _ in rt.forever() {
+    'held: for _ in 0..held {
         let Some(message) = taker.take(rt) else {
-            break;
+            unreachable!()
         };
         messages.push(message)?;
     }
-    write_queue(text, name, &messages)
+    Ok(messages)
 }

@@ -1,7 +1,9 @@
 //! The report after both threads: what the ends of the ports give, and how many events and filtered frames there
 //! were.
-ghost use Rattle.std.specs.Prelude.{OnOk};
-ghost use Rattle.thread_player.specs.Played.{EndsAsReport};
+ghost use Rattle.std.specs.Prelude.{◌≡◌, ◌++◌, OnOk};
+ghost use Rattle.es_base.specs.Tally.{count_in};
+ghost use Rattle.output_lines.specs.Line.{causes_of};
+ghost use Rattle.thread_player.specs.Report.{AreUnread, AreWhole, counts_of_links, filtered_in, ports_of_links, report_on};
 
 use crate::ports::write_ports;
 use end_system::{LinkEnds, PassCounts, Settled};
@@ -15,14 +17,16 @@ use std::sync::Wait;
 pub(crate) fn write_report<R: Wait>(
     rt: &R,
     alloc: Global,
-    settled: &Settled,
+    settled: &mut Settled,
     ends: &mut [LinkEnds],
     at: u64,
     text: &mut Vec<u8>,
 ) -> Result<(), Memory>
-    ensures { OnOk result (EndsAsReport text.new.items) }
+    requires whole { AreWhole settled.old.links.items }
+    requires unread { AreUnread settled.old.links.items ends.old }
+    ensures { OnOk result (text.new.items ≡ text.old.items ++ report_on at settled.old.links.items (filtered_in settled.old.a settled.old.b)) }
 {
-    write_all_ports(rt, alloc, &settled.links, ends, at, text)?;
+    write_all_ports(rt, alloc, &mut settled.links, ends, at, text)?;
     write_all_counts(&settled.links, text)?;
     write_filtered_counts(text, causes_in(&settled.a), causes_in(&settled.b))
 }
@@ -31,26 +35,27 @@ pub(crate) fn write_report<R: Wait>(
 fn write_all_ports<R: Wait>(
     rt: &R,
     alloc: Global,
-    links: &[LinkState],
+    links: &mut [LinkState],
     ends: &mut [LinkEnds],
     at: u64,
     text: &mut Vec<u8>,
-) -> Result<(), Memory> {
-    'links: for (link, ends) in links.iter().zip(ends.iter_mut()) {
-        write_ports(
-            rt,
-            alloc,
-            link.settings().ports(),
-            &mut ends.ports,
-            at,
-            text,
-        )?;
+) -> Result<(), Memory>
+    requires { AreUnread links.old ends.old }
+    ensures links { OnOk result (links.new ≡ links.old) }
+    ensures lines { OnOk result (text.new.items ≡ text.old.items ++ ports_of_links at links.old) }
+{
+    'links: for place in 0..links.len() {
+        let link = &mut links[place];
+        write_ports(rt, alloc, link, &mut ends[place].ports, at, text)?;
     }
     Ok(())
 }
 
 /// Adds the counts of all links' events, link by link.
-fn write_all_counts(links: &[LinkState], text: &mut Vec<u8>) -> Result<(), Memory> {
+fn write_all_counts(links: &[LinkState], text: &mut Vec<u8>) -> Result<(), Memory>
+    requires { AreWhole links.now }
+    ensures { OnOk result (text.new.items ≡ text.old.items ++ counts_of_links links.now) }
+{
     'links: for link in links {
         write_counts(text, link.settings(), link.tally())?;
     }
@@ -58,7 +63,9 @@ fn write_all_counts(links: &[LinkState], text: &mut Vec<u8>) -> Result<(), Memor
 }
 
 /// How many frames a pass filtered for each cause, from kind 1 on.
-fn causes_in(counts: &PassCounts) -> [u64; FILTER_CAUSES] {
+fn causes_in(counts: &PassCounts) -> [u64; FILTER_CAUSES]
+    ensures { result ≡ causes_of (count_in counts.now.filtered counts.now.net) }
+{
     [
         counts.filtered(FilterCause::TooShort),
         counts.filtered(FilterCause::TooLong),
