@@ -14,6 +14,10 @@ use output_lines::{EventLine, FilteredLine, VerdictText};
 use receiver::{Opened, Receiver, Reply};
 use std::alloc::{AllocError, Global};
 
+/// For how many bytes the output has room at first. A text that is large from the beginning has pages of its own, so
+/// that it grows without a copy.
+const ROOM: usize = 1024 * 1024;
+
 /// The text of what the frames of two traces came to, and the report after them.
 pub(crate) fn text_of(
     alloc: Global,
@@ -55,7 +59,7 @@ impl Run {
         Ok(Run {
             receiver,
             latest: 0,
-            text: Vec::new(alloc),
+            text: Vec::with_capacity(alloc, ROOM)?,
         })
     }
 
