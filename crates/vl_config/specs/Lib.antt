@@ -4,3 +4,4 @@ pub mod Table
 pub mod Port
 pub mod Link
 pub mod Document
+pub mod Place

@@ -56,7 +56,7 @@ fn config_from(alloc: Global, document: &Table) -> Result<Config, ConfigFault>
 }
 
 /// The constant field by the value at its key.
-fn constant_if(value: Option<&Value>) -> Result<[u8; 4], ConfigFault>
+pub(crate) fn constant_if(value: Option<&Value>) -> Result<[u8; 4], ConfigFault>
     ensures { result ≡ constant_if (option_map (λ value. view value.now) value.entry) }
 {
     match value {
@@ -76,7 +76,10 @@ fn octets_from(text: &str) -> Result<[u8; 4], ConfigFault>
 }
 
 /// The tables of the links: 1 to 64.
-fn link_tables<'a>(alloc: Global, document: &'a Table) -> Result<Vec<&'a Table>, ConfigFault>
+pub(crate) fn link_tables<'a>(
+    alloc: Global,
+    document: &'a Table,
+) -> Result<Vec<&'a Table>, ConfigFault>
     ensures value { GivesOrMemory (λ tables. map (λ table. table_view table.now) tables.items) result
         (link_tables (table_view document.now)) }
     ensures limits { IfOk result (λ tables. (1 ≤ length tables.items) × (length tables.items ≤ most_links)) }

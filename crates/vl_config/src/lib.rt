@@ -7,6 +7,7 @@ mod built_in;
 mod document;
 mod fault;
 mod link;
+mod place;
 mod port;
 mod table;
 
@@ -14,3 +15,4 @@ pub use built_in::BUILT_IN;
 pub use document::read_config;
 pub use es_base::{Config, MOST_LINKS};
 pub use fault::{ConfigFault, Key};
+pub use place::{FaultPlace, place_of_fault};

@@ -43,7 +43,7 @@ pub(crate) fn link_from(
 }
 
 /// The window of integrity checking, 1 to 4 sequence numbers.
-fn window_from(table: &Table) -> Result<u8, ConfigFault>
+pub(crate) fn window_from(table: &Table) -> Result<u8, ConfigFault>
     ensures value { result ≡ window_from (table_view table.now) }
     ensures limits { IfOk result (λ window. (1 ≤ window) × (window ≤ widest_window)) }
 {
@@ -53,7 +53,7 @@ fn window_from(table: &Table) -> Result<u8, ConfigFault>
 }
 
 /// The link number, 0 to 65,535, which no earlier link has.
-fn link_number_from(table: &Table, links: &[LinkSettings]) -> Result<LinkNo, ConfigFault>
+pub(crate) fn link_number_from(table: &Table, links: &[LinkSettings]) -> Result<LinkNo, ConfigFault>
     ensures value { Gives (λ vl. vl.0) result (link_number_from links.now (table_view table.now)) }
     ensures fresh { IfOk result (λ vl. list_any (has_link_number vl.0) links.now ≡ false) }
 {
@@ -72,7 +72,10 @@ fn has_link_number(links: &[LinkSettings], vl: u16) -> bool
 }
 
 /// The tables of the link's ports: 0 to 32.
-fn port_tables<'a>(alloc: Global, table: &'a Table) -> Result<Vec<&'a Table>, ConfigFault>
+pub(crate) fn port_tables<'a>(
+    alloc: Global,
+    table: &'a Table,
+) -> Result<Vec<&'a Table>, ConfigFault>
     ensures value { GivesOrMemory (λ tables. map (λ table. table_view table.now) tables.items) result
         (port_tables (table_view table.now)) }
     ensures limit { IfOk result (λ tables. length tables.items ≤ most_ports) }

@@ -1,0 +1,141 @@
+/* Each answer of examples/c/yelunnavi.h comes from the library where the header says so; an opening with its Nth request for
+   memory refused answers NO_MEMORY, for each N, and gives everything back. Fails with the line of the first call that answers
+   something else, or with a status. */
+#include "yelunnavi.h"
+#include <stdio.h>
+#include <stdlib.h>
+#include <string.h>
+
+#define WANT(code, call)                                                                  \
+    do {                                                                                  \
+        uint32_t found = (call);                                                          \
+        if (found != YELUNNAVI_##code) {                                                  \
+            fprintf(stderr, "line %d: %s, and not %u\n", __LINE__, #code, (unsigned)found); \
+            exit(1);                                                                      \
+        }                                                                                 \
+    } while (0)
+#define TEXT(text) (const uint8_t *)(text), sizeof(text) - 1
+
+static const char CONFIG[] =
+    "[[link]]\nvl = 17\nskew_max_us = 1000\nreassembly_us = 50000\n"
+    "[[link.port]]\nname = \"pos\"\nkind = \"sampling\"\naddress = \"224.224.0.17\"\nudp = 5000\nrefresh_us = 20000\n"
+    "[[link.port]]\nname = \"nav\"\nkind = \"queuing\"\naddress = \"224.224.0.17\"\nudp = 5002\nmax = 64\ndepth = 2\n";
+/* A sample of 17 octets for `pos`. */
+static const uint8_t FRAME[60] = {3, 0, 0, 0, 0, 17, 2, 0, 0, 0, 1, 32, 8, 0, 69, 0, 0, 45, 0, 1, 0, 0, 1, 17, 205, 204, 10, 1, 1, 1,
+    224, 224, 0, 17, 19, 137, 19, 136, 0, 25, 0, 0, 1, 2, 3};
+
+static _Alignas(8) unsigned char rooms[4][512];
+static struct yelunnavi_receiver receiver = {rooms[0]};
+static struct yelunnavi_reader reader = {rooms[1]}, other = {rooms[2]};
+static struct yelunnavi_taker taker = {rooms[3]};
+
+/* ---- memory: the request with this number is refused, and blocks that weren't given back are counted */
+
+static unsigned long requests, refused, blocks;
+
+static bool is_refused(void) { return ++requests == refused; }
+
+struct rattle_tried rattle_alloc(size_t octets, size_t align) {
+    (void)align;
+    if (is_refused()) return (struct rattle_tried){false, rooms};
+    blocks++;
+    return (struct rattle_tried){true, malloc(octets ? octets : 1)};
+}
+
+struct rattle_tried rattle_realloc(void *at, size_t kept, size_t octets, size_t align) {
+    (void)kept, (void)align;
+    if (is_refused()) return (struct rattle_tried){false, rooms};
+    return (struct rattle_tried){true, realloc(at, octets ? octets : 1)};
+}
+
+void rattle_dealloc(void *at) {
+    blocks--;
+    free(at);
+}
+
+/* Opens with each request refused in turn, and then with none. */
+static void of_memory(void) {
+    struct yelunnavi_fault fault = {77, 77, 77, 77, 77};
+    uint32_t code = YELUNNAVI_NO_MEMORY;
+    for (refused = 1; code == YELUNNAVI_NO_MEMORY; refused++) {
+        requests = 0;
+        code = yelunnavi_receiver_open(&receiver, TEXT(CONFIG), &fault);
+        if (code == YELUNNAVI_NO_MEMORY && (blocks || requests < refused)) exit(10);
+    }
+    if (code != YELUNNAVI_DONE || refused < 20 || requests >= refused || fault.fault != 77) exit(11);
+    refused = 0;
+    yelunnavi_receiver_close(&receiver);
+    if (blocks) exit(12);
+    fprintf(stderr, "%lu requests were refused, one at a time\n", requests);
+}
+
+static void of_the_receiver(void) {
+    struct yelunnavi_fault fault = {0};
+    struct yelunnavi_frame frame;
+    struct yelunnavi_link link;
+    struct yelunnavi_place place;
+    uint64_t count;
+    WANT(NOT_OPEN, yelunnavi_receiver_receive(&receiver, YELUNNAVI_A, 0, FRAME, sizeof FRAME, &frame));
+    WANT(FAULTY, yelunnavi_receiver_open(&receiver, TEXT("[[link]]\nvl = 1\nskew_max_us = -1"), &fault));
+    if (fault.fault != 4 || fault.key != 4 || fault.level != 1 || fault.link != 0) exit(2);
+    WANT(DONE, yelunnavi_receiver_open(&receiver, TEXT(CONFIG), &fault));
+    WANT(ALREADY_OPEN, yelunnavi_receiver_open(&receiver, TEXT(CONFIG), &fault));
+    WANT(NO_NETWORK, yelunnavi_receiver_receive(&receiver, 2, 0, FRAME, sizeof FRAME, &frame));
+    WANT(DONE, yelunnavi_receiver_receive(&receiver, YELUNNAVI_A, 1000, FRAME, sizeof FRAME, &frame));
+    if (frame.kind != 10 || frame.vl != 17 || frame.number != 1) exit(3);
+    WANT(DONE, yelunnavi_receiver_receive(&receiver, YELUNNAVI_B, 1000, FRAME, sizeof FRAME, &frame));
+    if (frame.kind != 2 || frame.place != 1) exit(4);
+    WANT(DONE, yelunnavi_receiver_count(&receiver, 0, YELUNNAVI_B, 2, &count));
+    if (count != 1) exit(5);
+    WANT(NO_KIND, yelunnavi_receiver_count(&receiver, 0, YELUNNAVI_A, 14, &count));
+    WANT(NO_PLACE, yelunnavi_receiver_link(&receiver, 1, &link));
+    WANT(NO_NAME, yelunnavi_receiver_place(&receiver, TEXT("nav2"), &place));
+}
+
+static void of_the_ends(void) {
+    struct yelunnavi_read read;
+    struct yelunnavi_taken taken;
+    uint8_t out[64];
+    WANT(NONE_LEFT, yelunnavi_receiver_hand_reader(&receiver, &reader, TEXT("nav")));
+    WANT(DONE, yelunnavi_receiver_hand_reader(&receiver, &reader, TEXT("pos")));
+    WANT(ALREADY_OPEN, yelunnavi_receiver_hand_reader(&receiver, &reader, TEXT("pos")));
+    WANT(HOLDS_NONE, yelunnavi_reader_release(&reader));
+    WANT(DONE, yelunnavi_reader_hold(&reader, 21000, &read));
+    if (read.found != 1 || read.valid != 1 || read.number != 1 || read.time != 1000 || read.len != 17) exit(6);
+    WANT(HOLDS_ONE, yelunnavi_reader_hold(&reader, 0, &read));
+    WANT(OUT_OF_RANGE, yelunnavi_reader_copy(&reader, 17, out, 1));
+    WANT(DONE, yelunnavi_reader_copy(&reader, 1, out, 2));
+    if (out[0] != 2 || out[1] != 3) exit(7);
+    WANT(DONE, yelunnavi_reader_release(&reader));
+    WANT(NOT_OPEN, yelunnavi_reader_hold(&other, 0, &read));
+    WANT(DONE, yelunnavi_receiver_hand_taker(&receiver, &taker, TEXT("nav")));
+    WANT(TOO_SHORT, yelunnavi_taker_take(&taker, out, 63, &taken));
+    WANT(DONE, yelunnavi_taker_take(&taker, out, 64, &taken));
+    if (taken.found) exit(8);
+}
+
+/* A reader and a taker outlive their receiver. */
+static void of_a_closed_receiver(void) {
+    struct yelunnavi_read read;
+    struct yelunnavi_taken taken;
+    uint8_t out[64];
+    yelunnavi_receiver_close(&receiver);
+    WANT(DONE, yelunnavi_reader_read(&reader, 21001, out, sizeof out, &read));
+    if (read.found != 1 || read.valid != 0 || out[2] != 3) exit(13);
+    WANT(DONE, yelunnavi_taker_take(&taker, out, sizeof out, &taken));
+    yelunnavi_reader_close(&reader);
+    yelunnavi_taker_close(&taker);
+}
+
+int main(void) {
+    if (yelunnavi_receiver_room() > 512 || yelunnavi_reader_room() > 512 || yelunnavi_taker_room() > 512) return 9;
+    yelunnavi_receiver_init(receiver.room);
+    yelunnavi_reader_init(reader.room);
+    yelunnavi_reader_init(other.room);
+    yelunnavi_taker_init(taker.room);
+    of_memory();
+    of_the_receiver();
+    of_the_ends();
+    of_a_closed_receiver();
+    return blocks ? 14 : 0;
+}

@@ -1,0 +1,13 @@
+//! The slots that programs in C have of the receiver for one task: each call once, and each of its answers.
+#![tactic(auto)]
+
+#[cfg(test)]
+mod ends;
+#[cfg(test)]
+mod frames;
+#[cfg(test)]
+mod given;
+#[cfg(test)]
+mod opening;
+#[cfg(test)]
+mod places;

@@ -1,0 +1,94 @@
+//! Opening and closing.
+use crate::given::{FILTERED, NO_FAULT, opened, text};
+use receiver_slots::codes::{ALREADY_OPEN, DONE, FAULTY, NOT_OPEN};
+use receiver_slots::{FaultReply, ReceiverSlot};
+use std::alloc::Global;
+use std::process::Abort;
+
+/// Texts with a fault: its number, that of its key, and whether it is about no link, a link or a port.
+const FAULTS: [(&str, u32, u32, u32); 6] = [
+    ("link", 1, 0, 0),
+    ("constant = \"03\"", 4, 1, 0),
+    ("", 2, 2, 0),
+    ("link = 1", 3, 2, 0),
+    ("[[link]]\nvl = 65536", 4, 3, 1),
+    (
+        "[[link]]\nvl = 1\nskew_max_us = 0\nreassembly_us = 0\n[[link.port]]\nname = \"a\"\nkind = 1",
+        3,
+        10,
+        2,
+    ),
+];
+
+/// The second link of a document has the number of the first, and then its second port the name of its first.
+const DOUBLE_LINK: &str = "[[link]]\nvl = 1\nskew_max_us = 0\nreassembly_us = 0\n[[link]]\nvl = 1";
+
+const DOUBLE_NAME: &str =
+    "[[link.port]]\nname = \"alt\"\nkind = \"queuing\"\naddress = \"1.1.1.1\"\nudp = 1\ndepth = 1";
+
+/// Nothing is open in the slot.
+fn is_closed(slot: &mut ReceiverSlot) -> bool {
+    let mut reply = FILTERED;
+    slot.receive(0, 0, &[0; 60], &mut reply) == NOT_OPEN
+}
+
+fn check_fault(rt: &impl Abort, alloc: Global, text: &[u8], wanted: FaultReply) {
+    let mut slot = ReceiverSlot::empty();
+    let mut told = NO_FAULT;
+    assert!(rt; slot.open_text(alloc, text, &mut told) == FAULTY);
+    assert!(rt; told == wanted, "{told:?}");
+    assert!(rt; is_closed(&mut slot));
+}
+
+/// A fault of this number and key, about a link, or about a port of it.
+fn fault(fault: u32, key: u32, (level, link, port): (u32, usize, usize)) -> FaultReply {
+    FaultReply {
+        fault,
+        key,
+        level,
+        link,
+        port,
+    }
+}
+
+fn check_faults(rt: &impl Abort, alloc: Global) {
+    for (text, number, key, level) in FAULTS.iter() {
+        check_fault(
+            rt,
+            alloc,
+            text.as_bytes(),
+            fault(*number, *key, (*level, 0, 0)),
+        );
+    }
+    check_fault(rt, alloc, &[b'#', 255], fault(1, 0, (0, 0, 0)));
+    check_fault(rt, alloc, DOUBLE_LINK.as_bytes(), fault(5, 0, (1, 1, 0)));
+    let mut double = text(rt, alloc);
+    double.push_str(DOUBLE_NAME).expect(rt, "memory");
+    check_fault(
+        rt,
+        alloc,
+        double.as_str().as_bytes(),
+        fault(7, 0, (2, 1, 1)),
+    );
+}
+
+#[test]
+fn the_fault_of_a_text_is_told_by_numbers(rt: HostRuntime) {
+    check_faults(&rt, rt.alloc());
+}
+
+fn check_opened_twice(rt: &impl Abort, alloc: Global) {
+    let mut slot = opened(rt, alloc);
+    let text = text(rt, alloc);
+    let mut fault = NO_FAULT;
+    assert!(rt; slot.open_text(alloc, text.as_str().as_bytes(), &mut fault) == ALREADY_OPEN);
+    slot.close();
+    assert!(rt; is_closed(&mut slot));
+    assert!(rt; slot.open_text(alloc, text.as_str().as_bytes(), &mut fault) == DONE);
+    assert!(rt; fault == NO_FAULT);
+}
+
+#[test]
+fn a_slot_is_opened_once_and_again_after_it_was_closed(rt: HostRuntime) {
+    check_opened_twice(&rt, rt.alloc());
+}

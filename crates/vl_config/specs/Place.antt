@@ -1,0 +1,71 @@
+-- Where the first fault of a document stands: at which link, and at which of its ports.
+use Rattle.std.specs.Prelude.{ℕ, true, List, [], ◌∷◌, ◌++◌, length, Option, None, Some, Result, Ok, Err}
+use Rattle.toml.specs.Data.{Members}
+use Rattle.toml.specs.Parse.{parse_document}
+use Rattle.es_base.specs.Returns.{◌>>=◌}
+use Rattle.es_base.specs.Limits.{longest_reassembly, longest_skew}
+use Rattle.es_base.specs.Config.{ports_in}
+use Rattle.es_base.specs.Port.{Port}
+use Rattle.es_base.specs.Settings.{Settings}
+use Rattle.vl_config.specs.declared.fault.ConfigFault.{ConfigFault}
+use Rattle.vl_config.specs.declared.fault.Key.TheVariants as keys
+use Rattle.vl_config.specs.declared.place.FaultPlace.{FaultPlace}
+use Rattle.vl_config.specs.Document.{constant_if, link_tables}
+use Rattle.vl_config.specs.Link.{link_from, link_number_from, port_tables, window_from}
+use Rattle.vl_config.specs.Port.{port_from}
+use Rattle.vl_config.specs.Table.{flag_or, integer_at, value_at}
+
+-- at no link
+abbrev pub nowhere : FaultPlace
+nowhere = record { link = None; port = None }
+
+-- the next place, if there is no fault here
+abbrev pub on_read : {X A : Type 0} → Result X ConfigFault → (X → A) → A → A
+on_read (Ok x) next here = next x
+on_read (Err fault) next here = here
+
+-- ---- at a port
+
+-- the place of the first port with a fault, after these ports of its link and the ports of earlier links
+abbrev pub port_place : List Port → List Port → List Members → Option ℕ
+port_place earlier ports [] = None
+port_place earlier ports (table ∷ rest) =
+    on_read (port_from earlier ports table) (λ port. port_place earlier (ports ++ port ∷ []) rest) (Some (length ports))
+
+-- the tables of the link's ports, if what is tested before them has no fault
+abbrev pub tables_of_ports : List Settings → Members → Result (List Members) ConfigFault
+tables_of_ports links table = do
+  vl ← link_number_from links table
+  skew_max ← integer_at keys.SkewMaxUs 0 longest_skew table
+  redundancy ← flag_or keys.Redundancy true table
+  reassembly ← integer_at keys.ReassemblyUs 0 longest_reassembly table
+  window ← window_from table
+  port_tables table
+
+abbrev pub port_place_if : List Port → Result (List Members) ConfigFault → Option ℕ
+port_place_if earlier (Ok tables) = port_place earlier [] tables
+port_place_if earlier (Err fault) = None
+
+-- ---- at a link
+
+-- the place of the first link with a fault, after these links
+abbrev pub link_place : List Settings → List Members → FaultPlace
+link_place links [] = nowhere
+link_place links (table ∷ rest) =
+    on_read (link_from links table) (λ link. link_place (links ++ link ∷ []) rest)
+    (record { link = Some (length links); port = port_place_if (ports_in links) (tables_of_ports links table) })
+
+-- ---- in a document
+
+abbrev pub place_if : Result (List Members) ConfigFault → FaultPlace
+place_if (Ok tables) = link_place [] tables
+place_if (Err fault) = nowhere
+
+abbrev pub place_from : Option Members → FaultPlace
+place_from None = nowhere
+place_from (Some document) = place_if (do
+  constant ← constant_if (value_at keys.Constant document)
+  link_tables document)
+
+unfoldable pub place_of : List ℕ → FaultPlace
+place_of text = place_from (parse_document text)

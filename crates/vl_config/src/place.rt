@@ -1,0 +1,130 @@
+//! Where the first fault of a document stands.
+ghost use Rattle.std.specs.Prelude.{◌≡◌, ◌≤◌, [], map, length, IfOk};
+ghost use Rattle.std.specs.List.{IsDistinct};
+ghost use Rattle.toml.specs.View.{table_view};
+ghost use Rattle.es_base.specs.Config.{ports_in, same_name};
+ghost use Rattle.vl_config.specs.Fault.{GivesOrMemory};
+ghost use Rattle.vl_config.specs.Place.{link_place, place_of, port_place, port_place_if, tables_of_ports};
+
+use crate::document::{constant_if, link_tables};
+use crate::link::{link_from, link_number_from, port_tables, window_from};
+use crate::port::port_from;
+use crate::table::{flag_or, integer_at, value_at};
+use crate::{ConfigFault, Key};
+use es_base::{LONGEST_REASSEMBLY, LONGEST_SKEW, LinkSettings, Links, Memory, PortSettings};
+use std::alloc::{AllocError, Global};
+use toml::Table;
+
+/// The link at which a fault stands, and the port of it, by their places in the document, from 0. None: it is about
+/// no link, or about no port.
+#[derive(Clone, Copy, Debug, Drop, PartialEq, Eq)]
+pub struct FaultPlace {
+    pub link: Option<usize>,
+    pub port: Option<usize>,
+}
+
+/// At no link.
+const NOWHERE: FaultPlace = FaultPlace {
+    link: None,
+    port: None,
+};
+
+/// Where the fault stands that [`read_config`](crate::read_config) returns of this text. It reads the text again.
+#[tactic(auto, unfolding(crate::specs::Place::place_of), using(crate::proofs::Links::none_distinct))]
+pub fn place_of_fault(alloc: Global, text: &str) -> Result<FaultPlace, Memory>
+    ensures { IfOk result (λ place. place ≡ place_of text.now) }
+{
+    let document = match toml::table_from_str(alloc, text) {
+        Ok(document) => document,
+        Err(error) => return if error.is_memory() {
+            Err(AllocError)
+        } else {
+            Ok(NOWHERE)
+        },
+    };
+    if constant_if(value_at(&document, Key::Constant)).is_err() {
+        return Ok(NOWHERE);
+    }
+    match link_tables(alloc, &document) {
+        Ok(tables) => link_place(alloc, &tables, Links::new(alloc)),
+        Err(ConfigFault::Memory) => Err(AllocError),
+        Err(_) => Ok(NOWHERE),
+    }
+}
+
+/// The place of the first link with a fault among these tables, after these links.
+#[tactic(auto, using(crate::proofs::Links::names_push))]
+fn link_place(alloc: Global, tables: &[&Table], links: Links) -> Result<FaultPlace, Memory>
+    requires { IsDistinct same_name (ports_in links) }
+    ensures { IfOk result (λ place. place ≡ link_place links (map (λ table. table_view table.now) tables.now)) }
+{
+    let Some((table, rest)) = tables.split_first() else {
+        return Ok(NOWHERE);
+    };
+    match link_from(alloc, table, links.as_slice()) {
+        Ok(link) => {
+            let mut links = links;
+            links.push(link)?;
+            link_place(alloc, rest, links)
+        }
+        Err(ConfigFault::Memory) => Err(AllocError),
+        Err(_) => Ok(FaultPlace {
+            link: Some(links.as_slice().len()),
+            port: port_place_in(alloc, table, links.as_slice())?,
+        }),
+    }
+}
+
+/// The place of the first port with a fault at the link of this table. None if the fault is about none of them.
+fn port_place_in(
+    alloc: Global,
+    table: &Table,
+    links: &[LinkSettings],
+) -> Result<Option<usize>, Memory>
+    ensures { IfOk result (λ place. place ≡ port_place_if (ports_in links.now) (tables_of_ports links.now (table_view table.now))) }
+{
+    match tables_of_ports(alloc, table, links) {
+        Ok(tables) => port_place(alloc, &tables, links, Vec::new(alloc)),
+        Err(ConfigFault::Memory) => Err(AllocError),
+        Err(_) => Ok(None),
+    }
+}
+
+/// The tables of a link's ports, if what is tested before them has no fault.
+fn tables_of_ports<'a>(
+    alloc: Global,
+    table: &'a Table,
+    links: &[LinkSettings],
+) -> Result<Vec<&'a Table>, ConfigFault>
+    ensures { GivesOrMemory (λ tables. map (λ table. table_view table.now) tables.items) result
+        (tables_of_ports links.now (table_view table.now)) }
+{
+    let _ = link_number_from(table, links)?;
+    let _ = integer_at(table, Key::SkewMaxUs, 0, LONGEST_SKEW)?;
+    let _ = flag_or(table, Key::Redundancy, true)?;
+    let _ = integer_at(table, Key::ReassemblyUs, 0, LONGEST_REASSEMBLY)?;
+    let _ = window_from(table)?;
+    port_tables(alloc, table)
+}
+
+/// The place of the first port with a fault among these tables, after these ports of its link.
+fn port_place(
+    alloc: Global,
+    tables: &[&Table],
+    links: &[LinkSettings],
+    ports: Vec<PortSettings>,
+) -> Result<Option<usize>, Memory>
+    ensures { IfOk result (λ place. place ≡ port_place (ports_in links.now) ports.items (map (λ table. table_view table.now) tables.now)) }
+{
+    let Some((table, rest)) = tables.split_first() else {
+        return Ok(None);
+    };
+    match port_from(table, links, &ports) {
+        Ok(port) => {
+            let mut ports = ports;
+            ports.push(port)?;
+            port_place(alloc, rest, links, ports)
+        }
+        Err(_) => Ok(Some(ports.len())),
+    }
+}

@@ -1,0 +1,80 @@
+--  The receiver for C (examples/c/yelunnavi.h), for Ada: the same calls, with the same units, answers and conditions. Each
+--  handle is a limited record, so it can't be copied.
+with Interfaces; use Interfaces;
+with Interfaces.C; use Interfaces.C;
+with System;
+
+package Yelunnavi is
+   type Receiver is limited record Room : System.Address; end record with Convention => C;
+   type Reader is limited record Room : System.Address; end record with Convention => C;
+   type Taker is limited record Room : System.Address; end record with Convention => C;
+
+   subtype Code is Unsigned_32;
+   Done : constant Code := 0;
+
+   type Fault_Reply is record Fault, Key, Level : Unsigned_32; Link, Port : size_t; end record with Convention => C;
+   type Frame_Reply is record
+      Kind, Cause : Unsigned_32; Link : size_t; Vl, Port : Unsigned_32; Place, Number : Unsigned_64;
+   end record with Convention => C;
+   type Read_Reply is record Found, Valid : Unsigned_32; Number, Time : Unsigned_64; Length : size_t; end record with Convention => C;
+   type Take_Reply is record Found : Unsigned_32; Time : Unsigned_64; Length : size_t; end record with Convention => C;
+   type Link_Reply is record Vl : Unsigned_32; Ports : size_t; end record with Convention => C;
+   type Port_Reply is record
+      Service, Address, Udp, Max : Unsigned_32; Limit : Unsigned_64; Name_Length : size_t;
+   end record with Convention => C;
+   type Place_Reply is record Link : size_t; Port : Unsigned_32; end record with Convention => C;
+   type Limit_Reply is record Max : size_t; Refresh : Unsigned_64; end record with Convention => C;
+
+   type Octets is array (size_t range <>) of aliased Unsigned_8 with Convention => C;
+   subtype Name_Octets is Octets (0 .. 15);
+
+   function Receiver_Room return size_t with Import, Convention => C, External_Name => "yelunnavi_receiver_room";
+   function Reader_Room return size_t with Import, Convention => C, External_Name => "yelunnavi_reader_room";
+   function Taker_Room return size_t with Import, Convention => C, External_Name => "yelunnavi_taker_room";
+   procedure Receiver_Init (Room : System.Address) with Import, Convention => C, External_Name => "yelunnavi_receiver_init";
+   procedure Reader_Init (Room : System.Address) with Import, Convention => C, External_Name => "yelunnavi_reader_init";
+   procedure Taker_Init (Room : System.Address) with Import, Convention => C, External_Name => "yelunnavi_taker_init";
+
+   function Open (H : in out Receiver; Text : Octets; Length : size_t; Fault : in out Fault_Reply) return Code
+     with Import, Convention => C, External_Name => "yelunnavi_receiver_open";
+   procedure Close (H : in out Receiver) with Import, Convention => C, External_Name => "yelunnavi_receiver_close";
+   function Receive
+     (H : in out Receiver; Net : Unsigned_32; Now : Unsigned_64; Frame : Octets; Length : size_t; Reply : in out Frame_Reply) return Code
+     with Import, Convention => C, External_Name => "yelunnavi_receiver_receive";
+   function Count
+     (H : in out Receiver; Link : size_t; Net, Kind : Unsigned_32; Count : in out Unsigned_64) return Code
+     with Import, Convention => C, External_Name => "yelunnavi_receiver_count";
+   function Filtered (H : in out Receiver; Net, Cause : Unsigned_32; Count : in out Unsigned_64) return Code
+     with Import, Convention => C, External_Name => "yelunnavi_receiver_filtered";
+   function Links (H : in out Receiver; Links : in out size_t) return Code
+     with Import, Convention => C, External_Name => "yelunnavi_receiver_links";
+   function Link (H : in out Receiver; Link : size_t; Reply : in out Link_Reply) return Code
+     with Import, Convention => C, External_Name => "yelunnavi_receiver_link";
+   function Port (H : in out Receiver; Link, Port : size_t; Reply : in out Port_Reply; Name : in out Name_Octets) return Code
+     with Import, Convention => C, External_Name => "yelunnavi_receiver_port";
+   function Place (H : in out Receiver; Name : Octets; Length : size_t; Reply : in out Place_Reply) return Code
+     with Import, Convention => C, External_Name => "yelunnavi_receiver_place";
+   function Hand_Reader (H : in out Receiver; To : in out Reader; Name : Octets; Length : size_t) return Code
+     with Import, Convention => C, External_Name => "yelunnavi_receiver_hand_reader";
+   function Hand_Taker (H : in out Receiver; To : in out Taker; Name : Octets; Length : size_t) return Code
+     with Import, Convention => C, External_Name => "yelunnavi_receiver_hand_taker";
+
+   function Read
+     (H : in out Reader; Now : Unsigned_64; Into : in out Octets; Length : size_t; Reply : in out Read_Reply) return Code
+     with Import, Convention => C, External_Name => "yelunnavi_reader_read";
+   function Hold (H : in out Reader; Now : Unsigned_64; Reply : in out Read_Reply) return Code
+     with Import, Convention => C, External_Name => "yelunnavi_reader_hold";
+   function Copy (H : in out Reader; First : size_t; Into : in out Octets; Length : size_t) return Code
+     with Import, Convention => C, External_Name => "yelunnavi_reader_copy";
+   function Release (H : in out Reader) return Code
+     with Import, Convention => C, External_Name => "yelunnavi_reader_release";
+   function Limits (H : in out Reader; Reply : in out Limit_Reply) return Code
+     with Import, Convention => C, External_Name => "yelunnavi_reader_limits";
+   procedure Close (H : in out Reader) with Import, Convention => C, External_Name => "yelunnavi_reader_close";
+
+   function Take (H : in out Taker; Into : in out Octets; Length : size_t; Reply : in out Take_Reply) return Code
+     with Import, Convention => C, External_Name => "yelunnavi_taker_take";
+   function Longest (H : in out Taker; Max : in out size_t) return Code
+     with Import, Convention => C, External_Name => "yelunnavi_taker_longest";
+   procedure Close (H : in out Taker) with Import, Convention => C, External_Name => "yelunnavi_taker_close";
+end Yelunnavi;

@@ -1,0 +1,76 @@
+/* The receiver for C on a machine with nothing on it: no operating system and no C library. It takes the frames of a table and
+   writes a line for each to the machine's serial port, as afdx_play prints it. */
+#include "../c/yelunnavi.h"
+#include "frames.h"
+
+static const char *const WORDS[] = {"", "out-of-sequence", "redundant", "bad-header", "bad-fragment", "fragment-held", "bad-udp",
+    "no-port", "too-long", "fragmented-sample", "sampled", "queued", "overflow", "exhausted"};
+static const char *const CAUSES[] = {"", "too-short", "too-long", "not-ip", "foreign-constant", "unknown-link"};
+static const char *const FAULTS[] = {"", "version", "header-length", "total-length", "checksum", "protocol"};
+
+static _Alignas(8) unsigned char room[512];
+static struct yelunnavi_receiver receiver = {room};
+
+/* ---- what the compiler and the library call */
+
+void *memmove(void *to, const void *from, size_t octets) {
+    unsigned char *t = to;
+    const unsigned char *f = from;
+    if (t < f) for (size_t k = 0; k < octets; k++) t[k] = f[k];
+    else while (octets--) t[octets] = f[octets];
+    return to;
+}
+
+void *memcpy(void *to, const void *from, size_t octets) { return memmove(to, from, octets); }
+
+void *memset(void *to, int octet, size_t octets) {
+    for (unsigned char *t = to; octets--; t++) *t = (unsigned char)octet;
+    return to;
+}
+
+/* ---- the serial port of QEMU's machine `virt` */
+
+static void put(const char *text) {
+    volatile uint32_t *const serial = (volatile uint32_t *)0x09000000;
+    while (*text) *serial = (unsigned char)*text++;
+}
+
+static void put_number(uint64_t number) {
+    char digits[21];
+    char *at = digits + 20;
+    *at = 0;
+    do *--at = (char)('0' + number % 10); while (number /= 10);
+    put(at);
+}
+
+static void put_name(size_t link, uint32_t port) {
+    struct yelunnavi_port reply;
+    uint8_t name[16];
+    char text[17] = {0};
+    if (yelunnavi_receiver_port(&receiver, link, port, &reply, &name) != YELUNNAVI_DONE) return;
+    memcpy(text, name, reply.name_len);
+    put(" "), put(text);
+}
+
+static void show(const struct frame *frame) {
+    struct yelunnavi_frame reply;
+    if (yelunnavi_receiver_receive(&receiver, frame->net, frame->time, frame->octets, frame->len, &reply) != YELUNNAVI_DONE) return;
+    put_number(frame->time), put(frame->net ? " B " : " A ");
+    if (reply.kind == 0) {
+        put("filtered "), put(CAUSES[reply.cause]), put("\n");
+        return;
+    }
+    put("vl "), put_number(reply.vl), put(" "), put_number(reply.place), put(" "), put(WORDS[reply.kind]);
+    if (reply.kind == 3) put(" "), put(FAULTS[reply.cause]);
+    if (reply.kind >= 8) put_name(reply.link, reply.port);
+    if (reply.kind == 10) put(" "), put_number(reply.number);
+    put("\n");
+}
+
+void main(void) {
+    struct yelunnavi_fault fault;
+    if (yelunnavi_receiver_room() > sizeof room) return;
+    yelunnavi_receiver_init(receiver.room);
+    if (yelunnavi_receiver_open(&receiver, (const uint8_t *)CONFIG, sizeof CONFIG - 1, &fault) != YELUNNAVI_DONE) return;
+    for (size_t k = 0; k < sizeof FRAMES / sizeof FRAMES[0]; k++) show(&FRAMES[k]);
+}

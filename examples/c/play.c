@@ -1,0 +1,171 @@
+/* play CONFIG A B [AT]: plays two traces as afdx_play does, and prints the same lines, the report's too. */
+#include "yelunnavi.h"
+#include "trace.h"
+
+#include <inttypes.h>
+#include <string.h>
+
+static const char *const WORDS[] = {"", "out-of-sequence", "redundant", "bad-header", "bad-fragment", "fragment-held", "bad-udp",
+    "no-port", "too-long", "fragmented-sample", "sampled", "queued", "overflow", "exhausted"};
+static const char *const CAUSES[] = {"", "too-short", "too-long", "not-ip", "foreign-constant", "unknown-link"};
+static const char *const FAULTS[] = {"", "version", "header-length", "total-length", "checksum", "protocol"};
+
+enum { BAD_HEADER = 3, NAMES_A_PORT = 8, SAMPLED = 10, MOST_LINKS = 64, MOST_PORTS = 32, MOST_MESSAGES = 64 };
+
+/* The requests of pool.c. */
+extern unsigned long pool_requests;
+
+static _Alignas(8) unsigned char receiver_room[4096];
+static struct yelunnavi_receiver receiver = {receiver_room};
+
+/* An end of each port. */
+static struct end {
+    _Alignas(8) unsigned char room[128];
+    struct yelunnavi_port port;
+    char name[17];
+} ends[MOST_LINKS][MOST_PORTS];
+
+static void check(bool is_so, const char *what) {
+    if (is_so) return;
+    fprintf(stderr, "play: %s\n", what);
+    exit(1);
+}
+
+/* Hands the end of a port out, into room of its own. */
+static void hand_out(size_t link, uint32_t port) {
+    struct end *end = &ends[link][port];
+    uint8_t name[16];
+    check(yelunnavi_receiver_port(&receiver, link, port, &end->port, &name) == YELUNNAVI_DONE, "a port");
+    memcpy(end->name, name, end->port.name_len);
+    struct yelunnavi_place place;
+    check(yelunnavi_receiver_place(&receiver, name, end->port.name_len, &place) == YELUNNAVI_DONE, "a name");
+    check(place.link == link && place.port == port, "the place of a name");
+    struct yelunnavi_reader reader = {end->room};
+    struct yelunnavi_taker taker = {end->room};
+    if (end->port.service == 1) {
+        yelunnavi_reader_init(end->room);
+        check(yelunnavi_receiver_hand_reader(&receiver, &reader, name, end->port.name_len) == YELUNNAVI_DONE, "a reader");
+    } else {
+        yelunnavi_taker_init(end->room);
+        check(yelunnavi_receiver_hand_taker(&receiver, &taker, name, end->port.name_len) == YELUNNAVI_DONE, "a taker");
+    }
+}
+
+static size_t open_all(const char *config, struct yelunnavi_link *of_links) {
+    static uint8_t text[1 << 20];
+    struct yelunnavi_fault fault = {0};
+    size_t links = 0;
+    check(yelunnavi_receiver_room() <= sizeof receiver_room, "room for the receiver");
+    check(yelunnavi_reader_room() <= sizeof ends[0][0].room && yelunnavi_taker_room() <= sizeof ends[0][0].room, "room for ends");
+    yelunnavi_receiver_init(receiver.room);
+    uint32_t code = yelunnavi_receiver_open(&receiver, text, read_file(config, text, sizeof text), &fault);
+    if (code) fprintf(stderr, "play: code %" PRIu32 ", fault %" PRIu32 " of key %" PRIu32 ", link %zu, port %zu\n", code, fault.fault, fault.key, fault.link, fault.port);
+    check(code == YELUNNAVI_DONE, "the receiver isn't open");
+    check(yelunnavi_receiver_links(&receiver, &links) == YELUNNAVI_DONE, "links");
+    for (size_t link = 0; link < links; link++) {
+        check(yelunnavi_receiver_link(&receiver, link, &of_links[link]) == YELUNNAVI_DONE, "a link");
+        for (uint32_t port = 0; port < of_links[link].ports; port++) hand_out(link, port);
+    }
+    return links;
+}
+
+static void show_frame(int net, const struct frame *frame) {
+    struct yelunnavi_frame reply;
+    uint32_t code = yelunnavi_receiver_receive(&receiver, (uint32_t)net, frame->time, frame->octets, frame->len, &reply);
+    check(code == YELUNNAVI_DONE, "receive");
+    printf("%" PRIu64 " %c ", frame->time, "AB"[net]);
+    if (reply.kind == 0) {
+        printf("filtered %s\n", CAUSES[reply.cause]);
+        return;
+    }
+    printf("vl %" PRIu32 " %" PRIu64 " %s", reply.vl, reply.place, WORDS[reply.kind]);
+    if (reply.kind == BAD_HEADER) printf(" %s", FAULTS[reply.cause]);
+    if (reply.kind >= NAMES_A_PORT) printf(" %s", ends[reply.link][reply.port].name);
+    if (reply.kind == SAMPLED) printf(" %" PRIu64, reply.number);
+    putchar('\n');
+}
+
+/* The octets of a message, after a space, and the end of the line. */
+static void show_octets(const uint8_t *octets, size_t len) {
+    if (len) putchar(' ');
+    for (size_t k = 0; k < len; k++) printf("%02x", octets[k]);
+    putchar('\n');
+}
+
+/* Reads a sampling port, and holds its message: both find the same. */
+static void show_sampling(struct end *end, uint64_t at) {
+    static uint8_t out[1471], held[1471];
+    struct yelunnavi_reader reader = {end->room};
+    struct yelunnavi_read found, again;
+    check(yelunnavi_reader_read(&reader, at, out, sizeof out, &found) == YELUNNAVI_DONE, "read");
+    check(yelunnavi_reader_hold(&reader, at, &again) == YELUNNAVI_DONE && !memcmp(&found.number, &again.number, 24), "hold");
+    printf("port %s sampling", end->name);
+    if (found.found != 1) {
+        puts(" empty");
+        return;
+    }
+    check(yelunnavi_reader_copy(&reader, 0, held, found.len) == YELUNNAVI_DONE && !memcmp(out, held, found.len), "copy");
+    check(yelunnavi_reader_release(&reader) == YELUNNAVI_DONE, "release");
+    printf(" %" PRIu64 " %" PRIu64 " %zu %s", found.number, found.time, found.len, found.valid ? "fresh" : "stale");
+    show_octets(out, found.len);
+}
+
+static void show_queue(struct end *end) {
+    static uint8_t out[MOST_MESSAGES][8192];
+    struct yelunnavi_taker taker = {end->room};
+    struct yelunnavi_taken taken[MOST_MESSAGES];
+    size_t count = 0;
+    while (count < MOST_MESSAGES) {
+        check(yelunnavi_taker_take(&taker, out[count], sizeof out[count], &taken[count]) == YELUNNAVI_DONE, "take");
+        if (!taken[count].found) break;
+        count++;
+    }
+    printf("port %s queuing %zu\n", end->name, count);
+    for (size_t k = 0; k < count; k++) {
+        printf("message %s %" PRIu64 " %zu", end->name, taken[k].time, taken[k].len);
+        show_octets(out[k], taken[k].len);
+    }
+}
+
+static void show_counts(size_t links, const struct yelunnavi_link *of_links) {
+    uint64_t count = 0;
+    for (size_t link = 0; link < links; link++)
+        for (uint32_t net = 0; net < 2; net++) {
+            printf("count %" PRIu32 " %c", of_links[link].vl, "AB"[net]);
+            for (uint32_t kind = 1; yelunnavi_receiver_count(&receiver, link, net, kind, &count) == YELUNNAVI_DONE; kind++)
+                printf(" %" PRIu64, count);
+            putchar('\n');
+        }
+    for (uint32_t net = 0; net < 2; net++) {
+        printf("filtered %c", "AB"[net]);
+        for (uint32_t cause = 1; yelunnavi_receiver_filtered(&receiver, net, cause, &count) == YELUNNAVI_DONE; cause++)
+            printf(" %" PRIu64, count);
+        putchar('\n');
+    }
+}
+
+int main(int argc, char **argv) {
+    static struct traces traces;
+    struct yelunnavi_link of_links[MOST_LINKS];
+    if (argc < 4 || !open_traces(&traces, argv[2], argv[3])) {
+        fputs("play CONFIG A B [AT]\n", stderr);
+        return 2;
+    }
+    size_t links = open_all(argv[1], of_links);
+    unsigned long requests = pool_requests;
+    uint64_t at = 0;
+    for (int net; (net = next_network(&traces)) >= 0; read_frame(traces.files[net], &traces.next[net])) {
+        show_frame(net, &traces.next[net]);
+        at = traces.next[net].time;
+    }
+    if (argc > 4) at = strtoull(argv[4], NULL, 10);
+    for (size_t link = 0; link < links; link++)
+        for (uint32_t port = 0; port < of_links[link].ports; port++) {
+            struct end *end = &ends[link][port];
+            if (end->port.service == 1) show_sampling(end, at); else show_queue(end);
+        }
+    show_counts(links, of_links);
+    check(pool_requests == requests, "memory was asked for after the opening");
+    fprintf(stderr, "play: %lu requests for memory, all of them at the opening\n", requests);
+    return 0;
+}

@@ -1,0 +1,242 @@
+/* Yelunnavi for C: an AFDX receiver for one task that polls both networks, and ends of its ports for partitions.
+
+   THREE KINDS OF HANDLES, each of a slot in room of the caller's: a receiver, a reader of a sampling port, and a taker of
+   a queuing port, the end of its queue from which messages are taken. Readers and takers are handed out of a receiver, by
+   the names of their ports, into slots of their own.
+
+   Static room:   static _Alignas(8) unsigned char room[4096];
+                  struct yelunnavi_receiver receiver = {room};
+                  if (yelunnavi_receiver_room() > sizeof room) ...;
+                  yelunnavi_receiver_init(room);
+
+   WHO MAY CALL. Each handle may be used by any one thread at a time, and handed on to another. Different handles may be
+   used by different threads at once, those of one receiver too. No call waits for another thread, and none blocks.
+
+   MEMORY. yelunnavi_receiver_open asks for memory, by rattle_alloc, rattle_realloc and rattle_dealloc below; .._close
+   give some back. No other call asks for any or gives any back. Beside these three the library needs memcpy, memmove and
+   memset, and nothing else: no operating system, no C library's start-up. It never prints, never ends the process, and
+   has no state of its own outside of the rooms and of what it asked for.
+
+   ANSWERS. Each call but room, init and close answers a code, YELUNNAVI_DONE or why nothing was done. After any other
+   code what the call was passed is as it was (of hand_reader and hand_taker see there).
+
+   WHAT NOTHING CHECKS, and what is undefined where it is not kept:
+   - The room of a handle has as many octets as its .._room() says, is aligned to 8, and is of no other handle. Its
+     .._init was called once, before any other call. The program neither reads nor writes it, nor changes the handle.
+   - One call at a time is made on a handle.
+   - No pointer is null, also where a length is 0; each reaches as many octets as the length after it says, or its type.
+   - No two things that a call is passed overlap, nor does one reach into a room; no handle is passed twice.
+   - What a frame or a text has doesn't change during a call.
+   - Arrival times and the `now` of reads and holds are of one clock.
+   - The three functions for memory do what is said there.
+
+   TIMES are in microseconds, lengths in octets, places from 0. A count stops at 2^64 - 1. Targets: x86-64 and aarch64. */
+#ifndef YELUNNAVI_H
+#define YELUNNAVI_H
+#include <stdbool.h>
+#include <stddef.h>
+#include <stdint.h>
+
+#ifdef __cplusplus
+extern "C" {
+#endif
+
+/* ---- handles: where the room is */
+
+struct yelunnavi_receiver { void *room; };
+struct yelunnavi_reader { void *room; };
+struct yelunnavi_taker { void *room; };
+
+/* How many octets of room a slot takes. */
+size_t yelunnavi_receiver_room(void);
+size_t yelunnavi_reader_room(void);
+size_t yelunnavi_taker_room(void);
+
+/* Makes a slot in which nothing is open. */
+void yelunnavi_receiver_init(void *room);
+void yelunnavi_reader_init(void *room);
+void yelunnavi_taker_init(void *room);
+
+/* ---- what a call answers */
+
+enum {
+    YELUNNAVI_DONE = 0,         /* what was asked was done */
+    YELUNNAVI_NOT_OPEN = 1,     /* nothing is open in the slot */
+    YELUNNAVI_ALREADY_OPEN = 2, /* something is open already in the slot that is to be opened, or to get an end */
+    YELUNNAVI_FAULTY = 3,       /* the configuration has a fault */
+    YELUNNAVI_NO_MEMORY = 4,    /* memory ran out */
+    YELUNNAVI_NO_NETWORK = 5,   /* there is no such network */
+    YELUNNAVI_NO_KIND = 6,      /* there is no such kind of verdict, or no such cause */
+    YELUNNAVI_NO_PLACE = 7,     /* the configuration has no such link, or the link no such port */
+    YELUNNAVI_NO_NAME = 8,      /* no port has this name */
+    YELUNNAVI_NONE_LEFT = 9,    /* the port has no such end, or all of them were handed out */
+    YELUNNAVI_HOLDS_ONE = 10,   /* the reader holds a message */
+    YELUNNAVI_HOLDS_NONE = 11,  /* it holds none */
+    YELUNNAVI_OUT_OF_RANGE = 12, /* the message has no such octets */
+    YELUNNAVI_TOO_SHORT = 13    /* there may be messages for which there is no room */
+};
+
+/* The networks. */
+enum { YELUNNAVI_A = 0, YELUNNAVI_B = 1 };
+
+/* ---- the receiver: open and close */
+
+/* The first fault of a configuration, in the order in which its keys are tested. */
+struct yelunnavi_fault {
+    uint32_t fault; /* 1: not TOML. 2: a key is missing. 3: its value has another kind. 4: it is out of range. 5: a link
+                       is given twice. 6: a port, by address and UDP port. 7: a name. 8: too many links or ports */
+    uint32_t key;   /* with 2, 3 and 4: 1 constant, 2 link, 3 vl, 4 skew_max_us, 5 redundancy, 6 reassembly_us, 7 window,
+                       8 port, 9 name, 10 kind, 11 address, 12 udp, 13 max, 14 refresh_us, 15 depth; else 0 */
+    uint32_t level; /* 0: it is about no link. 1: about a link. 2: about a port */
+    size_t link;    /* with 1 and 2: the place of the link in the document */
+    size_t port;    /* with 2: the place of the port in the link */
+};
+
+/* Opens the receiver of a configuration: a TOML text, as docs/FORMATS.md says, `len` octets without a 0 after them. It is
+   copied. All memory is taken here; after an error none is kept. ALREADY_OPEN; FAULTY, and `fault` says why; NO_MEMORY. */
+uint32_t yelunnavi_receiver_open(struct yelunnavi_receiver *h, const uint8_t *text, size_t len, struct yelunnavi_fault *fault);
+
+/* Gives the receiver away, if one is open. Ends that were handed out live on: a reader finds what was published before. */
+void yelunnavi_receiver_close(struct yelunnavi_receiver *h);
+
+/* ---- the receiver: frames */
+
+struct yelunnavi_frame {
+    uint32_t kind;   /* 0: filtered. Else the kind of its verdict: 1 out of sequence, 2 redundant, 3 bad header, 4 bad
+                        fragment, 5 fragment held, 6 bad UDP, 7 no port, 8 too long, 9 fragmented sample, 10 sampled,
+                        11 queued, 12 overflow, 13 exhausted */
+    uint32_t cause;  /* filtered: 1 too short, 2 too long, 3 not IPv4, 4 foreign constant field, 5 unknown link. Bad header:
+                        1 version, 2 header length, 3 total length, 4 checksum, 5 protocol. Else 0 */
+    size_t link;     /* the place of its link in the configuration */
+    uint32_t vl;     /* its link number */
+    uint32_t port;   /* kinds 8 to 13: the place of its port in the link */
+    uint64_t place;  /* how many frames of the link came before it */
+    uint64_t number; /* sampled: the number of its message, from 1 */
+};
+
+/* Takes a frame that came on a network at `now`, without its check sequence; of any length and content. `reply` says what
+   became of it; what it doesn't speak of is 0. The message that it delivers, if any, is in its port then. Times may fall.
+   NOT_OPEN, NO_NETWORK. */
+uint32_t yelunnavi_receiver_receive(struct yelunnavi_receiver *h, uint32_t net, uint64_t now, const uint8_t *frame, size_t len,
+                                    struct yelunnavi_frame *reply);
+
+/* Tells how many frames of the link at this place came on this network with a verdict of this kind, 1 to 13. NOT_OPEN,
+   NO_NETWORK, NO_KIND, NO_PLACE, tested in this order. */
+uint32_t yelunnavi_receiver_count(struct yelunnavi_receiver *h, size_t link, uint32_t net, uint32_t kind, uint64_t *count);
+
+/* Tells how many frames were filtered on this network for this cause, 1 to 5. NOT_OPEN, NO_NETWORK, NO_KIND. */
+uint32_t yelunnavi_receiver_filtered(struct yelunnavi_receiver *h, uint32_t net, uint32_t cause, uint64_t *count);
+
+/* ---- the receiver: links and ports */
+
+struct yelunnavi_link {
+    uint32_t vl;  /* its link number */
+    size_t ports; /* how many ports it has, up to 32 */
+};
+
+struct yelunnavi_port {
+    uint32_t service; /* 1: sampling. 2: queuing */
+    uint32_t address; /* the IPv4 address of its datagrams: the first octet is the most significant one */
+    uint32_t udp;     /* their UDP port */
+    uint32_t max;     /* the longest message: up to 1,471 of a sampling port, 8,192 of a queuing port */
+    uint64_t limit;   /* the refresh period in microseconds; or the depth of the queue, 1 to 64 messages */
+    size_t name_len;  /* how many octets its name has, 1 to 16 */
+};
+
+struct yelunnavi_place {
+    size_t link;   /* the place of its link in the configuration */
+    uint32_t port; /* its place in the link */
+};
+
+/* Tells how many links there are, 1 to 64. NOT_OPEN. */
+uint32_t yelunnavi_receiver_links(struct yelunnavi_receiver *h, size_t *links);
+
+/* Tells of the link at this place. NOT_OPEN, NO_PLACE. */
+uint32_t yelunnavi_receiver_link(struct yelunnavi_receiver *h, size_t link, struct yelunnavi_link *reply);
+
+/* Tells of a port, and writes its name over the beginning of `name`, without a 0 after it. NOT_OPEN, NO_PLACE. */
+uint32_t yelunnavi_receiver_port(struct yelunnavi_receiver *h, size_t link, size_t port, struct yelunnavi_port *reply, uint8_t (*name)[16]);
+
+/* Tells where the port with this name is. NOT_OPEN, NO_NAME. */
+uint32_t yelunnavi_receiver_place(struct yelunnavi_receiver *h, const uint8_t *name, size_t len, struct yelunnavi_place *reply);
+
+/* ---- the receiver: ends of ports
+
+   Moves an end of the port with this name into a slot in which nothing is open. A sampling port has eight readers, a
+   queuing port one taker; one that was closed doesn't come back. NOT_OPEN (the receiver), ALREADY_OPEN (`to`), NO_NAME,
+   NONE_LEFT, tested in this order. */
+
+uint32_t yelunnavi_receiver_hand_reader(struct yelunnavi_receiver *h, struct yelunnavi_reader *to, const uint8_t *name, size_t len);
+uint32_t yelunnavi_receiver_hand_taker(struct yelunnavi_receiver *h, struct yelunnavi_taker *to, const uint8_t *name, size_t len);
+
+/* ---- a reader of a sampling port (ARINC 664 Part 7, sampling service) */
+
+struct yelunnavi_read {
+    uint32_t found;  /* 0: nothing was published yet. 1: a message. 2: each of eight looks found a newer message than the
+                        look before, so try again later; `number` is that of the newest */
+    uint32_t valid;  /* 1: its age at `now` is at most the refresh period of its port (ARINC 653, READ_SAMPLING_MESSAGE) */
+    uint64_t number; /* of the message, from 1 */
+    uint64_t time;   /* when it came */
+    size_t len;      /* how many octets the whole message has */
+};
+
+struct yelunnavi_limits {
+    size_t max;       /* the longest message of the port: an `out` of this length is always long enough */
+    uint64_t refresh; /* its refresh period */
+};
+
+/* Reads the newest message at `now`: as many of its octets as there is room for stand at the beginning of `out`, and what
+   follows is as it was. NOT_OPEN, HOLDS_ONE. */
+uint32_t yelunnavi_reader_read(struct yelunnavi_reader *h, uint64_t now, uint8_t *out, size_t len, struct yelunnavi_read *reply);
+
+/* Holds the newest message where it stands, and tells of it as a read does; with `found` other than 1 none is held. Nobody
+   writes it until it is released, and the receiver goes on all the while. NOT_OPEN, HOLDS_ONE. */
+uint32_t yelunnavi_reader_hold(struct yelunnavi_reader *h, uint64_t now, struct yelunnavi_read *reply);
+
+/* Fills `out` with octets of the message that is held, from `first` on. HOLDS_NONE; OUT_OF_RANGE if it has not so many. */
+uint32_t yelunnavi_reader_copy(struct yelunnavi_reader *h, size_t first, uint8_t *out, size_t len);
+
+/* Gives the message back. HOLDS_NONE. */
+uint32_t yelunnavi_reader_release(struct yelunnavi_reader *h);
+
+/* Tells of the port. NOT_OPEN, HOLDS_ONE. */
+uint32_t yelunnavi_reader_limits(struct yelunnavi_reader *h, struct yelunnavi_limits *reply);
+
+/* Gives the reader away, if there is one. A message that it holds is released before. */
+void yelunnavi_reader_close(struct yelunnavi_reader *h);
+
+/* ---- a taker of a queuing port (ARINC 664 Part 7, queuing service) */
+
+struct yelunnavi_taken {
+    uint32_t found; /* 0: there was nothing to take. 1: a message */
+    uint64_t time;  /* when it came */
+    size_t len;     /* how many octets it has */
+};
+
+/* Takes the oldest message: it stands whole at the beginning of `out`, and what follows is as it was. NOT_OPEN; TOO_SHORT if
+   `len` is less than the port's longest message, and then nothing is taken. */
+uint32_t yelunnavi_taker_take(struct yelunnavi_taker *h, uint8_t *out, size_t len, struct yelunnavi_taken *reply);
+
+/* Tells the longest message of the port. NOT_OPEN. */
+uint32_t yelunnavi_taker_longest(struct yelunnavi_taker *h, size_t *max);
+
+/* Gives the end of the queue away, if there is one. What waits in the queue is lost. */
+void yelunnavi_taker_close(struct yelunnavi_taker *h);
+
+/* ---- what the library calls: the program has them, or links the toolchain's, which are malloc, realloc and free */
+
+struct rattle_tried {
+    bool ok;  /* false if there is no memory */
+    void *at; /* never null, with false too */
+};
+
+/* So many octets, aligned to `align`, which is at most 16. */
+struct rattle_tried rattle_alloc(size_t octets, size_t align);
+/* The same octets, of which the first `kept` count, with room for so many. With false nothing has changed. */
+struct rattle_tried rattle_realloc(void *at, size_t kept, size_t octets, size_t align);
+void rattle_dealloc(void *at);
+
+#ifdef __cplusplus
+}
+#endif
+#endif

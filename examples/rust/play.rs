@@ -1,0 +1,145 @@
+//! play CONFIG A B: plays two traces (docs/FORMATS.md), and prints the lines that afdx_play prints, those of the frames and of
+//! the ports. Memory is the standard library's.
+use std::alloc::{Layout, alloc, dealloc, realloc};
+use std::ffi::c_void;
+use yelunnavi::{Frame, Reader, ReaderRoom, Receiver, ReceiverRoom, Taker, TakerRoom};
+
+#[repr(C)]
+pub struct Tried {
+    ok: bool,
+    at: *mut c_void,
+}
+
+const WORDS: [&str; 14] = [
+    "", "out-of-sequence", "redundant", "bad-header", "bad-fragment", "fragment-held", "bad-udp", "no-port", "too-long",
+    "fragmented-sample", "sampled", "queued", "overflow", "exhausted",
+];
+const CAUSES: [&str; 6] = ["", "too-short", "too-long", "not-ip", "foreign-constant", "unknown-link"];
+const FAULTS: [&str; 6] = ["", "version", "header-length", "total-length", "checksum", "protocol"];
+
+/// Octets before a block, which keep how many it has.
+const HEAD: usize = 16;
+
+fn layout(octets: usize) -> Layout {
+    Layout::from_size_align(octets + HEAD, HEAD).unwrap()
+}
+
+/// A block after its head, which tells its length.
+fn tried(block: *mut u8, octets: usize) -> Tried {
+    if block.is_null() {
+        return Tried { ok: false, at: HEAD as *mut c_void };
+    }
+    unsafe { block.cast::<usize>().write(octets) };
+    Tried { ok: true, at: unsafe { block.add(HEAD) }.cast() }
+}
+
+#[unsafe(no_mangle)]
+pub extern "C" fn rattle_alloc(octets: usize, _align: usize) -> Tried {
+    tried(unsafe { alloc(layout(octets)) }, octets)
+}
+
+#[unsafe(no_mangle)]
+pub unsafe extern "C" fn rattle_realloc(at: *mut c_void, _kept: usize, octets: usize, _align: usize) -> Tried {
+    let block = unsafe { at.cast::<u8>().sub(HEAD) };
+    let old = unsafe { block.cast::<usize>().read() };
+    tried(unsafe { realloc(block, layout(old), octets + HEAD) }, octets)
+}
+
+#[unsafe(no_mangle)]
+pub unsafe extern "C" fn rattle_dealloc(at: *mut c_void) {
+    let block = unsafe { at.cast::<u8>().sub(HEAD) };
+    unsafe { dealloc(block, layout(block.cast::<usize>().read())) }
+}
+
+/// The frames of a trace of this network.
+fn frames(net: u32, path: &str) -> Vec<(u64, u32, Vec<u8>)> {
+    let text = std::fs::read_to_string(path).unwrap();
+    let lines = text.lines().filter(|line| !line.is_empty() && !line.starts_with('#'));
+    lines.map(|line| frame(net, line)).collect()
+}
+
+fn frame(net: u32, line: &str) -> (u64, u32, Vec<u8>) {
+    let (time, digits) = line.split_once(' ').unwrap();
+    let octet = |at: usize| u8::from_str_radix(&digits[at..at + 2], 16).unwrap();
+    (time.parse().unwrap(), net, (0..digits.len()).step_by(2).map(octet).collect())
+}
+
+fn show_octets(octets: &[u8]) {
+    let digits: String = octets.iter().map(|octet| format!("{octet:02x}")).collect();
+    println!("{}{digits}", if octets.is_empty() { "" } else { " " });
+}
+
+fn show_frame(time: u64, net: u32, reply: &Frame, name: &str) {
+    print!("{time} {} ", ["A", "B"][net as usize]);
+    if reply.kind == 0 {
+        return println!("filtered {}", CAUSES[reply.cause as usize]);
+    }
+    print!("vl {} {} {}", reply.vl, reply.place, WORDS[reply.kind as usize]);
+    match reply.kind {
+        3 => println!(" {}", FAULTS[reply.cause as usize]),
+        10 => println!(" {name} {}", reply.number),
+        8.. => println!(" {name}"),
+        _ => println!(),
+    }
+}
+
+fn show_sampling(reader: &mut Reader, name: &str, now: u64) {
+    let mut out = [0; 1471];
+    let read = reader.read(now, &mut out).unwrap();
+    if read.found != 1 {
+        return println!("port {name} sampling empty");
+    }
+    let state = if read.valid == 1 { "fresh" } else { "stale" };
+    print!("port {name} sampling {} {} {} {state}", read.number, read.time, read.len);
+    show_octets(&out[..read.len]);
+}
+
+fn show_queue(taker: &mut Taker, name: &str) {
+    let mut messages = Vec::new();
+    let mut out = vec![0; taker.longest().unwrap()];
+    while let Ok(taken) = taker.take(&mut out) && taken.found == 1 {
+        messages.push((taken.time, out[..taken.len].to_vec()));
+    }
+    println!("port {name} queuing {}", messages.len());
+    for (time, octets) in messages {
+        print!("message {name} {time} {}", octets.len());
+        show_octets(&octets);
+    }
+}
+
+/// The names and services of all ports of a link.
+fn ports(receiver: &mut Receiver, link: usize) -> Vec<(String, u32)> {
+    let count = receiver.link(link).unwrap().ports;
+    let port = |at| receiver.port(link, at).unwrap();
+    let named = |(port, name): (yelunnavi::Port, [u8; 16])| (String::from_utf8_lossy(&name[..port.name_len]).into(), port.service);
+    (0..count).map(port).map(named).collect()
+}
+
+fn main() {
+    let words: Vec<String> = std::env::args().collect();
+    let mut room = ReceiverRoom::new();
+    let mut receiver = Receiver::new(&mut room).expect("room");
+    receiver.open(&std::fs::read(&words[1]).unwrap()).expect("a configuration");
+    let links: Vec<_> = (0..receiver.links().unwrap()).map(|link| ports(&mut receiver, link)).collect();
+    let mut all = [frames(0, &words[2]), frames(1, &words[3])].concat();
+    all.sort_by_key(|(time, net, _)| (*time, *net));
+    for (time, net, octets) in &all {
+        let reply = receiver.receive(*net, *time, octets).unwrap();
+        let name = links[reply.link].get(reply.port as usize).map_or("", |(name, _)| name);
+        show_frame(*time, *net, &reply, name);
+    }
+    let now = all.last().map_or(0, |(time, _, _)| *time);
+    for (name, service) in links.iter().flatten() {
+        if *service == 1 {
+            let mut room = ReaderRoom::new();
+            let mut reader = Reader::new(&mut room).expect("room");
+            receiver.hand_reader(&mut reader, name.as_bytes()).unwrap();
+            std::thread::scope(|scope| scope.spawn(|| show_sampling(&mut reader, name, now)).join()).unwrap();
+        } else {
+            let mut room = TakerRoom::new();
+            let mut taker = Taker::new(&mut room).expect("room");
+            receiver.hand_taker(&mut taker, name.as_bytes()).unwrap();
+            std::thread::scope(|scope| scope.spawn(|| show_queue(&mut taker, name)).join()).unwrap();
+        }
+    }
+}

@@ -1,0 +1,231 @@
+//! The receiver for C, for Rust programs: a safe wrapper of one file over examples/c/yelunnavi.h, without the standard
+//! library. Its types keep what the header can only ask for: each handle has room of its own that is large enough and
+//! aligned, and stays where it is; a call has its handle alone (`&mut`); a handle may go to another thread, and isn't
+//! shared. What is left to the program are the three functions for memory (`rattle_alloc`, ..).
+#![no_std]
+
+use core::ffi::c_void;
+
+pub const DONE: u32 = 0;
+
+/// Why a call did nothing: one of the header's YELUNNAVI codes, from 1 on.
+#[derive(Clone, Copy, Debug, PartialEq, Eq)]
+pub struct Code(pub u32);
+
+fn answer(code: u32) -> Result<(), Code> {
+    if code == DONE { Ok(()) } else { Err(Code(code)) }
+}
+
+macro_rules! replies {
+    ($($(#[$doc:meta])* $name:ident { $($field:ident: $type:ty),* })*) => {
+        $($(#[$doc])* #[repr(C)] #[derive(Clone, Copy, Debug, Default, PartialEq, Eq)]
+        pub struct $name { $(pub $field: $type),* })*
+    };
+}
+
+replies! {
+    /// The first fault of a configuration.
+    Fault { fault: u32, key: u32, level: u32, link: usize, port: usize }
+    /// What became of a frame.
+    Frame { kind: u32, cause: u32, link: usize, vl: u32, port: u32, place: u64, number: u64 }
+    /// What a read or a hold found.
+    Read { found: u32, valid: u32, number: u64, time: u64, len: usize }
+    /// What was taken of a queue.
+    Taken { found: u32, time: u64, len: usize }
+    /// A link.
+    Link { vl: u32, ports: usize }
+    /// A port.
+    Port { service: u32, address: u32, udp: u32, max: u32, limit: u64, name_len: usize }
+    /// Where a port is.
+    Place { link: usize, port: u32 }
+    /// What a partition has to know of its port.
+    Limits { max: usize, refresh: u64 }
+}
+
+/// Where the room is.
+#[repr(C)]
+struct Handle {
+    room: *mut c_void,
+}
+
+macro_rules! calls {
+    ($($call:ident($($name:ident: $type:ty),*) $(-> $result:ty)?;)*) => {
+        unsafe extern "C" { $(fn $call($($name: $type),*) $(-> $result)?;)* }
+    };
+}
+
+calls! {
+    yelunnavi_receiver_room() -> usize;
+    yelunnavi_reader_room() -> usize;
+    yelunnavi_taker_room() -> usize;
+    yelunnavi_receiver_init(room: *mut c_void);
+    yelunnavi_reader_init(room: *mut c_void);
+    yelunnavi_taker_init(room: *mut c_void);
+    yelunnavi_receiver_open(h: *mut Handle, text: *const u8, len: usize, fault: *mut Fault) -> u32;
+    yelunnavi_receiver_close(h: *mut Handle);
+    yelunnavi_receiver_receive(h: *mut Handle, net: u32, now: u64, frame: *const u8, len: usize, reply: *mut Frame) -> u32;
+    yelunnavi_receiver_count(h: *mut Handle, link: usize, net: u32, kind: u32, count: *mut u64) -> u32;
+    yelunnavi_receiver_filtered(h: *mut Handle, net: u32, cause: u32, count: *mut u64) -> u32;
+    yelunnavi_receiver_links(h: *mut Handle, links: *mut usize) -> u32;
+    yelunnavi_receiver_link(h: *mut Handle, link: usize, reply: *mut Link) -> u32;
+    yelunnavi_receiver_port(h: *mut Handle, link: usize, port: usize, reply: *mut Port, name: *mut [u8; 16]) -> u32;
+    yelunnavi_receiver_place(h: *mut Handle, name: *const u8, len: usize, reply: *mut Place) -> u32;
+    yelunnavi_receiver_hand_reader(h: *mut Handle, to: *mut Handle, name: *const u8, len: usize) -> u32;
+    yelunnavi_receiver_hand_taker(h: *mut Handle, to: *mut Handle, name: *const u8, len: usize) -> u32;
+    yelunnavi_reader_read(h: *mut Handle, now: u64, out: *mut u8, len: usize, reply: *mut Read) -> u32;
+    yelunnavi_reader_hold(h: *mut Handle, now: u64, reply: *mut Read) -> u32;
+    yelunnavi_reader_copy(h: *mut Handle, first: usize, out: *mut u8, len: usize) -> u32;
+    yelunnavi_reader_release(h: *mut Handle) -> u32;
+    yelunnavi_reader_limits(h: *mut Handle, reply: *mut Limits) -> u32;
+    yelunnavi_reader_close(h: *mut Handle);
+    yelunnavi_taker_take(h: *mut Handle, out: *mut u8, len: usize, reply: *mut Taken) -> u32;
+    yelunnavi_taker_longest(h: *mut Handle, max: *mut usize) -> u32;
+    yelunnavi_taker_close(h: *mut Handle);
+}
+
+macro_rules! slots {
+    ($($(#[$doc:meta])* $name:ident, $room:ident, $octets:literal, $size:ident, $init:ident, $close:ident;)*) => {
+        $(
+            /// Room for a slot: the program's, often a `static mut` or a local that outlives the handle.
+            #[repr(C, align(16))]
+            pub struct $room([u8; $octets]);
+
+            impl $room {
+                pub const fn new() -> $room {
+                    $room([0; $octets])
+                }
+            }
+
+            $(#[$doc])*
+            pub struct $name<'a> {
+                handle: Handle,
+                room: core::marker::PhantomData<&'a mut $room>,
+            }
+
+            // The library proves that a handle may go to another thread.
+            unsafe impl Send for $name<'_> {}
+
+            impl<'a> $name<'a> {
+                /// A slot in which nothing is open. None if this library needs more room.
+                pub fn new(room: &'a mut $room) -> Option<$name<'a>> {
+                    if unsafe { $size() } > $octets {
+                        return None;
+                    }
+                    let handle = Handle { room: (room as *mut $room).cast() };
+                    unsafe { $init(handle.room) };
+                    Some($name { handle, room: core::marker::PhantomData })
+                }
+
+                /// Gives away what is open in the slot.
+                pub fn close(&mut self) {
+                    unsafe { $close(&mut self.handle) }
+                }
+            }
+
+            impl Drop for $name<'_> {
+                fn drop(&mut self) {
+                    self.close();
+                }
+            }
+        )*
+    };
+}
+
+slots! {
+    /// The receiver, for one task.
+    Receiver, ReceiverRoom, 512, yelunnavi_receiver_room, yelunnavi_receiver_init, yelunnavi_receiver_close;
+    /// A reader of a sampling port, for a partition.
+    Reader, ReaderRoom, 128, yelunnavi_reader_room, yelunnavi_reader_init, yelunnavi_reader_close;
+    /// The end of a queue, for a partition.
+    Taker, TakerRoom, 128, yelunnavi_taker_room, yelunnavi_taker_init, yelunnavi_taker_close;
+}
+
+/// A reply, if the call did what was asked.
+fn told<T: Default>(call: impl FnOnce(*mut T) -> u32) -> Result<T, Code> {
+    let mut reply = T::default();
+    answer(call(&mut reply)).map(|()| reply)
+}
+
+impl Receiver<'_> {
+    /// Opens the receiver of a configuration. All memory is taken here.
+    pub fn open(&mut self, text: &[u8]) -> Result<(), (Code, Fault)> {
+        let mut fault = Fault::default();
+        answer(unsafe { yelunnavi_receiver_open(&mut self.handle, text.as_ptr(), text.len(), &mut fault) })
+            .map_err(|code| (code, fault))
+    }
+
+    /// Takes a frame that came at `now`, in microseconds, on network 0, which is A, or 1, which is B.
+    pub fn receive(&mut self, net: u32, now: u64, frame: &[u8]) -> Result<Frame, Code> {
+        told(|reply| unsafe { yelunnavi_receiver_receive(&mut self.handle, net, now, frame.as_ptr(), frame.len(), reply) })
+    }
+
+    pub fn count(&mut self, link: usize, net: u32, kind: u32) -> Result<u64, Code> {
+        told(|count| unsafe { yelunnavi_receiver_count(&mut self.handle, link, net, kind, count) })
+    }
+
+    pub fn filtered(&mut self, net: u32, cause: u32) -> Result<u64, Code> {
+        told(|count| unsafe { yelunnavi_receiver_filtered(&mut self.handle, net, cause, count) })
+    }
+
+    pub fn links(&mut self) -> Result<usize, Code> {
+        told(|links| unsafe { yelunnavi_receiver_links(&mut self.handle, links) })
+    }
+
+    pub fn link(&mut self, link: usize) -> Result<Link, Code> {
+        told(|reply| unsafe { yelunnavi_receiver_link(&mut self.handle, link, reply) })
+    }
+
+    /// A port, and its name, which has `name_len` octets.
+    pub fn port(&mut self, link: usize, port: usize) -> Result<(Port, [u8; 16]), Code> {
+        let mut name = [0; 16];
+        let port = told(|reply| unsafe { yelunnavi_receiver_port(&mut self.handle, link, port, reply, &mut name) })?;
+        Ok((port, name))
+    }
+
+    pub fn place(&mut self, name: &[u8]) -> Result<Place, Code> {
+        told(|reply| unsafe { yelunnavi_receiver_place(&mut self.handle, name.as_ptr(), name.len(), reply) })
+    }
+
+    pub fn hand_reader(&mut self, to: &mut Reader, name: &[u8]) -> Result<(), Code> {
+        answer(unsafe { yelunnavi_receiver_hand_reader(&mut self.handle, &mut to.handle, name.as_ptr(), name.len()) })
+    }
+
+    pub fn hand_taker(&mut self, to: &mut Taker, name: &[u8]) -> Result<(), Code> {
+        answer(unsafe { yelunnavi_receiver_hand_taker(&mut self.handle, &mut to.handle, name.as_ptr(), name.len()) })
+    }
+}
+
+impl Reader<'_> {
+    /// Reads the newest message at `now`, in microseconds.
+    pub fn read(&mut self, now: u64, out: &mut [u8]) -> Result<Read, Code> {
+        told(|reply| unsafe { yelunnavi_reader_read(&mut self.handle, now, out.as_mut_ptr(), out.len(), reply) })
+    }
+
+    /// Holds it, until it is released.
+    pub fn hold(&mut self, now: u64) -> Result<Read, Code> {
+        told(|reply| unsafe { yelunnavi_reader_hold(&mut self.handle, now, reply) })
+    }
+
+    pub fn copy(&mut self, first: usize, out: &mut [u8]) -> Result<(), Code> {
+        answer(unsafe { yelunnavi_reader_copy(&mut self.handle, first, out.as_mut_ptr(), out.len()) })
+    }
+
+    pub fn release(&mut self) -> Result<(), Code> {
+        answer(unsafe { yelunnavi_reader_release(&mut self.handle) })
+    }
+
+    pub fn limits(&mut self) -> Result<Limits, Code> {
+        told(|reply| unsafe { yelunnavi_reader_limits(&mut self.handle, reply) })
+    }
+}
+
+impl Taker<'_> {
+    /// Takes the oldest message; `out` has to be as long as the port's longest one.
+    pub fn take(&mut self, out: &mut [u8]) -> Result<Taken, Code> {
+        told(|reply| unsafe { yelunnavi_taker_take(&mut self.handle, out.as_mut_ptr(), out.len(), reply) })
+    }
+
+    pub fn longest(&mut self) -> Result<usize, Code> {
+        told(|max| unsafe { yelunnavi_taker_longest(&mut self.handle, max) })
+    }
+}
