@@ -84,7 +84,8 @@ impl Calls {
         vl: LinkNo,
     )
         requires { IsPassOf system.now pass.old }
-        ensures { pass.new ≡ pass.old }
+        ensures own { IsPassOf system.now pass.new }
+        ensures net { pass.new.net ≡ pass.old.net }
     {
         let epoch = system.take_epoch(rt, alloc, pass, vl);
         let epoch = epoch.expect(rt, "memory").expect(rt, "an epoch");

@@ -135,7 +135,8 @@ fn take_epoch<R: Abort + Wait, G: Gate>(
     calls: &mut Calls,
 )
     requires { IsPassOf system.now pass.old }
-    ensures { pass.new ≡ pass.old }
+    ensures own { IsPassOf system.now pass.new }
+    ensures net { pass.new.net ≡ pass.old.net }
 {
     let place = source.draw_place();
     if let Some(vl) = source.links.get(place) {
