@@ -1,6 +1,6 @@
 pub mod Collected
 pub mod Tables
-pub mod Names
 pub mod Address
 pub mod Ports
 pub mod Links
+pub mod PortNames

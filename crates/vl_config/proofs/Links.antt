@@ -29,7 +29,7 @@ pub link_numbers_push : (links : List Settings) (link : Settings) → IsDistinct
 link_numbers_push links link distinct fresh =
     rw (map_push links link) (IsDistinct-push nat_eq_equiv (map link_number links) (link_number link) distinct (among (link_number link) links ∙ fresh))
 
-ports_push : (links : List Settings) (link : Settings) → ports_in (links ++ link ∷ []) ≡ ports_in links ++ link.ports
+pub ports_push : (links : List Settings) (link : Settings) → ports_in (links ++ link ∷ []) ≡ ports_in links ++ link.ports
 ports_push [] link = append-nil link.ports
 ports_push (first ∷ links) link = ap (λ rest. first.ports ++ rest) (ports_push links link) ∙ sym (append_assoc first.ports (ports_in links) link.ports)
 

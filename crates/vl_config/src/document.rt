@@ -10,6 +10,7 @@ ghost use Rattle.vl_config.specs.Document.{config_in, config_from, constant_if, 
 ghost use Rattle.vl_config.specs.Link.{links_from};
 
 use crate::link::link_from;
+use crate::names::Names;
 use crate::table::{required, tables_from, text_from, value_at};
 use crate::{Config, ConfigFault, Key, MOST_LINKS};
 use es_base::Links;
@@ -102,8 +103,9 @@ fn links_from(alloc: Global, tables: &[&Table]) -> Result<Links, ConfigFault>
     ensures limits { IfOk result (λ links. AreLinks links) }
 {
     let mut links = Links::new(alloc);
+    let mut names = Names::new(alloc);
     for table in tables {
-        let link = link_from(alloc, table, links.as_slice())?;
+        let link = link_from(alloc, table, links.as_slice(), &mut names)?;
         links.push(link)?;
     }
     Ok(links)

@@ -7,6 +7,7 @@ mod built_in;
 mod document;
 mod fault;
 mod link;
+mod names;
 mod place;
 mod port;
 mod table;

@@ -1,14 +1,16 @@
 //! A link of the document.
-ghost use Rattle.std.specs.Prelude.{◌≡◌, ◌≤◌, ◌++◌, map, length, true, false, IfOk};
+ghost use Rattle.std.specs.Prelude.{◌≡◌, ◌≤◌, ◌++◌, List, map, length, true, false, IfOk};
 ghost use Rattle.std.specs.List.{list_any, IsDistinct};
 ghost use Rattle.toml.specs.View.{table_view};
 ghost use Rattle.es_base.specs.Returns.{Gives};
 ghost use Rattle.es_base.specs.Limits.{most_ports, widest_window};
-ghost use Rattle.es_base.specs.Port.{are_apart};
+ghost use Rattle.es_base.specs.Port.{Port, are_apart};
 ghost use Rattle.es_base.specs.Config.{has_link_number, same_name, ports_in};
 ghost use Rattle.vl_config.specs.Fault.{GivesOrMemory};
+ghost use Rattle.vl_config.specs.Names.{AreNamesOf};
 ghost use Rattle.vl_config.specs.Link.{link_from, link_number_from, window_from, port_tables, ports_from};
 
+use crate::names::Names;
 use crate::port::port_from;
 use crate::table::{flag_or, integer_at, integer_or, tables_from, u16_value_at, value_at};
 use crate::{ConfigFault, Key};
@@ -21,16 +23,20 @@ use toml::Table;
 /// How many sequence numbers after another pass if the link's table doesn't say (own).
 const DEFAULT_WINDOW: u64 = 2;
 
-/// The link of this table. `links` are the links of the document that were read before it.
+/// The link of this table. `links` are the links of the document that were read before it, `names` the names of
+/// their ports, to which those of this link's ports are added.
 pub(crate) fn link_from(
     alloc: Global,
     table: &Table,
     links: &[LinkSettings],
+    names: &mut Names,
 ) -> Result<LinkSettings, ConfigFault>
-    requires { IsDistinct same_name (ports_in links.now) }
+    requires distinct { IsDistinct same_name (ports_in links.now) }
+    requires names { AreNamesOf names.old (ports_in links.now) }
     ensures value { GivesOrMemory (λ link. link) result (link_from links.now (table_view table.now)) }
     ensures fresh { IfOk result (λ link. list_any (has_link_number link.vl.0) links.now ≡ false) }
-    ensures names { IfOk result (λ link. IsDistinct same_name (ports_in links.now ++ link.ports)) }
+    ensures distinct { IfOk result (λ link. IsDistinct same_name (ports_in links.now ++ link.ports)) }
+    ensures names { IfOk result (λ link. AreNamesOf names.new (ports_in links.now ++ link.ports)) }
 {
     let vl = link_number_from(table, links)?;
     let skew_max = integer_at(table, Key::SkewMaxUs, 0, LONGEST_SKEW)?;
@@ -38,7 +44,7 @@ pub(crate) fn link_from(
     let reassembly = integer_at(table, Key::ReassemblyUs, 0, LONGEST_REASSEMBLY)?;
     let window = window_from(table)?;
     let tables = port_tables(alloc, table)?;
-    let ports = ports_from(alloc, &tables, links)?;
+    let ports = ports_from(alloc, &tables, names)?;
     Ok(LinkSettings::new(vl, skew_max, redundancy, reassembly, window, ports).unwrap())
 }
 
@@ -86,22 +92,25 @@ pub(crate) fn port_tables<'a>(
     }
 }
 
-/// The ports of these tables. `links` are the earlier links of the document.
+/// The ports of these tables. `names` are the names of the ports of earlier links, to which those of these ports
+/// are added.
 fn ports_from(
     alloc: Global,
     tables: &[&Table],
-    links: &[LinkSettings],
+    names: &mut Names,
 ) -> Result<Vec<PortSettings>, ConfigFault>
-    requires { IsDistinct same_name (ports_in links.now) }
-    ensures value { GivesOrMemory (λ ports. ports.items) result
-        (ports_from (ports_in links.now) (map (λ table. table_view table.now) tables.now)) }
+    ensures value { (earlier : List Port) → AreNamesOf names.old earlier → GivesOrMemory (λ ports. ports.items) result
+        (ports_from earlier (map (λ table. table_view table.now) tables.now)) }
     ensures few { IfOk result (λ ports. length ports.items ≡ length tables.now) }
     ensures apart { IfOk result (λ ports. are_apart ports.items ≡ true) }
-    ensures names { IfOk result (λ ports. IsDistinct same_name (ports_in links.now ++ ports.items)) }
+    ensures distinct { IfOk result (λ ports. (earlier : List Port) → AreNamesOf names.old earlier → IsDistinct same_name earlier
+        → IsDistinct same_name (earlier ++ ports.items)) }
+    ensures names { IfOk result (λ ports. (earlier : List Port) → AreNamesOf names.old earlier → AreNamesOf names.new (earlier ++ ports.items)) }
 {
     let mut ports = Vec::with_capacity(alloc, tables.len())?;
     for table in tables {
-        let port = port_from(table, links, &ports)?;
+        let port = port_from(table, names, &ports)?;
+        names.add(&port)?;
         ports.push(port)?;
     }
     Ok(ports)

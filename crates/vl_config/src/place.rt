@@ -1,13 +1,16 @@
 //! Where the first fault of a document stands.
-ghost use Rattle.std.specs.Prelude.{◌≡◌, ◌≤◌, [], map, length, IfOk};
+ghost use Rattle.std.specs.Prelude.{◌≡◌, ◌≤◌, ◌++◌, List, [], map, length, IfOk};
 ghost use Rattle.std.specs.List.{IsDistinct};
 ghost use Rattle.toml.specs.View.{table_view};
 ghost use Rattle.es_base.specs.Config.{ports_in, same_name};
+ghost use Rattle.es_base.specs.Port.{Port};
 ghost use Rattle.vl_config.specs.Fault.{GivesOrMemory};
+ghost use Rattle.vl_config.specs.Names.{AreNamesOf};
 ghost use Rattle.vl_config.specs.Place.{link_place, place_of, port_place, port_place_if, tables_of_ports};
 
 use crate::document::{constant_if, link_tables};
 use crate::link::{link_from, link_number_from, port_tables, window_from};
+use crate::names::{Names, names_of};
 use crate::port::port_from;
 use crate::table::{flag_or, integer_at, value_at};
 use crate::{ConfigFault, Key};
@@ -46,26 +49,33 @@ pub fn place_of_fault(alloc: Global, text: &str) -> Result<FaultPlace, Memory>
         return Ok(NOWHERE);
     }
     match link_tables(alloc, &document) {
-        Ok(tables) => link_place(alloc, &tables, Links::new(alloc)),
+        Ok(tables) => link_place(alloc, &tables, Links::new(alloc), Names::new(alloc)),
         Err(ConfigFault::Memory) => Err(AllocError),
         Err(_) => Ok(NOWHERE),
     }
 }
 
-/// The place of the first link with a fault among these tables, after these links.
-#[tactic(auto, using(crate::proofs::Links::names_push))]
-fn link_place(alloc: Global, tables: &[&Table], links: Links) -> Result<FaultPlace, Memory>
-    requires { IsDistinct same_name (ports_in links) }
+/// The place of the first link with a fault among these tables, after these links, whose ports have these names.
+#[tactic(auto, using(crate::proofs::Links::names_push, crate::proofs::PortNames::of_one_more_link))]
+fn link_place(
+    alloc: Global,
+    tables: &[&Table],
+    links: Links,
+    names: Names,
+) -> Result<FaultPlace, Memory>
+    requires distinct { IsDistinct same_name (ports_in links) }
+    requires names { AreNamesOf names (ports_in links) }
     ensures { IfOk result (λ place. place ≡ link_place links (map (λ table. table_view table.now) tables.now)) }
 {
     let Some((table, rest)) = tables.split_first() else {
         return Ok(NOWHERE);
     };
-    match link_from(alloc, table, links.as_slice()) {
+    let mut names = names;
+    match link_from(alloc, table, links.as_slice(), &mut names) {
         Ok(link) => {
             let mut links = links;
             links.push(link)?;
-            link_place(alloc, rest, links)
+            link_place(alloc, rest, links, names)
         }
         Err(ConfigFault::Memory) => Err(AllocError),
         Err(_) => Ok(FaultPlace {
@@ -75,7 +85,8 @@ fn link_place(alloc: Global, tables: &[&Table], links: Links) -> Result<FaultPla
     }
 }
 
-/// The place of the first port with a fault at the link of this table. None if the fault is about none of them.
+/// The place of the first port with a fault at the link of this table. None if the fault is about none of them. The
+/// names of the earlier links are collected anew, since those that were kept up to the fault may have some of this link.
 fn port_place_in(
     alloc: Global,
     table: &Table,
@@ -84,7 +95,7 @@ fn port_place_in(
     ensures { IfOk result (λ place. place ≡ port_place_if (ports_in links.now) (tables_of_ports links.now (table_view table.now))) }
 {
     match tables_of_ports(alloc, table, links) {
-        Ok(tables) => port_place(alloc, &tables, links, Vec::new(alloc)),
+        Ok(tables) => port_place(alloc, &tables, names_of(alloc, links)?, Vec::new(alloc)),
         Err(ConfigFault::Memory) => Err(AllocError),
         Err(_) => Ok(None),
     }
@@ -107,23 +118,27 @@ fn tables_of_ports<'a>(
     port_tables(alloc, table)
 }
 
-/// The place of the first port with a fault among these tables, after these ports of its link.
+/// The place of the first port with a fault among these tables, after these ports of its link. `names` are the names
+/// of all ports of the document before it.
 fn port_place(
     alloc: Global,
     tables: &[&Table],
-    links: &[LinkSettings],
+    names: Names,
     ports: Vec<PortSettings>,
 ) -> Result<Option<usize>, Memory>
-    ensures { IfOk result (λ place. place ≡ port_place (ports_in links.now) ports.items (map (λ table. table_view table.now) tables.now)) }
+    ensures { (earlier : List Port) → AreNamesOf names (earlier ++ ports.items)
+        → IfOk result (λ place. place ≡ port_place earlier ports.items (map (λ table. table_view table.now) tables.now)) }
 {
     let Some((table, rest)) = tables.split_first() else {
         return Ok(None);
     };
-    match port_from(table, links, &ports) {
+    match port_from(table, &names, &ports) {
         Ok(port) => {
+            let mut names = names;
+            names.add(&port)?;
             let mut ports = ports;
             ports.push(port)?;
-            port_place(alloc, rest, links, ports)
+            port_place(alloc, rest, names, ports)
         }
         Err(_) => Ok(Some(ports.len())),
     }

@@ -1,16 +1,17 @@
 //! A port of the document.
-ghost use Rattle.std.specs.Prelude.{◌≡◌, ◌++◌, true, false, IfOk};
+ghost use Rattle.std.specs.Prelude.{◌≡◌, ◌++◌, List, true, false, IfOk};
 ghost use Rattle.std.specs.List.{list_any};
 ghost use Rattle.toml.specs.View.{table_view};
-ghost use Rattle.es_base.specs.Port.{accepts, is_kind_within_limits, largest_payload};
-ghost use Rattle.es_base.specs.Config.{has_name, ports_in};
+ghost use Rattle.es_base.specs.Port.{Port, accepts, is_kind_within_limits, largest_payload};
+ghost use Rattle.vl_config.specs.Names.{is_among, AreNamesOf};
 ghost use Rattle.vl_config.specs.Port.{port_from, name_at, service_at, address_at, address_from, largest_message, kind_from};
 
+use crate::names::Names;
 use crate::table::{integer_at, integer_or, text_at, u16_value_at};
 use crate::{ConfigFault, Key};
 use es_base::{
-    DEEPEST_QUEUE, LONGEST_QUEUED, LONGEST_REFRESH, LONGEST_SAMPLE, LinkSettings, PortKind,
-    PortName, PortSettings, any_accepts,
+    DEEPEST_QUEUE, LONGEST_QUEUED, LONGEST_REFRESH, LONGEST_SAMPLE, PortKind, PortName,
+    PortSettings, any_accepts,
 };
 use std::net::Ipv4Addr;
 use toml::Table;
@@ -22,15 +23,15 @@ enum Service {
     Queuing,
 }
 
-/// The port of this table. `links` are the earlier links of the document, `ports` the ports of the
-/// same link that were read before it.
+/// The port of this table. `names` are the names of all ports of the document that were read before it, `ports`
+/// those ports of them that are of the same link.
 pub(crate) fn port_from(
     table: &Table,
-    links: &[LinkSettings],
+    names: &Names,
     ports: &[PortSettings],
 ) -> Result<PortSettings, ConfigFault>
-    ensures value { result ≡ port_from (ports_in links.now) ports.now (table_view table.now) }
-    ensures name { IfOk result (λ port. list_any (has_name port.name) (ports_in links.now ++ ports.now) ≡ false) }
+    ensures value { (earlier : List Port) → AreNamesOf names.now (earlier ++ ports.now) → result ≡ port_from earlier ports.now (table_view table.now) }
+    ensures name { IfOk result (λ port. is_among names.now port.name ≡ false) }
     ensures apart { IfOk result (λ port. list_any (accepts port.address port.udp) ports.now ≡ false) }
 {
     let name = name_at(table)?;
@@ -40,7 +41,7 @@ pub(crate) fn port_from(
     let largest = largest_message(service);
     let max = integer_or(table, Key::Max, largest, 0, largest)? as u16;
     let kind = kind_from(table, service)?;
-    if is_named(&name, links, ports) {
+    if names.has(&name) {
         return Err(ConfigFault::DoubleName);
     }
     if any_accepts(ports, address, udp) {
@@ -109,26 +110,4 @@ fn kind_from(table: &Table, service: Service) -> Result<PortKind, ConfigFault>
             Ok(PortKind::Queuing { depth: depth as u8 })
         }
     }
-}
-
-/// Whether an earlier port of the document has this name.
-#[tactic(auto, using(crate::proofs::Names::any_of_document))]
-fn is_named(name: &PortName, links: &[LinkSettings], ports: &[PortSettings]) -> bool
-    ensures { result ≡ list_any (has_name name.now) (ports_in links.now ++ ports.now) }
-{
-    has_port_named(links, name) || has_name(ports, name)
-}
-
-fn has_port_named(links: &[LinkSettings], name: &PortName) -> bool
-    ensures { result ≡ list_any (λ link. list_any (has_name name.now) link.ports) links.now }
-{
-    links.iter().any(|link| has_name(link.ports(), name))
-}
-
-fn has_name(ports: &[PortSettings], name: &PortName) -> bool
-    ensures { result ≡ list_any (has_name name.now) ports.now }
-{
-    ports
-        .iter()
-        .any(|port| name.as_str() == port.name().as_str())
 }

@@ -3,6 +3,7 @@ use Rattle.toml.specs.View.{table_view}
 use Rattle.vl_config.specs.Link.{link_from}
 use Rattle.vl_config.proofs.Collected.{one_more}
 use Rattle.vl_config.proofs.Links.{none_distinct, count_push, link_numbers_push, names_push}
+use Rattle.vl_config.proofs.PortNames.{of_one_more_link}
 use Rattle.vl_config.proofs.document.links_from.Goals as goal
 
 pub loop-table-preserved : goal.loop-table-preserved
@@ -16,10 +17,11 @@ loop-table-preserved c =
           (search rules) c.table-item.is (search rules)) ∙ kept.value;
       few = count_push done link ∙ ap (λ n. n + 1) kept.few;
       numbers = link_numbers_push done link kept.numbers (search rules);
-      names = names_push done link (search rules);
+      distinct = names_push done link (search rules);
+      names = of_one_more_link c.link_from.new.names done link (search rules);
     })
 
 pub loop-table-init : goal.loop-table-init
 loop-table-init c =
     let none : c.new-links.result ≡ [] = search rules in
-    rw none (record { value = refl; few = refl; numbers = none_distinct _; names = none_distinct _ })
+    rw none (record { value = refl; few = refl; numbers = none_distinct _; distinct = none_distinct _; names = c.new-names.ensures })
