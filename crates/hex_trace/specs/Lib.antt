@@ -3,6 +3,8 @@ pub mod Digits
 pub mod Frames
 pub mod Line
 pub mod Lines
+pub mod Progress
+pub mod Reading
 pub mod Source
 pub mod Trace
 pub mod Word

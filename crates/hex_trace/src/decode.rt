@@ -1,11 +1,21 @@
-//! Long runs of hexadecimal digits, decoded without a branch for each.
-ghost use Rattle.std.specs.Prelude.{◌≡◌, ◌*◌, ◌%◌, ◌⊎◌, IfOk, IfErr, Ok, Err, MatchResult, true, false, length};
+//! Long runs of hexadecimal digits, decoded 32 at a time, without a branch for each.
+ghost use Rattle.std.specs.Prelude.{◌≡◌, ℕ, ◌+◌, ◌-◌, ◌*◌, ◌%◌, ◌<◌, ◌≤◌, ◌⊎◌, ◌↔◌, slice_index, IsTrue, IfOk, IfErr, Ok, Err, MatchResult, true, false, length};
 ghost use Rattle.hex.specs.Hex.{decode_of};
 ghost use Rattle.hex.specs.declared.error.FromHexError.TheVariants.{OddLength, OutOfMemory};
-ghost use Rattle.hex_trace.specs.Digits.{digit_value};
+ghost use Rattle.hex_trace.specs.Digits.{digit_value, octet_at, octet_by, least_mark, IsPairAt, IsMark, AreMarks};
 
 use hex::FromHexError;
 use std::alloc::Global;
+use std::simd::prelude::*;
+
+/// How many octets are decoded at a time, of 32 digits.
+const BLOCK: usize = 16;
+
+/// The mark of a digit is its value and this. That of another byte is less than this.
+const MARK: u8 = 0xf0;
+
+/// The bit by which a letter of lower case differs from that of upper case.
+const CASE: u8 = b'a' - b'A';
 
 /// Stands for the value of a byte that is no digit.
 const NO_DIGIT: u8 = 255;
@@ -13,8 +23,7 @@ const NO_DIGIT: u8 = 255;
 /// The octets that hexadecimal digits of either case say: what `hex::decode` returns, several times
 /// as fast if all are digits.
 ///
-/// The two digits of an octet are decoded at a time. If a byte is no digit, or the number of digits
-/// is odd, `hex` says what is wrong.
+/// If a byte is no digit, or the number of digits is odd, `hex` says what is wrong.
 ///
 /// ```rust
 /// let octets = decode_digits(alloc, b"6b697769")?;
@@ -34,16 +43,109 @@ pub fn decode_digits(alloc: Global, digits: &[u8]) -> Result<Vec<u8>, FromHexErr
     hex::decode(alloc, digits)
 }
 
-/// The bit by which a letter of lower case differs from that of upper case.
-const CASE: u8 = b'a' - b'A';
-
 /// Decodes pairs of digits, and returns whether all were digits. If one wasn't, what `octets` holds
 /// then means nothing.
 ///
-/// There is no early return, and the function stands alone in the program, so that the compiler makes
-/// vector code of it.
+/// The function stands alone in the program, and its loops have no early return, so that the longer
+/// one becomes one short run of vector code.
 #[inline(never)]
 pub(crate) fn decode_pairs(digits: &[u8], octets: &mut [u8]) -> bool
+    requires { length digits.now ≡ 2 * length octets.old }
+    ensures { MatchResult (decode_of digits.now)
+        (λ said. (result ≡ true) × (octets.new ≡ said))
+        (λ _. result ≡ false) }
+{
+    if octets.len() < BLOCK {
+        decode_few(digits, octets)
+    } else {
+        decode_blocks(digits, octets)
+    }
+}
+
+/// The same for a block of octets or more. The last block ends where the octets do. It may overlap the
+/// one before it, and then writes some octets again.
+#[inline(always)]
+fn decode_blocks(digits: &[u8], octets: &mut [u8]) -> bool
+    requires pairs { length digits.now ≡ 2 * length octets.old }
+    requires block { 16 ≤ length octets.old }
+    ensures { MatchResult (decode_of digits.now)
+        (λ said. (result ≡ true) × (octets.new ≡ said))
+        (λ _. result ≡ false) }
+{
+    let mut least = u8x32::splat(MARK);
+    'whole: for block in 0..(octets.len() - 1) / BLOCK {
+        let marks = decode_block(digits, octets, BLOCK * block);
+        least = smaller(least, marks);
+    }
+    let last = octets.len() - BLOCK;
+    let marks = decode_block(digits, octets, last);
+    are_marks(smaller(least, marks))
+}
+
+/// Decodes the block of octets that begins at `at`, and returns the marks of its digits.
+#[inline(always)]
+fn decode_block(digits: &[u8], octets: &mut [u8], at: usize) -> u8x32
+    requires pairs { length digits.now ≡ 2 * length octets.old }
+    requires block { at + 16 ≤ length octets.old }
+    ensures marks { AreMarks result ↔ ((i : ℕ) → at ≤ i → i < at + 16 → IsPairAt digits.now i) }
+    ensures octets { (i : ℕ) → at ≤ i → i < at + 16 → IsPairAt digits.now i
+        → slice_index octets.new i ≡ octet_at digits.now i }
+    ensures before { (i : ℕ) → i < at → slice_index octets.new i ≡ slice_index octets.old i }
+    ensures length { length octets.new ≡ length octets.old }
+{
+    let marks = marks_of(u8x32::from_slice(&digits[2 * at..]));
+    octets_of(marks).copy_to_slice(&mut octets[at..]);
+    marks
+}
+
+/// The mark of each byte.
+#[inline(always)]
+fn marks_of(digits: u8x32) -> u8x32
+    ensures length { length result ≡ 32 }
+    ensures marks { (i : ℕ) → i < 32 → IsMark (slice_index digits i) (slice_index result i) }
+{
+    // A byte after `9` comes to 0 and more, and one before `0` to less than `MARK`.
+    let from_end = digits + u8x32::splat(u8::MAX - b'9');
+    let decimal = from_end.saturating_sub(u8x32::splat(u8::MAX - (MARK + 9)));
+    // One is taken off first: else the byte before `A` would come to the mark of 9.
+    let letter = (digits - u8x32::splat(1)) & u8x32::splat(!CASE);
+    decimal.simd_max(letter + u8x32::splat(MARK + 10 - (b'A' - 1)))
+}
+
+/// The octets that the marks of pairs of digits say.
+///
+/// A pair is a number of 16 bits, whose upper half is the mark of the second digit. The value of the
+/// first is added to the upper four bits of that half, which then is too large by `MARK`.
+#[inline(always)]
+fn octets_of(marks: u8x32) -> u8x16
+    ensures length { length result ≡ 16 }
+    ensures octets { (i : ℕ) → i < 16
+        → least_mark ≤ slice_index marks (2 * i) → least_mark ≤ slice_index marks (2 * i + 1)
+        → slice_index result i ≡ octet_by marks i }
+{
+    let pairs = u16x16::from_le_bytes(marks);
+    let sums = pairs + (pairs << 12);
+    (sums >> 8).cast::<u8>() - u8x16::splat(MARK)
+}
+
+/// The smaller one of each two marks.
+#[inline(always)]
+fn smaller(first: u8x32, second: u8x32) -> u8x32
+    ensures { AreMarks result ↔ (AreMarks first × AreMarks second) }
+{
+    first.simd_min(second)
+}
+
+/// Whether all are marks of digits.
+#[inline(always)]
+fn are_marks(marks: u8x32) -> bool
+    ensures { IsTrue result ↔ AreMarks marks }
+{
+    marks.simd_lt(u8x32::splat(MARK)).to_bitmask() == 0
+}
+
+/// The same for few octets, a pair at a time.
+fn decode_few(digits: &[u8], octets: &mut [u8]) -> bool
     requires { length digits.now ≡ 2 * length octets.old }
     ensures { MatchResult (decode_of digits.now)
         (λ said. (result ≡ true) × (octets.new ≡ said))

@@ -47,6 +47,16 @@ impl ReadFrames {
         }
     }
 
+    /// No frames, with room for those of a block.
+    pub(crate) fn open(alloc: Global) -> Result<ReadFrames, Memory>
+        ensures { IfOk result (λ frames. frames ≡ []) }
+    {
+        Ok(ReadFrames {
+            full: VecDeque::new(alloc),
+            last: Block::open(alloc)?,
+        })
+    }
+
     /// Adds a frame that came at `time`, in microseconds, after the others.
     pub(crate) fn push(&mut self, alloc: Global, time: u64, octets: &[u8]) -> Result<(), Memory>
         ensures { OnOk result (self.new ≡ self.old ++ timed time octets.now ∷ []) }

@@ -12,6 +12,7 @@ mod frames;
 mod line;
 mod lines;
 mod piece;
+mod reading;
 mod source;
 mod trace;
 
@@ -20,5 +21,6 @@ pub use device::{Device, Failed, told};
 pub use fault::{TraceCause, TraceFault};
 pub use frames::{Frames, LentFrame};
 pub use line::LONGEST_LINE;
+pub use reading::Reading;
 pub use source::Source;
-pub use trace::read_trace;
+pub use trace::{Progress, read_trace};

@@ -1,9 +1,10 @@
 //! One line of a trace: a frame's time, a space and its octets; or a line that is skipped.
-ghost use Rattle.std.specs.Prelude.{◌≡◌, ◌≤◌, ◌<◌, ◌+◌, ◌-◌, ◌*◌, ◌^◌, SomeIff, IfOk, IfErr, Ok, Err, length, true};
+ghost use Rattle.std.specs.Prelude.{◌≡◌, ◌≤◌, ◌<◌, ◌+◌, ◌-◌, ◌*◌, ◌^◌, SomeIff, IfOk, IfErr, Ok, Err, length, take, true};
 ghost use Rattle.std.specs.Option.{option_map};
 ghost use Rattle.std.specs.Char.{is_ascii_digit};
 ghost use Rattle.std.specs.List.{prefix_len};
 ghost use Rattle.std.specs.Str.{all_ascii_digits};
+ghost use Rattle.std.specs.Str.Parse.{digits_value};
 ghost use Rattle.hex_trace.specs.Frames.{lent_as};
 ghost use Rattle.hex_trace.specs.Line.{longest_line, time_digits, time_from, after_space, octets_from, frame_from};
 
@@ -21,6 +22,9 @@ const SPACE: u8 = b' ';
 
 /// A time that begins with this digit has no other.
 const ZERO: u8 = b'0';
+
+/// So many digits fit 64 bits, whatever they are.
+const SHORT_TIME: usize = 19;
 
 /// The most octets that a line has room for.
 pub(crate) const MOST_OCTETS: usize = LONGEST_LINE / 2;
@@ -42,14 +46,62 @@ pub(crate) fn frame_from<'s>(
     if line.is_empty() || line[0] == COMMENT {
         return Ok(None);
     }
-    let digits = time_digits(line);
-    let time = time_from(digits)?;
-    let digits = after_space(&line[digits.len()..])?;
+    let (time, count) = time_in(line)?;
+    let digits = after_space(&line[count..])?;
     let octets = octets_from(digits, scratch)?;
     if time < before {
         return Err(TraceCause::Falls);
     }
     Ok(Some(LentFrame { time, octets }))
+}
+
+/// A line's time in microseconds, and how many digits say it.
+fn time_in(line: &[u8]) -> Result<(u64, usize), TraceCause>
+    ensures time { IfOk result (λ said. (time_from (time_digits line.now) ≡ Ok said.0)
+        × (length (time_digits line.now) ≡ said.1)) }
+    ensures bound { IfOk result (λ said. said.1 ≤ length line.now) }
+    ensures cause { IfErr result (λ cause. time_from (time_digits line.now) ≡ Err cause) }
+{
+    if line.first() == Some(&ZERO) {
+        return Ok((0, 1));
+    }
+    let (time, count) = leading_number(line);
+    if count == 0 {
+        Err(TraceCause::Time)
+    } else if count < SHORT_TIME {
+        Ok((time, count))
+    } else {
+        long_time_in(line)
+    }
+}
+
+/// The number that a line begins with, and how many digits say it: `SHORT_TIME` of them at most.
+fn leading_number(line: &[u8]) -> (u64, usize)
+    ensures count { result.1 < 19 → result.1 ≡ prefix_len is_ascii_digit line.now }
+    ensures number { result.0 ≡ digits_value 10 (take result.1 line.now) }
+{
+    let most = line.len().min(SHORT_TIME);
+    let mut number = 0;
+    'digits: for i in 0..most {
+        let digit = line[i];
+        if !digit.is_ascii_digit() {
+            return (number, i);
+        }
+        number = 10 * number + u64::from(digit - b'0');
+    }
+    (number, most)
+}
+
+/// The same as `time_in`, digit after digit with a test whether it fits.
+#[cold]
+fn long_time_in(line: &[u8]) -> Result<(u64, usize), TraceCause>
+    ensures time { IfOk result (λ said. (time_from (time_digits line.now) ≡ Ok said.0)
+        × (length (time_digits line.now) ≡ said.1)) }
+    ensures bound { IfOk result (λ said. said.1 ≤ length line.now) }
+    ensures cause { IfErr result (λ cause. time_from (time_digits line.now) ≡ Err cause) }
+{
+    let digits = time_digits(line);
+    Ok((time_from(digits)?, digits.len()))
 }
 
 /// The digits of a line's time. A first `ZERO` ends them.

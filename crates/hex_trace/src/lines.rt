@@ -2,7 +2,7 @@
 ghost use Rattle.std.specs.Prelude.{◌≡◌, ◌≤◌, ◌<◌, ◌-◌, ◌∷◌, ◌++◌, ℕ, List, [], None, IfOk, IfSome, IfNone, OnOk, length, drop};
 ghost use Rattle.std.specs.List.{slice_split};
 ghost use Rattle.hex_trace.specs.Line.{frame_from};
-ghost use Rattle.hex_trace.specs.Trace.{is_line_end, frames_in};
+ghost use Rattle.hex_trace.specs.Trace.{is_line_end, frames_in, with_front};
 ghost use Rattle.hex_trace.specs.Lines.{said_with, said_by, skipped_after, HasNoEnd, Tells};
 
 use crate::frames::ReadFrames;
@@ -11,6 +11,7 @@ use crate::{Frames, TraceCause, TraceFault};
 use es_base::Memory;
 use memchr::memchr;
 use std::alloc::{AllocError, Global};
+use std::mem;
 
 /// Ends a line. After the last one of a text stands one more line, which may be empty.
 const LINE_END: u8 = b'\n';
@@ -64,6 +65,14 @@ impl Lines {
             rest = more;
         }
         Ok(text.len() - rest.len())
+    }
+
+    /// Takes the frames out that were read.
+    pub(crate) fn take_frames(&mut self, alloc: Global) -> Result<Frames, Memory>
+        ensures said { IfOk result (λ frames. (text : List ℕ) → said_by self.old text ≡ with_front frames (said_by self.new text)) }
+        ensures fault { self.new.fault ≡ self.old.fault }
+    {
+        mem::replace(&mut self.frames, ReadFrames::open(alloc)?).close()
     }
 
     /// The frames of the trace, or its first fault, if this line is the last.

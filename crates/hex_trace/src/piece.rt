@@ -7,7 +7,7 @@ use crate::{Failed, Source, TraceFault};
 use es_base::Memory;
 
 /// How many bytes the text grows by, if a source has more than it holds.
-const PIECE: usize = 262_144;
+const PIECE: usize = 65_536;
 
 /// Reads some bytes of a source to the place after the first `filled` of a text, and returns how many. If
 /// there is no room the text grows.

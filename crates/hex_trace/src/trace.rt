@@ -3,38 +3,66 @@ ghost use Rattle.std.specs.Prelude.{◌≡◌, ◌≤◌, ◌-◌, ◌++◌, ℕ
 ghost use Rattle.hex_trace.specs.Source.{given};
 ghost use Rattle.hex_trace.specs.Trace.{ReadsTrace};
 ghost use Rattle.hex_trace.specs.Lines.{said_by, HasNoEnd};
+ghost use Rattle.hex_trace.specs.Progress.{ReadsOn};
 
 use crate::lines::Lines;
 use crate::piece::read_more;
-use crate::{Frames, Source, TraceFault};
+use crate::{Frames, Reading, Source, TraceFault};
 use es_base::Memory;
 use std::alloc::Global;
+
+/// How far a trace was read.
+#[derive(Drop)]
+pub enum Progress {
+    /// There may be more to read.
+    More(Reading),
+    /// The trace was read to its end: its frames, but for those that were taken out before.
+    Ended(Frames),
+}
+
+impl Reading {
+    /// Reads some bytes of the source, none only at its end, and checks the lines that have ended. After a fault of a
+    /// line all that follows is read and kept, and the fault is returned at the end, since a failed read comes before it.
+    pub fn read_on<S: Source>(self, alloc: Global, source: &mut S) -> Result<Progress, TraceFault>
+        requires { S.has_failed source.old ≡ false }
+        ensures { ReadsOn (S.remaining source.old) (S.remaining source.new) (S.has_failed source.new) self result }
+    {
+        let Reading {
+            text,
+            filled,
+            lines,
+        } = self;
+        let mut text = text;
+        let mut lines = lines;
+        let count = read_more(source, &mut text, filled)?;
+        if count == 0 {
+            return Ok(Progress::Ended(lines.finish(alloc, &text[..filled])?));
+        }
+        let filled = take_piece(alloc, &mut lines, &mut text, filled + count)?;
+        Ok(Progress::More(Reading {
+            text,
+            filled,
+            lines,
+        }))
+    }
+}
 
 /// Reads a source whole and checks its lines: the frames of the trace, or its first fault. After a fault
 /// the rest is read, since a failed read comes before it.
 ///
-/// `text` is where the bytes are read to: a piece of the source, and after a fault all that follows. What it
-/// holds before doesn't matter, and its memory serves for the next trace.
-///
 /// A source that never ends runs out of memory, since each line that was read is kept: one with a frame as
 /// that frame, which is returned; a skipped one as it came, by the clause `kept` of `Lines::take_line`; and
-/// after a fault all bytes, in `text`.
-pub fn read_trace<S: Source>(
-    alloc: Global,
-    source: &mut S,
-    text: &mut Vec<u8>,
-) -> Result<Frames, TraceFault>
+/// after a fault all bytes.
+pub fn read_trace<S: Source>(alloc: Global, source: &mut S) -> Result<Frames, TraceFault>
     requires { S.has_failed source.old ≡ false }
     ensures { ReadsTrace (given (S.remaining source.old) (S.has_failed source.new)) result }
 {
-    let mut lines = Lines::new(alloc);
-    let mut filled = 0;
+    let mut reading = Reading::new(alloc);
     'pieces: for _ in 0..u64::MAX {
-        let count = read_more(source, text, filled)?;
-        if count == 0 {
-            return lines.finish(alloc, &text[..filled]);
+        match reading.read_on(alloc, source)? {
+            Progress::Ended(frames) => return Ok(frames),
+            Progress::More(more) => reading = more,
         }
-        filled = take_piece(alloc, &mut lines, text, filled + count)?;
     }
     Err(TraceFault::Memory)
 }

@@ -20,9 +20,9 @@ fn trace_with(rt: &impl Abort, alloc: Global, digits: &[u8]) -> Vec<u8> {
 }
 
 /// The first fault of a trace whose third line has these digits is at `line`.
-fn check_line(rt: &impl Abort, alloc: Global, text: &mut Vec<u8>, digits: &[u8], line: u64) {
+fn check_line(rt: &impl Abort, alloc: Global, digits: &[u8], line: u64) {
     let trace = trace_with(rt, alloc, digits);
-    let fault = read(alloc, &trace, text).err();
+    let fault = read(alloc, &trace).err();
     assert!(rt;
         fault == Some(fault_at(line, TraceCause::Hex)),
         "{digits:?}"
@@ -44,7 +44,7 @@ fn check_octets(rt: &impl Abort, alloc: Global, digits: &[u8], octets: &[u8]) {
 }
 
 /// With `bad` at `place` the line is refused, for this byte.
-fn check_bad(rt: &impl Abort, alloc: Global, text: &mut Vec<u8>, bad: u8, place: usize) {
+fn check_bad(rt: &impl Abort, alloc: Global, bad: u8, place: usize) {
     let mut line = digits(rt, alloc, COUNT);
     if let Some(digit) = line.get_mut(place) {
         *digit = bad;
@@ -54,13 +54,12 @@ fn check_bad(rt: &impl Abort, alloc: Global, text: &mut Vec<u8>, bad: u8, place:
         index: place,
     };
     check_fault(rt, alloc, &line, fault);
-    check_line(rt, alloc, text, &line, 3);
+    check_line(rt, alloc, &line, 3);
 }
 
 fn check_bad_everywhere(rt: &impl Abort, alloc: Global, bad: u8) {
-    let mut text = Vec::new(alloc);
     for place in 0..COUNT {
-        check_bad(rt, alloc, &mut text, bad, place);
+        check_bad(rt, alloc, bad, place);
     }
 }
 
@@ -71,22 +70,48 @@ fn a_bad_byte_is_seen_at_each_place(rt: HostRuntime) {
     }
 }
 
+/// A line of this many digits is refused for a bad one, wherever that stands.
+fn check_bad_in(rt: &impl Abort, alloc: Global, count: usize) {
+    for place in 0..count {
+        let mut line = digits(rt, alloc, count);
+        if let Some(digit) = line.get_mut(place) {
+            *digit = b'g';
+        }
+        let fault = FromHexError::InvalidHexCharacter {
+            c: 'g',
+            index: place,
+        };
+        check_fault(rt, alloc, &line, fault);
+    }
+}
+
+fn check_bad_in_each(rt: &impl Abort, alloc: Global) {
+    for octets in 0..=40 {
+        check_bad_in(rt, alloc, 2 * octets);
+    }
+}
+
+/// Up to 40 octets, so that some come before, between and after those that are decoded at a time.
+#[test]
+fn a_bad_digit_is_seen_in_lines_of_each_length(rt: HostRuntime) {
+    check_bad_in_each(&rt, rt.alloc());
+}
+
 /// This many digits say their octets, or are odd.
-fn check_count(rt: &impl Abort, alloc: Global, text: &mut Vec<u8>, count: usize) {
+fn check_count(rt: &impl Abort, alloc: Global, count: usize) {
     let line = digits(rt, alloc, count);
     if count % 2 == 0 {
         check_octets(rt, alloc, &line, &octets(rt, alloc, count / 2));
-        check_line(rt, alloc, text, &line, 4);
+        check_line(rt, alloc, &line, 4);
     } else {
         check_fault(rt, alloc, &line, FromHexError::OddLength);
-        check_line(rt, alloc, text, &line, 3);
+        check_line(rt, alloc, &line, 3);
     }
 }
 
 fn check_counts(rt: &impl Abort, alloc: Global) {
-    let mut text = Vec::new(alloc);
     for count in 0..=COUNT {
-        check_count(rt, alloc, &mut text, count);
+        check_count(rt, alloc, count);
     }
 }
 
@@ -97,7 +122,7 @@ fn an_odd_number_of_digits_is_refused(rt: HostRuntime) {
 
 /// The second line of a trace is refused for this.
 fn check_second_line(rt: &impl Abort, alloc: Global, trace: &[u8], cause: TraceCause) {
-    let fault = read(alloc, trace, &mut Vec::new(alloc)).err();
+    let fault = read(alloc, trace).err();
     assert!(rt; fault == Some(fault_at(2, cause)), "{trace:?}");
 }
 
@@ -129,5 +154,5 @@ const EVERY_VALUE: [u8; 17] = [
 #[test]
 fn digits_of_both_cases_stand_in_one_line(rt: HostRuntime) {
     check_octets(&rt, rt.alloc(), EVERY_DIGIT, &EVERY_VALUE);
-    check_line(&rt, rt.alloc(), &mut Vec::new(rt.alloc()), EVERY_DIGIT, 4);
+    check_line(&rt, rt.alloc(), EVERY_DIGIT, 4);
 }

@@ -41,8 +41,8 @@ fn check_frame(rt: &impl Abort, alloc: Global, frames: &Frames, length: usize) {
     }
 }
 
-fn check_length(rt: &impl Abort, alloc: Global, text: &mut Vec<u8>, trace: &[u8], length: usize) {
-    match read(alloc, trace, text) {
+fn check_length(rt: &impl Abort, alloc: Global, trace: &[u8], length: usize) {
+    match read(alloc, trace) {
         Ok(frames) => {
             assert!(rt; fault_of(length).is_none(), "{length}");
             check_frame(rt, alloc, &frames, length);
@@ -53,11 +53,10 @@ fn check_length(rt: &impl Abort, alloc: Global, text: &mut Vec<u8>, trace: &[u8]
 
 fn check_lengths(rt: &impl Abort, alloc: Global) {
     let digits = digits(rt, alloc, LONGEST_LINE);
-    let mut text = Vec::new(alloc);
     for length in 0..=LONGEST_LINE + 1 {
         if is_tried(length) {
             let trace = trace_of(rt, alloc, &digits, length);
-            check_length(rt, alloc, &mut text, &trace, length);
+            check_length(rt, alloc, &trace, length);
         }
     }
 }

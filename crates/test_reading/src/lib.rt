@@ -15,3 +15,5 @@ mod lengths;
 mod packets;
 #[cfg(test)]
 mod patterns;
+#[cfg(test)]
+mod times;

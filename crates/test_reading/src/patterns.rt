@@ -29,9 +29,9 @@ pub(crate) fn octets(rt: &impl Abort, alloc: Global, count: usize) -> Vec<u8> {
     octets
 }
 
-/// What a trace is read as. `text` serves for one trace after another.
-pub(crate) fn read(alloc: Global, trace: &[u8], text: &mut Vec<u8>) -> Result<Frames, TraceFault> {
-    read_trace(alloc, &mut Device::new(trace), text)
+/// What a trace is read as.
+pub(crate) fn read(alloc: Global, trace: &[u8]) -> Result<Frames, TraceFault> {
+    read_trace(alloc, &mut Device::new(trace))
 }
 
 /// The fault of this line.

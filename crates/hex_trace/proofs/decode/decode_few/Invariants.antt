@@ -2,7 +2,7 @@ use Rattle.std.proofs.Common.{◌≡◌, ◌/◌, drop, length}
 use Rattle.std.specs.Simd.{first_chunks}
 use Rattle.std.specs.Slice.Iter.{iter_rest}
 use Rattle.hex_trace.proofs.Pairs.{Decoded}
-use Rattle.hex_trace.proofs.decode.decode_pairs.Given as goal
+use Rattle.hex_trace.proofs.decode.decode_few.Given as goal
 
 -- what the pairs so far say, and which pairs are left
 abbrev pub invariant-pairs : goal.invariant-pairs

@@ -3,7 +3,7 @@ use Rattle.std.specs.Simd.{first_chunks}
 use Rattle.std.specs.Slice.Iter.{iter_rest}
 use Rattle.hex_trace.specs.Digits.{digit_value}
 use Rattle.hex_trace.proofs.Pairs.{digit_at, next_pair, one_more, all_pairs}
-use Rattle.hex_trace.proofs.decode.decode_pairs.Goals as goal
+use Rattle.hex_trace.proofs.decode.decode_few.Goals as goal
 
 pub pairs-preserved : goal.pairs-preserved
 pairs-preserved c =
