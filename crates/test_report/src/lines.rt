@@ -112,22 +112,53 @@ fn a_message_of_a_queue_is_printed(rt: HostRuntime) {
     check_queued(&rt, rt.alloc());
 }
 
-/// A message of this many octets 5a is printed whole.
+/// As many octets, from 0 on; 0 follows 255.
+fn counted(rt: &impl Abort, alloc: Global, octets: usize) -> Vec<u8> {
+    let mut all = Vec::new(alloc);
+    for place in 0..octets {
+        all.push((place % 256) as u8).expect(rt, "memory");
+    }
+    all
+}
+
+/// The digits of these octets, one octet after another.
+fn digits_of(rt: &impl Abort, alloc: Global, octets: &[u8]) -> String {
+    let digits = b"0123456789abcdef";
+    let mut all = String::new(alloc);
+    for octet in octets {
+        all.push(digits[(*octet / 16) as usize] as char)
+            .expect(rt, "memory");
+        all.push(digits[(*octet % 16) as usize] as char)
+            .expect(rt, "memory");
+    }
+    all
+}
+
+/// A message of this many octets is printed whole.
 fn check_long(rt: &impl Abort, alloc: Global, octets: usize) {
-    let payload = Vec::from_elem(alloc, 0x5a, octets).expect(rt, "memory");
-    let digits = "5a".repeat(alloc, octets).expect(rt, "memory");
+    let payload = counted(rt, alloc, octets);
+    let digits = digits_of(rt, alloc, &payload);
     let text = format!(in alloc; "message nav 7 {octets} {digits}").expect(rt, "memory");
     check_line(rt, alloc, queued(7, &payload), text.as_str());
 }
 
-/// Lengths on both sides of a piece of 64 octets, and the longest message of a queuing port.
-fn lengths() -> [usize; 6] {
-    [63, 64, 65, 128, 129, 8192]
+/// Lengths on both sides of a piece of 256 octets, with and without a block of 16 after it, and the
+/// longest message of a queuing port.
+fn lengths() -> [usize; 7] {
+    [255, 256, 257, 271, 272, 273, 8192]
 }
 
 #[test]
 fn a_long_message_is_printed_whole(rt: HostRuntime) {
     for octets in lengths() {
+        check_long(&rt, rt.alloc(), octets);
+    }
+}
+
+/// Lengths on both sides of 16 octets, below which there is no block, and of each number of blocks to 4.
+#[test]
+fn messages_of_each_length_to_70_octets_are_printed_whole(rt: HostRuntime) {
+    for octets in 1..=70 {
         check_long(&rt, rt.alloc(), octets);
     }
 }
