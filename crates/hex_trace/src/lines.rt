@@ -70,6 +70,7 @@ impl Lines {
     /// Takes the frames out that were read.
     pub(crate) fn take_frames(&mut self, alloc: Global) -> Result<Frames, Memory>
         ensures said { IfOk result (λ frames. (text : List ℕ) → said_by self.old text ≡ with_front frames (said_by self.new text)) }
+        ensures all { IfOk result (λ frames. (frames ≡ self.old.frames) × (self.new.frames ≡ [])) }
         ensures fault { self.new.fault ≡ self.old.fault }
     {
         mem::replace(&mut self.frames, ReadFrames::open(alloc)?).close()

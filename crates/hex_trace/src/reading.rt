@@ -1,5 +1,5 @@
 //! A trace that is read piece by piece.
-ghost use Rattle.std.specs.Prelude.{◌≡◌, ℕ, List, IfOk};
+ghost use Rattle.std.specs.Prelude.{◌≡◌, ℕ, List, [], IfOk};
 ghost use Rattle.hex_trace.specs.Reading.{said_after};
 ghost use Rattle.hex_trace.specs.Trace.{frames_in, with_front};
 
@@ -45,7 +45,8 @@ impl Reading {
 
     /// Takes the frames out that were read.
     pub fn take_frames(&mut self, alloc: Global) -> Result<Frames, Memory>
-        ensures { IfOk result (λ frames. (text : List ℕ) → said_after self.old text ≡ with_front frames (said_after self.new text)) }
+        ensures said { IfOk result (λ frames. (text : List ℕ) → said_after self.old text ≡ with_front frames (said_after self.new text)) }
+        ensures all { IfOk result (λ frames. (frames ≡ self.old.lines.frames) × (self.new.lines.frames ≡ [])) }
     {
         self.lines.take_frames(alloc)
     }

@@ -5,12 +5,9 @@ ghost use Rattle.es_base.specs.Port.{Port};
 ghost use Rattle.vl_config.specs.Names.{is_among, AreNamesOf};
 
 use arrayvec::ArrayString;
-use es_base::{LinkSettings, Memory, PortName, PortSettings};
+use es_base::{LONGEST_NAME, LinkSettings, Memory, PortName, PortSettings};
 use std::alloc::Global;
 use std::collections::BTreeSet;
-
-/// The most characters of a port's name.
-const LONGEST_NAME: usize = 16;
 
 /// The names of ports. Each is found without a search through all of them.
 #[derive(Drop)]

@@ -39,7 +39,7 @@ pieces-preserved g c =
       taken = was.taken ++ frames;
       said = λ text.
           ap frames_in (append_assoc was.bytes told.1.0 text) ∙ was.said (told.1.0 ++ text)
-          ∙ ap (with_front was.taken) (sym (told.1.2 text) ∙ c.in_ok-b-in-Ok-More.ensures text)
+          ∙ ap (with_front was.taken) (sym (told.1.2 text) ∙ c.in_ok-b-in-Ok-More.ensures.said text)
           ∙ with_both was.taken frames _;
       earlier = more.0;
       played = more.1;

@@ -13,6 +13,6 @@ pub returns : goal.returns
 returns c =
     let filtered = c.args.self.now in
     let whole : c.as_slice.result.now ≡ line (filtered_frame_text filtered.time filtered.net filtered.cause) =
-    rw (c.as_slice.ensures, c.put_number.ensures.text, c.put_word-4.ensures.text, c.put_word-3.ensures.text, c.net_word.ensures.text, c.put_word-2.ensures.text, c.put_word.ensures.text, c.filter_word.ensures.text, c.new-line.ensures)
+    rw (c.as_slice.ensures, c.put_number.ensures.text, c.put_word-4.ensures.text, c.put_word-3.ensures.text, c.word-2.ensures.text, c.put_word-2.ensures.text, c.put_word.ensures.text, c.word.ensures.text, c.new-line.ensures)
     (in_order _ _ _) in
     grind (arith, common_steps, whole)
