@@ -1,5 +1,5 @@
 -- Frames that lie one after another in a block.
-use Rattle.std.proofs.Common.{◌≡◌, ◌∙◌, ap, ap₂, refl, ℕ, suc, ◌+◌, ◌-◌, ◌≤◌, List, [], ◌∷◌, ◌++◌, length, map, take, drop, arith, length-append, length-drop}
+use Rattle.std.proofs.Common.{◌≡◌, ◌∙◌, ap, ap₂, refl, ℕ, suc, ◌+◌, ◌-◌, ◌≤◌, List, [], ◌∷◌, ◌++◌, length, map, take, drop, arith, length-drop}
 use Rattle.std.proofs.lemmas.List.{take-append-le, drop-append-le, map-append}
 use Rattle.std.proofs.Math.Seq.{drop-append_seam, take-length}
 use Rattle.hex_trace.specs.declared.block.Entry.{Entry}
@@ -31,7 +31,3 @@ pub one_more : (block more : List ℕ) (entries : List Entry) (entry : Entry) �
 one_more block more entries entry within start end =
     let last : frame_in (block ++ more) entry ≡ timed entry.time more = rw (start, end, last_part block more) refl in
     map-append (frame_in (block ++ more)) entries (entry ∷ []) ∙ ap₂ (λ xs (x : TimedFrame). xs ++ x ∷ []) (frames_stay block more entries within) last
-
--- the entries lie within a block that grows, and so does one more
-pub stay_within : (block more : List ℕ) (entries : List Entry) → AreWithin block entries → AreWithin (block ++ more) entries
-stay_within block more entries within = λ k d low. let here = within k d low in (here.0, omega (arith, here.1, length-append block more))

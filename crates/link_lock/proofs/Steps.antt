@@ -26,9 +26,6 @@ only_one First Second is = absurd (true≢false (sym is))
 only_one Second First is = absurd (true≢false (sym is))
 only_one Second Second is = refl
 
-own_for : (n : User) (whose : Whose) (user : User) → whose ≡ One user → is_for n whose ≡ true → n ≡ user
-own_for n whose user one is = only_one n user (ap (is_for n) (sym one) ∙ is)
-
 is_own : (whose : Whose) (user : User) → whose ≡ One user → is_for user whose ≡ true
 is_own whose user one = ap (is_for user) one ∙ for_one user
 

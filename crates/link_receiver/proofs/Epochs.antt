@@ -15,7 +15,6 @@ use Rattle.link_core.specs.declared.standing.Standing.{Standing as Kept}
 use Rattle.link_receiver.specs.declared.outlet.Outlet.{Outlet}
 use Rattle.link_receiver.specs.declared.outlet.Outlet.TheVariants as outlets
 use Rattle.link_receiver.specs.Before.{Before, StoodBefore, taken_out}
-use Rattle.link_receiver.specs.Epoch.{IsHanded}
 use Rattle.link_receiver.specs.Kept.{IsKept}
 use Rattle.link_receiver.specs.Outlet.{Shows}
 use Rattle.link_receiver.specs.Counted.{EndsIn, port_no}
@@ -81,11 +80,3 @@ module _ (settings : Settings) (before : Option Before) (history : List Event) (
         kinds = kept.kinds;
         frames = tt;
       }
-
--- what it handed out
-pub is_handed : (settings : Settings) (before : Option Before) (history : List Event) (now : Kept) (outlets : List Outlet) → IsKept settings before history now outlets → IsHanded settings before history
-is_handed settings before history now outlets kept = record {
-  earlier = kept.earlier;
-  run = λ earlier stood. (kept.after earlier stood).run;
-  frames = kept.frames;
-}

@@ -18,7 +18,7 @@ use Rattle.link_receiver.specs.Counted.{EndsIn}
 use Rattle.link_receiver.specs.Outlet.{Accepts, AreOpened, Delivers, Delivery, Fits, HasSpace, IsEnough, IsOfKind, IsOpened, IsOpenedAs, Shows, channel_of}
 use Rattle.link_receiver.specs.Ends.{AreEndsOf, IsEndOf}
 use Rattle.link_receiver.specs.Link.{message_words}
-use Rattle.link_receiver.proofs.Places.{map-set_same, there}
+use Rattle.es_base.proofs.Elements.{map-set_same, there}
 
 -- ---- before any message
 

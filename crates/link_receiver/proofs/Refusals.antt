@@ -28,7 +28,7 @@ use Rattle.link_receiver.specs.declared.outlet.Outlet.TheVariants as outlets
 use Rattle.link_receiver.specs.Counted.{EndsIn, port_no}
 use Rattle.link_receiver.specs.Outlet.{Accepts, Delivers, Fits, HasRoomFor, HasSpaceAt, IsEnough, IsOfKind, Shows, delivery_of, messages_at}
 use Rattle.link_receiver.proofs.Outlets.{full_after, messages_if, space_left}
-use Rattle.link_receiver.proofs.Places.{there}
+use Rattle.es_base.proofs.Elements.{there}
 use Rattle.es_base.specs.Settings.{Settings}
 
 -- ---- where a payload goes

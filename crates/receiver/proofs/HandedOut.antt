@@ -34,7 +34,7 @@ use Rattle.receiver.specs.Outlet.{GivesAt}
 use Rattle.receiver.specs.Port.{AnswersPort, AreReadersOf, GivesPort, IsPortOf, IsQueueOf, ReadsAs, ReadsPort, ShowsPort, port_reader}
 use Rattle.receiver.specs.Receiver.{AreNewLinks, IsNew, LinkStaysAt, Links, TakesAt}
 use Rattle.receiver.specs.Run.{Call, Makes, came, met}
-use Rattle.receiver.proofs.Places.{slice_get-set_other, slice_get-set_same}
+use Rattle.es_base.proofs.Elements.{slice_get-set_other, slice_get-set_same}
 
 -- ---- at the opening
 

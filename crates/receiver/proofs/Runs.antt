@@ -27,7 +27,7 @@ use Rattle.receiver.specs.Link.{IsPastOf, Ported}
 use Rattle.receiver.specs.Receiver.{AreLinksOf, AreNewLinks, IsNew, Links, LinksStay, Replies, TakesAt}
 use Rattle.receiver.specs.Run.{AddsIf, AreEventsAt, Call, EachHasItsPast, HasRun, Makes, Ran, came, frames_of, met}
 use Rattle.receiver.proofs.Links.{new_links}
-use Rattle.receiver.proofs.Places.{map-set_same, slice_get-set_other, slice_get-set_same}
+use Rattle.es_base.proofs.Elements.{map-set_same, slice_get-set_other, slice_get-set_same}
 use Rattle.receiver.proofs.Stays.{past_stays, settings_stay, was_there}
 
 -- a frame that comes to a link isn't filtered

@@ -14,7 +14,7 @@ use Rattle.link_core.specs.Link.{Link}
 use Rattle.receiver.specs.Link.{IsPastOf, LinkStays, Ported}
 use Rattle.receiver.specs.Receiver.{LinkStaysAt, Links, LinksStay}
 use Rattle.receiver.proofs.Given.{all_stay, shows_more}
-use Rattle.receiver.proofs.Places.{slice_get-set_other, slice_get-set_same}
+use Rattle.es_base.proofs.Elements.{slice_get-set_other, slice_get-set_same}
 
 module _ {P : Type 0} (shows : Port → P → List Message → Type 0) (has_space : P → Type 0) (gives : P → P → List Message → Type 0) (answers : PortKind → List Message → Bool → Type 0) where
   -- a past of a link stays one

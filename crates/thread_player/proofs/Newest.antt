@@ -14,7 +14,7 @@ use Rattle.sampling_port.specs.declared.reader.Read.TheVariants as reads
 use Rattle.sampling_port.proofs.Moments.{is_what_was_published}
 use Rattle.link_receiver.specs.Counted.{EndsIn}
 use Rattle.link_receiver.specs.Link.{message_words}
-use Rattle.link_receiver.proofs.Places.{there}
+use Rattle.es_base.proofs.Elements.{there}
 
 -- the octets of a copy of a message's words
 copied : (message : Message) (before out : List ℕ) (len : ℕ) → AreOctets message.octets → len ≡ length message.octets → len ≤ length out

@@ -6,7 +6,7 @@ use Rattle.es_base.specs.Port.{Port}
 use Rattle.link_receiver.specs.declared.ends.PortEnd.{PortEnd}
 use Rattle.link_receiver.specs.Ends.{AreEndsOf, IsEndOf}
 use Rattle.link_receiver.specs.Link.{Channel, Link}
-use Rattle.link_receiver.proofs.Places.{slice_get-set_other}
+use Rattle.es_base.proofs.Elements.{slice_get-set_other}
 use Rattle.end_system.specs.declared.ends.LinkEnds.{LinkEnds}
 use Rattle.thread_player.specs.Report.{AreUnread, AreWhole, IsEndAt, IsUnread, IsWhole}
 

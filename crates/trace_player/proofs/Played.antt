@@ -28,7 +28,7 @@ use Rattle.receiver.specs.Receiver.{AreLinksOf, IsNew, Links, TakesAt}
 use Rattle.receiver.specs.declared.ends.LinkEnds.{LinkEnds}
 use Rattle.receiver.proofs.Links.{new_links}
 use Rattle.receiver.proofs.Runs.{begun, not_filtered}
-use Rattle.receiver.proofs.Places.{map-set_same, slice_get-set_other, slice_get-set_same}
+use Rattle.es_base.proofs.Elements.{map-set_same, slice_get-set_other, slice_get-set_same}
 use Rattle.kept_messages.specs.declared.outlet.KeptOutlet.{KeptOutlet}
 use Rattle.kept_messages.specs.Outlet.{AnswersKept, GivesKept, ShowsKept}
 use Rattle.kept_messages.proofs.Kept.{unread}

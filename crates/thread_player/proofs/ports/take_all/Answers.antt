@@ -2,7 +2,7 @@ use Rattle.std.proofs.Common.{◌≡◌, ◌∙◌, ◌+◌, ◌++◌, ◌∷◌
 use Rattle.std.proofs.lemmas.List.{take_all}
 use Rattle.es_base.specs.declared.event.Message.{Message}
 use Rattle.queuing_port.specs.Queue.{Known}
-use Rattle.link_receiver.proofs.Places.{there}
+use Rattle.es_base.proofs.Elements.{there}
 use Rattle.thread_player.proofs.Newest.{all_of}
 use Rattle.thread_player.proofs.Taking.{as_many_held, next_of, one_longer}
 use Rattle.thread_player.proofs.ports.take_all.Goals as goal

@@ -1,7 +1,7 @@
 use Rattle.std.proofs.Common.{◌≡◌, ◌∙◌, ◌++◌, ◌<◌, ◌≤◌, List, [], ap, arith, drop, length, rules, sym, append-nil}
 use Rattle.std.proofs.lemmas.List.{drop_all}
 use Rattle.es_base.specs.Port.{Port}
-use Rattle.link_receiver.proofs.Places.{there}
+use Rattle.es_base.proofs.Elements.{there}
 use Rattle.output_lines.specs.Report.{ports_lines}
 use Rattle.trace_player.proofs.Reports.{ports_go_on}
 use Rattle.thread_player.specs.Report.{messages_at}

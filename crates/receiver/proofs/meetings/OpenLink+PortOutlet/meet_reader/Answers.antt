@@ -4,7 +4,7 @@ use Rattle.std.proofs.lemmas.Option.{slice_get-get_or, slice_get_within}
 use Rattle.receiver.specs.Link.{IsPastOf, ported}
 use Rattle.receiver.specs.Port.{ShowsPort}
 use Rattle.receiver.proofs.Meets.{seen}
-use Rattle.receiver.proofs.Places.{set_same, slice_get-set_same}
+use Rattle.es_base.proofs.Elements.{set_same, slice_get-set_same}
 use Rattle.receiver.proofs.meetings.OpenLink+PortOutlet.meet_reader.Goals as goal
 
 pub invariant_of-self : goal.invariant_of-self

@@ -6,7 +6,7 @@ use Rattle.receiver.specs.Port.{AnswersPort, GivesPort, HasSpacePort, ShowsPort}
 use Rattle.receiver.specs.PortLaws.{port_stays}
 use Rattle.receiver.proofs.Given.{given_one}
 use Rattle.receiver.proofs.Meets.{met, put}
-use Rattle.receiver.proofs.Places.{slice_get-set_other, slice_get-set_same}
+use Rattle.es_base.proofs.Elements.{slice_get-set_other, slice_get-set_same}
 use Rattle.receiver.proofs.meetings.OpenLink+PortOutlet.meet_taker.Goals as goal
 
 pub invariant_of-self : goal.invariant_of-self

@@ -3,7 +3,7 @@ use Rattle.std.specs.List.{slice_get}
 use Rattle.std.proofs.lemmas.Option.{same_Some, slice_get-get_or, slice_get_within}
 use Rattle.receiver.specs.Port.{AnswersPort, GivesPort, HasSpacePort, ShowsPort}
 use Rattle.receiver.specs.PortLaws.{port_stays}
-use Rattle.receiver.proofs.Places.{set_same, slice_get-set_same}
+use Rattle.es_base.proofs.Elements.{set_same, slice_get-set_same}
 use Rattle.receiver.proofs.Stays.{same_stays}
 use Rattle.receiver.proofs.meetings.Receiver+PortOutlet.meet_reader.Goals as goal
 

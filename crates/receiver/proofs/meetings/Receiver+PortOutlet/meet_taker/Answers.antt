@@ -5,7 +5,7 @@ use Rattle.link_core.specs.Link.{Link}
 use Rattle.receiver.specs.Link.{Ported}
 use Rattle.receiver.specs.Port.{AnswersPort, GivesPort, HasSpacePort, ShowsPort}
 use Rattle.receiver.specs.PortLaws.{port_stays}
-use Rattle.receiver.proofs.Places.{map-set_same, slice_get-set_same}
+use Rattle.es_base.proofs.Elements.{map-set_same, slice_get-set_same}
 use Rattle.receiver.proofs.Stays.{one_stays}
 use Rattle.receiver.proofs.meetings.Receiver+PortOutlet.meet_taker.Goals as goal
 

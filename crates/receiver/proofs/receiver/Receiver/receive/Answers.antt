@@ -6,7 +6,7 @@ use Rattle.es_base.specs.Addressing.{ComesToPlace}
 use Rattle.es_base.specs.Frame.{link_number_of}
 use Rattle.receiver.specs.Link.{Ported}
 use Rattle.receiver.proofs.Links.{numbered, within_links}
-use Rattle.receiver.proofs.Places.{map-set_same}
+use Rattle.es_base.proofs.Elements.{map-set_same}
 use Rattle.receiver.proofs.receiver.Receiver.receive.Goals as goal
 
 pub receive-place-requires : goal.receive-place-requires
