@@ -6,11 +6,23 @@ ghost use Rattle.hex.specs.Hex.{encode_lower, lower_digits};
 use std::simd::prelude::*;
 
 /// How many octets are turned into digits at a time.
-pub(crate) const BLOCK: usize = 16;
+const BLOCK: usize = 16;
+
+/// Turns octets into digits of lower case, two for each.
+pub fn encode_digits(octets: &[u8], digits: &mut [u8])
+    requires { length digits.old ≡ 2 * length octets.now }
+    ensures { digits.new ≡ encode_lower octets.now }
+{
+    if octets.len() < BLOCK {
+        hex::encode_to_slice(octets, digits).unwrap();
+    } else {
+        encode_blocks(octets, digits);
+    }
+}
 
 /// Turns a block of octets or more into digits. The last block ends where the octets do. It may overlap
 /// the one before it, and then writes some digits again.
-pub(crate) fn encode_blocks(octets: &[u8], digits: &mut [u8])
+fn encode_blocks(octets: &[u8], digits: &mut [u8])
     requires pairs { length digits.old ≡ 2 * length octets.now }
     requires block { 16 ≤ length octets.now }
     ensures { digits.new ≡ encode_lower octets.now }

@@ -14,7 +14,7 @@ returns-in-Sampling c =
     let link = c.args.link.now in
     let place = c.args.place in
     let found = c.index-ports-place.result in
-    let text = c.args.text.now.items in
+    let text = c.args.text.now in
     let listed : c.ports.result.now ≡ link.core.settings.ports = c.ports.ensures.value ∙ ap (λ (s : Settings). s.ports) c.settings.ensures.value in
     on_ok_weaker c.write_newest.result
     (λ wrote past port is there.
@@ -31,7 +31,7 @@ returns-in-Some c =
     let link = c.args.link.now in
     let place = c.args.place in
     let found = c.index-ports-place.result in
-    let text = c.args.text.now.items in
+    let text = c.args.text.now in
     let listed : c.ports.result.now ≡ link.core.settings.ports = c.ports.ensures.value ∙ ap (λ (s : Settings). s.ports) c.settings.ensures.value in
     on_ok_weaker c.write_first.result
     (λ wrote past port is there.
