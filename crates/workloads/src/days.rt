@@ -1,0 +1,189 @@
+//! An end system that goes on for days: one thread brings the frames of both networks, partitions read and take beside
+//! it, and each link's epoch is taken out before it is long.
+use crate::configs::{DEPTH, Shape, config_of, link_number};
+use crate::digest::Digest;
+use crate::profiles::{Profile, traffic};
+use crate::refused;
+use end_system::{NoGate, Reply};
+use es_base::{LinkNo, Net, PortNo, VERDICT_KINDS};
+use link_receiver::{Epoch, PortEnd};
+use queuing_port::Taker;
+use sampling_port::{MOST_TRIES, Read, Reader};
+use slot_core::READERS;
+use std::alloc::Global;
+use std::io;
+use std::sync::Wait;
+use test_inputs_systems::Running;
+
+const SHAPE: Shape = Shape {
+    links: 16,
+    sampling: 4,
+    queuing: 4,
+    redundancy: true,
+};
+
+const PROFILE: Profile = Profile {
+    sampled: true,
+    queued: true,
+    fragments: true,
+    flawed: true,
+};
+
+/// How many frames are sent between two epochs: some 50 on each link, each of which comes twice.
+const SPAN: u64 = 800;
+
+/// How many epochs a round has.
+const EPOCHS: u64 = 11;
+
+/// What the partitions have.
+#[derive(Drop)]
+struct Partitions {
+    readers: Vec<Reader<READERS>>,
+    takers: Vec<Taker>,
+}
+
+fn add_end(partitions: &mut Partitions, end: Option<PortEnd>) -> io::Result<()> {
+    match end {
+        Some(PortEnd::Sampling { readers, .. }) => {
+            let [first, b, c, d, e, f, g, h] = readers;
+            drop((b, c, d, e, f, g, h));
+            partitions.readers.push(first)?;
+            Ok(())
+        }
+        Some(PortEnd::Queuing { taker, .. }) => {
+            partitions.takers.push(taker)?;
+            Ok(())
+        }
+        None => Err(refused()),
+    }
+}
+
+/// The ends of all ports.
+fn partitions_of(alloc: Global, running: &mut Running<NoGate>) -> io::Result<Partitions> {
+    let mut partitions = Partitions {
+        readers: Vec::new(alloc),
+        takers: Vec::new(alloc),
+    };
+    for link in 0..SHAPE.links {
+        for place in 0..SHAPE.sampling {
+            let name = format!(in alloc; "s{link}-{place}")?;
+            add_end(&mut partitions, running.take_end(name.as_str()))?;
+        }
+        for place in 0..SHAPE.queuing {
+            let name = format!(in alloc; "q{link}-{place}")?;
+            add_end(&mut partitions, running.take_end(name.as_str()))?;
+        }
+    }
+    Ok(partitions)
+}
+
+/// Each partition reads the newest message of its port.
+fn read_all(readers: &mut [Reader<READERS>], digest: &mut Digest) {
+    let mut out = [0; 1471];
+    for reader in readers {
+        match reader.read(MOST_TRIES, &mut out) {
+            Read::Message { number, time, len } => {
+                digest.add(number);
+                digest.add(time);
+                if len <= out.len() {
+                    digest.add_octets(&out[..len]);
+                }
+            }
+            Read::Empty => digest.add(1),
+            Read::Busy { number: _ } => digest.add(2),
+        }
+    }
+}
+
+/// Each partition takes all messages of its queue.
+fn take_all<R: Wait>(rt: &R, takers: &mut [Taker], digest: &mut Digest) {
+    for taker in takers {
+        for _ in 0..DEPTH {
+            let Some(message) = taker.take(rt) else { break };
+            digest.add(message.time);
+            digest.add_octets(message.octets.as_slice());
+        }
+    }
+}
+
+fn add_reply(digest: &mut Digest, reply: Reply) {
+    match reply {
+        Reply::Filtered(cause) => digest.add(cause.kind() as u64),
+        Reply::Link { place, verdict, .. } => {
+            digest.add(place);
+            digest.add(verdict.kind() as u64);
+        }
+    }
+}
+
+/// What an epoch has, as one who writes it away looks at it.
+fn add_epoch(digest: &mut Digest, epoch: &Epoch) {
+    digest.add(epoch.first());
+    let events = epoch.events();
+    for place in 0..events.len() {
+        if let Some(event) = events.get(place) {
+            digest.add(event.time);
+            digest.add(event.frame.len() as u64);
+            digest.add(event.verdict.kind() as u64);
+        }
+    }
+}
+
+/// Takes the epochs of all links out.
+fn take_epochs<R: Wait>(
+    rt: &R,
+    alloc: Global,
+    running: &mut Running<NoGate>,
+    digest: &mut Digest,
+) -> io::Result<()> {
+    for link in 0..SHAPE.links {
+        match running.take_epoch(rt, alloc, Net::A, LinkNo(link_number(link))) {
+            Ok(Some(epoch)) => add_epoch(digest, &epoch),
+            _ => return Err(refused()),
+        }
+    }
+    Ok(())
+}
+
+/// What is left once the system has ended: counts, and what the last histories delivered to each port.
+fn add_settled(alloc: Global, running: Running<NoGate>, digest: &mut Digest) -> io::Result<()> {
+    let settled = running.settle();
+    for link in settled.links.iter() {
+        for kind in 1..=VERDICT_KINDS {
+            digest.add(link.tally().count(Net::A, kind));
+            digest.add(link.tally().count(Net::B, kind));
+        }
+        for port in 0..SHAPE.sampling + SHAPE.queuing {
+            for message in link.deliveries(alloc, PortNo(port))? {
+                digest.add_octets(message.octets.as_slice());
+            }
+        }
+    }
+    Ok(())
+}
+
+/// The system, from its opening to its end.
+pub(crate) fn run<R: Wait>(rt: &R, alloc: Global, seed: u64, rounds: u64) -> io::Result<Digest> {
+    let mut digest = Digest::new();
+    let mut running = Running::open(alloc, &config_of(alloc, SHAPE)?, NoGate)?;
+    let mut partitions = partitions_of(alloc, &mut running)?;
+    let mut sent = traffic(alloc, SHAPE, PROFILE, seed)?;
+    let mut octets = Vec::with_capacity(alloc, 1514)?;
+    for frame in 1..=rounds.wrapping_mul(EPOCHS).wrapping_mul(SPAN) {
+        sent.next(&mut octets)?;
+        let late = sent.draw() & 0x1ff;
+        let reply = running.receive(rt, alloc, Net::A, sent.time, &octets)?;
+        add_reply(&mut digest, reply);
+        let reply = running.receive(rt, alloc, Net::B, sent.time.wrapping_add(late), &octets)?;
+        add_reply(&mut digest, reply);
+        if frame % 64 == 0 {
+            read_all(&mut partitions.readers, &mut digest);
+            take_all(rt, &mut partitions.takers, &mut digest);
+        }
+        if frame % SPAN == 0 && frame < rounds.wrapping_mul(EPOCHS).wrapping_mul(SPAN) {
+            take_epochs(rt, alloc, &mut running, &mut digest)?;
+        }
+    }
+    add_settled(alloc, running, &mut digest)?;
+    Ok(digest)
+}

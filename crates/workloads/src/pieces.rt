@@ -1,0 +1,138 @@
+//! A receiver for one task on what is awkward: the longest datagrams in pieces of 8 octets, from their end, or the last
+//! piece first; pieces of four datagrams in turn, with a fifth that gives one up; bursts of frames that are out of
+//! sequence or of no link; and queues that nobody takes of.
+use crate::configs::{QUEUING_UDP, Shape, config_of};
+use crate::digest::{Digest, mixed};
+use crate::frames::{Template, datagram, pieces, whole};
+use crate::traffic::{Flow, Traffic};
+use receiver::{Net, PortOutlet, Receiver, Reply};
+use std::alloc::Global;
+use std::io;
+
+const SHAPE: Shape = Shape {
+    links: 8,
+    sampling: 1,
+    queuing: 2,
+    redundancy: true,
+};
+
+/// The payload of the longest datagram.
+const LONGEST: u16 = 8192;
+
+/// How many frames are sent in a round.
+const FRAMES: u64 = 40_000;
+
+/// A datagram in pieces of 8 octets: by `way` from its end, the last piece first, or each piece in its place.
+fn smallest_pieces(
+    alloc: Global,
+    link: u8,
+    name: u16,
+    way: u8,
+    seed: u64,
+) -> io::Result<Vec<Template>> {
+    let octets = datagram(alloc, QUEUING_UDP, LONGEST, mixed(seed))?;
+    let mut parts = pieces(alloc, link, name, &octets, 8)?;
+    match way {
+        0 => parts.reverse(),
+        1 if parts.len() > 1 => parts.rotate_right(1),
+        _ => {}
+    }
+    Ok(parts)
+}
+
+/// The pieces of four datagrams in turn, and after half of them one of a fifth.
+fn in_turn(alloc: Global, link: u8, seed: u64) -> io::Result<Vec<Template>> {
+    let mut all = Vec::new(alloc);
+    for name in 10..14u16 {
+        let octets = datagram(
+            alloc,
+            QUEUING_UDP,
+            3000,
+            mixed(seed.wrapping_add(u64::from(name))),
+        )?;
+        all.push(pieces(alloc, link, name, &octets, 104)?)?;
+    }
+    let octets = datagram(alloc, QUEUING_UDP, 200, mixed(seed))?;
+    let mut fifth = pieces(alloc, link, 20, &octets, 104)?;
+    let mut frames = Vec::new(alloc);
+    for turn in 0..29usize {
+        for parts in all.iter_mut() {
+            if let Some(part) = parts.pop() {
+                frames.push(part)?;
+            }
+        }
+        if turn == 15 {
+            if let Some(part) = fifth.pop() {
+                frames.push(part)?;
+            }
+        }
+    }
+    Ok(frames)
+}
+
+/// Frames of no link.
+fn of_no_link(alloc: Global, link: u8, seed: u64) -> io::Result<Vec<Template>> {
+    let mut frames = Vec::new(alloc);
+    for turn in 0..100u64 {
+        let mut frame = whole(alloc, link, 7000, 40, seed.wrapping_add(turn))?;
+        if let Some(octet) = frame.octets.get_mut(4) {
+            *octet = 0x7f;
+        }
+        frames.push(frame)?;
+    }
+    Ok(frames)
+}
+
+/// What the sender of a link sends.
+fn flow(alloc: Global, link: u8, seed: u64) -> io::Result<Flow> {
+    let mut frames = Vec::new(alloc);
+    let seed = mixed(seed).wrapping_add(u64::from(link));
+    for part in smallest_pieces(alloc, link, 1, link % 3, seed)? {
+        frames.push(part)?;
+    }
+    for part in in_turn(alloc, link, seed)? {
+        frames.push(part)?;
+    }
+    for part in of_no_link(alloc, link, seed)? {
+        frames.push(part)?;
+    }
+    for turn in 0..100u64 {
+        let mut frame = whole(alloc, link, QUEUING_UDP + 1, 200, seed.wrapping_add(turn))?;
+        // The first half are out of sequence.
+        frame.jump = if turn < 50 { 5 } else { 0 };
+        frames.push(frame)?;
+    }
+    Ok(Flow::new(frames, false))
+}
+
+fn add_reply(digest: &mut Digest, reply: Reply) {
+    match reply {
+        Reply::Filtered(cause) => digest.add(cause.kind() as u64),
+        Reply::Link { place, verdict, .. } => {
+            digest.add(place);
+            digest.add(verdict.kind() as u64);
+        }
+    }
+}
+
+/// All frames, each on both networks.
+pub(crate) fn run(alloc: Global, seed: u64, rounds: u64) -> io::Result<Digest> {
+    let mut digest = Digest::new();
+    let opened = Receiver::<PortOutlet>::open(alloc, &config_of(alloc, SHAPE)?)?;
+    let receiver::Opened {
+        mut receiver,
+        ends: _ends,
+    } = opened;
+    let mut sent = Traffic::new(alloc, seed);
+    for link in 0..SHAPE.links {
+        sent.add(flow(alloc, link, seed)?)?;
+    }
+    let mut octets = Vec::with_capacity(alloc, 1514)?;
+    for _ in 0..rounds.wrapping_mul(FRAMES) {
+        sent.next(&mut octets)?;
+        let late = sent.time.wrapping_add(sent.draw() & 0x1ff);
+        add_reply(&mut digest, receiver.receive(Net::A, sent.time, &octets));
+        add_reply(&mut digest, receiver.receive(Net::B, late, &octets));
+    }
+    Ok(digest)
+}

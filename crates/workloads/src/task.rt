@@ -1,0 +1,248 @@
+//! A receiver for one task, by the slots that programs in C have of it: both copies of each frame, and partitions that
+//! read, hold and take, most of them with nothing newer. With one link of 8 ports, and with 64 links of 32.
+use crate::configs::{Shape, config_text};
+use crate::digest::Digest;
+use crate::profiles::{Profile, traffic};
+use crate::refused;
+use crate::traffic::Traffic;
+use receiver::{Freshness, PartitionReader, Reading};
+use receiver_slots::{FaultReply, FrameReply, ReaderSlot, ReceiverSlot, TakeReply, TakerSlot};
+use std::alloc::Global;
+use std::io;
+
+const ONE_LINK: Shape = Shape {
+    links: 1,
+    sampling: 4,
+    queuing: 4,
+    redundancy: true,
+};
+
+const ALL_LINKS: Shape = Shape {
+    links: 64,
+    sampling: 16,
+    queuing: 16,
+    redundancy: true,
+};
+
+const PROFILE: Profile = Profile {
+    sampled: true,
+    queued: true,
+    fragments: true,
+    flawed: true,
+};
+
+/// How many frames are sent in a round, with each configuration.
+const FRAMES: u64 = 7000;
+
+/// A receiver, and the ends of its ports that partitions have.
+#[derive(Drop)]
+struct Receiving {
+    receiver: ReceiverSlot,
+    /// Each is moved out while it holds a message.
+    readers: Vec<Option<PartitionReader>>,
+    takers: Vec<TakerSlot>,
+    /// Room for a message.
+    room: Vec<u8>,
+}
+
+/// The code of a call that did what was asked for.
+const DONE: u32 = 0;
+
+fn nothing_taken() -> TakeReply {
+    TakeReply {
+        found: 0,
+        time: 0,
+        len: 0,
+    }
+}
+
+fn no_frame() -> FrameReply {
+    FrameReply {
+        kind: 0,
+        cause: 0,
+        link: 0,
+        vl: 0,
+        port: 0,
+        place: 0,
+        number: 0,
+    }
+}
+
+fn no_fault() -> FaultReply {
+    FaultReply {
+        fault: 0,
+        key: 0,
+        level: 0,
+        link: 0,
+        port: 0,
+    }
+}
+
+/// Opens the receiver of a configuration, and has the ends of all ports handed out.
+fn open(alloc: Global, shape: Shape) -> io::Result<Receiving> {
+    let mut receiving = Receiving {
+        receiver: ReceiverSlot::empty(),
+        readers: Vec::new(alloc),
+        takers: Vec::new(alloc),
+        room: vec![in alloc; 0u8; 8192]?,
+    };
+    let text = config_text(alloc, shape)?;
+    let mut fault = no_fault();
+    if receiving
+        .receiver
+        .open_text(alloc, text.as_bytes(), &mut fault)
+        != DONE
+    {
+        return Err(refused());
+    }
+    for link in 0..shape.links {
+        hand_ends(alloc, &mut receiving, shape, link)?;
+    }
+    Ok(receiving)
+}
+
+/// The ends of the ports of a link.
+fn hand_ends(alloc: Global, receiving: &mut Receiving, shape: Shape, link: u8) -> io::Result<()> {
+    for place in 0..shape.sampling {
+        let name = format!(in alloc; "s{link}-{place}")?;
+        let mut slot = ReaderSlot::empty();
+        let code = receiving.receiver.hand_reader(&mut slot, name.as_bytes());
+        let reader = slot.into_reader();
+        if code != DONE {
+            return Err(refused());
+        }
+        receiving.readers.push(reader)?;
+    }
+    for place in 0..shape.queuing {
+        let name = format!(in alloc; "q{link}-{place}")?;
+        let mut slot = TakerSlot::empty();
+        if receiving.receiver.hand_taker(&mut slot, name.as_bytes()) != DONE {
+            return Err(refused());
+        }
+        receiving.takers.push(slot)?;
+    }
+    Ok(())
+}
+
+/// A frame that came on a network.
+fn receive(receiving: &mut Receiving, net: u32, time: u64, octets: &[u8], digest: &mut Digest) {
+    let mut reply = no_frame();
+    let code = receiving.receiver.receive(net, time, octets, &mut reply);
+    digest.add(u64::from(code));
+    digest.add(u64::from(reply.kind) << 32 | u64::from(reply.port));
+    digest.add(reply.place ^ reply.number);
+}
+
+/// A partition reads its port.
+fn read(receiving: &mut Receiving, at: usize, now: u64, digest: &mut Digest) {
+    let Some(Some(reader)) = receiving.readers.get_mut(at) else {
+        return;
+    };
+    match reader.read(now, &mut receiving.room) {
+        Reading::Message {
+            number,
+            time: _,
+            len,
+            validity,
+        } => {
+            digest.add(number << 1 | u64::from(validity == Freshness::Fresh));
+            if let Some(octets) = receiving.room.get(..len.min(24)) {
+                digest.add_octets(octets);
+            }
+        }
+        Reading::Empty => digest.add(1),
+        Reading::Busy { number: _ } => digest.add(2),
+    }
+}
+
+/// A partition holds the newest message, looks at a part of it, and releases it.
+fn hold(receiving: &mut Receiving, at: usize, digest: &mut Digest) {
+    let Some(place) = receiving.readers.get_mut(at) else {
+        return;
+    };
+    let Some(reader) = place.take() else {
+        return;
+    };
+    match reader.hold() {
+        Ok(mut held) => {
+            let mut part = [0; 16];
+            let len = held.len();
+            if len >= 16 {
+                held.copy_range(len - 16, &mut part);
+            }
+            digest.add(held.number());
+            digest.add_octets(&part);
+            *place = Some(held.release());
+        }
+        Err((reader, _)) => *place = Some(reader),
+    }
+}
+
+/// A partition takes all that waits in its queue.
+fn take(receiving: &mut Receiving, at: usize, digest: &mut Digest) {
+    let Some(taker) = receiving.takers.get_mut(at) else {
+        return;
+    };
+    for _ in 0..64 {
+        let mut reply = nothing_taken();
+        let _code = taker.take(&mut receiving.room, &mut reply);
+        if reply.found == 0 {
+            return;
+        }
+        digest.add(reply.time);
+        if let Some(octets) = receiving.room.get(..reply.len.min(24)) {
+            digest.add_octets(octets);
+        }
+    }
+}
+
+/// What the partitions do after a frame: some read or hold, and one takes.
+fn step(receiving: &mut Receiving, frame: u64, draw: u64, now: u64, digest: &mut Digest) {
+    let (readers, takers) = (receiving.readers.len(), receiving.takers.len());
+    if readers == 0 || takers == 0 {
+        return;
+    }
+    let at = (draw >> 8) as usize;
+    read(receiving, at % readers, now, digest);
+    if frame % 4 == 0 {
+        hold(receiving, (at >> 8) % readers, digest);
+    }
+    take(receiving, frame as usize % takers, digest);
+}
+
+/// So many frames, each on both networks.
+fn give(
+    alloc: Global,
+    receiving: &mut Receiving,
+    sent: &mut Traffic,
+    frames: u64,
+    digest: &mut Digest,
+) -> io::Result<()> {
+    let mut octets = Vec::with_capacity(alloc, 1514)?;
+    for frame in 0..frames {
+        sent.next(&mut octets)?;
+        let draw = sent.draw();
+        let late = sent.time.wrapping_add(draw & 0x1ff);
+        receive(receiving, 0, sent.time, &octets, digest);
+        receive(receiving, 1, late, &octets, digest);
+        step(receiving, frame, draw, late, digest);
+    }
+    Ok(())
+}
+
+/// Both configurations, one after the other.
+pub(crate) fn run(alloc: Global, seed: u64, rounds: u64) -> io::Result<Digest> {
+    let mut digest = Digest::new();
+    for shape in [ONE_LINK, ALL_LINKS] {
+        let mut receiving = open(alloc, shape)?;
+        let mut sent = traffic(alloc, shape, PROFILE, seed)?;
+        give(
+            alloc,
+            &mut receiving,
+            &mut sent,
+            rounds.wrapping_mul(FRAMES),
+            &mut digest,
+        )?;
+    }
+    Ok(digest)
+}
