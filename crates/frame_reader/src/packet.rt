@@ -1,7 +1,7 @@
 //! IPv4 headers (RFC 791 3.1).
-ghost use Rattle.std.specs.Prelude.{◌≡◌, ◌≤◌, length, Bool};
+ghost use Rattle.std.specs.Prelude.{◌≡◌, ◌≤◌, ◌==◌, length, slice_index, Bool};
 ghost use Rattle.es_base.specs.Returns.{Gives};
-ghost use Rattle.es_base.specs.Packet.{ones_add, ones_sum, packet_of};
+ghost use Rattle.es_base.specs.Packet.{ones_sum, packet_of};
 ghost use Rattle.frame_reader.specs.Parts.{packet_parts};
 
 use crate::Frame;
@@ -64,7 +64,7 @@ pub fn read_packet<'a>(frame: &Frame<'a>) -> Result<Packet<'a>, PacketFault>
     if total < HEADER || inner.len() < total {
         return Err(PacketFault::TotalLength);
     }
-    if header_sum(inner) != 0xffff {
+    if !is_sum_right(inner) {
         return Err(PacketFault::Checksum);
     }
     if inner[PROTOCOL] != PROTOCOL_UDP {
@@ -81,21 +81,16 @@ pub fn read_packet<'a>(frame: &Frame<'a>) -> Result<Packet<'a>, PacketFault>
     })
 }
 
-/// The ones' complement sum of the header's ten words.
-fn header_sum(header: &[u8]) -> u16
-    requires { 20 ≤ length header.now }
-    ensures { result ≡ ones_sum 10 header.now }
+/// Whether the ones' complement sum of the header's ten words is 0xffff. The plain sum of its five words of four
+/// octets differs from that by a multiple of 0xffff, and neither sum is 0, since the first octet isn't.
+fn is_sum_right(header: &[u8]) -> bool
+    requires long { 20 ≤ length header.now }
+    requires some { 1 ≤ slice_index header.now 0 }
+    ensures { result ≡ (ones_sum 10 header.now == 0xffff) }
 {
-    let mut sum = 0u16;
-    for i in 0..10 {
-        sum = ones_add(sum, u16_at(header, 2 * i));
+    let mut sum = 0u64;
+    for i in 0..5 {
+        sum += u64::from(u32_at(header, 4 * i));
     }
-    sum
-}
-
-fn ones_add(a: u16, b: u16) -> u16
-    ensures { result ≡ ones_add a b }
-{
-    let (sum, carry) = a.overflowing_add(b);
-    if carry { sum + 1 } else { sum }
+    sum % 0xffff == 0
 }

@@ -1,9 +1,9 @@
 use Rattle.std.proofs.Common.{◌%◌, length, refl, mul_comm}
-use Rattle.std.proofs.lemmas.Bool.{le-ltb, ne_eqb}
+use Rattle.std.proofs.lemmas.Bool.{le-ltb}
 use Rattle.frame_reader.proofs.packet.read_packet.Goals as goal
 
-pub returns-then-header_sum : goal.returns-then-header_sum
-returns-then-header_sum c =
+pub returns-then-not-is_sum_right : goal.returns-then-not-is_sum_right
+returns-then-not-is_sum_right c =
     let inner = c.args.frame.now.inner.now in
     let total = c.u16_at-total.result in
     rw (
@@ -12,8 +12,8 @@ returns-then-header_sum c =
       ← c.u16_at-total.ensures,
       le-ltb total 20 c.if-total-lt-HEADER.false,
       le-ltb (length inner) total c.if-inner-total.false,
-      ← c.header_sum.ensures,
-      ne_eqb c.header_sum.result 0xffff c.if-header_sum.true,
+      ← c.is_sum_right.ensures,
+      c.if-not-is_sum_right.true,
     ) refl
 
 pub returns : goal.returns
@@ -26,8 +26,8 @@ returns c =
       ← c.u16_at-total.ensures,
       le-ltb total 20 c.if-total-lt-HEADER.false,
       le-ltb (length inner) total c.if-inner-total.false,
-      ← c.header_sum.ensures,
-      c.if-header_sum.false,
+      ← c.is_sum_right.ensures,
+      c.if-not-is_sum_right.false,
       c.if-inner-ne-PROTOCOL_UDP.false,
       ← c.u32_at.ensures,
       ← c.u32_at-2.ensures,
