@@ -100,7 +100,11 @@ fn is_ahead(latest: u8, sequence_number: u8) -> bool
     } else if sequence_number == 0 {
         128 <= latest
     } else {
-        let distance = (u16::from(sequence_number) + 255 - u16::from(latest)) % 255;
+        let distance = if latest <= sequence_number {
+            sequence_number - latest
+        } else {
+            255 - (latest - sequence_number)
+        };
         1 <= distance && distance <= 127
     }
 }
