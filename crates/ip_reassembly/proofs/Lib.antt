@@ -1,5 +1,6 @@
 pub mod Datagrams
 pub mod Latest
+pub mod Came
 pub mod Written
 pub mod Lists
 pub mod Stands

@@ -1,4 +1,5 @@
 pub mod Held
+pub mod Came
 pub mod Covering
 pub mod Kept
 pub mod Answers

@@ -21,18 +21,21 @@ pub struct Buffer {
     total: Option<usize>,
     octets: Vec<u8>,
     marks: Vec<bool>,
+    /// How many octets came, each counted once: how many marks are set.
+    came: usize,
 }
 
 impl Model for Buffer {
     ghost use Rattle.std.specs.Prelude.{◌≡◌, length};
     ghost use Rattle.es_base.specs.Limits.{longest_joined};
+    ghost use Rattle.ip_reassembly.specs.Came.{came_in};
     ghost use Rattle.ip_reassembly.specs.Held.{Held};
 
     ghost Value = { Held };
 
     ghost view = { λ b. record { total = b.total; octets = b.octets.items; marks = b.marks.items } };
 
-    ghost invariant = { λ b. (length b.octets.items ≡ longest_joined) × (length b.marks.items ≡ longest_joined) };
+    ghost invariant = { λ b. (length b.octets.items ≡ longest_joined) × (length b.marks.items ≡ longest_joined) × (b.came ≡ came_in b.marks.items) };
 }
 
 impl Buffer {
@@ -46,6 +49,7 @@ impl Buffer {
             total: None,
             octets,
             marks,
+            came: 0,
         })
     }
 
@@ -59,6 +63,7 @@ impl Buffer {
             total: self.total,
             octets,
             marks,
+            came: self.came,
         })
     }
 
@@ -68,6 +73,7 @@ impl Buffer {
     {
         self.total = None;
         set_all(&mut self.marks, false);
+        self.came = 0;
     }
 
     /// One piece more. Its octets replace those that came before.
@@ -79,7 +85,7 @@ impl Buffer {
         let end = offset + octets.len();
         self.total = total_with(self.total, more, end);
         write(&mut self.octets, offset, octets);
-        mark(&mut self.marks, offset, end);
+        self.came += mark(&mut self.marks, offset, end);
     }
 
     /// The length of the datagram, if a piece of `len` octets from `offset` on completes it.
@@ -92,6 +98,10 @@ impl Buffer {
     {
         let end = offset + len;
         let total = total_with(self.total, more, end)?;
+        // Too few octets came, so that the marks needn't be looked at.
+        if self.came + len < total {
+            return None;
+        }
         if are_covered(&self.marks, offset, end, total) {
             Some(total)
         } else {

@@ -1,6 +1,8 @@
 //! Marks, one for each octet of a datagram: whether it came. Octets are counted one by one and not by
 //! blocks of 8, since a last piece may end within a block (own).
-ghost use Rattle.std.specs.Prelude.{◌≡◌, ◌-◌, ◌≤◌, ◌++◌, true, false, length, take, drop, replicate, IsTrue, IfOk};
+ghost use Rattle.std.specs.Prelude.{◌≡◌, ◌+◌, ◌-◌, ◌≤◌, ◌++◌, true, false, length, take, drop, replicate, IsTrue, IfOk};
+ghost use Rattle.es_base.specs.Limits.{longest_joined};
+ghost use Rattle.ip_reassembly.specs.Came.{came_in};
 ghost use Rattle.ip_reassembly.specs.Covering.{AreSet, AreCovered};
 
 use es_base::Memory;
@@ -20,14 +22,31 @@ pub(crate) fn set_all(marks: &mut [bool], to: bool)
     marks.fill(to);
 }
 
-/// Sets the marks from `offset` up to `end`.
-pub(crate) fn mark(marks: &mut Vec<bool>, offset: usize, end: usize)
+/// Sets the marks from `offset` up to `end`. Returns how many of them weren't set before.
+pub(crate) fn mark(marks: &mut Vec<bool>, offset: usize, end: usize) -> usize
     requires order { offset ≤ end }
     requires within { end ≤ length marks.old.items }
-    ensures { marks.new.items
+    requires bound { end ≤ longest_joined }
+    ensures marks { marks.new.items
         ≡ take offset marks.old.items ++ (replicate (end - offset) true ++ drop end marks.old.items) }
+    ensures count { came_in marks.old.items + result ≡ came_in marks.new.items }
 {
+    let before = came_in(&marks[offset..end]);
     set_all(&mut marks[offset..end], true);
+    end - offset - before
+}
+
+/// How many of these marks are set. The sum has 16 bits and the loop no early end, so that the compiler makes
+/// vector code of it.
+fn came_in(marks: &[bool]) -> usize
+    requires { length marks.now ≤ longest_joined }
+    ensures { result ≡ came_in marks.now }
+{
+    let mut came: u16 = 0;
+    for mark in marks {
+        came += u16::from(*mark);
+    }
+    usize::from(came)
 }
 
 /// Whether each octet below `total` came, with a piece from `offset` up to `end`.

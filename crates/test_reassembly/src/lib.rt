@@ -10,6 +10,8 @@ mod datagrams;
 #[cfg(test)]
 mod groups;
 #[cfg(test)]
+mod longest;
+#[cfg(test)]
 mod plain;
 #[cfg(test)]
 mod steps;

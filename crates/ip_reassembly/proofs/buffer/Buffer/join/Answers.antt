@@ -5,4 +5,4 @@ use Rattle.ip_reassembly.proofs.buffer.Buffer.join.Goals as goal
 pub returns : goal.returns
 returns c =
     rw (← c.self.view_is, c.total_with-self-inside.ensures) (λ pieces time holds.
-    holds_one_more _ pieces _ _ _ holds (omega arith) c.write.ensures.places c.mark.ensures)
+    holds_one_more _ pieces _ _ _ holds (omega arith) c.write.ensures.places c.mark.ensures.marks)
