@@ -2,7 +2,8 @@ use Rattle.std.proofs.Common.{◌≡◌, ◌∙◌, ◌+◌, ◌++◌, [], ◌�
 use Rattle.toml.specs.View.{table_view}
 use Rattle.vl_config.specs.Link.{link_from}
 use Rattle.vl_config.proofs.Collected.{one_more}
-use Rattle.vl_config.proofs.Links.{none_distinct, count_push, link_numbers_push, names_push}
+use Rattle.es_base.proofs.Places.{link_numbers_push}
+use Rattle.vl_config.proofs.Links.{none_distinct, count_push, names_push}
 use Rattle.vl_config.proofs.PortNames.{of_one_more_link}
 use Rattle.vl_config.proofs.document.links_from.Goals as goal
 
