@@ -10,13 +10,38 @@ use slot_core::READERS;
 
 /// Writes `count` octets of a word, from its octet `from` on, over those of `out` from `first` on. The first octet of
 /// a word is its most significant one.
-fn write_octets(out: &mut [u8], first: usize, word: u64, from: usize, count: usize)
+fn write_part(out: &mut [u8], first: usize, word: u64, from: usize, count: usize)
     requires { (from + count ≤ 8) × (first + count ≤ length out.old) }
     ensures within { (i : ℕ) → i < count → slice_index out.new (first + i) ≡ word / 256 ^ (7 - (from + i)) % 256 }
     ensures before { (k : ℕ) → k < first → slice_index out.new k ≡ slice_index out.old k }
     ensures after { (k : ℕ) → first + count ≤ k → slice_index out.new k ≡ slice_index out.old k }
 {
     out[first..first + count].copy_from_slice(&word.to_be_bytes()[from..from + count]);
+}
+
+/// Writes all eight octets of a word over those of `out` from `first` on: a single store, since their number is known
+/// to the compiler.
+fn write_word(out: &mut [u8], first: usize, word: u64)
+    requires { first + 8 ≤ length out.old }
+    ensures within { (i : ℕ) → i < 8 → slice_index out.new (first + i) ≡ word / 256 ^ (7 - i) % 256 }
+    ensures before { (k : ℕ) → k < first → slice_index out.new k ≡ slice_index out.old k }
+    ensures after { (k : ℕ) → first + 8 ≤ k → slice_index out.new k ≡ slice_index out.old k }
+{
+    out[first..first + 8].copy_from_slice(&word.to_be_bytes());
+}
+
+/// Writes `count` octets of a word as `write_part` does; nearly always all eight.
+fn write_octets(out: &mut [u8], first: usize, word: u64, from: usize, count: usize)
+    requires { (from + count ≤ 8) × (first + count ≤ length out.old) }
+    ensures within { (i : ℕ) → i < count → slice_index out.new (first + i) ≡ word / 256 ^ (7 - (from + i)) % 256 }
+    ensures before { (k : ℕ) → k < first → slice_index out.new k ≡ slice_index out.old k }
+    ensures after { (k : ℕ) → first + count ≤ k → slice_index out.new k ≡ slice_index out.old k }
+{
+    if count == 8 {
+        write_word(out, first, word);
+    } else {
+        write_part(out, first, word, from, count);
+    }
 }
 
 /// Fills `out` with the octets of the message from `first` on. Each word that has some of them is loaded once.
