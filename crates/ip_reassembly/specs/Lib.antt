@@ -5,3 +5,4 @@ pub mod Kept
 pub mod Answers
 pub mod Ends
 pub mod Apart
+pub mod Waiting

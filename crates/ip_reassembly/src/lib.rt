@@ -43,9 +43,11 @@ mod fragment;
 pub mod laws;
 mod partial;
 mod reassembly;
+mod waiting;
 
 pub use answer::{Offered, Preview};
 pub use buffer::LONGEST_JOINED;
 pub use es_base::Memory;
 pub use frame_reader::Packet;
 pub use reassembly::{MOST_PARTIALS, Reassembly};
+pub use waiting::Waiting;

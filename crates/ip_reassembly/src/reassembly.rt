@@ -1,6 +1,7 @@
 //! The partial datagrams of one link.
-ghost use Rattle.std.specs.Prelude.{◌≡◌, ℕ, ◌+◌, ◌<◌, ◌≤◌, ◌==◌, List, [], ◌∷◌, ◌++◌, length, remove, slice_set, slice_get, Some, IfSome, IfOk};
+ghost use Rattle.std.specs.Prelude.{◌≡◌, ℕ, ◌+◌, ◌<◌, ◌≤◌, ◌==◌, List, [], ◌∷◌, ◌++◌, length, take, remove, slice_set, slice_get, Some, IfSome, IfOk};
 ghost use Rattle.std.specs.Borrow.{sem};
+ghost use Rattle.arrayvec.specs.ArrayVec.{array_vec_len};
 ghost use Rattle.es_base.specs.Limits.{longest_joined, most_partials};
 ghost use Rattle.es_base.specs.Fragments.{piece_of, key_of, datagram_from};
 ghost use Rattle.es_base.specs.Groups.{Group, place_of, found_for, group_with, with_room, without, fate, fate_if, groups_after};
@@ -87,6 +88,31 @@ impl Reassembly {
             standing: self.standing,
             partials: ArrayVec::from([first, second, third, fourth]),
         })
+    }
+
+    /// This many partial datagrams that stand, in the order in which they began, and spare ones after them.
+    pub(crate) fn of(
+        limit: u64,
+        standing: usize,
+        partials: ArrayVec<Partial, MOST_PARTIALS>,
+    ) -> Reassembly
+        requires four { array_vec_len partials ≡ most_partials }
+        requires standing { standing ≤ most_partials }
+        ensures { result ≡ record { limit = limit; partials = take standing partials.items } }
+    {
+        Reassembly {
+            limit,
+            standing,
+            partials,
+        }
+    }
+
+    /// The partial datagrams that stand, in the order in which they began.
+    pub(crate) fn standing(&self) -> &[Partial]
+        ensures value { result.now ≡ self.now.partials }
+        ensures few { length result.now ≤ most_partials }
+    {
+        &self.partials[..self.standing]
     }
 
     /// The limit of time, in microseconds.

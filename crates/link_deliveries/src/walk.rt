@@ -17,7 +17,7 @@ ghost use Rattle.es_base.specs.Settings.{Settings};
 use crate::offer::{offer, packet_of};
 use block_list::BlockList;
 use es_base::{Event, LinkSettings, Memory, Message, PortNo};
-use ip_reassembly::Reassembly;
+use ip_reassembly::{Reassembly, Waiting};
 use link_core::tells_delivered;
 use std::alloc::Global;
 
@@ -41,7 +41,31 @@ pub fn deliveries(
     if end == 0 {
         return Ok(Vec::new(alloc));
     }
-    deliveries_before(alloc, settings, before, history, end, port)
+    let reassembly = reassembly_from(alloc, settings, before)?;
+    deliveries_before(alloc, settings, reassembly, history, end, port)
+}
+
+/// The messages that a lawful history of a link delivered to a port, as `deliveries` returns them; `before` are the
+/// pieces that waited before the history, or None if nothing was before.
+pub fn deliveries_after(
+    alloc: Global,
+    settings: &LinkSettings,
+    before: Option<&Waiting>,
+    history: &BlockList<Event>,
+    port: PortNo,
+) -> Result<Vec<Message>, Memory>
+    requires frames { AreFramesOf settings.now (reverse history.now.items) }
+    ensures { IfOk result (λ messages. (earlier : List Event) →
+        KeepsPieces (option_copied before.entry) settings.now earlier →
+        IsRun settings.now (reverse history.now.items ++ earlier) →
+        AreSince settings.now earlier (reverse history.now.items) port messages.items) }
+{
+    let end = end_of(history, port);
+    if end == 0 {
+        return Ok(Vec::new(alloc));
+    }
+    let reassembly = reassembly_after(alloc, settings, before)?;
+    deliveries_before(alloc, settings, reassembly, history, end, port)
 }
 
 /// How many events there are up to the last one that delivered a message to the port.
@@ -66,11 +90,12 @@ fn delivers_at(history: &BlockList<Event>, place: usize, port: PortNo) -> bool
     }
 }
 
-/// The messages that the events of the history before this place delivered.
+/// The messages that the events of the history before this place delivered. `reassembly` is as it stood before the
+/// history.
 fn deliveries_before(
     alloc: Global,
     settings: &LinkSettings,
-    before: Option<&Reassembly>,
+    mut reassembly: Reassembly,
     history: &BlockList<Event>,
     end: usize,
     port: PortNo,
@@ -78,11 +103,10 @@ fn deliveries_before(
     requires frames { AreFramesOf settings.now (reverse history.now.items) }
     requires within { end ≤ length history.now.items }
     ensures { IfOk result (λ messages. (earlier : List Event) →
-        KeepsPieces (option_copied before.entry) settings.now earlier →
+        StandsFor reassembly settings.now.reassembly (groups_in settings.now earlier) →
         IsRun settings.now (reverse history.now.items ++ earlier) →
         AreSince settings.now earlier (reverse (take end history.now.items)) port messages.items) }
 {
-    let mut reassembly = reassembly_from(alloc, settings, before)?;
     let mut messages = Vec::new(alloc);
     'events: for place in 0..end {
         if let Some(event) = history.get(place) {
@@ -106,6 +130,22 @@ fn reassembly_from(
     match before {
         None => Reassembly::new(alloc, settings.reassembly()),
         Some(before) => before.copy(alloc),
+    }
+}
+
+/// The reassembly that a walk begins with: one that goes on from the pieces that waited, or a new one.
+fn reassembly_after(
+    alloc: Global,
+    settings: &LinkSettings,
+    before: Option<&Waiting>,
+) -> Result<Reassembly, Memory>
+    ensures { IfOk result (λ reassembly. (earlier : List Event) →
+        KeepsPieces (option_copied before.entry) settings.now earlier →
+        StandsFor reassembly settings.now.reassembly (groups_in settings.now earlier)) }
+{
+    match before {
+        None => Reassembly::new(alloc, settings.reassembly()),
+        Some(before) => before.begin(alloc),
     }
 }
 

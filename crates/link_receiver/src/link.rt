@@ -34,9 +34,9 @@ use es_base::{
     Verdict, VerdictTally,
 };
 use frame_reader::{Frame, frame_in};
-use ip_reassembly::Reassembly;
+use ip_reassembly::Waiting;
 use link_core::{Place, Standing, settled};
-use link_deliveries::deliveries;
+use link_deliveries::deliveries_after;
 use queuing_port::Taker;
 use sampling_port::Reader;
 use slot_core::READERS;
@@ -142,7 +142,7 @@ impl LinkState {
         let Ok(settings) = self.settings.copy(alloc) else {
             return Err(EpochFault::Memory);
         };
-        let Ok(kept) = self.kept.copy(alloc) else {
+        let Ok(kept) = self.kept.remains(alloc) else {
             return Err(EpochFault::Memory);
         };
         let before = mem::replace(&mut self.before, Some(Before { kept, taken }));
@@ -164,7 +164,7 @@ impl LinkState {
         ensures { IfOk result (λ messages. (earlier : List Event) → StoodBefore self.now.before self.now.settings earlier →
             messages.items ≡ deliveries_of (from earlier self.now) port) }
     {
-        deliveries(
+        deliveries_after(
             alloc,
             self.settings(),
             self.pieces_before(),
@@ -174,12 +174,12 @@ impl LinkState {
     }
 
     /// The pieces of datagrams that weren't complete before the history.
-    fn pieces_before(&self) -> Option<&Reassembly>
+    fn pieces_before(&self) -> Option<&Waiting>
         ensures { (earlier : List Event) → StoodBefore self.now.before self.now.settings earlier → KeepsPieces (option_copied result) self.now.settings earlier }
     {
         match &self.before {
             None => None,
-            Some(before) => Some(before.kept.reassembly()),
+            Some(before) => Some(before.kept.waiting()),
         }
     }
 

@@ -3,7 +3,9 @@ use Rattle.std.specs.Option.{option_copied}
 use Rattle.std.proofs.lemmas.Result.{IfOk-weaker}
 use Rattle.es_base.specs.declared.event.Event.{Event}
 use Rattle.es_base.specs.Deliveries.{deliveries}
+use Rattle.es_base.specs.Reassembly.{groups_in}
 use Rattle.es_base.specs.Run.{IsRun}
+use Rattle.ip_reassembly.specs.Kept.{StandsFor}
 use Rattle.link_deliveries.specs.Before.{AreSince, KeepsPieces}
 use Rattle.link_deliveries.proofs.Verdicts.{same_up_to}
 use Rattle.link_deliveries.proofs.walk.deliveries.Goals as goal
@@ -18,9 +20,9 @@ returns c =
     let history = c.args.history.now.items in
     let settings = c.args.settings.now in
     IfOk-weaker c.deliveries_before.result
-    (λ messages. (earlier : List Event) → KeepsPieces (option_copied c.args.before) settings earlier → IsRun settings (reverse history ++ earlier)
+    (λ messages. (earlier : List Event) → StandsFor c.in_ok-reassembly.reassembly settings.reassembly (groups_in settings earlier) → IsRun settings (reverse history ++ earlier)
     → AreSince settings earlier (reverse (take c.end_of-end.result history)) c.args.port messages.items)
     (λ messages. (earlier : List Event) → KeepsPieces (option_copied c.args.before) settings earlier → IsRun settings (reverse history ++ earlier)
     → AreSince settings earlier (reverse history) c.args.port messages.items)
-    (λ messages has earlier stood run. same_up_to settings history earlier c.end_of-end.result c.args.port run c.end_of-end.ensures.1 ∙ has earlier stood run)
+    (λ messages has earlier stood run. same_up_to settings history earlier c.end_of-end.result c.args.port run c.end_of-end.ensures.1 ∙ has earlier (c.in_ok-reassembly.ensures earlier stood) run)
     c.deliveries_before.ensures

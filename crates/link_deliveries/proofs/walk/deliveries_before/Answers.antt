@@ -11,7 +11,7 @@ message_of-requires c =
     frame_at c.args.settings.now c.args.history.now.items c.events.place c.in-Some.event.now c.requires.frames (sym c.in-Some.ensures)
 
 pub events-init : goal.events-init
-events-init c = λ earlier stood run. (c.in_ok-reassembly.ensures earlier stood, rw c.new-messages.ensures.items (sym (append-nil (deliveries c.args.settings.now earlier c.args.port))))
+events-init c = λ earlier stood run. (stood, rw c.new-messages.ensures.items (sym (append-nil (deliveries c.args.settings.now earlier c.args.port))))
 
 pub events-preserved : goal.events-preserved
 events-preserved c =

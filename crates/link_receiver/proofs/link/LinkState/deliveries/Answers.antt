@@ -16,10 +16,10 @@ returns c =
     let link = c.args.self.now in
     let settings = link.settings in
     let port = c.args.port in
-    IfOk-weaker c.deliveries.result
+    IfOk-weaker c.deliveries_after.result
     (λ messages. (earlier : List Event) → KeepsPieces (option_copied c.pieces_before.result) settings earlier → IsRun settings (reverse link.history ++ earlier) → AreSince settings earlier (reverse link.history) port messages.items)
     (λ messages. (earlier : List Event) → StoodBefore link.before settings earlier → messages.items ≡ deliveries_of (from earlier link) port)
     (λ messages has earlier stood.
     let since = has earlier (c.pieces_before.ensures earlier stood) (c.history.ensures.run earlier stood) in
     sym (ap (drop (number_before (from earlier link) port)) since ∙ drop-append_seam (deliveries settings earlier port) messages.items))
-    (rw (c.settings.ensures, c.history.ensures.events) at c.deliveries.ensures)
+    (rw (c.settings.ensures, c.history.ensures.events) at c.deliveries_after.ensures)
