@@ -1,11 +1,12 @@
--- How many marks are set: after a piece more, and where too few are for its datagram.
-use Rattle.std.proofs.Common.{◌≡◌, ◌∙◌, sym, ℕ, zero, suc, ◌+◌, ◌-◌, ◌<◌, ◌≤◌, ⊎_elim, inl, inr, Bool, true, false, cond, List, [], ◌∷◌, ◌++◌, length, take, drop, replicate, slice_index_or, refl, arith}
+-- How many marks are set: after a piece more, where none came, and where too few are for its datagram.
+use Rattle.std.proofs.Common.{◌≡◌, ◌∙◌, sym, ℕ, zero, suc, ◌+◌, ◌-◌, ◌<◌, ◌≤◌, ⊎_elim, inl, inr, Bool, true, false, cond, List, [], ◌∷◌, ◌++◌, append_assoc, length, take, drop, replicate, slice_index_or, refl, arith}
 use Rattle.std.proofs.lemmas.Bool.{cases_lt, false≢true}
-use Rattle.std.proofs.lemmas.List.{drop-drop}
+use Rattle.std.proofs.lemmas.List.{take-take, drop-drop}
 use Rattle.std.proofs.lemmas.List.Folds.{sum_by-replicate}
-use Rattle.std.proofs.lemmas.List.Sums.{count_by-le-length, sum_by-append, sum_by-cons, sum_by-take-drop}
+use Rattle.std.proofs.lemmas.List.Sums.{count_by-le-length, sum_by-append, sum_by-cons, sum_by-take-drop, sum_by-take-le}
+use Rattle.std.proofs.lemmas.Slice.{drop-append-drop}
 use Rattle.std.proofs.lemmas.Grind.{common_steps}
-use Rattle.ip_reassembly.specs.Came.{came_in}
+use Rattle.ip_reassembly.specs.Came.{came_in, CameWithin}
 use Rattle.ip_reassembly.specs.Covering.{AreCovered}
 
 all_came : (n : ℕ) → came_in (replicate n true) ≡ n
@@ -42,6 +43,50 @@ pub more_came : (old new : List Bool) (offset end before : ℕ) → offset ≤ e
 more_came old new offset end before order within is counted =
     let long : length (take (end - offset) (drop offset old)) ≡ end - offset = grind (arith, common_steps) in
     rw is (omega (arith, parts_came old offset end order, with_piece_came old offset end, came_within (take (end - offset) (drop offset old))))
+
+-- ---- where none came
+
+-- fewer of the first marks, and fewer of the last
+came_before : (marks : List Bool) (fewer more : ℕ) → fewer ≤ more → came_in (take fewer marks) ≤ came_in (take more marks)
+came_before marks fewer more order = rw take-take at (sum_by-take-le (λ mark. cond mark 1 0) (take more marks) fewer)
+
+came_from : (marks : List Bool) (first later : ℕ) → first ≤ later → came_in (drop later marks) ≤ came_in (drop first marks)
+came_from marks first later order =
+    let rest = sum_by-take-drop (λ mark. cond mark 1 0) (drop first marks) (later - first) in
+    let sum : first + (later - first) ≡ later = omega arith in
+    let past = rw sum at (drop-drop (later - first) first marks) in
+    let rest_past = rw past at rest in
+    omega (arith, rest_past)
+
+pub none_came : (marks : List Bool) (least reach : ℕ) → came_in marks ≡ 0 → CameWithin marks least reach
+none_came marks least reach none = record {
+  none_before = omega (arith, sum_by-take-drop (λ mark. cond mark 1 0) marks least);
+  none_from = omega (arith, sum_by-take-drop (λ mark. cond mark 1 0) marks reach);
+}
+
+-- none of a piece that ends where none came yet
+pub none_of_an_earlier : (marks : List Bool) (offset end least reach : ℕ) → offset ≤ end → CameWithin marks least reach → end ≤ least
+    → came_in (take (end - offset) (drop offset marks)) ≡ 0
+none_of_an_earlier marks offset end least reach order within before =
+    omega (arith, within.none_before, parts_came marks offset end order, sum_by-take-drop (λ mark. cond mark 1 0) marks end, came_before marks end least before)
+
+-- none of a piece that begins where none came yet
+pub none_of_a_later : (marks : List Bool) (offset end least reach : ℕ) → offset ≤ end → CameWithin marks least reach → reach ≤ offset
+    → came_in (take (end - offset) (drop offset marks)) ≡ 0
+none_of_a_later marks offset end least reach order within after =
+    omega (arith, within.none_from, parts_came marks offset end order, sum_by-take-drop (λ mark. cond mark 1 0) marks offset, came_from marks reach offset after)
+
+-- with a piece more, those that are set lie within any stretch that has both
+pub came_within_both : (old new : List Bool) (offset end least reach low high : ℕ) → offset ≤ end → end ≤ length old → new ≡ with_marks old offset end → CameWithin old least reach
+    → low ≤ least → low ≤ offset → reach ≤ high → end ≤ high → CameWithin new low high
+came_within_both old new offset end least reach low high order inside is within low_least low_piece high_reach high_piece =
+    let first : take low (with_marks old offset end) ≡ take low old = grind (arith, common_steps) in
+    let front : length (take offset old ++ replicate (end - offset) true) ≡ end = grind (arith, common_steps) in
+    let last : drop high (with_marks old offset end) ≡ drop high old = rw (← append_assoc) (drop-append-drop end old (take offset old ++ replicate (end - offset) true) high high_piece front) in
+    rw is (record {
+      none_before = rw first (omega (arith, within.none_before, came_before old low least low_least));
+      none_from = rw last (omega (arith, within.none_from, came_from old reach high high_reach));
+    })
 
 -- ---- too few came
 

@@ -23,19 +23,23 @@ pub struct Buffer {
     marks: Vec<bool>,
     /// How many octets came, each counted once: how many marks are set.
     came: usize,
+    /// The octets that came lie from this place on. 8200 if none came.
+    least: usize,
+    /// The octets that came lie before this place. 0 if none came.
+    reach: usize,
 }
 
 impl Model for Buffer {
     ghost use Rattle.std.specs.Prelude.{◌≡◌, length};
     ghost use Rattle.es_base.specs.Limits.{longest_joined};
-    ghost use Rattle.ip_reassembly.specs.Came.{came_in};
+    ghost use Rattle.ip_reassembly.specs.Came.{came_in, CameWithin};
     ghost use Rattle.ip_reassembly.specs.Held.{Held};
 
     ghost Value = { Held };
 
     ghost view = { λ b. record { total = b.total; octets = b.octets.items; marks = b.marks.items } };
 
-    ghost invariant = { λ b. (length b.octets.items ≡ longest_joined) × (length b.marks.items ≡ longest_joined) × (b.came ≡ came_in b.marks.items) };
+    ghost invariant = { λ b. (length b.octets.items ≡ longest_joined) × (length b.marks.items ≡ longest_joined) × (b.came ≡ came_in b.marks.items) × CameWithin b.marks.items b.least b.reach };
 }
 
 impl Buffer {
@@ -50,6 +54,8 @@ impl Buffer {
             octets,
             marks,
             came: 0,
+            least: LONGEST_JOINED,
+            reach: 0,
         })
     }
 
@@ -64,6 +70,8 @@ impl Buffer {
             octets,
             marks,
             came: self.came,
+            least: self.least,
+            reach: self.reach,
         })
     }
 
@@ -74,6 +82,8 @@ impl Buffer {
         self.total = None;
         set_all(&mut self.marks, false);
         self.came = 0;
+        self.least = LONGEST_JOINED;
+        self.reach = 0;
     }
 
     /// One piece more. Its octets replace those that came before.
@@ -85,7 +95,9 @@ impl Buffer {
         let end = offset + octets.len();
         self.total = total_with(self.total, more, end);
         write(&mut self.octets, offset, octets);
-        self.came += mark(&mut self.marks, offset, end);
+        self.came += mark(&mut self.marks, offset, end, self.least, self.reach);
+        self.least = self.least.min(offset);
+        self.reach = self.reach.max(end);
     }
 
     /// The length of the datagram, if a piece of `len` octets from `offset` on completes it.

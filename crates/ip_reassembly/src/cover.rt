@@ -2,7 +2,7 @@
 //! blocks of 8, since a last piece may end within a block (own).
 ghost use Rattle.std.specs.Prelude.{◌≡◌, ◌+◌, ◌-◌, ◌≤◌, ◌++◌, true, false, length, take, drop, replicate, IsTrue, IfOk};
 ghost use Rattle.es_base.specs.Limits.{longest_joined};
-ghost use Rattle.ip_reassembly.specs.Came.{came_in};
+ghost use Rattle.ip_reassembly.specs.Came.{came_in, CameWithin};
 ghost use Rattle.ip_reassembly.specs.Covering.{AreSet, AreCovered};
 
 use es_base::Memory;
@@ -22,18 +22,41 @@ pub(crate) fn set_all(marks: &mut [bool], to: bool)
     marks.fill(to);
 }
 
-/// Sets the marks from `offset` up to `end`. Returns how many of them weren't set before.
-pub(crate) fn mark(marks: &mut Vec<bool>, offset: usize, end: usize) -> usize
+/// Sets the marks from `offset` up to `end`. Returns how many of them weren't set before. Those that are set lie
+/// from `least` up to `reach`.
+pub(crate) fn mark(
+    marks: &mut Vec<bool>,
+    offset: usize,
+    end: usize,
+    least: usize,
+    reach: usize,
+) -> usize
     requires order { offset ≤ end }
     requires within { end ≤ length marks.old.items }
     requires bound { end ≤ longest_joined }
+    requires stretch { CameWithin marks.old.items least reach }
     ensures marks { marks.new.items
         ≡ take offset marks.old.items ++ (replicate (end - offset) true ++ drop end marks.old.items) }
     ensures count { came_in marks.old.items + result ≡ came_in marks.new.items }
 {
-    let before = came_in(&marks[offset..end]);
+    let before = came_between(marks, offset, end, least, reach);
     set_all(&mut marks[offset..end], true);
     end - offset - before
+}
+
+/// How many of the marks from `offset` up to `end` are set. Those that are set lie from `least` up to `reach`, and
+/// most pieces lie outside, so that nothing is counted.
+fn came_between(marks: &[bool], offset: usize, end: usize, least: usize, reach: usize) -> usize
+    requires order { offset ≤ end }
+    requires within { end ≤ length marks.now }
+    requires bound { end ≤ longest_joined }
+    requires stretch { CameWithin marks.now least reach }
+    ensures { result ≡ came_in (take (end - offset) (drop offset marks.now)) }
+{
+    if end <= least || offset >= reach {
+        return 0;
+    }
+    came_in(&marks[offset..end])
 }
 
 /// How many of these marks are set. The sum has 16 bits and the loop no early end, so that the compiler makes

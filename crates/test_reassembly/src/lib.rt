@@ -12,6 +12,8 @@ mod groups;
 #[cfg(test)]
 mod longest;
 #[cfg(test)]
+mod orders;
+#[cfg(test)]
 mod plain;
 #[cfg(test)]
 mod steps;

@@ -7,7 +7,7 @@ use std::process::Abort;
 /// The octets of the last block, which comes first.
 const LAST: [u8; 8] = [0xee; 8];
 
-fn piece(block: u16, more: bool, octets: &[u8]) -> Packet<'_> {
+pub(crate) fn piece(block: u16, more: bool, octets: &[u8]) -> Packet<'_> {
     Packet {
         source: 0x0a00_0001,
         destination: 0x0a00_0002,
@@ -19,7 +19,7 @@ fn piece(block: u16, more: bool, octets: &[u8]) -> Packet<'_> {
 }
 
 /// The octets of the piece that begins with a block: each is the block's number, without its upper octet.
-fn octets_from(block: u16) -> [u8; 16] {
+pub(crate) fn octets_from(block: u16) -> [u8; 16] {
     [(block % 256) as u8; 16]
 }
 
@@ -32,7 +32,7 @@ fn octet_at(place: usize) -> u8 {
     }
 }
 
-fn check_held(rt: &impl Abort, reassembly: &mut Reassembly, packet: &Packet<'_>) {
+pub(crate) fn check_held(rt: &impl Abort, reassembly: &mut Reassembly, packet: &Packet<'_>) {
     assert!(rt; reassembly.preview(packet, 1_000) == Preview::Held);
     let held = matches!(reassembly.offer(packet, 1_000), Offered::Held);
     assert!(rt; held);

@@ -8,4 +8,4 @@ returns-clause-marks c = grind (arith, common_steps)
 
 pub returns-clause-count : goal.returns-clause-count
 returns-clause-count c =
-    more_came c.args.marks.now.items _ c.args.offset c.args.end _ c.requires.order c.requires.within (returns-clause-marks c) (rw c.deref.ensures.value at c.came_in-before.ensures)
+    more_came c.args.marks.now.items _ c.args.offset c.args.end _ c.requires.order c.requires.within (returns-clause-marks c) (rw c.deref.ensures.value at c.came_between-before.ensures)

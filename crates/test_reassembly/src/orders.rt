@@ -1,0 +1,63 @@
+//! A datagram of 48 octets, of pieces of two blocks of 8 octets, which come in several orders. A piece has the
+//! number of the block with which it begins, and each of its octets is that number.
+use crate::longest::{check_held, octets_from, piece};
+use ip_reassembly::{Offered, Preview, Reassembly};
+use std::alloc::Global;
+use std::process::Abort;
+
+/// The octets where no two pieces overlap: those of pieces 0, 2 and 4.
+const APART: [u8; 48] = [
+    0, 0, 0, 0, 0, 0, 0, 0, 0, 0, 0, 0, 0, 0, 0, 0, 2, 2, 2, 2, 2, 2, 2, 2, 2, 2, 2, 2, 2, 2, 2, 2,
+    4, 4, 4, 4, 4, 4, 4, 4, 4, 4, 4, 4, 4, 4, 4, 4,
+];
+
+/// The octets where piece 1 came after piece 2, piece 3 after both, and then pieces 4 and 0.
+const OVER: [u8; 48] = [
+    0, 0, 0, 0, 0, 0, 0, 0, 0, 0, 0, 0, 0, 0, 0, 0, 1, 1, 1, 1, 1, 1, 1, 1, 3, 3, 3, 3, 3, 3, 3, 3,
+    4, 4, 4, 4, 4, 4, 4, 4, 4, 4, 4, 4, 4, 4, 4, 4,
+];
+
+/// The piece that begins with block 4 ends the datagram.
+fn has_more(block: u16) -> bool {
+    block != 4
+}
+
+fn check_joined(rt: &impl Abort, offered: Offered<'_>, datagram: &[u8]) {
+    match offered {
+        Offered::Whole { octets, joined } => assert!(rt; joined && octets == datagram),
+        _ => assert!(rt; false, "another fate"),
+    }
+}
+
+/// These pieces are held, and then the piece `filling` completes the datagram.
+fn check_order(rt: &impl Abort, alloc: Global, held: &[u16], filling: u16, datagram: &[u8]) {
+    let mut reassembly = Reassembly::new(alloc, 50_000).expect(rt, "memory");
+    for block in held {
+        check_held(
+            rt,
+            &mut reassembly,
+            &piece(*block, has_more(*block), &octets_from(*block)),
+        );
+    }
+    let octets = octets_from(filling);
+    let packet = piece(filling, has_more(filling), &octets);
+    let whole = Preview::Whole {
+        len: 48,
+        head: [0; 8],
+        joined: true,
+    };
+    assert!(rt; reassembly.preview(&packet, 1_000) == whole);
+    check_joined(rt, reassembly.offer(&packet, 1_000), datagram);
+}
+
+#[test]
+fn pieces_that_do_not_overlap_are_joined_in_each_order(rt: HostRuntime) {
+    check_order(&rt, rt.alloc(), &[0, 2], 4, &APART);
+    check_order(&rt, rt.alloc(), &[4, 2], 0, &APART);
+    check_order(&rt, rt.alloc(), &[4, 0], 2, &APART);
+}
+
+#[test]
+fn pieces_may_overlap_what_came_from_both_sides(rt: HostRuntime) {
+    check_order(&rt, rt.alloc(), &[2, 1, 3, 4], 0, &OVER);
+}
