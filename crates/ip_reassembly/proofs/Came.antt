@@ -1,6 +1,6 @@
 -- How many marks are set: after a piece more, where none came, and where too few are for its datagram.
-use Rattle.std.proofs.Common.{◌≡◌, ◌∙◌, sym, ℕ, zero, suc, ◌+◌, ◌-◌, ◌<◌, ◌≤◌, ⊎_elim, inl, inr, Bool, true, false, cond, List, [], ◌∷◌, ◌++◌, append_assoc, length, take, drop, replicate, slice_index_or, refl, arith}
-use Rattle.std.proofs.lemmas.Bool.{cases_lt, false≢true}
+use Rattle.std.proofs.Common.{◌≡◌, ◌∙◌, ap, sym, ◌==◌, ◌⊎◌, ℕ, zero, suc, ◌+◌, ◌-◌, ◌<◌, ◌≤◌, ⊎_elim, inl, inr, Bool, true, false, cond, List, [], ◌∷◌, ◌++◌, append_assoc, length, take, drop, replicate, slice_index_or, refl, arith}
+use Rattle.std.proofs.lemmas.Bool.{cases_eq, cases_lt, eq-eqb, false≢true, ne_eqb}
 use Rattle.std.proofs.lemmas.List.{take-take, drop-drop}
 use Rattle.std.proofs.lemmas.List.Folds.{sum_by-replicate}
 use Rattle.std.proofs.lemmas.List.Sums.{count_by-le-length, sum_by-append, sum_by-cons, sum_by-take-drop, sum_by-take-le}
@@ -126,3 +126,86 @@ too_few marks offset len total within few =
     in
     let (i, below, off) = first_gap (with_marks marks offset (offset + len)) total fewer in
     outside marks offset (offset + len) total i (omega arith) within below off
+
+-- ---- as many came as there are octets
+
+fewer : (n : ℕ) (marks : List Bool) → length (take n marks) ≤ n
+fewer n marks = grind (arith, common_steps)
+
+-- where as many of the first marks are set as there are, each of them is
+each_set : (marks : List Bool) (total : ℕ) → total ≤ came_in (take total marks) → (i : ℕ) → i < total → slice_index_or marks i false ≡ true
+each_set marks zero full i below = absurd (omega (arith, below))
+each_set [] (suc total) full i below = absurd (omega (arith, full))
+each_set (true ∷ marks) (suc total) full zero below = refl
+each_set (true ∷ marks) (suc total) full (suc i) below =
+    each_set marks total (omega (arith, full, sum_by-cons (λ mark. cond mark 1 0) true (take total marks))) i (omega (arith, below))
+each_set (false ∷ marks) (suc total) full i below =
+    absurd (omega (arith, full, sum_by-cons (λ mark. cond mark 1 0) false (take total marks), came_within (take total marks), fewer total marks))
+
+inside : (marks : List Bool) (offset end total i : ℕ) → offset ≤ end → end ≤ length marks → slice_index_or (with_marks marks offset end) i false ≡ true
+    → (slice_index_or marks i false ≡ true) ⊎ ((offset ≤ i) × (i < end))
+inside marks offset end total i order within on =
+    ⊎_elim
+    (λ (before : i < offset).
+    let same : slice_index_or (with_marks marks offset end) i false ≡ slice_index_or marks i false = grind (arith, common_steps) in
+    inl (sym same ∙ on))
+    (λ (above : offset ≤ i).
+    ⊎_elim
+    (λ (in_piece : i < end). inr (above, in_piece))
+    (λ (past : end ≤ i).
+    let same : slice_index_or (with_marks marks offset end) i false ≡ slice_index_or marks i false = grind (arith, common_steps) in
+    inl (sym same ∙ on))
+    (cases_lt i end))
+    (cases_lt i offset)
+
+-- none is set past the total, neither before the piece nor of it; so as many are set as of those below the total
+below_total : (marks : List Bool) (offset end total least reach before : ℕ) → offset ≤ end → end ≤ length marks → CameWithin marks least reach
+    → end ≤ total → reach ≤ total → before ≡ came_in (take (end - offset) (drop offset marks))
+    → came_in marks + (end - offset) ≡ came_in (take total (with_marks marks offset end)) + before
+below_total marks offset end total least reach before order within stretch end_low reach_low counted =
+    let past = came_within_both marks (with_marks marks offset end) offset end least reach 0 total order within refl stretch (omega arith) (omega arith) reach_low end_low in
+    omega (arith, counted, past.none_from, parts_came marks offset end order, with_piece_came marks offset end, sum_by-take-drop (λ mark. cond mark 1 0) (with_marks marks offset end) total)
+
+-- where none is set past the total, the octets below it came if as many came as there are
+pub counted_covered : (marks : List Bool) (offset end total came least reach before : ℕ) → offset ≤ end → end ≤ length marks → came ≡ came_in marks → CameWithin marks least reach
+    → end ≤ total → reach ≤ total → before ≡ came_in (take (end - offset) (drop offset marks)) → AreCovered marks offset end total (came + (end - offset) == total + before)
+counted_covered marks offset end total came least reach before order within count stretch end_low reach_low counted =
+    let many = below_total marks offset end total least reach before order within stretch end_low reach_low counted in
+    let most = came_within (take total (with_marks marks offset end)) in
+    let short = fewer total (with_marks marks offset end) in
+    ⊎_elim
+    (λ (same : came + (end - offset) ≡ total + before).
+    rw (eq-eqb (came + (end - offset)) (total + before) same) (λ i below.
+    inside marks offset end total i order within (each_set (with_marks marks offset end) total (omega (arith, many, count, same)) i below)))
+    (λ (differ : came + (end - offset) ≡ total + before → ⊥).
+    let past = came_within_both marks (with_marks marks offset end) offset end least reach 0 total order within refl stretch (omega arith) (omega arith) reach_low end_low in
+    let few : came_in (with_marks marks offset end) < total =
+    omega (arith, differ, many, count, most, short, past.none_from, sum_by-take-drop (λ mark. cond mark 1 0) (with_marks marks offset end) total) in
+    let gap = first_gap (with_marks marks offset end) total few in
+    rw (ne_eqb (came + (end - offset)) (total + before) differ) (outside marks offset end total gap.0 order within gap.1 gap.2))
+    (cases_eq (came + (end - offset)) (total + before))
+
+-- ---- none is set any more
+
+none_set : (marks : List Bool) → came_in marks ≡ 0 → marks ≡ replicate (length marks) false
+none_set [] none = refl
+none_set (false ∷ marks) none = ap (λ (rest : List Bool). false ∷ rest) (none_set marks (omega (arith, none, sum_by-cons (λ mark. cond mark 1 0) false marks)))
+none_set (true ∷ marks) none = absurd (omega (arith, none, sum_by-cons (λ mark. cond mark 1 0) true marks))
+
+none_off : (n : ℕ) → came_in (replicate n false) ≡ 0
+none_off n = sum_by-replicate (λ mark. cond mark 1 0) n false ∙ omega arith
+
+-- without those of the stretch
+pub unset_within : (marks : List Bool) (least reach : ℕ) → least ≤ reach → reach ≤ length marks → CameWithin marks least reach
+    → take least marks ++ (replicate (reach - least) false ++ drop reach marks) ≡ replicate (length marks) false
+unset_within marks least reach order within stretch =
+    let front = sum_by-append (λ mark. cond mark 1 0) (take least marks) (replicate (reach - least) false ++ drop reach marks) in
+    let back = sum_by-append (λ mark. cond mark 1 0) (replicate (reach - least) false) (drop reach marks) in
+    let none = none_set (take least marks ++ (replicate (reach - least) false ++ drop reach marks)) (omega (arith, front, back, none_off (reach - least), stretch.none_before, stretch.none_from)) in
+    let long : length (take least marks ++ (replicate (reach - least) false ++ drop reach marks)) ≡ length marks = grind (arith, common_steps) in
+    none ∙ rw long refl
+
+-- a stretch without an octet
+pub none_within : (marks : List Bool) (least reach : ℕ) → reach ≤ least → CameWithin marks least reach → marks ≡ replicate (length marks) false
+none_within marks least reach order stretch =
+    none_set marks (omega (arith, stretch.none_before, stretch.none_from, came_from marks reach least order, sum_by-take-drop (λ mark. cond mark 1 0) marks least))

@@ -5,7 +5,7 @@ ghost use Rattle.es_base.specs.Fragments.{Piece, datagram_from};
 ghost use Rattle.es_base.specs.Udp.{head_of};
 ghost use Rattle.ip_reassembly.specs.Held.{Holds, written_at};
 
-use crate::cover::{are_covered, mark, set_all, unset};
+use crate::cover::{are_covered, mark, unset, unset_all};
 use es_base::Memory;
 use frame_reader::UDP_HEADER;
 use std::alloc::Global;
@@ -30,7 +30,7 @@ pub struct Buffer {
 }
 
 impl Model for Buffer {
-    ghost use Rattle.std.specs.Prelude.{◌≡◌, length};
+    ghost use Rattle.std.specs.Prelude.{◌≡◌, ◌≤◌, length};
     ghost use Rattle.es_base.specs.Limits.{longest_joined};
     ghost use Rattle.ip_reassembly.specs.Came.{came_in, CameWithin};
     ghost use Rattle.ip_reassembly.specs.Held.{Held};
@@ -39,7 +39,7 @@ impl Model for Buffer {
 
     ghost view = { λ b. record { total = b.total; octets = b.octets.items; marks = b.marks.items } };
 
-    ghost invariant = { λ b. (length b.octets.items ≡ longest_joined) × (length b.marks.items ≡ longest_joined) × (b.came ≡ came_in b.marks.items) × CameWithin b.marks.items b.least b.reach };
+    ghost invariant = { λ b. (length b.octets.items ≡ longest_joined) × (length b.marks.items ≡ longest_joined) × (b.came ≡ came_in b.marks.items) × CameWithin b.marks.items b.least b.reach × (b.reach ≤ longest_joined) };
 }
 
 impl Buffer {
@@ -80,7 +80,7 @@ impl Buffer {
         ensures { Holds self.new [] }
     {
         self.total = None;
-        set_all(&mut self.marks, false);
+        unset_all(&mut self.marks, self.least, self.reach);
         self.came = 0;
         self.least = LONGEST_JOINED;
         self.reach = 0;
@@ -114,7 +114,8 @@ impl Buffer {
         if self.came + len < total {
             return None;
         }
-        if are_covered(&self.marks, offset, end, total) {
+        let (came, least, reach) = (self.came, self.least, self.reach);
+        if are_covered(&self.marks, offset, end, total, came, least, reach) {
             Some(total)
         } else {
             None

@@ -22,6 +22,17 @@ pub(crate) fn set_all(marks: &mut [bool], to: bool)
     marks.fill(to);
 }
 
+/// Unsets all marks, of which those that are set lie from `least` up to `reach`.
+pub(crate) fn unset_all(marks: &mut Vec<bool>, least: usize, reach: usize)
+    requires within { reach ≤ length marks.old.items }
+    requires stretch { CameWithin marks.old.items least reach }
+    ensures { marks.new.items ≡ replicate (length marks.old.items) false }
+{
+    if least < reach {
+        set_all(&mut marks[least..reach], false);
+    }
+}
+
 /// Sets the marks from `offset` up to `end`. Returns how many of them weren't set before. Those that are set lie
 /// from `least` up to `reach`.
 pub(crate) fn mark(
@@ -72,8 +83,35 @@ fn came_in(marks: &[bool]) -> usize
     usize::from(came)
 }
 
-/// Whether each octet below `total` came, with a piece from `offset` up to `end`.
-pub(crate) fn are_covered(marks: &[bool], offset: usize, end: usize, total: usize) -> bool
+/// Whether each octet below `total` came, with a piece from `offset` up to `end`. So many marks are set as `came` says,
+/// from `least` up to `reach`. Mostly none of them lies past the total, and then their number tells: no mark outside of
+/// the piece is looked at.
+pub(crate) fn are_covered(
+    marks: &[bool],
+    offset: usize,
+    end: usize,
+    total: usize,
+    came: usize,
+    least: usize,
+    reach: usize,
+) -> bool
+    requires order { offset ≤ end }
+    requires within { end ≤ length marks.now }
+    requires bound { end ≤ longest_joined }
+    requires count { came ≡ came_in marks.now }
+    requires stretch { CameWithin marks.now least reach }
+    ensures covered { AreCovered marks.now offset end total result }
+    ensures bound { IsTrue result → total ≤ length marks.now }
+{
+    if end <= total && reach <= total && total <= marks.len() {
+        let before = came_between(marks, offset, end, least, reach);
+        return came + (end - offset) == total + before;
+    }
+    are_set_around(marks, offset, end, total)
+}
+
+/// The same, where each mark below `total` is looked at that isn't the piece's.
+fn are_set_around(marks: &[bool], offset: usize, end: usize, total: usize) -> bool
     requires order { offset ≤ end }
     requires within { end ≤ length marks.now }
     ensures covered { AreCovered marks.now offset end total result }

@@ -9,7 +9,7 @@ invariant_of-self c =
     let within = came_within_both c.self.inside.marks.items _ c.args.offset (c.args.offset + length c.args.octets.now) _ _ c.min-self-inside.result c.max-self-inside.result
     (omega arith) (omega arith) c.mark.ensures.marks c.self.invariant.3 (omega arith) (omega arith) (omega arith) (omega arith)
     in
-    (c.write.ensures.len ∙ c.self.invariant.0, grind (arith, common_steps), omega arith, within)
+    (c.write.ensures.len ∙ c.self.invariant.0, grind (arith, common_steps), omega arith, within, omega arith)
 
 pub returns : goal.returns
 returns c =

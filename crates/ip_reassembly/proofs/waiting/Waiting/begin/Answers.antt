@@ -1,4 +1,4 @@
-use Rattle.std.proofs.Common.{rules, ◌≡◌, ◌∙◌, ◌≤◌, ap, arith, ℕ, List, [], ◌∷◌, length, take, refl}
+use Rattle.std.proofs.Common.{rules, ◌≡◌, ◌∙◌, ◌≤◌, ap, arith, List, [], ◌∷◌, length, take, refl}
 use Rattle.ip_reassembly.specs.Kept.{Kept}
 use Rattle.ip_reassembly.specs.Waiting.{IsAt}
 use Rattle.ip_reassembly.specs.declared.partial.Partial.{Partial}
