@@ -58,6 +58,13 @@ came_from marks first later order =
     let rest_past = rw past at rest in
     omega (arith, rest_past)
 
+-- they lie within a longer stretch, too
+pub came_within_longer : (marks : List Bool) (least reach low : ℕ) → low ≤ least → CameWithin marks least reach → CameWithin marks low reach
+came_within_longer marks least reach low order within = record {
+  none_before = omega (arith, within.none_before, came_before marks low least order);
+  none_from = within.none_from;
+}
+
 pub none_came : (marks : List Bool) (least reach : ℕ) → came_in marks ≡ 0 → CameWithin marks least reach
 none_came marks least reach none = record {
   none_before = omega (arith, sum_by-take-drop (λ mark. cond mark 1 0) marks least);
@@ -187,12 +194,12 @@ counted_covered marks offset end total came least reach before order within coun
 
 -- ---- none is set any more
 
-none_set : (marks : List Bool) → came_in marks ≡ 0 → marks ≡ replicate (length marks) false
+pub none_set : (marks : List Bool) → came_in marks ≡ 0 → marks ≡ replicate (length marks) false
 none_set [] none = refl
 none_set (false ∷ marks) none = ap (λ (rest : List Bool). false ∷ rest) (none_set marks (omega (arith, none, sum_by-cons (λ mark. cond mark 1 0) false marks)))
 none_set (true ∷ marks) none = absurd (omega (arith, none, sum_by-cons (λ mark. cond mark 1 0) true marks))
 
-none_off : (n : ℕ) → came_in (replicate n false) ≡ 0
+pub none_off : (n : ℕ) → came_in (replicate n false) ≡ 0
 none_off n = sum_by-replicate (λ mark. cond mark 1 0) n false ∙ omega arith
 
 -- without those of the stretch

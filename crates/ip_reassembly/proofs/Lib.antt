@@ -1,6 +1,7 @@
 pub mod Datagrams
 pub mod Latest
 pub mod Came
+pub mod Stretches
 pub mod Written
 pub mod Lists
 pub mod Stands

@@ -2,6 +2,7 @@ pub mod Held
 pub mod Came
 pub mod Covering
 pub mod Kept
+pub mod Stretch
 pub mod Answers
 pub mod Ends
 pub mod Apart

@@ -5,7 +5,8 @@ ghost use Rattle.es_base.specs.Fragments.{Piece, datagram_from};
 ghost use Rattle.es_base.specs.Udp.{head_of};
 ghost use Rattle.ip_reassembly.specs.Held.{Holds, written_at};
 
-use crate::cover::{are_covered, mark, unset, unset_all};
+use crate::cover::{are_covered, came_in, mark, unset, unset_all};
+use crate::stretch::{Stretch, placed};
 use es_base::Memory;
 use frame_reader::UDP_HEADER;
 use std::alloc::Global;
@@ -34,10 +35,11 @@ impl Model for Buffer {
     ghost use Rattle.es_base.specs.Limits.{longest_joined};
     ghost use Rattle.ip_reassembly.specs.Came.{came_in, CameWithin};
     ghost use Rattle.ip_reassembly.specs.Held.{Held};
+    ghost use Rattle.ip_reassembly.specs.Stretch.{held_of};
 
     ghost Value = { Held };
 
-    ghost view = { λ b. record { total = b.total; octets = b.octets.items; marks = b.marks.items } };
+    ghost view = { λ b. held_of b.total b.octets.items b.marks.items };
 
     ghost invariant = { λ b. (length b.octets.items ≡ longest_joined) × (length b.marks.items ≡ longest_joined) × (b.came ≡ came_in b.marks.items) × CameWithin b.marks.items b.least b.reach × (b.reach ≤ longest_joined) };
 }
@@ -72,6 +74,32 @@ impl Buffer {
             came: self.came,
             least: self.least,
             reach: self.reach,
+        })
+    }
+
+    /// A copy of what came, without the places before and after it.
+    pub(crate) fn stretch(&self, alloc: Global) -> Result<Stretch, Memory>
+        ensures { IfOk result (λ stretch. stretch ≡ self.now) }
+    {
+        let least = self.least.min(self.reach);
+        let octets = &self.octets[least..self.reach];
+        let marks = &self.marks[least..self.reach];
+        Stretch::copy_of(alloc, self.total, least, octets, marks)
+    }
+
+    /// A buffer in which came what a stretch has.
+    pub(crate) fn with(alloc: Global, stretch: &Stretch) -> Result<Buffer, Memory>
+        ensures { IfOk result (λ buffer. buffer ≡ stretch.now) }
+    {
+        let octets = placed(alloc, 0, stretch.least, &stretch.octets)?;
+        let marks = placed(alloc, false, stretch.least, &stretch.marks)?;
+        Ok(Buffer {
+            total: stretch.total,
+            octets,
+            marks,
+            came: came_in(&stretch.marks),
+            least: stretch.least,
+            reach: stretch.least + stretch.octets.len(),
         })
     }
 

@@ -72,7 +72,7 @@ fn came_between(marks: &[bool], offset: usize, end: usize, least: usize, reach: 
 
 /// How many of these marks are set. The sum has 16 bits and the loop no early end, so that the compiler makes
 /// vector code of it.
-fn came_in(marks: &[bool]) -> usize
+pub(crate) fn came_in(marks: &[bool]) -> usize
     requires { length marks.now ≤ longest_joined }
     ensures { result ≡ came_in marks.now }
 {

@@ -43,6 +43,7 @@ mod fragment;
 pub mod laws;
 mod partial;
 mod reassembly;
+mod stretch;
 mod waiting;
 
 pub use answer::{Offered, Preview};

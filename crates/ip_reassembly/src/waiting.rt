@@ -1,22 +1,43 @@
-//! The pieces that wait, without the buffers of reassembly that are spare.
+//! The pieces that wait, in no more memory than they take.
 ghost use Rattle.std.specs.Prelude.{◌≡◌, ◌≤◌, IfOk, IfSome, length};
 ghost use Rattle.ip_reassembly.specs.Waiting.{IsAt};
 
+use crate::buffer::Buffer;
 use crate::partial::Partial;
 use crate::reassembly::{MOST_PARTIALS, Reassembly};
+use crate::stretch::Stretch;
 use arrayvec::ArrayVec;
-use es_base::Memory;
+use es_base::{DatagramKey, Memory};
 use std::alloc::Global;
 use std::marker::Model;
 
-/// The pieces of datagrams that weren't complete, as a `Reassembly` had them. It keeps the buffers of the partial
-/// datagrams that stood, and no spare one: so a reassembly can begin with it, and no packet is offered to it.
+/// A partial datagram that waits: no piece joins it, so it keeps only what came. To a contract it is that partial
+/// datagram.
+#[derive(Drop)]
+struct WaitingDatagram {
+    /// What its pieces share.
+    key: DatagramKey,
+    /// When its first piece came, in microseconds.
+    begin: u64,
+    stretch: Stretch,
+}
+
+impl Model for WaitingDatagram {
+    ghost use Rattle.ip_reassembly.specs.declared.partial.Partial.{Partial};
+
+    ghost Value = { Partial };
+
+    ghost view = { λ d. record { key = d.key; begin = d.begin; buffer = d.stretch } };
+}
+
+/// The pieces of datagrams that weren't complete, as a `Reassembly` had them. It keeps the octets of the partial
+/// datagrams that stood, and no spare buffer: so a reassembly can begin with it, and no packet is offered to it.
 #[derive(Drop)]
 pub struct Waiting {
     /// The limit of time, in microseconds.
     limit: u64,
     /// In the order in which they began.
-    partials: Vec<Partial>,
+    partials: Vec<WaitingDatagram>,
 }
 
 impl Model for Waiting {
@@ -32,8 +53,8 @@ impl Model for Waiting {
 }
 
 impl Reassembly {
-    /// A copy of the pieces that wait. It takes memory for the buffers of the partial datagrams that stand. The only
-    /// error is that there wasn't so much.
+    /// A copy of the pieces that wait. It takes memory for the octets of the partial datagrams that stand, from the
+    /// first that came up to the last, and for their marks. The only error is that there wasn't so much.
     pub fn waiting(&self, alloc: Global) -> Result<Waiting, Memory>
         ensures { IfOk result (λ waiting. waiting ≡ self.now) }
     {
@@ -51,32 +72,58 @@ impl Waiting {
     pub fn begin(&self, alloc: Global) -> Result<Reassembly, Memory>
         ensures { IfOk result (λ reassembly. reassembly ≡ self.now) }
     {
-        let first = copy_or_spare(alloc, &self.partials, 0)?;
-        let second = copy_or_spare(alloc, &self.partials, 1)?;
-        let third = copy_or_spare(alloc, &self.partials, 2)?;
-        let fourth = copy_or_spare(alloc, &self.partials, 3)?;
+        let first = partial_or_spare(alloc, &self.partials, 0)?;
+        let second = partial_or_spare(alloc, &self.partials, 1)?;
+        let third = partial_or_spare(alloc, &self.partials, 2)?;
+        let fourth = partial_or_spare(alloc, &self.partials, 3)?;
         let four = ArrayVec::from([first, second, third, fourth]);
         Ok(Reassembly::of(self.limit, self.partials.len(), four))
     }
 }
 
 /// Copies of these, in their order.
-fn copies_of(alloc: Global, partials: &[Partial]) -> Result<Vec<Partial>, Memory>
+fn copies_of(alloc: Global, partials: &[Partial]) -> Result<Vec<WaitingDatagram>, Memory>
     ensures { IfOk result (λ copies. copies.items ≡ partials.now) }
 {
     let mut copies = Vec::with_capacity(alloc, partials.len())?;
     for partial in partials {
-        copies.push(partial.copy(alloc)?)?;
+        copies.push(copy_of(alloc, partial)?)?;
     }
     Ok(copies)
 }
 
-/// A copy of the one at a place, or a spare one if there is none.
-fn copy_or_spare(alloc: Global, partials: &[Partial], place: usize) -> Result<Partial, Memory>
-    ensures { IfOk result (λ partial. IsAt partials.now place partial) }
+fn copy_of(alloc: Global, partial: &Partial) -> Result<WaitingDatagram, Memory>
+    ensures { IfOk result (λ copy. copy ≡ partial.now) }
 {
-    match partials.get(place) {
-        Some(partial) => partial.copy(alloc),
+    let stretch = partial.buffer.stretch(alloc)?;
+    Ok(WaitingDatagram {
+        key: partial.key,
+        begin: partial.begin,
+        stretch,
+    })
+}
+
+/// The one at a place with a buffer of its own, or a spare one if there is none.
+fn partial_or_spare(
+    alloc: Global,
+    waiting: &[WaitingDatagram],
+    place: usize,
+) -> Result<Partial, Memory>
+    ensures { IfOk result (λ partial. IsAt waiting.now place partial) }
+{
+    match waiting.get(place) {
+        Some(datagram) => partial_of(alloc, datagram),
         None => Partial::spare(alloc),
     }
+}
+
+fn partial_of(alloc: Global, datagram: &WaitingDatagram) -> Result<Partial, Memory>
+    ensures { IfOk result (λ partial. partial ≡ datagram.now) }
+{
+    let buffer = Buffer::with(alloc, &datagram.stretch)?;
+    Ok(Partial {
+        key: datagram.key,
+        begin: datagram.begin,
+        buffer,
+    })
 }

@@ -8,8 +8,8 @@ use ip_reassembly::Waiting;
 use std::alloc::Global;
 use std::marker::Model;
 
-/// What is kept of events from which nothing goes on: all that a `Standing` keeps of them, without the buffers of
-/// reassembly in which no piece waits. To a contract it is that `Standing`.
+/// What is kept of events from which nothing goes on: all that a `Standing` keeps of them, but of the partial datagrams
+/// only what came, and no buffers. To a contract it is that `Standing`.
 #[derive(Drop)]
 pub struct Remains {
     checks: Checks,

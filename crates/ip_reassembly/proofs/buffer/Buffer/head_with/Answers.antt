@@ -1,6 +1,7 @@
 use Rattle.std.proofs.Common.{◌≡◌, ◌∙◌, sym, ◌<◌, ◌≤◌, ⊎_elim, slice_index, slice_set, arith}
 use Rattle.std.proofs.lemmas.Bool.{cases_lt}
 use Rattle.std.proofs.lemmas.Grind.{common_steps}
+use Rattle.ip_reassembly.proofs.Stretches.{all_held}
 use Rattle.ip_reassembly.proofs.Written.{read_with}
 use Rattle.ip_reassembly.proofs.Lists.{is_head}
 use Rattle.ip_reassembly.proofs.buffer.Buffer.head_with.Goals as goal
@@ -32,7 +33,7 @@ returns c =
     ⊎_elim
     (λ (inside : i < c.args.len).
     let written = c.loop-i.invariant.written i (omega arith) in
-    written ∙ rw (← offset, ← octets) (read_with _ pieces p d i holds made (omega arith)))
+    written ∙ rw (← offset, ← octets) (read_with _ pieces p d i (all_held c.self.inside.total c.self.inside.octets.items c.self.inside.marks.items pieces holds) made (omega arith)))
     (λ (past : c.args.len ≤ i).
     let none : slice_index d i ≡ 0 = grind (arith, common_steps) in
     c.loop-i.invariant.zeros i (omega arith) ∙ sym none)

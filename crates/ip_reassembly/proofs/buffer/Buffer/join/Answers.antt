@@ -1,6 +1,7 @@
 use Rattle.std.proofs.Common.{◌∙◌, ◌+◌, length, arith}
 use Rattle.std.proofs.lemmas.Grind.{common_steps}
 use Rattle.ip_reassembly.proofs.Came.{came_within_both}
+use Rattle.ip_reassembly.proofs.Stretches.{all_held, all_of, came_held}
 use Rattle.ip_reassembly.proofs.Written.{holds_one_more}
 use Rattle.ip_reassembly.proofs.buffer.Buffer.join.Goals as goal
 
@@ -14,4 +15,5 @@ invariant_of-self c =
 pub returns : goal.returns
 returns c =
     rw (← c.self.view_is, c.total_with-self-inside.ensures) (λ pieces time holds.
-    holds_one_more _ pieces _ _ _ holds (omega arith) c.write.ensures.places c.mark.ensures.marks)
+    came_held _ c.write.new.octets.items c.mark.new.marks.items _ (holds_one_more (all_of c.self.inside.total c.self.inside.octets.items c.self.inside.marks.items) pieces _ _ _
+    (all_held c.self.inside.total c.self.inside.octets.items c.self.inside.marks.items pieces holds) (omega arith) c.write.ensures.places c.mark.ensures.marks))

@@ -1,0 +1,23 @@
+-- A buffer without the places before and after all octets that came.
+use Rattle.std.specs.Prelude.{ℕ, ◌+◌, ◌-◌, Bool, true, false, List, [], ◌∷◌, ◌++◌, length, replicate, Option}
+use Rattle.es_base.specs.Limits.{longest_joined}
+use Rattle.ip_reassembly.specs.Held.{Held}
+
+-- the octets that came, by their marks, and zeros where none came
+abbrev pub came_of : List ℕ → List Bool → List ℕ
+came_of [] marks = []
+came_of (octet ∷ octets) [] = []
+came_of (octet ∷ octets) (true ∷ marks) = octet ∷ came_of octets marks
+came_of (octet ∷ octets) (false ∷ marks) = 0 ∷ came_of octets marks
+
+-- what is held, of all octets and marks of a buffer
+abbrev pub held_of : Option ℕ → List ℕ → List Bool → Held
+held_of total octets marks = record { total = total; octets = came_of octets marks; marks = marks }
+
+-- these from a least place on, with others before and after them up to the longest datagram
+abbrev pub placed : {T : Type 0} → T → ℕ → List T → List T
+placed other least xs = replicate least other ++ (xs ++ replicate (longest_joined - (least + length xs)) other)
+
+-- what is held, of the octets and marks from a least place on
+abbrev pub held_from : Option ℕ → ℕ → List ℕ → List Bool → Held
+held_from total least octets marks = record { total = total; octets = placed 0 least (came_of octets marks); marks = placed false least marks }

@@ -1,0 +1,75 @@
+//! What came of one datagram, in no more memory than it takes.
+ghost use Rattle.std.specs.Prelude.{◌≡◌, ◌+◌, ◌≤◌, length, IfOk};
+ghost use Rattle.es_base.specs.Limits.{longest_joined};
+ghost use Rattle.ip_reassembly.specs.Stretch.{held_from, placed};
+
+use crate::buffer::LONGEST_JOINED;
+use es_base::Memory;
+use std::alloc::Global;
+use std::marker::Model;
+
+/// What came of one datagram: the octets from the first that came up to the last, and which of them came.
+#[derive(Drop)]
+pub(crate) struct Stretch {
+    /// If the datagram ends, once a piece with no more to follow came.
+    pub(crate) total: Option<usize>,
+    /// The place of the first octet.
+    pub(crate) least: usize,
+    pub(crate) octets: Vec<u8>,
+    /// A mark for each octet: whether it came.
+    pub(crate) marks: Vec<bool>,
+}
+
+impl Model for Stretch {
+    ghost use Rattle.std.specs.Prelude.{◌≡◌, ◌+◌, ◌≤◌, length};
+    ghost use Rattle.es_base.specs.Limits.{longest_joined};
+    ghost use Rattle.ip_reassembly.specs.Held.{Held};
+    ghost use Rattle.ip_reassembly.specs.Stretch.{held_from};
+
+    ghost Value = { Held };
+
+    ghost view = { λ s. held_from s.total s.least s.octets.items s.marks.items };
+
+    ghost invariant = { λ s. (length s.octets.items ≡ length s.marks.items) × (s.least + length s.octets.items ≤ longest_joined) };
+}
+
+impl Stretch {
+    /// A copy of these octets, which begin at a place, and of their marks.
+    pub(crate) fn copy_of(
+        alloc: Global,
+        total: Option<usize>,
+        least: usize,
+        octets: &[u8],
+        marks: &[bool],
+    ) -> Result<Stretch, Memory>
+        requires marks { length octets.now ≡ length marks.now }
+        requires within { least + length octets.now ≤ longest_joined }
+        ensures { IfOk result (λ stretch. stretch ≡ held_from total least octets.now marks.now) }
+    {
+        let octets = Vec::from_slice(alloc, octets)?;
+        let marks = Vec::from_slice(alloc, marks)?;
+        Ok(Stretch {
+            total,
+            least,
+            octets,
+            marks,
+        })
+    }
+}
+
+/// As many places as the longest datagram has octets: these from a place on, and `other` in all others.
+pub(crate) fn placed<T: Copy>(
+    alloc: Global,
+    other: T,
+    least: usize,
+    some: &[T],
+) -> Result<Vec<T>, Memory>
+    requires { least + length some.now ≤ longest_joined }
+    ensures { IfOk result (λ all. all.items ≡ placed other least some.now) }
+{
+    let mut all = Vec::with_capacity(alloc, LONGEST_JOINED)?;
+    all.resize(least, other)?;
+    all.extend_from_slice(some)?;
+    all.resize(LONGEST_JOINED, other)?;
+    Ok(all)
+}
