@@ -9,7 +9,7 @@ use Rattle.es_base.specs.Fragments.{Piece}
 use Rattle.es_base.specs.Limits.{longest_joined}
 use Rattle.ip_reassembly.specs.Came.{came_in, CameWithin}
 use Rattle.ip_reassembly.specs.Held.{Held, Holds, held_at}
-use Rattle.ip_reassembly.specs.Stretch.{came_of, held_from, held_of, placed}
+use Rattle.ip_reassembly.specs.Stretch.{octets_marked, held_from, held_of, placed}
 use Rattle.ip_reassembly.proofs.Came.{none_off, none_set}
 
 -- ---- what is held, with whatever octets stand where none came
@@ -17,7 +17,7 @@ use Rattle.ip_reassembly.proofs.Came.{none_off, none_set}
 abbrev pub all_of : Option ℕ → List ℕ → List Bool → Held
 all_of total octets marks = record { total = total; octets = octets; marks = marks }
 
-came_at : (octets : List ℕ) (marks : List Bool) (i : ℕ) → slice_index_or marks i false ≡ true → slice_index (came_of octets marks) i ≡ slice_index octets i
+came_at : (octets : List ℕ) (marks : List Bool) (i : ℕ) → slice_index_or marks i false ≡ true → slice_index (octets_marked octets marks) i ≡ slice_index octets i
 came_at [] marks i on = refl
 came_at (octet ∷ octets) [] i on = absurd (false≢true on)
 came_at (octet ∷ octets) (true ∷ marks) zero on = refl
@@ -43,7 +43,7 @@ came_held total octets marks pieces holds = record {
 
 -- ---- in parts
 
-came_append : (a b : List ℕ) (c d : List Bool) → length a ≡ length c → came_of (a ++ b) (c ++ d) ≡ came_of a c ++ came_of b d
+came_append : (a b : List ℕ) (c d : List Bool) → length a ≡ length c → octets_marked (a ++ b) (c ++ d) ≡ octets_marked a c ++ octets_marked b d
 came_append [] b [] d long = refl
 came_append [] b (mark ∷ c) d long = absurd (omega (arith, long))
 came_append (octet ∷ a) b [] d long = absurd (omega (arith, long))
@@ -51,13 +51,13 @@ came_append (octet ∷ a) b (true ∷ c) d long = ap (λ (xs : List ℕ). octet 
 came_append (octet ∷ a) b (false ∷ c) d long = ap (λ (xs : List ℕ). 0 ∷ xs) (came_append a b c d (omega (arith, long)))
 
 -- where none came there are zeros
-came_none : (octets : List ℕ) (n : ℕ) → length octets ≡ n → came_of octets (replicate n false) ≡ replicate n 0
+came_none : (octets : List ℕ) (n : ℕ) → length octets ≡ n → octets_marked octets (replicate n false) ≡ replicate n 0
 came_none [] zero long = refl
 came_none [] (suc n) long = absurd (omega (arith, long))
 came_none (octet ∷ octets) zero long = absurd (omega (arith, long))
 came_none (octet ∷ octets) (suc n) long = ap (λ (xs : List ℕ). 0 ∷ xs) (came_none octets n (omega (arith, long)))
 
-pub came_long : (octets : List ℕ) (marks : List Bool) → length octets ≡ length marks → length (came_of octets marks) ≡ length octets
+pub came_long : (octets : List ℕ) (marks : List Bool) → length octets ≡ length marks → length (octets_marked octets marks) ≡ length octets
 came_long [] marks long = refl
 came_long (octet ∷ octets) [] long = absurd (omega (arith, long))
 came_long (octet ∷ octets) (true ∷ marks) long = ap suc (came_long octets marks (omega (arith, long)))
@@ -65,7 +65,7 @@ came_long (octet ∷ octets) (false ∷ marks) long = ap suc (came_long octets m
 
 -- octets that stand before and after those of a stretch, where none came
 pub came_placed : (front octets back : List ℕ) (marks : List Bool) (least rest : ℕ) → length front ≡ least → length back ≡ rest → length octets ≡ length marks
-    → came_of (front ++ (octets ++ back)) (replicate least false ++ (marks ++ replicate rest false)) ≡ replicate least 0 ++ (came_of octets marks ++ replicate rest 0)
+    → octets_marked (front ++ (octets ++ back)) (replicate least false ++ (marks ++ replicate rest false)) ≡ replicate least 0 ++ (octets_marked octets marks ++ replicate rest 0)
 came_placed front octets back marks least rest front_long back_long long =
     let off : length (replicate least false) ≡ least = grind (arith, common_steps) in
     came_append front (octets ++ back) (replicate least false) (marks ++ replicate rest false) (front_long ∙ sym off)
@@ -102,18 +102,18 @@ stretch_is total octets marks least reach long marks_long order within stretch =
     let back_long : length (drop reach octets) ≡ rest = grind (arith, common_steps) in
     let marks_is = marks_are marks least reach marks_long order within stretch in
     let came = came_long some some_marks same_long in
-    let octets_is : came_of octets marks ≡ replicate least 0 ++ (came_of some some_marks ++ replicate rest 0) =
-    ap (λ (xs : List ℕ). came_of xs marks) (in_parts octets least reach order)
-    ∙ ap (λ (ms : List Bool). came_of (take least octets ++ (some ++ drop reach octets)) ms) marks_is
+    let octets_is : octets_marked octets marks ≡ replicate least 0 ++ (octets_marked some some_marks ++ replicate rest 0) =
+    ap (λ (xs : List ℕ). octets_marked xs marks) (in_parts octets least reach order)
+    ∙ ap (λ (ms : List Bool). octets_marked (take least octets ++ (some ++ drop reach octets)) ms) marks_is
     ∙ came_placed (take least octets) some (drop reach octets) some_marks least rest front_long back_long same_long
     in
-    let after : longest_joined - (least + length (came_of some some_marks)) ≡ rest = omega (arith, came, some_long, order) in
+    let after : longest_joined - (least + length (octets_marked some some_marks)) ≡ rest = omega (arith, came, some_long, order) in
     let after_marks : longest_joined - (least + length some_marks) ≡ rest = omega (arith, same_long, some_long, order) in
     let held : List ℕ → List Bool → Held = λ octets marks. record { total = total; octets = octets; marks = marks } in
-    ap (λ (n : ℕ). held (replicate least 0 ++ (came_of some some_marks ++ replicate n 0)) (placed false least some_marks)) after
-    ∙ ap (λ (n : ℕ). held (replicate least 0 ++ (came_of some some_marks ++ replicate rest 0)) (replicate least false ++ (some_marks ++ replicate n false))) after_marks
+    ap (λ (n : ℕ). held (replicate least 0 ++ (octets_marked some some_marks ++ replicate n 0)) (placed false least some_marks)) after
+    ∙ ap (λ (n : ℕ). held (replicate least 0 ++ (octets_marked some some_marks ++ replicate rest 0)) (replicate least false ++ (some_marks ++ replicate n false))) after_marks
     ∙ ap (λ (xs : List ℕ). held xs (replicate least false ++ (some_marks ++ replicate rest false))) (sym octets_is)
-    ∙ ap (λ (ms : List Bool). held (came_of octets marks) ms) (sym marks_is)
+    ∙ ap (λ (ms : List Bool). held (octets_marked octets marks) ms) (sym marks_is)
 
 -- ---- a stretch in a buffer
 
@@ -164,8 +164,8 @@ placed_is total least octets marks long =
     let back_long : length back ≡ rest = grind (arith, common_steps) in
     let came = came_long octets marks long in
     let same_rest : longest_joined - (least + length octets) ≡ rest = omega (arith, long) in
-    let after : rest ≡ longest_joined - (least + length (came_of octets marks)) = omega (arith, came, long) in
+    let after : rest ≡ longest_joined - (least + length (octets_marked octets marks)) = omega (arith, came, long) in
     let held : List ℕ → Held = λ octets. record { total = total; octets = octets; marks = placed false least marks } in
-    ap (λ (n : ℕ). held (came_of (replicate least 0 ++ (octets ++ replicate n 0)) (placed false least marks))) same_rest
+    ap (λ (n : ℕ). held (octets_marked (replicate least 0 ++ (octets ++ replicate n 0)) (placed false least marks))) same_rest
     ∙ ap held (came_placed front octets back marks least rest front_long back_long long)
-    ∙ ap (λ (n : ℕ). held (replicate least 0 ++ (came_of octets marks ++ replicate n 0))) after
+    ∙ ap (λ (n : ℕ). held (replicate least 0 ++ (octets_marked octets marks ++ replicate n 0))) after

@@ -4,15 +4,15 @@ use Rattle.es_base.specs.Limits.{longest_joined}
 use Rattle.ip_reassembly.specs.Held.{Held}
 
 -- the octets that came, by their marks, and zeros where none came
-abbrev pub came_of : List ℕ → List Bool → List ℕ
-came_of [] marks = []
-came_of (octet ∷ octets) [] = []
-came_of (octet ∷ octets) (true ∷ marks) = octet ∷ came_of octets marks
-came_of (octet ∷ octets) (false ∷ marks) = 0 ∷ came_of octets marks
+abbrev pub octets_marked : List ℕ → List Bool → List ℕ
+octets_marked [] marks = []
+octets_marked (octet ∷ octets) [] = []
+octets_marked (octet ∷ octets) (true ∷ marks) = octet ∷ octets_marked octets marks
+octets_marked (octet ∷ octets) (false ∷ marks) = 0 ∷ octets_marked octets marks
 
 -- what is held, of all octets and marks of a buffer
 abbrev pub held_of : Option ℕ → List ℕ → List Bool → Held
-held_of total octets marks = record { total = total; octets = came_of octets marks; marks = marks }
+held_of total octets marks = record { total = total; octets = octets_marked octets marks; marks = marks }
 
 -- these from a least place on, with others before and after them up to the longest datagram
 abbrev pub placed : {T : Type 0} → T → ℕ → List T → List T
@@ -20,4 +20,4 @@ placed other least xs = replicate least other ++ (xs ++ replicate (longest_joine
 
 -- what is held, of the octets and marks from a least place on
 abbrev pub held_from : Option ℕ → ℕ → List ℕ → List Bool → Held
-held_from total least octets marks = record { total = total; octets = placed 0 least (came_of octets marks); marks = placed false least marks }
+held_from total least octets marks = record { total = total; octets = placed 0 least (octets_marked octets marks); marks = placed false least marks }

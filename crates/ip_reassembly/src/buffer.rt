@@ -24,9 +24,9 @@ pub struct Buffer {
     marks: Vec<bool>,
     /// How many octets came, each counted once: how many marks are set.
     came: usize,
-    /// The octets that came lie from this place on. 8200 if none came.
+    /// The pieces that came lie from this place on. 8200 in a buffer that begins again.
     least: usize,
-    /// The octets that came lie before this place. 0 if none came.
+    /// The pieces that came lie before this place. 0 in a buffer that begins again.
     reach: usize,
 }
 
@@ -88,7 +88,7 @@ impl Buffer {
     }
 
     /// A buffer in which came what a stretch has.
-    pub(crate) fn with(alloc: Global, stretch: &Stretch) -> Result<Buffer, Memory>
+    pub(crate) fn of(alloc: Global, stretch: &Stretch) -> Result<Buffer, Memory>
         ensures { IfOk result (λ buffer. buffer ≡ stretch.now) }
     {
         let octets = placed(alloc, 0, stretch.least, &stretch.octets)?;

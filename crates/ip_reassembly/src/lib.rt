@@ -1,5 +1,6 @@
 //! Reassembly of IPv4 datagrams (RFC 791 3.2): the fragments of up to four datagrams at one time are
-//! joined, in buffers that are taken at the start. Nothing here knows of frames or of virtual links.
+//! joined, in buffers that are taken at the start. Nothing here knows of frames or of virtual links. The pieces
+//! that wait can be kept apart, in no more memory than they take (`Waiting`).
 //!
 //! What is handed on is, octet by octet, the datagram of all pieces that came, in whatever order: it ends
 //! where the latest piece with no more to follow ends, and each octet is that of the latest piece that has

@@ -8,7 +8,7 @@ use es_base::Memory;
 use std::alloc::Global;
 use std::marker::Model;
 
-/// What came of one datagram: the octets from the first that came up to the last, and which of them came.
+/// What came of one datagram: the octets from its first piece up to its last, and which of them came.
 #[derive(Drop)]
 pub(crate) struct Stretch {
     /// If the datagram ends, once a piece with no more to follow came.

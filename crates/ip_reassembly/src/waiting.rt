@@ -53,8 +53,9 @@ impl Model for Waiting {
 }
 
 impl Reassembly {
-    /// A copy of the pieces that wait. It takes memory for the octets of the partial datagrams that stand, from the
-    /// first that came up to the last, and for their marks. The only error is that there wasn't so much.
+    /// A copy of the pieces that wait. It takes memory for a list of the partial datagrams that stand, and for the
+    /// octets of each, from its first piece up to its last, and their marks. The only error is that there wasn't so
+    /// much.
     pub fn waiting(&self, alloc: Global) -> Result<Waiting, Memory>
         ensures { IfOk result (λ waiting. waiting ≡ self.now) }
     {
@@ -120,7 +121,7 @@ fn partial_or_spare(
 fn partial_of(alloc: Global, datagram: &WaitingDatagram) -> Result<Partial, Memory>
     ensures { IfOk result (λ partial. partial ≡ datagram.now) }
 {
-    let buffer = Buffer::with(alloc, &datagram.stretch)?;
+    let buffer = Buffer::of(alloc, &datagram.stretch)?;
     Ok(Partial {
         key: datagram.key,
         begin: datagram.begin,

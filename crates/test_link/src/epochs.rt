@@ -146,12 +146,26 @@ fn fragments_around_an_epoch() -> [Step; 3] {
     ]
 }
 
-fn check_joined(rt: &(impl Abort + Wait), alloc: Global) {
+/// What came before the epoch begins at octet 16.
+fn last_fragment_before_an_epoch() -> [Step; 3] {
+    [
+        Packet((A, 1000, 1, Last, FragmentHeld)),
+        Epoch(0, 1),
+        Packet((A, 1100, 2, First, FOR_NAV)),
+    ]
+}
+
+fn check_joined_by(rt: &(impl Abort + Wait), alloc: Global, steps: &[Step]) {
     let (mut state, ends) = opened(rt, alloc, LINK);
     let mut taker = taker_of(rt, ends);
-    go(rt, alloc, &mut state, &fragments_around_an_epoch());
+    go(rt, alloc, &mut state, steps);
     check_delivered(rt, alloc, &state, NAV, &[(1100, JOINED_PAYLOAD)]);
     check_taken(rt, alloc, &mut taker, 1100, JOINED_PAYLOAD);
+}
+
+fn check_joined(rt: &(impl Abort + Wait), alloc: Global) {
+    check_joined_by(rt, alloc, &fragments_around_an_epoch());
+    check_joined_by(rt, alloc, &last_fragment_before_an_epoch());
 }
 
 #[test]

@@ -17,6 +17,11 @@ const OVER: [u8; 48] = [
     4, 4, 4, 4, 4, 4, 4, 4, 4, 4, 4, 4, 4, 4, 4, 4,
 ];
 
+/// The octets of a datagram that ends with piece 1, after piece 0.
+const BELOW: [u8; 24] = [
+    0, 0, 0, 0, 0, 0, 0, 0, 0, 0, 0, 0, 0, 0, 0, 0, 1, 1, 1, 1, 1, 1, 1, 1,
+];
+
 /// The piece that begins with block 4 ends the datagram.
 fn has_more(block: u16) -> bool {
     block != 4
@@ -60,4 +65,22 @@ fn pieces_that_do_not_overlap_are_joined_in_each_order(rt: HostRuntime) {
 #[test]
 fn pieces_may_overlap_what_came_from_both_sides(rt: HostRuntime) {
     check_order(&rt, rt.alloc(), &[2, 1, 3, 4], 0, &OVER);
+}
+
+/// Octets 16 to 31 come, and then 8 to 23, with which the datagram ends: as many came as it has, but not the first 8.
+fn check_end_below(rt: &impl Abort, alloc: Global) {
+    let mut reassembly = Reassembly::new(alloc, 50_000).expect(rt, "memory");
+    check_held(rt, &mut reassembly, &piece(2, true, &octets_from(2)));
+    check_held(rt, &mut reassembly, &piece(1, false, &octets_from(1)));
+    let octets = octets_from(0);
+    check_joined(
+        rt,
+        reassembly.offer(&piece(0, true, &octets), 1_000),
+        &BELOW,
+    );
+}
+
+#[test]
+fn octets_past_the_end_do_not_count_for_those_before_it(rt: HostRuntime) {
+    check_end_below(&rt, rt.alloc());
 }

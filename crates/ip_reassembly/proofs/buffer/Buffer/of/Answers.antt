@@ -3,7 +3,7 @@ use Rattle.std.proofs.lemmas.Grind.{common_steps}
 use Rattle.ip_reassembly.specs.Came.{came_in}
 use Rattle.ip_reassembly.specs.Stretch.{placed}
 use Rattle.ip_reassembly.proofs.Stretches.{placed_came, placed_is, placed_long, placed_within}
-use Rattle.ip_reassembly.proofs.buffer.Buffer.with.Goals as goal
+use Rattle.ip_reassembly.proofs.buffer.Buffer.of.Goals as goal
 
 pub invariant_of-result : goal.invariant_of-result
 invariant_of-result c =
