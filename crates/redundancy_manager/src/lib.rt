@@ -100,11 +100,7 @@ fn is_ahead(latest: u8, sequence_number: u8) -> bool
     } else if sequence_number == 0 {
         128 <= latest
     } else {
-        let distance = if latest <= sequence_number {
-            sequence_number - latest
-        } else {
-            255 - (latest - sequence_number)
-        };
+        let distance = (u16::from(sequence_number) + 255 - u16::from(latest)) % 255;
         1 <= distance && distance <= 127
     }
 }
