@@ -1,4 +1,3 @@
-pub mod Constant
 pub mod Found
 pub mod Heads
 pub mod Sums
