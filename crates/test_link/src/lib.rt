@@ -22,6 +22,8 @@ mod histories;
 #[cfg(test)]
 mod integrity;
 #[cfg(test)]
+mod kept;
+#[cfg(test)]
 mod many;
 #[cfg(test)]
 mod meetings;

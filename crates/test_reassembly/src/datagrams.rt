@@ -2,8 +2,8 @@
 use crate::steps::Fate::{Alone, Completed, Held, Joined};
 use crate::steps::{Step, check, check_copied};
 use test_inputs::fragments::PacketName::{
-    EndAt16, EndAt40, First, FirstAnew, FirstForPos, FirstOf21, Last, LastFrom24, LastTo19,
-    LastTo20, LongerLast, NoOctets, SevenOctets,
+    EndAt16, EndAt40, First, First3, First4, First5, First6, FirstAnew, FirstForPos, FirstOf21,
+    Last, LastFrom24, LastTo19, LastTo20, LongerLast, NoOctets, SevenOctets,
 };
 
 fn in_order() -> [Step; 2] {
@@ -140,6 +140,36 @@ fn a_copy_and_the_first_each_complete_a_datagram(rt: HostRuntime) {
         &[(First, 1000, Held)],
         &[(Last, 1100, Completed)],
     );
+}
+
+/// Four partial datagrams stand, the first of which ends with `Last`.
+fn four_that_stand() -> [Step; 4] {
+    [
+        (First, 1000, Held),
+        (First3, 1010, Held),
+        (First4, 1020, Held),
+        (First5, 1030, Held),
+    ]
+}
+
+/// With a fifth the first is given up, so that `Last` begins its datagram anew.
+fn after_four() -> [Step; 3] {
+    [
+        (First6, 1100, Held),
+        (Last, 1200, Held),
+        (First, 1300, Completed),
+    ]
+}
+
+#[test]
+fn a_copy_and_the_pieces_that_wait_stand_in_their_order(rt: HostRuntime) {
+    check_copied(&rt, rt.alloc(), &four_that_stand(), &after_four());
+}
+
+#[test]
+fn what_goes_on_from_nothing_is_as_new(rt: HostRuntime) {
+    let completed = [(First, 1000, Held), (Last, 1100, Completed)];
+    check_copied(&rt, rt.alloc(), &[], &completed);
 }
 
 #[test]

@@ -44,12 +44,16 @@ pub(crate) fn check(rt: &impl Abort, alloc: Global, steps: &[Step]) {
     check_steps(rt, alloc, &mut reassembly, steps);
 }
 
-/// A Reassembly is copied after the steps of `before`, and then it and its copy each do those of `after`.
+/// A Reassembly is copied after the steps of `before`, and another goes on from the pieces that wait then. It, its copy
+/// and that other each do the steps of `after`.
 pub(crate) fn check_copied(rt: &impl Abort, alloc: Global, before: &[Step], after: &[Step]) {
     let mut first = Reassembly::new(alloc, LIMIT).expect(rt, "memory");
     check_steps(rt, alloc, &mut first, before);
     let mut copy = first.copy(alloc).expect(rt, "memory");
+    let waiting = first.waiting(alloc).expect(rt, "memory");
+    let mut other = waiting.begin(alloc).expect(rt, "memory");
     check_steps(rt, alloc, &mut copy, after);
+    check_steps(rt, alloc, &mut other, after);
     check_steps(rt, alloc, &mut first, after);
 }
 
