@@ -1,218 +1,216 @@
--- How many marks are set: after a piece more, where none came, and where too few are for its datagram.
-use Rattle.std.proofs.Common.{◌≡◌, ◌∙◌, ap, sym, ◌==◌, ◌⊎◌, ℕ, zero, suc, ◌+◌, ◌-◌, ◌<◌, ◌≤◌, ⊎_elim, inl, inr, Bool, true, false, cond, List, [], ◌∷◌, ◌++◌, append_assoc, length, take, drop, replicate, slice_index_or, refl, arith}
-use Rattle.std.proofs.lemmas.Bool.{cases_eq, cases_lt, eq-eqb, false≢true, ne_eqb}
-use Rattle.std.proofs.lemmas.List.{take-take, drop-drop}
-use Rattle.std.proofs.lemmas.List.Folds.{sum_by-replicate}
-use Rattle.std.proofs.lemmas.List.Sums.{count_by-le-length, sum_by-append, sum_by-cons, sum_by-take-drop, sum_by-take-le}
-use Rattle.std.proofs.lemmas.Slice.{drop-append-drop}
+-- Where octets came: after a piece more, where none came, and whether a datagram's octets all came.
+use Rattle.std.proofs.Common.{◌≡◌, ◌∙◌, ap, sym, ◌⊎◌, ℕ, zero, suc, ◌+◌, ◌-◌, ◌<◌, ◌≤◌, ◌==◌, ⊎_elim, inl, inr, Bool, true, false, List, [], ◌∷◌, ◌++◌, length, take, drop, replicate, slice_index_or, min, refl, arith, if◌then◌else◌}
+use Rattle.std.proofs.lemmas.Bool.{cases_Bool, cases_lt, eq-eqb, eqb-true, false≢true}
+use Rattle.std.proofs.lemmas.List.{replicate-append-replicate, take-append-drop}
 use Rattle.std.proofs.lemmas.Grind.{common_steps}
-use Rattle.ip_reassembly.specs.Came.{came_in, CameWithin}
+use Rattle.es_base.specs.Limits.{longest_joined}
+use Rattle.ip_reassembly.specs.declared.runs.Runs.{Runs}
 use Rattle.ip_reassembly.specs.Covering.{AreCovered}
+use Rattle.ip_reassembly.specs.Runs.{AreRuns, CameWithin, IsRun, with_marks}
 
-all_came : (n : ℕ) → came_in (replicate n true) ≡ n
-all_came n = sum_by-replicate (λ mark. cond mark 1 0) n true ∙ omega arith
+-- ---- a mark with those of a piece
 
-came_within : (marks : List Bool) → came_in marks ≤ length marks
-came_within marks = count_by-le-length (λ mark. mark) marks
+set_in : (marks : List Bool) (offset end i : ℕ) → end ≤ length marks → offset ≤ i → i < end → slice_index_or (with_marks marks offset end) i false ≡ true
+set_in marks offset end i within above below = grind (arith, common_steps)
 
--- ---- the marks of a piece, and those around it
+pub kept_before : (marks : List Bool) (offset end i : ℕ) → offset ≤ end → end ≤ length marks → i < offset → slice_index_or (with_marks marks offset end) i false ≡ slice_index_or marks i false
+kept_before marks offset end i order within before = grind (arith, common_steps)
 
-parts_came : (marks : List Bool) (offset end : ℕ) → offset ≤ end
-    → came_in marks ≡ came_in (take offset marks) + (came_in (take (end - offset) (drop offset marks)) + came_in (drop end marks))
-parts_came marks offset end order =
-    let whole = sum_by-take-drop (λ mark. cond mark 1 0) marks offset in
-    let rest = sum_by-take-drop (λ mark. cond mark 1 0) (drop offset marks) (end - offset) in
-    let sum : offset + (end - offset) ≡ end = omega arith in
-    let past = rw sum at (drop-drop (end - offset) offset marks) in
-    let rest_past = rw past at rest in
-    omega (arith, whole, rest_past)
+pub kept_past : (marks : List Bool) (offset end i : ℕ) → offset ≤ end → end ≤ length marks → end ≤ i → slice_index_or (with_marks marks offset end) i false ≡ slice_index_or marks i false
+kept_past marks offset end i order within past = grind (arith, common_steps)
 
--- these marks, with those of a piece set
-abbrev with_marks : List Bool → ℕ → ℕ → List Bool
-with_marks marks offset end = take offset marks ++ (replicate (end - offset) true ++ drop end marks)
+-- a mark is set if it was or is the piece's
+set_after : (marks : List Bool) (offset end i : ℕ) → offset ≤ end → end ≤ length marks → ((offset ≤ i) × (i < end)) ⊎ (slice_index_or marks i false ≡ true)
+    → slice_index_or (with_marks marks offset end) i false ≡ true
+set_after marks offset end i order within (inl (above, below)) = set_in marks offset end i within above below
+set_after marks offset end i order within (inr on) =
+    ⊎_elim
+    (λ (before : i < offset). kept_before marks offset end i order within before ∙ on)
+    (λ (above : offset ≤ i).
+    ⊎_elim
+    (λ (below : i < end). set_in marks offset end i within above below)
+    (λ (past : end ≤ i). kept_past marks offset end i order within past ∙ on)
+    (cases_lt i end))
+    (cases_lt i offset)
 
-with_piece_came : (marks : List Bool) (offset end : ℕ) → came_in (with_marks marks offset end) ≡ came_in (take offset marks) + ((end - offset) + came_in (drop end marks))
-with_piece_came marks offset end =
-    let front = sum_by-append (λ mark. cond mark 1 0) (take offset marks) (replicate (end - offset) true ++ drop end marks) in
-    let back = sum_by-append (λ mark. cond mark 1 0) (replicate (end - offset) true) (drop end marks) in
-    omega (arith, front, back, all_came (end - offset))
+run_after : (marks : List Bool) (offset end from to : ℕ) → offset ≤ end → end ≤ length marks
+    → ((i : ℕ) → from ≤ i → i < to → ((offset ≤ i) × (i < end)) ⊎ (slice_index_or marks i false ≡ true)) → IsRun (with_marks marks offset end) from to
+run_after marks offset end from to order within each = λ i above below. set_after marks offset end i order within (each i above below)
 
--- as many more came as weren't set before
-pub more_came : (old new : List Bool) (offset end before : ℕ) → offset ≤ end → end ≤ length old → new ≡ with_marks old offset end
-    → before ≡ came_in (take (end - offset) (drop offset old)) → came_in old + (end - offset - before) ≡ came_in new
-more_came old new offset end before order within is counted =
-    let long : length (take (end - offset) (drop offset old)) ≡ end - offset = grind (arith, common_steps) in
-    rw is (omega (arith, parts_came old offset end order, with_piece_came old offset end, came_within (take (end - offset) (drop offset old))))
+-- no piece
+pub no_piece : (marks : List Bool) (offset : ℕ) → with_marks marks offset offset ≡ marks
+no_piece marks offset =
+    let none : offset - offset ≡ 0 = omega arith in
+    rw none (take-append-drop offset marks)
+
+-- ---- the first run
+
+-- the lower of two places
+pub lower_of : (a b : ℕ) → (a ≤ min a b) ⊎ (b ≤ min a b)
+lower_of a b = ⊎_elim (λ (less : a < b). inl (omega arith)) (λ (above : b ≤ a). inr (omega arith)) (cases_lt a b)
+
+pub first_that_goes_on : (marks : List Bool) (offset end least gap low to : ℕ) → offset ≤ end → end ≤ length marks → IsRun marks least gap → (least ≤ low) ⊎ (offset ≤ low)
+    → offset ≤ gap → IsRun marks end to → IsRun (with_marks marks offset end) low to
+first_that_goes_on marks offset end least gap low to order within first low_is near rest =
+    run_after marks offset end low to order within (λ i from below.
+    ⊎_elim
+    (λ (before : i < end).
+    ⊎_elim
+    (λ (early : i < offset).
+    ⊎_elim
+    (λ (l : least ≤ low). inr (first i (omega arith) (omega arith)))
+    (λ (o : offset ≤ low). absurd (omega arith))
+    low_is)
+    (λ (above : offset ≤ i). inl (above, before))
+    (cases_lt i offset))
+    (λ (past : end ≤ i). inr (rest i past below))
+    (cases_lt i end))
+
+-- ---- a run in parts
+
+pub run_goes_on : (marks : List Bool) (from place n m : ℕ) → n ≤ m → IsRun marks from place → ((i : ℕ) → i < n → slice_index_or (take m (drop place marks)) i false ≡ true)
+    → IsRun marks from (place + n)
+run_goes_on marks from place n m most run part = λ i above below.
+    ⊎_elim
+    (λ (before : i < place). run i above before)
+    (λ (past : place ≤ i).
+    let inside : i - place < m = omega (arith, most, below, past) in
+    let same : slice_index_or (take m (drop place marks)) (i - place) false ≡ slice_index_or marks i false = grind (arith, common_steps) in
+    sym same ∙ part (i - place) (omega arith))
+    (cases_lt i place)
 
 -- ---- where none came
 
--- fewer of the first marks, and fewer of the last
-came_before : (marks : List Bool) (fewer more : ℕ) → fewer ≤ more → came_in (take fewer marks) ≤ came_in (take more marks)
-came_before marks fewer more order = rw take-take at (sum_by-take-le (λ mark. cond mark 1 0) (take more marks) fewer)
-
-came_from : (marks : List Bool) (first later : ℕ) → first ≤ later → came_in (drop later marks) ≤ came_in (drop first marks)
-came_from marks first later order =
-    let rest = sum_by-take-drop (λ mark. cond mark 1 0) (drop first marks) (later - first) in
-    let sum : first + (later - first) ≡ later = omega arith in
-    let past = rw sum at (drop-drop (later - first) first marks) in
-    let rest_past = rw past at rest in
-    omega (arith, rest_past)
+-- with a piece more, those that are set lie within any stretch that has both
+pub came_within_both : (marks : List Bool) (offset end least reach low high : ℕ) → offset ≤ end → end ≤ length marks → CameWithin marks least reach
+    → low ≤ least → low ≤ offset → reach ≤ high → end ≤ high → CameWithin (with_marks marks offset end) low high
+came_within_both marks offset end least reach low high order inside within low_least low_piece high_reach high_piece = record {
+  none_before = λ i less. kept_before marks offset end i order inside (omega arith) ∙ within.none_before i (omega arith);
+  none_from = λ i above. kept_past marks offset end i order inside (omega arith) ∙ within.none_from i (omega arith);
+}
 
 -- they lie within a longer stretch, too
 pub came_within_longer : (marks : List Bool) (least reach low : ℕ) → low ≤ least → CameWithin marks least reach → CameWithin marks low reach
 came_within_longer marks least reach low order within = record {
-  none_before = omega (arith, within.none_before, came_before marks low least order);
+  none_before = λ i less. within.none_before i (omega arith);
   none_from = within.none_from;
 }
 
-pub none_came : (marks : List Bool) (least reach : ℕ) → came_in marks ≡ 0 → CameWithin marks least reach
-none_came marks least reach none = record {
-  none_before = omega (arith, sum_by-take-drop (λ mark. cond mark 1 0) marks least);
-  none_from = omega (arith, sum_by-take-drop (λ mark. cond mark 1 0) marks reach);
+off : (n i : ℕ) → slice_index_or (replicate n false) i false ≡ false
+off n i = grind (arith, common_steps)
+
+pub no_runs : (n least : ℕ) → least ≤ longest_joined → AreRuns (replicate n false) (record { least = least; gap = least; last = 0; reach = 0 })
+no_runs n least bound = record {
+  within = record {
+    none_before = λ i less. off n i;
+    none_from = λ i above. off n i;
+  };
+  first = λ i above below. absurd (omega arith);
+  gap = off n least;
+  last = λ i above below. absurd (omega arith);
+  order = omega arith;
+  gap_bound = bound;
+  reach_bound = omega arith;
 }
-
--- none of a piece that ends where none came yet
-pub none_of_an_earlier : (marks : List Bool) (offset end least reach : ℕ) → offset ≤ end → CameWithin marks least reach → end ≤ least
-    → came_in (take (end - offset) (drop offset marks)) ≡ 0
-none_of_an_earlier marks offset end least reach order within before =
-    omega (arith, within.none_before, parts_came marks offset end order, sum_by-take-drop (λ mark. cond mark 1 0) marks end, came_before marks end least before)
-
--- none of a piece that begins where none came yet
-pub none_of_a_later : (marks : List Bool) (offset end least reach : ℕ) → offset ≤ end → CameWithin marks least reach → reach ≤ offset
-    → came_in (take (end - offset) (drop offset marks)) ≡ 0
-none_of_a_later marks offset end least reach order within after =
-    omega (arith, within.none_from, parts_came marks offset end order, sum_by-take-drop (λ mark. cond mark 1 0) marks offset, came_from marks reach offset after)
-
--- with a piece more, those that are set lie within any stretch that has both
-pub came_within_both : (old new : List Bool) (offset end least reach low high : ℕ) → offset ≤ end → end ≤ length old → new ≡ with_marks old offset end → CameWithin old least reach
-    → low ≤ least → low ≤ offset → reach ≤ high → end ≤ high → CameWithin new low high
-came_within_both old new offset end least reach low high order inside is within low_least low_piece high_reach high_piece =
-    let first : take low (with_marks old offset end) ≡ take low old = grind (arith, common_steps) in
-    let front : length (take offset old ++ replicate (end - offset) true) ≡ end = grind (arith, common_steps) in
-    let last : drop high (with_marks old offset end) ≡ drop high old = rw (← append_assoc) (drop-append-drop end old (take offset old ++ replicate (end - offset) true) high high_piece front) in
-    rw is (record {
-      none_before = rw first (omega (arith, within.none_before, came_before old low least low_least));
-      none_from = rw last (omega (arith, within.none_from, came_from old reach high high_reach));
-    })
-
--- ---- too few came
-
--- where fewer marks are set than there are places below the total, one of these isn't set
-first_gap : (marks : List Bool) (total : ℕ) → came_in marks < total → (i : ℕ) × (i < total) × (slice_index_or marks i false ≡ false)
-first_gap [] total few = (0, omega arith, refl)
-first_gap (mark ∷ marks) zero few = absurd (omega arith)
-first_gap (false ∷ marks) (suc total) few = (0, omega arith, refl)
-first_gap (true ∷ marks) (suc total) few =
-    let more = sum_by-cons (λ mark. cond mark 1 0) true marks in
-    let (i, below, off) = first_gap marks total (omega (arith, more)) in
-    (suc i, omega arith, off)
-
-outside : (marks : List Bool) (offset end total i : ℕ) → offset ≤ end → end ≤ length marks → i < total → slice_index_or (with_marks marks offset end) i false ≡ false
-    → AreCovered marks offset end total false
-outside marks offset end total i order within below off =
-    ⊎_elim
-    (λ (before : i < offset).
-    let same : slice_index_or (with_marks marks offset end) i false ≡ slice_index_or marks i false = grind (arith, common_steps) in
-    (i, below, sym same ∙ off, inl before))
-    (λ (above : offset ≤ i).
-    ⊎_elim
-    (λ (inside : i < end).
-    let on : slice_index_or (with_marks marks offset end) i false ≡ true = grind (arith, common_steps) in
-    absurd (false≢true (sym off ∙ on)))
-    (λ (past : end ≤ i).
-    let same : slice_index_or (with_marks marks offset end) i false ≡ slice_index_or marks i false = grind (arith, common_steps) in
-    (i, below, sym same ∙ off, inr past))
-    (cases_lt i end))
-    (cases_lt i offset)
-
-pub too_few : (marks : List Bool) (offset len total : ℕ) → offset + len ≤ length marks → came_in marks + len < total → AreCovered marks offset (offset + len) total false
-too_few marks offset len total within few =
-    let sum : (offset + len) - offset ≡ len = omega arith in
-    let fewer : came_in (with_marks marks offset (offset + len)) < total =
-    omega (arith, parts_came marks offset (offset + len) (omega arith), with_piece_came marks offset (offset + len))
-    in
-    let (i, below, off) = first_gap (with_marks marks offset (offset + len)) total fewer in
-    outside marks offset (offset + len) total i (omega arith) within below off
-
--- ---- as many came as there are octets
-
-fewer : (n : ℕ) (marks : List Bool) → length (take n marks) ≤ n
-fewer n marks = grind (arith, common_steps)
-
--- where as many of the first marks are set as there are, each of them is
-each_set : (marks : List Bool) (total : ℕ) → total ≤ came_in (take total marks) → (i : ℕ) → i < total → slice_index_or marks i false ≡ true
-each_set marks zero full i below = absurd (omega (arith, below))
-each_set [] (suc total) full i below = absurd (omega (arith, full))
-each_set (true ∷ marks) (suc total) full zero below = refl
-each_set (true ∷ marks) (suc total) full (suc i) below =
-    each_set marks total (omega (arith, full, sum_by-cons (λ mark. cond mark 1 0) true (take total marks))) i (omega (arith, below))
-each_set (false ∷ marks) (suc total) full i below =
-    absurd (omega (arith, full, sum_by-cons (λ mark. cond mark 1 0) false (take total marks), came_within (take total marks), fewer total marks))
-
-inside : (marks : List Bool) (offset end total i : ℕ) → offset ≤ end → end ≤ length marks → slice_index_or (with_marks marks offset end) i false ≡ true
-    → (slice_index_or marks i false ≡ true) ⊎ ((offset ≤ i) × (i < end))
-inside marks offset end total i order within on =
-    ⊎_elim
-    (λ (before : i < offset).
-    let same : slice_index_or (with_marks marks offset end) i false ≡ slice_index_or marks i false = grind (arith, common_steps) in
-    inl (sym same ∙ on))
-    (λ (above : offset ≤ i).
-    ⊎_elim
-    (λ (in_piece : i < end). inr (above, in_piece))
-    (λ (past : end ≤ i).
-    let same : slice_index_or (with_marks marks offset end) i false ≡ slice_index_or marks i false = grind (arith, common_steps) in
-    inl (sym same ∙ on))
-    (cases_lt i end))
-    (cases_lt i offset)
-
--- none is set past the total, neither before the piece nor of it; so as many are set as of those below the total
-below_total : (marks : List Bool) (offset end total least reach before : ℕ) → offset ≤ end → end ≤ length marks → CameWithin marks least reach
-    → end ≤ total → reach ≤ total → before ≡ came_in (take (end - offset) (drop offset marks))
-    → came_in marks + (end - offset) ≡ came_in (take total (with_marks marks offset end)) + before
-below_total marks offset end total least reach before order within stretch end_low reach_low counted =
-    let past = came_within_both marks (with_marks marks offset end) offset end least reach 0 total order within refl stretch (omega arith) (omega arith) reach_low end_low in
-    omega (arith, counted, past.none_from, parts_came marks offset end order, with_piece_came marks offset end, sum_by-take-drop (λ mark. cond mark 1 0) (with_marks marks offset end) total)
-
--- where none is set past the total, the octets below it came if as many came as there are
-pub counted_covered : (marks : List Bool) (offset end total came least reach before : ℕ) → offset ≤ end → end ≤ length marks → came ≡ came_in marks → CameWithin marks least reach
-    → end ≤ total → reach ≤ total → before ≡ came_in (take (end - offset) (drop offset marks)) → AreCovered marks offset end total (came + (end - offset) == total + before)
-counted_covered marks offset end total came least reach before order within count stretch end_low reach_low counted =
-    let many = below_total marks offset end total least reach before order within stretch end_low reach_low counted in
-    let most = came_within (take total (with_marks marks offset end)) in
-    let short = fewer total (with_marks marks offset end) in
-    ⊎_elim
-    (λ (same : came + (end - offset) ≡ total + before).
-    rw (eq-eqb (came + (end - offset)) (total + before) same) (λ i below.
-    inside marks offset end total i order within (each_set (with_marks marks offset end) total (omega (arith, many, count, same)) i below)))
-    (λ (differ : came + (end - offset) ≡ total + before → ⊥).
-    let past = came_within_both marks (with_marks marks offset end) offset end least reach 0 total order within refl stretch (omega arith) (omega arith) reach_low end_low in
-    let few : came_in (with_marks marks offset end) < total =
-    omega (arith, differ, many, count, most, short, past.none_from, sum_by-take-drop (λ mark. cond mark 1 0) (with_marks marks offset end) total) in
-    let gap = first_gap (with_marks marks offset end) total few in
-    rw (ne_eqb (came + (end - offset)) (total + before) differ) (outside marks offset end total gap.0 order within gap.1 gap.2))
-    (cases_eq (came + (end - offset)) (total + before))
 
 -- ---- none is set any more
 
-pub none_set : (marks : List Bool) → came_in marks ≡ 0 → marks ≡ replicate (length marks) false
-none_set [] none = refl
-none_set (false ∷ marks) none = ap (λ (rest : List Bool). false ∷ rest) (none_set marks (omega (arith, none, sum_by-cons (λ mark. cond mark 1 0) false marks)))
-none_set (true ∷ marks) none = absurd (omega (arith, none, sum_by-cons (λ mark. cond mark 1 0) true marks))
+-- none of the first marks, if none of them is set
+pub none_first : (marks : List Bool) (n : ℕ) → n ≤ length marks → ((i : ℕ) → i < n → slice_index_or marks i false ≡ false) → take n marks ≡ replicate n false
+none_first marks zero within none = refl
+none_first [] (suc n) within none = absurd (omega (arith, within))
+none_first (mark ∷ marks) (suc n) within none =
+    let off : mark ≡ false = none 0 (omega arith) in
+    rw off (ap (λ (rest : List Bool). false ∷ rest) (none_first marks n (omega (arith, within)) (λ i less. none (suc i) (omega arith))))
 
-pub none_off : (n : ℕ) → came_in (replicate n false) ≡ 0
-none_off n = sum_by-replicate (λ mark. cond mark 1 0) n false ∙ omega arith
+pub none_last : (marks : List Bool) (n : ℕ) → ((i : ℕ) → n ≤ i → slice_index_or marks i false ≡ false) → drop n marks ≡ replicate (length marks - n) false
+none_last [] n none = grind (arith, common_steps)
+none_last (mark ∷ marks) zero none =
+    let off : mark ≡ false = none 0 (omega arith) in
+    let rest = none_last marks 0 (λ i above. none (suc i) (omega arith)) in
+    let long : length (mark ∷ marks) - 0 ≡ suc (length marks - 0) = omega arith in
+    rw (long, off) (ap (λ (ms : List Bool). false ∷ ms) rest)
+none_last (mark ∷ marks) (suc n) none =
+    let rest = none_last marks n (λ i above. none (suc i) (omega arith)) in
+    let long : length (mark ∷ marks) - suc n ≡ length marks - n = omega arith in
+    rw long rest
+
+in_three : (a b c n : ℕ) → a + (b + c) ≡ n → replicate a false ++ (replicate b false ++ replicate c false) ≡ replicate n false
+in_three a b c n sum = rw (replicate-append-replicate, replicate-append-replicate, sum) refl
 
 -- without those of the stretch
 pub unset_within : (marks : List Bool) (least reach : ℕ) → least ≤ reach → reach ≤ length marks → CameWithin marks least reach
     → take least marks ++ (replicate (reach - least) false ++ drop reach marks) ≡ replicate (length marks) false
 unset_within marks least reach order within stretch =
-    let front = sum_by-append (λ mark. cond mark 1 0) (take least marks) (replicate (reach - least) false ++ drop reach marks) in
-    let back = sum_by-append (λ mark. cond mark 1 0) (replicate (reach - least) false) (drop reach marks) in
-    let none = none_set (take least marks ++ (replicate (reach - least) false ++ drop reach marks)) (omega (arith, front, back, none_off (reach - least), stretch.none_before, stretch.none_from)) in
-    let long : length (take least marks ++ (replicate (reach - least) false ++ drop reach marks)) ≡ length marks = grind (arith, common_steps) in
-    none ∙ rw long refl
+    let front = none_first marks least (omega arith) stretch.none_before in
+    let back = none_last marks reach stretch.none_from in
+    rw (front, back) (in_three least (reach - least) (length marks - reach) (length marks) (omega arith))
 
 -- a stretch without an octet
 pub none_within : (marks : List Bool) (least reach : ℕ) → reach ≤ least → CameWithin marks least reach → marks ≡ replicate (length marks) false
 none_within marks least reach order stretch =
-    none_set marks (omega (arith, stretch.none_before, stretch.none_from, came_from marks reach least order, sum_by-take-drop (λ mark. cond mark 1 0) marks least))
+    let long : length marks - 0 ≡ length marks = omega arith in
+    rw long at (none_last marks 0 (λ i above.
+    ⊎_elim
+    (λ (before : i < least). stretch.none_before i before)
+    (λ (past : least ≤ i). stretch.none_from i (omega arith))
+    (cases_lt i least)))
+
+-- ---- whether all came
+
+inside : (marks : List Bool) (offset end i : ℕ) → offset ≤ end → end ≤ length marks → slice_index_or (with_marks marks offset end) i false ≡ true
+    → (slice_index_or marks i false ≡ true) ⊎ ((offset ≤ i) × (i < end))
+inside marks offset end i order within on =
+    ⊎_elim
+    (λ (before : i < offset). inl (sym (kept_before marks offset end i order within before) ∙ on))
+    (λ (above : offset ≤ i).
+    ⊎_elim
+    (λ (in_piece : i < end). inr (above, in_piece))
+    (λ (past : end ≤ i). inl (sym (kept_past marks offset end i order within past) ∙ on))
+    (cases_lt i end))
+    (cases_lt i offset)
+
+outside : (marks : List Bool) (offset end total i : ℕ) → offset ≤ end → end ≤ length marks → i < total → slice_index_or (with_marks marks offset end) i false ≡ false
+    → AreCovered marks offset end total false
+outside marks offset end total i order within below gap =
+    ⊎_elim
+    (λ (before : i < offset). (i, below, sym (kept_before marks offset end i order within before) ∙ gap, inl before))
+    (λ (above : offset ≤ i).
+    ⊎_elim
+    (λ (in_piece : i < end). absurd (false≢true (sym gap ∙ set_in marks offset end i within above in_piece)))
+    (λ (past : end ≤ i). (i, below, sym (kept_past marks offset end i order within past) ∙ gap, inr past))
+    (cases_lt i end))
+    (cases_lt i offset)
+
+-- the first octet that didn't come
+abbrev pub first_missing : Runs → ℕ
+first_missing runs = if runs.least == 0 then runs.gap else 0
+
+missing_is : (marks : List Bool) (runs : Runs) → AreRuns marks runs
+    → IsRun marks 0 (first_missing runs) × (slice_index_or marks (first_missing runs) false ≡ false)
+missing_is marks runs are =
+    ⊎_elim
+    (λ (is : (runs.least == 0) ≡ true).
+    let low : runs.least ≡ 0 = eqb-true _ _ is in
+    rw is (rw low at are.first, are.gap))
+    (λ (other : (runs.least == 0) ≡ false).
+    let high : 0 < runs.least =
+    ⊎_elim
+    (λ (below : 0 < runs.least). below)
+    (λ (none : runs.least ≤ 0). absurd (false≢true (sym other ∙ eq-eqb runs.least 0 (omega arith))))
+    (cases_lt 0 runs.least)
+    in
+    rw other ((λ i above below. absurd (omega arith)), are.within.none_before 0 high))
+    (cases_Bool (runs.least == 0))
+
+pub all_covered : (marks : List Bool) (offset end total : ℕ) (runs : Runs) → offset ≤ end → end ≤ length marks → AreRuns (with_marks marks offset end) runs → total ≤ first_missing runs
+    → AreCovered marks offset end total true
+all_covered marks offset end total runs order within are enough =
+    let found = missing_is (with_marks marks offset end) runs are in
+    λ i below. inside marks offset end i order within (found.0 i (omega arith) (omega (arith, below, enough)))
+
+pub not_covered : (marks : List Bool) (offset end total : ℕ) (runs : Runs) → offset ≤ end → end ≤ length marks → AreRuns (with_marks marks offset end) runs → first_missing runs < total
+    → AreCovered marks offset end total false
+not_covered marks offset end total runs order within are short =
+    let found = missing_is (with_marks marks offset end) runs are in
+    outside marks offset end total (first_missing runs) order within short found.1

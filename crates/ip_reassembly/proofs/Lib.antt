@@ -4,6 +4,7 @@ pub mod Came
 pub mod Stretches
 pub mod Written
 pub mod Lists
+pub mod Four
 pub mod Stands
 pub mod Fates
 pub mod Apartness

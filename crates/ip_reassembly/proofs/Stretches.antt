@@ -1,16 +1,14 @@
 -- What is held of a buffer's octets, by their marks, all of them or those of a stretch.
-use Rattle.std.proofs.Common.{◌≡◌, ◌∙◌, ap, sym, ℕ, zero, suc, ◌+◌, ◌-◌, ◌≤◌, Bool, true, false, cond, List, [], ◌∷◌, ◌++◌, append_assoc, length, take, drop, replicate, slice_index, slice_index_or, Option, refl, arith}
-use Rattle.std.proofs.Math.Seq.{drop-append_seam}
+use Rattle.std.proofs.Common.{◌≡◌, ◌∙◌, ap, sym, ℕ, zero, suc, ◌+◌, ◌-◌, ◌≤◌, Bool, true, false, List, [], ◌∷◌, ◌++◌, append_assoc, length, take, drop, replicate, slice_index, slice_index_or, Option, refl, arith}
 use Rattle.std.proofs.lemmas.Bool.{false≢true}
 use Rattle.std.proofs.lemmas.List.{drop-drop, take-append-drop, take_all}
-use Rattle.std.proofs.lemmas.List.Sums.{sum_by-append}
 use Rattle.std.proofs.lemmas.Grind.{common_steps}
 use Rattle.es_base.specs.Fragments.{Piece}
 use Rattle.es_base.specs.Limits.{longest_joined}
-use Rattle.ip_reassembly.specs.Came.{came_in, CameWithin}
+use Rattle.ip_reassembly.specs.Runs.{CameWithin}
 use Rattle.ip_reassembly.specs.Held.{Held, Holds, held_at}
 use Rattle.ip_reassembly.specs.Stretch.{octets_marked, held_from, held_of, placed}
-use Rattle.ip_reassembly.proofs.Came.{none_off, none_set}
+use Rattle.ip_reassembly.proofs.Came.{none_first, none_last}
 
 -- ---- what is held, with whatever octets stand where none came
 
@@ -82,10 +80,8 @@ in_parts {T} xs least reach order =
 marks_are : (marks : List Bool) (least reach : ℕ) → length marks ≡ longest_joined → least ≤ reach → reach ≤ longest_joined → CameWithin marks least reach
     → marks ≡ replicate least false ++ (take (reach - least) (drop least marks) ++ replicate (longest_joined - reach) false)
 marks_are marks least reach long order within stretch =
-    let front_long : length (take least marks) ≡ least = grind (arith, common_steps) in
-    let back_long : length (drop reach marks) ≡ longest_joined - reach = grind (arith, common_steps) in
-    let front : take least marks ≡ replicate least false = rw front_long at (none_set (take least marks) stretch.none_before) in
-    let back : drop reach marks ≡ replicate (longest_joined - reach) false = rw back_long at (none_set (drop reach marks) stretch.none_from) in
+    let front = none_first marks least (omega (arith, long, order, within)) stretch.none_before in
+    let back : drop reach marks ≡ replicate (longest_joined - reach) false = rw long at (none_last marks reach stretch.none_from) in
     in_parts marks least reach order ∙ rw (front, back) refl
 
 -- what is held of the stretch is what is held of all
@@ -132,26 +128,14 @@ placed_by {T} other least n some first more all within first_is more_is many all
 pub placed_long : {T : Type 0} (other : T) (least : ℕ) (some : List T) → least + length some ≤ longest_joined → length (placed other least some) ≡ longest_joined
 placed_long other least some within = grind (arith, common_steps)
 
-pub placed_came : (least : ℕ) (marks : List Bool) → came_in (placed false least marks) ≡ came_in marks
-placed_came least marks =
-    let rest = longest_joined - (least + length marks) in
-    let front = sum_by-append (λ mark. cond mark 1 0) (replicate least false) (marks ++ replicate rest false) in
-    let back = sum_by-append (λ mark. cond mark 1 0) marks (replicate rest false) in
-    omega (arith, front, back, none_off least, none_off rest)
-
-pub placed_within : (least : ℕ) (marks : List Bool) → CameWithin (placed false least marks) least (least + length marks)
-placed_within least marks =
-    let rest = longest_joined - (least + length marks) in
-    let front : take least (placed false least marks) ≡ replicate least false = grind (arith, common_steps) in
-    let front_marks : length (replicate least false ++ marks) ≡ least + length marks = grind (arith, common_steps) in
-    let back : drop (least + length marks) (placed false least marks) ≡ replicate rest false =
-    ap (drop (least + length marks)) (sym (append_assoc (replicate least false) marks (replicate rest false)))
-    ∙ rw front_marks at (drop-append_seam (replicate least false ++ marks) (replicate rest false))
-    in
-    record {
-      none_before = rw front (none_off least);
-      none_from = rw back (none_off rest);
-    }
+-- the marks of a stretch in their places are those of the buffer
+pub placed_marks : (marks : List Bool) (least reach : ℕ) → length marks ≡ longest_joined → least ≤ reach → reach ≤ longest_joined → CameWithin marks least reach
+    → marks ≡ placed false least (take (reach - least) (drop least marks))
+placed_marks marks least reach long order within stretch =
+    let some = take (reach - least) (drop least marks) in
+    let some_long : length some ≡ reach - least = grind (arith, common_steps) in
+    let after : longest_joined - reach ≡ longest_joined - (least + length some) = omega (arith, some_long, order) in
+    marks_are marks least reach long order within stretch ∙ ap (λ (n : ℕ). replicate least false ++ (some ++ replicate n false)) after
 
 -- what is held of all is what is held of the stretch
 pub placed_is : (total : Option ℕ) (least : ℕ) (octets : List ℕ) (marks : List Bool) → length octets ≡ length marks

@@ -1,5 +1,5 @@
 pub mod Held
-pub mod Came
+pub mod Runs
 pub mod Covering
 pub mod Kept
 pub mod Stretch

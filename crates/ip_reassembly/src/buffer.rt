@@ -5,7 +5,8 @@ ghost use Rattle.es_base.specs.Fragments.{Piece, datagram_from};
 ghost use Rattle.es_base.specs.Udp.{head_of};
 ghost use Rattle.ip_reassembly.specs.Held.{Holds, written_at};
 
-use crate::cover::{are_covered, came_in, mark, unset, unset_all};
+use crate::marks::{mark, unset, unset_all};
+use crate::runs::Runs;
 use crate::stretch::{Stretch, placed};
 use es_base::Memory;
 use frame_reader::UDP_HEADER;
@@ -22,18 +23,14 @@ pub struct Buffer {
     total: Option<usize>,
     octets: Vec<u8>,
     marks: Vec<bool>,
-    /// How many octets came, each counted once: how many marks are set.
-    came: usize,
-    /// The pieces that came lie from this place on. 8200 in a buffer that begins again.
-    least: usize,
-    /// The pieces that came lie before this place. 0 in a buffer that begins again.
-    reach: usize,
+    /// Where octets came.
+    runs: Runs,
 }
 
 impl Model for Buffer {
-    ghost use Rattle.std.specs.Prelude.{◌≡◌, ◌≤◌, length};
+    ghost use Rattle.std.specs.Prelude.{◌≡◌, length};
     ghost use Rattle.es_base.specs.Limits.{longest_joined};
-    ghost use Rattle.ip_reassembly.specs.Came.{came_in, CameWithin};
+    ghost use Rattle.ip_reassembly.specs.Runs.{AreRuns};
     ghost use Rattle.ip_reassembly.specs.Held.{Held};
     ghost use Rattle.ip_reassembly.specs.Stretch.{held_of};
 
@@ -41,7 +38,7 @@ impl Model for Buffer {
 
     ghost view = { λ b. held_of b.total b.octets.items b.marks.items };
 
-    ghost invariant = { λ b. (length b.octets.items ≡ longest_joined) × (length b.marks.items ≡ longest_joined) × (b.came ≡ came_in b.marks.items) × CameWithin b.marks.items b.least b.reach × (b.reach ≤ longest_joined) };
+    ghost invariant = { λ b. (length b.octets.items ≡ longest_joined) × (length b.marks.items ≡ longest_joined) × AreRuns b.marks.items b.runs };
 }
 
 impl Buffer {
@@ -55,9 +52,7 @@ impl Buffer {
             total: None,
             octets,
             marks,
-            came: 0,
-            least: LONGEST_JOINED,
-            reach: 0,
+            runs: Runs::none(),
         })
     }
 
@@ -71,9 +66,7 @@ impl Buffer {
             total: self.total,
             octets,
             marks,
-            came: self.came,
-            least: self.least,
-            reach: self.reach,
+            runs: self.runs,
         })
     }
 
@@ -81,10 +74,11 @@ impl Buffer {
     pub(crate) fn stretch(&self, alloc: Global) -> Result<Stretch, Memory>
         ensures { IfOk result (λ stretch. stretch ≡ self.now) }
     {
-        let least = self.least.min(self.reach);
-        let octets = &self.octets[least..self.reach];
-        let marks = &self.marks[least..self.reach];
-        Stretch::copy_of(alloc, self.total, least, octets, marks)
+        let reach = self.runs.reach;
+        let least = self.runs.least.min(reach);
+        let octets = &self.octets[least..reach];
+        let marks = &self.marks[least..reach];
+        Stretch::copy_of(alloc, self.total, self.runs, least, octets, marks)
     }
 
     /// A buffer in which came what a stretch has.
@@ -97,9 +91,7 @@ impl Buffer {
             total: stretch.total,
             octets,
             marks,
-            came: came_in(&stretch.marks),
-            least: stretch.least,
-            reach: stretch.least + stretch.octets.len(),
+            runs: stretch.runs,
         })
     }
 
@@ -108,10 +100,8 @@ impl Buffer {
         ensures { Holds self.new [] }
     {
         self.total = None;
-        unset_all(&mut self.marks, self.least, self.reach);
-        self.came = 0;
-        self.least = LONGEST_JOINED;
-        self.reach = 0;
+        unset_all(&mut self.marks, self.runs.least, self.runs.reach);
+        self.runs = Runs::none();
     }
 
     /// One piece more. Its octets replace those that came before.
@@ -123,9 +113,8 @@ impl Buffer {
         let end = offset + octets.len();
         self.total = total_with(self.total, more, end);
         write(&mut self.octets, offset, octets);
-        self.came += mark(&mut self.marks, offset, end, self.least, self.reach);
-        self.least = self.least.min(offset);
-        self.reach = self.reach.max(end);
+        self.runs = self.runs.with(&self.marks, offset, end);
+        mark(&mut self.marks, offset, end);
     }
 
     /// The length of the datagram, if a piece of `len` octets from `offset` on completes it.
@@ -138,16 +127,8 @@ impl Buffer {
     {
         let end = offset + len;
         let total = total_with(self.total, more, end)?;
-        // Too few octets came, so that the marks needn't be looked at.
-        if self.came + len < total {
-            return None;
-        }
-        let (came, least, reach) = (self.came, self.least, self.reach);
-        if are_covered(&self.marks, offset, end, total, came, least, reach) {
-            Some(total)
-        } else {
-            None
-        }
+        let missing = self.runs.with(&self.marks, offset, end).first_missing();
+        if missing >= total { Some(total) } else { None }
     }
 
     /// The first `len` octets, which are the datagram's if it is complete and so long.

@@ -39,11 +39,12 @@
 
 mod answer;
 mod buffer;
-mod cover;
 mod fragment;
 pub mod laws;
+mod marks;
 mod partial;
 mod reassembly;
+mod runs;
 mod stretch;
 mod waiting;
 

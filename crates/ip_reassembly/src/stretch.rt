@@ -1,9 +1,11 @@
 //! What came of one datagram, in no more memory than it takes.
-ghost use Rattle.std.specs.Prelude.{◌≡◌, ◌+◌, ◌≤◌, length, IfOk};
+ghost use Rattle.std.specs.Prelude.{◌≡◌, ◌+◌, ◌≤◌, false, length, IfOk};
 ghost use Rattle.es_base.specs.Limits.{longest_joined};
+ghost use Rattle.ip_reassembly.specs.Runs.{AreRuns};
 ghost use Rattle.ip_reassembly.specs.Stretch.{held_from, placed};
 
 use crate::buffer::LONGEST_JOINED;
+use crate::runs::Runs;
 use es_base::Memory;
 use std::alloc::Global;
 use std::marker::Model;
@@ -13,6 +15,7 @@ use std::marker::Model;
 pub(crate) struct Stretch {
     /// If the datagram ends, once a piece with no more to follow came.
     pub(crate) total: Option<usize>,
+    pub(crate) runs: Runs,
     /// The place of the first octet.
     pub(crate) least: usize,
     pub(crate) octets: Vec<u8>,
@@ -21,35 +24,50 @@ pub(crate) struct Stretch {
 }
 
 impl Model for Stretch {
-    ghost use Rattle.std.specs.Prelude.{◌≡◌, ◌+◌, ◌≤◌, length};
+    ghost use Rattle.std.specs.Prelude.{◌≡◌, ◌+◌, ◌≤◌, false, length};
     ghost use Rattle.es_base.specs.Limits.{longest_joined};
     ghost use Rattle.ip_reassembly.specs.Held.{Held};
-    ghost use Rattle.ip_reassembly.specs.Stretch.{held_from};
+    ghost use Rattle.ip_reassembly.specs.Runs.{AreRuns};
+    ghost use Rattle.ip_reassembly.specs.Stretch.{held_from, placed};
 
     ghost Value = { Held };
 
     ghost view = { λ s. held_from s.total s.least s.octets.items s.marks.items };
 
-    ghost invariant = { λ s. (length s.octets.items ≡ length s.marks.items) × (s.least + length s.octets.items ≤ longest_joined) };
+    ghost invariant = { λ s. (length s.octets.items ≡ length s.marks.items) × (s.least + length s.octets.items ≤ longest_joined) × AreRuns (placed false s.least s.marks.items) s.runs };
 }
 
 impl Stretch {
+    /// Nothing that came. It takes no memory.
+    pub(crate) fn empty(alloc: Global) -> Stretch {
+        Stretch {
+            total: None,
+            runs: Runs::none(),
+            least: 0,
+            octets: Vec::new(alloc),
+            marks: Vec::new(alloc),
+        }
+    }
+
     /// A copy of these octets, which begin at a place, and of their marks.
     pub(crate) fn copy_of(
         alloc: Global,
         total: Option<usize>,
+        runs: Runs,
         least: usize,
         octets: &[u8],
         marks: &[bool],
     ) -> Result<Stretch, Memory>
         requires marks { length octets.now ≡ length marks.now }
         requires within { least + length octets.now ≤ longest_joined }
+        requires runs { AreRuns (placed false least marks.now) runs }
         ensures { IfOk result (λ stretch. stretch ≡ held_from total least octets.now marks.now) }
     {
         let octets = Vec::from_slice(alloc, octets)?;
         let marks = Vec::from_slice(alloc, marks)?;
         Ok(Stretch {
             total,
+            runs,
             least,
             octets,
             marks,

@@ -1,5 +1,5 @@
 //! The pieces that wait, in no more memory than they take.
-ghost use Rattle.std.specs.Prelude.{◌≡◌, ◌≤◌, IfOk, IfSome, length};
+ghost use Rattle.std.specs.Prelude.{◌≡◌, IfOk};
 ghost use Rattle.ip_reassembly.specs.Waiting.{IsAt};
 
 use crate::buffer::Buffer;
@@ -30,39 +30,62 @@ impl Model for WaitingDatagram {
     ghost view = { λ d. record { key = d.key; begin = d.begin; buffer = d.stretch } };
 }
 
+impl WaitingDatagram {
+    /// None of any datagram. It takes no memory.
+    fn empty(alloc: Global) -> WaitingDatagram {
+        let key = DatagramKey {
+            source: 0,
+            destination: 0,
+            ident: 0,
+        };
+        WaitingDatagram {
+            key,
+            begin: 0,
+            stretch: Stretch::empty(alloc),
+        }
+    }
+}
+
 /// The pieces of datagrams that weren't complete, as a `Reassembly` had them. It keeps the octets of the partial
 /// datagrams that stood, and no spare buffer: so a reassembly can begin with it, and no packet is offered to it.
 #[derive(Drop)]
 pub struct Waiting {
     /// The limit of time, in microseconds.
     limit: u64,
-    /// In the order in which they began.
-    partials: Vec<WaitingDatagram>,
+    /// How many partial datagrams stood.
+    standing: usize,
+    /// Those that stood come first, in the order in which they began; the others are empty.
+    partials: ArrayVec<WaitingDatagram, MOST_PARTIALS>,
 }
 
 impl Model for Waiting {
-    ghost use Rattle.std.specs.Prelude.{◌≤◌, length};
+    ghost use Rattle.std.specs.Prelude.{◌≡◌, ◌≤◌, take};
+    ghost use Rattle.arrayvec.specs.ArrayVec.{array_vec_len};
     ghost use Rattle.es_base.specs.Limits.{most_partials};
     ghost use Rattle.ip_reassembly.specs.Kept.{Kept};
 
     ghost Value = { Kept };
 
-    ghost view = { λ w. record { limit = w.limit; partials = w.partials.items } };
+    ghost view = { λ w. record { limit = w.limit; partials = take w.standing w.partials.items } };
 
-    ghost invariant = { λ w. length w.partials.items ≤ most_partials };
+    ghost invariant = { λ w. (array_vec_len w.partials ≡ most_partials) × (w.standing ≤ most_partials) };
 }
 
 impl Reassembly {
-    /// A copy of the pieces that wait. It takes memory for a list of the partial datagrams that stand, and for the
-    /// octets of each, from its first piece up to its last, and their marks. The only error is that there wasn't so
-    /// much.
+    /// A copy of the pieces that wait. It takes memory for the octets of each partial datagram that stands, from its
+    /// first piece up to its last, and for their marks. The only error is that there wasn't so much.
     pub fn waiting(&self, alloc: Global) -> Result<Waiting, Memory>
         ensures { IfOk result (λ waiting. waiting ≡ self.now) }
     {
-        let partials = copies_of(alloc, self.standing())?;
+        let partials = self.standing();
+        let first = copy_or_empty(alloc, partials, 0)?;
+        let second = copy_or_empty(alloc, partials, 1)?;
+        let third = copy_or_empty(alloc, partials, 2)?;
+        let fourth = copy_or_empty(alloc, partials, 3)?;
         Ok(Waiting {
             limit: self.limit(),
-            partials,
+            standing: partials.len(),
+            partials: ArrayVec::from([first, second, third, fourth]),
         })
     }
 }
@@ -73,24 +96,28 @@ impl Waiting {
     pub fn begin(&self, alloc: Global) -> Result<Reassembly, Memory>
         ensures { IfOk result (λ reassembly. reassembly ≡ self.now) }
     {
-        let first = partial_or_spare(alloc, &self.partials, 0)?;
-        let second = partial_or_spare(alloc, &self.partials, 1)?;
-        let third = partial_or_spare(alloc, &self.partials, 2)?;
-        let fourth = partial_or_spare(alloc, &self.partials, 3)?;
+        let waiting = &self.partials[..self.standing];
+        let first = partial_or_spare(alloc, waiting, 0)?;
+        let second = partial_or_spare(alloc, waiting, 1)?;
+        let third = partial_or_spare(alloc, waiting, 2)?;
+        let fourth = partial_or_spare(alloc, waiting, 3)?;
         let four = ArrayVec::from([first, second, third, fourth]);
-        Ok(Reassembly::of(self.limit, self.partials.len(), four))
+        Ok(Reassembly::of(self.limit, self.standing, four))
     }
 }
 
-/// Copies of these, in their order.
-fn copies_of(alloc: Global, partials: &[Partial]) -> Result<Vec<WaitingDatagram>, Memory>
-    ensures { IfOk result (λ copies. copies.items ≡ partials.now) }
+/// A copy of the one at a place, or an empty one if there is none.
+fn copy_or_empty(
+    alloc: Global,
+    partials: &[Partial],
+    place: usize,
+) -> Result<WaitingDatagram, Memory>
+    ensures { IfOk result (λ copy. IsAt partials.now place copy) }
 {
-    let mut copies = Vec::with_capacity(alloc, partials.len())?;
-    for partial in partials {
-        copies.push(copy_of(alloc, partial)?)?;
+    match partials.get(place) {
+        Some(partial) => copy_of(alloc, partial),
+        None => Ok(WaitingDatagram::empty(alloc)),
     }
-    Ok(copies)
 }
 
 fn copy_of(alloc: Global, partial: &Partial) -> Result<WaitingDatagram, Memory>

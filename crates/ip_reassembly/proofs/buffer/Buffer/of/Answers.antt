@@ -1,8 +1,6 @@
-use Rattle.std.proofs.Common.{◌≡◌, ◌∙◌, ap, false, length, sym, arith}
-use Rattle.std.proofs.lemmas.Grind.{common_steps}
-use Rattle.ip_reassembly.specs.Came.{came_in}
+use Rattle.std.proofs.Common.{◌≡◌, ◌∙◌, ap, false, length, arith}
 use Rattle.ip_reassembly.specs.Stretch.{placed}
-use Rattle.ip_reassembly.proofs.Stretches.{placed_came, placed_is, placed_long, placed_within}
+use Rattle.ip_reassembly.proofs.Stretches.{placed_is, placed_long}
 use Rattle.ip_reassembly.proofs.buffer.Buffer.of.Goals as goal
 
 pub invariant_of-result : goal.invariant_of-result
@@ -11,14 +9,10 @@ invariant_of-result c =
     let long = c.stretch.invariant.0 in
     let within = c.stretch.invariant.1 in
     let octets : c.in_ok-octets.octets.items ≡ placed 0 s.least s.octets.items = rw c.deref.ensures.value at c.in_ok-octets.ensures in
-    let marks : c.in_ok-marks.marks.items ≡ placed false s.least s.marks.items = rw c.deref-2.ensures.value at c.in_ok-marks.ensures in
-    let came : c.came_in.result ≡ came_in s.marks.items = rw c.deref-3.ensures.value at c.came_in.ensures in
-    let many : c.len.result ≡ length s.marks.items = grind (arith, common_steps) in (
+    let marks : c.in_ok-marks.marks.items ≡ placed false s.least s.marks.items = rw c.deref-2.ensures.value at c.in_ok-marks.ensures in (
       ap length octets ∙ placed_long 0 s.least s.octets.items within,
       ap length marks ∙ placed_long false s.least s.marks.items (omega (arith, long, within)),
-      came ∙ (sym (placed_came s.least s.marks.items) ∙ sym (ap came_in marks)),
-      rw (marks, many) (placed_within s.least s.marks.items),
-      omega (arith, many, long, within),
+      rw marks c.stretch.invariant.2,
     )
 
 pub returns : goal.returns

@@ -1,7 +1,7 @@
 use Rattle.std.proofs.Common.{arith}
 use Rattle.std.proofs.lemmas.Grind.{common_steps}
 use Rattle.ip_reassembly.proofs.Came.{none_within, unset_within}
-use Rattle.ip_reassembly.proofs.cover.unset_all.Goals as goal
+use Rattle.ip_reassembly.proofs.marks.unset_all.Goals as goal
 
 pub returns-then-least-reach : goal.returns-then-least-reach
 returns-then-least-reach c =

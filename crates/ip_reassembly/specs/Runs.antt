@@ -1,0 +1,28 @@
+-- Where octets came: their first run, their last one, and none outside of both.
+use Rattle.std.specs.Prelude.{◌≡◌, ℕ, ◌-◌, ◌<◌, ◌≤◌, Bool, true, false, List, ◌++◌, take, drop, replicate, slice_index_or}
+use Rattle.es_base.specs.Limits.{longest_joined}
+use Rattle.ip_reassembly.specs.declared.runs.Runs.{Runs}
+
+-- these marks, with those of a piece set
+abbrev pub with_marks : List Bool → ℕ → ℕ → List Bool
+with_marks marks offset end = take offset marks ++ (replicate (end - offset) true ++ drop end marks)
+
+-- those of these marks that are set lie from a least place up to a reach
+pub record CameWithin (marks : List Bool) (least reach : ℕ) : Type 0 where
+  pub none_before : (i : ℕ) → i < least → slice_index_or marks i false ≡ false
+  pub none_from : (i : ℕ) → reach ≤ i → slice_index_or marks i false ≡ false
+
+-- each mark from a place on is set, up to another
+abbrev pub IsRun : List Bool → ℕ → ℕ → Type 0
+IsRun marks from to = (i : ℕ) → from ≤ i → i < to → slice_index_or marks i false ≡ true
+
+-- these marks have a first run, which a gap ends, and a last one; those that are set lie between the beginning of the
+-- first and the end of the last
+pub record AreRuns (marks : List Bool) (runs : Runs) : Type 0 where
+  pub within : CameWithin marks runs.least runs.reach
+  pub first : IsRun marks runs.least runs.gap
+  pub gap : slice_index_or marks runs.gap false ≡ false
+  pub last : IsRun marks runs.last runs.reach
+  pub order : runs.last ≤ runs.reach
+  pub gap_bound : runs.gap ≤ longest_joined
+  pub reach_bound : runs.reach ≤ longest_joined
