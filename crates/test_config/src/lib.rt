@@ -13,6 +13,8 @@ mod documents;
 #[cfg(test)]
 mod link_keys;
 #[cfg(test)]
+mod numbers;
+#[cfg(test)]
 mod port_keys;
 #[cfg(test)]
 mod repetitions;
