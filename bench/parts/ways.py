@@ -66,6 +66,11 @@ def link_takes(program, frames, profiles):
     return status
 
 
+def deliveries(program):
+    print("datagrams that wait, ns/deliveries, ns/take_epoch")
+    return start(program)
+
+
 def one_task(program):
     return start(program)
 
@@ -153,6 +158,7 @@ WAYS = {
     "port": (ask_nothing, port),
     "link_reads": (ask_nothing, link_reads),
     "link_takes": (ask_traces, link_takes),
+    "deliveries": (ask_nothing, deliveries),
     "one_task": (ask_nothing, one_task),
     "epochs": (functools.partial(ask_number, otherwise=10_000), epochs),
     "system": (functools.partial(ask_number, otherwise=1_000), system),
