@@ -1,7 +1,9 @@
 /* Refuses one growth of the program that this library is loaded into before it starts (LD_PRELOAD): the one with the
    number in the variable GROWTH, counted from 1 over all threads; or, if GROWTH_MARK is set, each growth after the
-   first that asks for just that many octets. A growth is a call of malloc or realloc from the program's own code. To
-   the file named by GROWTH_REPORT it adds an `r` for each growth that it refuses, and an `m` at the mark. */
+   first that asks for just that many octets; or, if GROWTH_MOST is set too, of those after it each with which more octets
+   than that are asked for in all. A growth is a call of malloc or realloc from the program's own code; it counts with all
+   octets that it asks for. To the file named by GROWTH_REPORT it adds an `r` for each growth that it refuses, and an `m`
+   at the mark. */
 #define _GNU_SOURCE
 #include <fcntl.h>
 #include <link.h>
@@ -16,19 +18,23 @@ void *__libc_malloc(size_t);
 void *__libc_realloc(void *, size_t);
 
 static long wanted;
-static size_t mark;
+static size_t mark, most;
 static int report = -1;
 static atomic_long asked;
+static atomic_size_t octets_asked;
 static atomic_int marked;
 
 __attribute__((constructor)) static void begin(void)
 {
     const char *number = getenv("GROWTH"), *octets = getenv("GROWTH_MARK"), *file = getenv("GROWTH_REPORT");
+    const char *in_all = getenv("GROWTH_MOST");
     dl_iterate_phdr(find_program, NULL);
     if (file != NULL)
         report = open(file, O_WRONLY | O_APPEND | O_CREAT, 0600);
     if (octets != NULL)
         mark = strtoul(octets, NULL, 10);
+    if (in_all != NULL)
+        most = strtoul(in_all, NULL, 10);
     if (number != NULL)
         wanted = strtol(number, NULL, 10);
 }
@@ -39,12 +45,18 @@ static void tell(const char *letter)
         _exit(99);
 }
 
+/* Whether a growth after the mark is one too many. */
+static int is_past_most(size_t octets)
+{
+    return most == 0 || atomic_fetch_add(&octets_asked, octets) + octets > most;
+}
+
 /* Whether this growth, which the code at `caller` asks for, is refused. */
 static int is_refused(void *caller, size_t octets)
 {
     if ((uintptr_t)caller < first || (uintptr_t)caller >= end)
         return 0;
-    int refused = mark != 0 ? atomic_load(&marked) : atomic_fetch_add(&asked, 1) + 1 == wanted;
+    int refused = mark != 0 ? atomic_load(&marked) && is_past_most(octets) : atomic_fetch_add(&asked, 1) + 1 == wanted;
     if (mark != 0 && octets == mark && !atomic_exchange(&marked, 1))
         tell("m");
     if (refused)

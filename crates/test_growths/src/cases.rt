@@ -40,7 +40,8 @@ fn text_of(rt: &impl Abort, alloc: Global, depth: u8) -> String {
     .expect(rt, OWN)
 }
 
-fn case_of(
+/// The built-in link with a queue of this depth, these frames, and the times of the messages that wait after them.
+pub(crate) fn case_of(
     rt: &impl Abort,
     alloc: Global,
     depth: u8,

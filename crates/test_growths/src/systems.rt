@@ -1,5 +1,6 @@
 //! A whole system: the frames that its pass of network A receives, and the epochs that it takes out.
 use crate::cases::{Case, Row, given_up, joined, joined_backwards, overflowed, refused, sampled};
+use crate::pieces::{DATAGRAMS, check_messages, four_stand};
 use crate::refusal::{OWN, tell};
 use end_system::{NoGate, Reply};
 use es_base::Net::A;
@@ -132,8 +133,14 @@ impl System {
         self.check_reply(rt, reply, row, &before);
     }
 
-    /// An epoch of one event, which has this place, is taken out.
-    fn check_epoch(&mut self, rt: &(impl Abort + Eprint + Wait), alloc: Global, place: u64) {
+    /// An epoch of this many events, of which the first has this place, is taken out.
+    fn check_epoch(
+        &mut self,
+        rt: &(impl Abort + Eprint + Wait),
+        alloc: Global,
+        first: u64,
+        events: usize,
+    ) {
         let before = self.seen();
         let epoch = match self.running.take_epoch(rt, alloc, A, VL) {
             Ok(epoch) => epoch,
@@ -146,7 +153,7 @@ impl System {
             }
         };
         let epoch = epoch.expect(rt, "an epoch");
-        assert!(rt; epoch.first() == place && epoch.events().len() == 1);
+        assert!(rt; epoch.first() == first && epoch.events().len() == events);
     }
 
     /// The system settles with this many events after as many that were taken out. The messages of these times wait in
@@ -217,7 +224,7 @@ fn check_epochs(rt: &(impl Abort + Eprint + Wait), alloc: Global, case: &Case) {
     let mut place = 0_u64;
     for row in &case.rows {
         system.check_received(rt, alloc, row);
-        system.check_epoch(rt, alloc, place);
+        system.check_epoch(rt, alloc, place, 1);
         place = place.wrapping_add(1);
     }
     system.check_end(rt, (place, 0), &case.queued);
@@ -226,4 +233,21 @@ fn check_epochs(rt: &(impl Abort + Eprint + Wait), alloc: Global, case: &Case) {
 #[test]
 fn a_system_hands_epochs_out(rt: HostRuntime) {
     check_epochs(&rt, rt.alloc(), &joined(&rt, rt.alloc()));
+}
+
+/// An epoch is taken out while four partial datagrams stand, which are completed after it.
+fn check_four_stand(rt: &(impl Abort + Eprint + Wait), alloc: Global, case: &Case) {
+    let mut system = System::open(rt, alloc, case);
+    for (place, row) in case.rows.iter().enumerate() {
+        if place == DATAGRAMS {
+            system.check_epoch(rt, alloc, 0, DATAGRAMS);
+        }
+        system.check_received(rt, alloc, row);
+    }
+    check_messages(rt, alloc, &mut system.taker);
+}
+
+#[test]
+fn a_system_hands_an_epoch_out_while_four_datagrams_stand(rt: HostRuntime) {
+    check_four_stand(&rt, rt.alloc(), &four_stand(&rt, rt.alloc()));
 }

@@ -25,7 +25,7 @@ use test_inputs_systems::Running;
 const MARK: usize = 1_000_003;
 
 /// From here on each growth is refused.
-fn mark(rt: &impl Abort, alloc: Global) {
+pub(crate) fn mark(rt: &impl Abort, alloc: Global) {
     let octets = Vec::<u8>::with_capacity(alloc, MARK).expect(rt, OWN);
     assert!(rt; octets.is_empty());
 }
