@@ -10,6 +10,8 @@ from parts.programs import BENCH
 
 TURNS = 9
 SEED = "1"
+# What the workloads are, in a tree.
+SOURCES = ["bench/workloads.txt", "crates/workloads/src"]
 
 
 class Workload(NamedTuple):
@@ -29,6 +31,34 @@ def workload_of(line):
 def workloads():
     with open(os.path.join(BENCH, "workloads.txt"), encoding="utf-8") as file:
         return [workload_of(line) for line in file if line.strip() and not line.startswith("#")]
+
+
+def is_seed(word):
+    """Whether a word is a number below 2^32."""
+    digits = word.lstrip("0")[:11]
+    return word.isascii() and word.isdigit() and int(digits or 0) < 2 ** 32
+
+
+def files_of(tree):
+    """The files of a tree that say what the workloads are, by their paths in it."""
+    paths = []
+    for source in SOURCES:
+        path = os.path.join(tree, source)
+        if os.path.isfile(path):
+            paths.append(source)
+        for folder, _, names in os.walk(path):
+            paths += [os.path.relpath(os.path.join(folder, name), tree) for name in names]
+    found = {}
+    for path in paths:
+        with open(os.path.join(tree, path), "rb") as file:
+            found[path] = file.read()
+    return found
+
+
+def differing(old, new):
+    """The files of the workloads that read otherwise in two trees, or stand in one of them alone."""
+    was, now = files_of(old), files_of(new)
+    return sorted(path for path in {*was, *now} if was.get(path) != now.get(path))
 
 
 def program_of(tree, workload):
@@ -68,8 +98,11 @@ def compare(old, new, workload, seed):
 
 
 def beside(old, new, seed):
-    """Prints a row for each workload."""
+    """Prints a row for each workload, and before that which files of the workloads aren't the same in both trees."""
     old, new = os.path.realpath(old), os.path.realpath(new)
+    others = differing(old, new)
+    if others:
+        print(f"The workloads of the two trees read otherwise: {', '.join(others)}", flush=True)
     print("| workload | seconds at the start | seconds now | start over now | of the processors: start | now | start over now |")
     print("|---|---|---|---|---|---|---|")
     for workload in workloads():
