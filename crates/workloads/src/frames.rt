@@ -10,18 +10,34 @@ const ETHERNET: [u8; 14] = [3, 0, 0, 0, 0, 0, 2, 0, 0, 0, 1, 0x20, 8, 0];
 /// Octets of the headers before what a packet carries.
 const HEADERS: usize = 34;
 
+/// The offset of the IPv4 identification in a frame, and that of the header's checksum.
+pub(crate) const IDENTIFICATION: usize = 18;
+
+pub(crate) const CHECKSUM: usize = 24;
+
 /// That more fragments follow.
 const MORE: u16 = 0x2000;
 
-/// A frame as a sender sends it again and again.
+/// A frame as a sender sends it again and again, each time with another identification.
 #[derive(Drop)]
 pub(crate) struct Template {
-    /// All octets. The last one is its sequence number.
+    /// All octets, as they were sent last. The last one is its sequence number.
     pub octets: Vec<u8>,
     /// Where eight octets begin that are others each time. 0 if none are.
     pub stamp: usize,
     /// How many sequence numbers are left out before it.
     pub jump: u8,
+    /// The place of its datagram among those that the sender sends in turn.
+    pub datagram: u16,
+}
+
+/// What a frame has anew each time that it is sent.
+#[derive(Clone, Copy)]
+pub(crate) struct Marks {
+    pub identification: u16,
+    /// Its eight octets.
+    pub stamp: u64,
+    pub sequence_number: u8,
 }
 
 /// A packet for the ports of a link.
@@ -29,8 +45,8 @@ pub(crate) struct Template {
 pub(crate) struct Packet<'a> {
     /// The place of the link.
     pub link: u8,
-    /// Its identification.
-    pub name: u16,
+    /// The place of its datagram among those that the sender sends in turn.
+    pub datagram: u16,
     /// The word with its flags and its offset.
     pub word: u16,
     pub octets: &'a [u8],
@@ -53,14 +69,54 @@ fn checksum(words: &[u16]) -> u16 {
     0xffff ^ ((sum & 0xffff) as u16)
 }
 
-/// The IPv4 header of a packet.
+/// The checksum of a header whose word `before` is replaced (RFC 1624, section 3).
+fn checksum_after(checksum: u16, before: u16, word: u16) -> u16 {
+    let sum = u32::from(0xffff ^ checksum)
+        .wrapping_add(u32::from(0xffff ^ before))
+        .wrapping_add(u32::from(word));
+    let once = (sum & 0xffff).wrapping_add(sum >> 16);
+    let twice = (once & 0xffff).wrapping_add(once >> 16);
+    0xffff ^ ((twice & 0xffff) as u16)
+}
+
+/// Writes an identification into a frame, and the header's checksum, which follows it. A wrong checksum stays wrong.
+fn identify(octets: &mut [u8], identification: u16) {
+    if octets.len() < HEADERS {
+        return;
+    }
+    let before = u16::from_be_bytes([octets[IDENTIFICATION], octets[IDENTIFICATION + 1]]);
+    let checksum = u16::from_be_bytes([octets[CHECKSUM], octets[CHECKSUM + 1]]);
+    let [high, low] = identification.to_be_bytes();
+    octets[IDENTIFICATION] = high;
+    octets[IDENTIFICATION + 1] = low;
+    let [high, low] = checksum_after(checksum, before, identification).to_be_bytes();
+    octets[CHECKSUM] = high;
+    octets[CHECKSUM + 1] = low;
+}
+
+impl Template {
+    /// Writes what the frame has anew.
+    pub(crate) fn mark(&mut self, marks: Marks) {
+        let at = self.stamp;
+        let octets = self.octets.as_mut_slice();
+        identify(octets, marks.identification);
+        if at > 0 && at < octets.len() && octets.len() - at > 8 {
+            octets[at..at + 8].copy_from_slice(&marks.stamp.to_be_bytes());
+        }
+        if let Some(last) = octets.last_mut() {
+            *last = marks.sequence_number;
+        }
+    }
+}
+
+/// The IPv4 header of a packet, with the identification 0.
 fn header(packet: Packet<'_>) -> [u16; 10] {
     let total = 20u16.wrapping_add((packet.octets.len() & 0x7ff) as u16);
     let address = (u16::from(packet.link) << 8) | 1;
     let mut words = [
         0x4500,
         total,
-        packet.name,
+        0,
         packet.word,
         0x0111,
         0,
@@ -97,6 +153,7 @@ pub(crate) fn frame(alloc: Global, packet: Packet<'_>, stamped: bool) -> io::Res
             0
         },
         jump: 0,
+        datagram: packet.datagram,
     })
 }
 
@@ -123,7 +180,7 @@ pub(crate) fn whole(
     let octets = datagram(alloc, udp, len, seed)?;
     let packet = Packet {
         link,
-        name: 0,
+        datagram: 0,
         word: 0,
         octets: &octets,
     };
@@ -134,7 +191,7 @@ pub(crate) fn whole(
 pub(crate) fn pieces(
     alloc: Global,
     link: u8,
-    name: u16,
+    datagram: u16,
     octets: &[u8],
     size: u16,
 ) -> io::Result<Vec<Template>> {
@@ -153,7 +210,7 @@ pub(crate) fn pieces(
         };
         let packet = Packet {
             link,
-            name,
+            datagram,
             word: more | (offset & 0x1fff),
             octets: piece,
         };

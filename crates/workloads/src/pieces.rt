@@ -23,15 +23,9 @@ const LONGEST: u16 = 8192;
 const FRAMES: u64 = 40_000;
 
 /// A datagram in pieces of 8 octets: by `way` from its end, the last piece first, or each piece in its place.
-fn smallest_pieces(
-    alloc: Global,
-    link: u8,
-    name: u16,
-    way: u8,
-    seed: u64,
-) -> io::Result<Vec<Template>> {
+fn smallest_pieces(alloc: Global, link: u8, way: u8, seed: u64) -> io::Result<Vec<Template>> {
     let octets = datagram(alloc, QUEUING_UDP, LONGEST, mixed(seed))?;
-    let mut parts = pieces(alloc, link, name, &octets, 8)?;
+    let mut parts = pieces(alloc, link, 0, &octets, 8)?;
     match way {
         0 => parts.reverse(),
         1 if parts.len() > 1 => parts.rotate_right(1),
@@ -40,20 +34,19 @@ fn smallest_pieces(
     Ok(parts)
 }
 
+/// How many datagrams come in turn: four, and one piece of a fifth.
+const IN_TURN: u16 = 5;
+
 /// The pieces of four datagrams in turn, and after half of them one of a fifth.
 fn in_turn(alloc: Global, link: u8, seed: u64) -> io::Result<Vec<Template>> {
     let mut all = Vec::new(alloc);
-    for name in 10..14u16 {
-        let octets = datagram(
-            alloc,
-            QUEUING_UDP,
-            3000,
-            mixed(seed.wrapping_add(u64::from(name))),
-        )?;
-        all.push(pieces(alloc, link, name, &octets, 104)?)?;
+    for place in 0..IN_TURN - 1 {
+        let chance = mixed(seed.wrapping_add(u64::from(place)));
+        let octets = datagram(alloc, QUEUING_UDP, 3000, chance)?;
+        all.push(pieces(alloc, link, place, &octets, 104)?)?;
     }
     let octets = datagram(alloc, QUEUING_UDP, 200, mixed(seed))?;
-    let mut fifth = pieces(alloc, link, 20, &octets, 104)?;
+    let mut fifth = pieces(alloc, link, IN_TURN - 1, &octets, 104)?;
     let mut frames = Vec::new(alloc);
     for turn in 0..29usize {
         for parts in all.iter_mut() {
@@ -70,39 +63,37 @@ fn in_turn(alloc: Global, link: u8, seed: u64) -> io::Result<Vec<Template>> {
     Ok(frames)
 }
 
-/// Frames of no link.
-fn of_no_link(alloc: Global, link: u8, seed: u64) -> io::Result<Vec<Template>> {
-    let mut frames = Vec::new(alloc);
+/// Adds frames of no link.
+fn add_of_no_link(alloc: Global, flow: &mut Flow, link: u8, seed: u64) -> io::Result<()> {
     for turn in 0..100u64 {
         let mut frame = whole(alloc, link, 7000, 40, seed.wrapping_add(turn))?;
         if let Some(octet) = frame.octets.get_mut(4) {
             *octet = 0x7f;
         }
-        frames.push(frame)?;
+        flow.add_whole(frame)?;
     }
-    Ok(frames)
+    Ok(())
+}
+
+/// Adds frames for the queue that is full, of which the first half are out of sequence.
+fn add_bursts(alloc: Global, flow: &mut Flow, link: u8, seed: u64) -> io::Result<()> {
+    for turn in 0..100u64 {
+        let mut frame = whole(alloc, link, QUEUING_UDP + 1, 200, seed.wrapping_add(turn))?;
+        frame.jump = if turn < 50 { 5 } else { 0 };
+        flow.add_whole(frame)?;
+    }
+    Ok(())
 }
 
 /// What the sender of a link sends.
 fn flow(alloc: Global, link: u8, seed: u64) -> io::Result<Flow> {
-    let mut frames = Vec::new(alloc);
+    let mut flow = Flow::new(alloc, false);
     let seed = mixed(seed).wrapping_add(u64::from(link));
-    for part in smallest_pieces(alloc, link, 1, link % 3, seed)? {
-        frames.push(part)?;
-    }
-    for part in in_turn(alloc, link, seed)? {
-        frames.push(part)?;
-    }
-    for part in of_no_link(alloc, link, seed)? {
-        frames.push(part)?;
-    }
-    for turn in 0..100u64 {
-        let mut frame = whole(alloc, link, QUEUING_UDP + 1, 200, seed.wrapping_add(turn))?;
-        // The first half are out of sequence.
-        frame.jump = if turn < 50 { 5 } else { 0 };
-        frames.push(frame)?;
-    }
-    Ok(Flow::new(frames, false))
+    flow.add(smallest_pieces(alloc, link, link % 3, seed)?, 1)?;
+    flow.add(in_turn(alloc, link, seed)?, IN_TURN)?;
+    add_of_no_link(alloc, &mut flow, link, seed)?;
+    add_bursts(alloc, &mut flow, link, seed)?;
+    Ok(flow)
 }
 
 fn add_reply(digest: &mut Digest, reply: Reply) {

@@ -1,7 +1,7 @@
 //! What senders send, by what it is for.
 use crate::configs::{QUEUING_UDP, SAMPLING_UDP, Shape};
 use crate::digest::mixed;
-use crate::frames::{Template, datagram, pieces, whole};
+use crate::frames::{datagram, pieces, whole};
 use crate::traffic::{Flow, Traffic};
 use std::alloc::Global;
 use std::io;
@@ -27,7 +27,7 @@ fn some_len(chance: u64) -> u16 {
 
 fn add_wholes(
     alloc: Global,
-    frames: &mut Vec<Template>,
+    flow: &mut Flow,
     link: u8,
     (first, ports): (u16, u8),
     seed: u64,
@@ -35,7 +35,7 @@ fn add_wholes(
     for place in 0..ports {
         let udp = first.wrapping_add(u16::from(place));
         let chance = mixed(seed.wrapping_mul(64).wrapping_add(u64::from(place)));
-        frames.push(whole(alloc, link, udp, some_len(chance), chance)?)?;
+        flow.add_whole(whole(alloc, link, udp, some_len(chance), chance)?)?;
     }
     Ok(())
 }
@@ -43,39 +43,37 @@ fn add_wholes(
 /// Datagrams in pieces, one after another; the last one comes from its end.
 fn add_fragments(
     alloc: Global,
-    frames: &mut Vec<Template>,
+    flow: &mut Flow,
     link: u8,
     queues: u8,
     seed: u64,
 ) -> io::Result<()> {
-    for name in 0..4u16 {
-        let udp = QUEUING_UDP.wrapping_add(name % u16::from(queues.max(1)));
-        let chance = mixed(seed.wrapping_mul(16).wrapping_add(u64::from(name)));
-        let len = if name == 3 {
+    for turn in 0..4u16 {
+        let udp = QUEUING_UDP.wrapping_add(turn % u16::from(queues.max(1)));
+        let chance = mixed(seed.wrapping_mul(16).wrapping_add(u64::from(turn)));
+        let len = if turn == 3 {
             8192
         } else {
             1500 + (chance % 5000) as u16
         };
         let octets = datagram(alloc, udp, len, chance)?;
-        let mut parts = pieces(alloc, link, name, &octets, FRAGMENT)?;
-        if name == 3 {
+        let mut parts = pieces(alloc, link, 0, &octets, FRAGMENT)?;
+        if turn == 3 {
             parts.reverse();
         }
-        for part in parts {
-            frames.push(part)?;
-        }
+        flow.add(parts, 1)?;
     }
     Ok(())
 }
 
 /// Frames that are turned away: for no port, with another checksum, no IPv4, and of another network.
-fn add_flawed(alloc: Global, frames: &mut Vec<Template>, link: u8, seed: u64) -> io::Result<()> {
+fn add_flawed(alloc: Global, flow: &mut Flow, link: u8, seed: u64) -> io::Result<()> {
     for (place, octet) in [(0usize, 0u8), (24, 1), (13, 6), (0, 1)] {
         let mut frame = whole(alloc, link, 7000, 40, seed)?;
         if let Some(changed) = frame.octets.get_mut(place) {
             *changed ^= octet;
         }
-        frames.push(frame)?;
+        flow.add_whole(frame)?;
     }
     Ok(())
 }
@@ -88,35 +86,29 @@ pub(crate) fn flow(
     profile: Profile,
     seed: u64,
 ) -> io::Result<Flow> {
-    let mut frames = Vec::new(alloc);
+    let mut flow = Flow::new(alloc, true);
     for turn in 0..4u64 {
         let seed = mixed(seed.wrapping_add(turn)).wrapping_add(u64::from(link));
         if profile.sampled {
-            add_wholes(
-                alloc,
-                &mut frames,
-                link,
-                (SAMPLING_UDP, shape.sampling),
-                seed,
-            )?;
+            add_wholes(alloc, &mut flow, link, (SAMPLING_UDP, shape.sampling), seed)?;
         }
         if profile.queued {
             add_wholes(
                 alloc,
-                &mut frames,
+                &mut flow,
                 link,
                 (QUEUING_UDP, shape.queuing),
                 seed.wrapping_add(1),
             )?;
         }
         if profile.flawed && turn == 1 {
-            add_flawed(alloc, &mut frames, link, seed)?;
+            add_flawed(alloc, &mut flow, link, seed)?;
         }
         if profile.fragments && turn % 2 == 0 {
-            add_fragments(alloc, &mut frames, link, shape.queuing, seed)?;
+            add_fragments(alloc, &mut flow, link, shape.queuing, seed)?;
         }
     }
-    Ok(Flow::new(frames, true))
+    Ok(flow)
 }
 
 /// The senders of all links of a configuration, all with one profile.

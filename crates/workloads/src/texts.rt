@@ -1,6 +1,6 @@
 //! The traces of both networks as texts.
-use crate::frames::Template;
-use crate::traffic::{Sent, Traffic};
+use crate::frames::{CHECKSUM, IDENTIFICATION, Template};
+use crate::traffic::Traffic;
 use es_base::Memory;
 use std::alloc::Global;
 
@@ -11,8 +11,6 @@ const DIGITS: [u8; 16] = *b"0123456789abcdef";
 #[derive(Drop)]
 struct Line {
     text: Vec<u8>,
-    /// Where the digits of the eight octets begin that are others each time. 0 if none are.
-    stamp: usize,
 }
 
 /// The two digits of an octet.
@@ -30,14 +28,7 @@ fn line_of(alloc: Global, template: &Template) -> Result<Line, Memory> {
         text.extend_from_slice(&digits_of(*octet))?;
     }
     text.push(b'\n')?;
-    Ok(Line {
-        text,
-        stamp: if template.stamp > 0 && template.stamp < 2000 {
-            template.stamp * 2 + 1
-        } else {
-            0
-        },
-    })
+    Ok(Line { text })
 }
 
 /// The lines of all templates, link by link.
@@ -77,31 +68,35 @@ fn add_time(to: &mut Vec<u8>, time: u64) -> Result<(), Memory> {
     Ok(())
 }
 
-/// Writes the digits of octets over what is there, from a place on.
-fn write_digits(octets: &[u8], at: usize, to: &mut [u8]) {
-    for (octet, pair) in octets.iter().zip(to.iter_mut().skip(at)) {
-        *pair = *octet;
+/// Writes the digits of the octet at this place of a frame into the frame's line.
+fn write_octet(text: &mut [u8], place: usize, octet: u8) {
+    let at = place.wrapping_mul(2).wrapping_add(1);
+    let [high, low] = digits_of(octet);
+    if at < text.len() && text.len() - at > 1 {
+        text[at] = high;
+        text[at + 1] = low;
     }
 }
 
-/// The digits of a frame's eight octets.
-fn stamp_digits(stamp: u64) -> [u8; 16] {
-    let mut digits = [b'0'; 16];
-    let mut rest = stamp;
-    for digit in digits.iter_mut().rev() {
-        *digit = DIGITS[(rest % 16) as usize];
-        rest /= 16;
+/// Writes the digits of the octets at so many places, from this one on.
+fn write_octets(text: &mut [u8], octets: &[u8], from: usize, many: usize) {
+    for place in from..from.saturating_add(many) {
+        if let Some(octet) = octets.get(place) {
+            write_octet(text, place, *octet);
+        }
     }
-    digits
 }
 
-/// The line of a frame that is sent, without its time.
-fn write_line(line: &mut Line, sent: Sent) {
-    if line.stamp > 0 {
-        write_digits(&stamp_digits(sent.stamp), line.stamp, &mut line.text);
+/// Writes what a frame that is sent has anew into its line.
+fn write_line(line: &mut Line, template: &Template) {
+    let text = line.text.as_mut_slice();
+    let octets = template.octets.as_slice();
+    write_octets(text, octets, IDENTIFICATION, 2);
+    write_octets(text, octets, CHECKSUM, 2);
+    if template.stamp > 0 {
+        write_octets(text, octets, template.stamp, 8);
     }
-    let end = line.text.len().saturating_sub(3);
-    write_digits(&digits_of(sent.number), end, &mut line.text);
+    write_octets(text, octets, octets.len().saturating_sub(1), 1);
 }
 
 /// A trace of each network.
@@ -155,9 +150,12 @@ impl Texts {
         self.b.clear();
         for _ in 0..frames {
             let sent = traffic.send();
+            let Some(template) = traffic.templates(sent.link).get(sent.frame) else {
+                continue;
+            };
             if let Some(link) = lines.links.get_mut(sent.link) {
                 if let Some(line) = link.get_mut(sent.frame) {
-                    write_line(line, sent);
+                    write_line(line, template);
                     self.add(line, traffic.time, late, networks(sent.link))?;
                 }
             }

@@ -1,5 +1,6 @@
-//! What the senders of all links send: each its frames in turn, with sequence numbers, and others octets each time.
-use crate::frames::Template;
+//! What the senders of all links send: each its frames in turn, with sequence numbers, IPv4 identifications that count
+//! up by datagrams, and others octets each time.
+use crate::frames::{Marks, Template};
 use es_base::Memory;
 use std::alloc::Global;
 
@@ -7,8 +8,12 @@ use std::alloc::Global;
 #[derive(Drop)]
 pub(crate) struct Flow {
     frames: Vec<Template>,
-    /// The place of the next one.
+    /// How many datagrams these are.
+    datagrams: u16,
+    /// The place of the next frame.
     next: usize,
+    /// The identification of the first datagram of this turn.
+    identification: u16,
     /// The next sequence number.
     number: u8,
     /// Whether frames are lost by chance.
@@ -29,44 +34,71 @@ fn number_after(number: u8) -> u8 {
     if number == 255 { 1 } else { number + 1 }
 }
 
-/// A frame that is sent: the place of its link, that of its template, its sequence number, and its eight octets.
+/// A frame that is sent: the place of its link, and that of its template, which has its octets.
 #[derive(Clone, Copy)]
 pub(crate) struct Sent {
     pub link: usize,
     pub frame: usize,
-    pub number: u8,
-    pub stamp: u64,
 }
 
 impl Flow {
-    pub(crate) fn new(frames: Vec<Template>, losses: bool) -> Flow {
+    pub(crate) fn new(alloc: Global, losses: bool) -> Flow {
         Flow {
-            frames,
+            frames: Vec::new(alloc),
+            datagrams: 0,
             next: 0,
+            identification: 0,
             number: 0,
             losses,
         }
     }
 
-    /// The place and the sequence number of the next frame. `draw` says, by chance, whether numbers are left out before
-    /// it: seldom one, more seldom some, which turns the frame away.
-    fn step(&mut self, draw: u64) -> (usize, u8) {
-        let frame = self.next;
-        let jump = match self.frames.get(frame) {
-            Some(template) => template.jump,
-            None => 0,
+    /// Adds the frames of so many datagrams, whose places are counted from 0.
+    pub(crate) fn add(&mut self, frames: Vec<Template>, datagrams: u16) -> Result<(), Memory> {
+        for mut frame in frames {
+            frame.datagram = frame.datagram.wrapping_add(self.datagrams);
+            self.frames.push(frame)?;
+        }
+        self.datagrams = self.datagrams.wrapping_add(datagrams);
+        Ok(())
+    }
+
+    /// Adds the frame of a datagram that comes whole.
+    pub(crate) fn add_whole(&mut self, frame: Template) -> Result<(), Memory> {
+        let mut frame = frame;
+        frame.datagram = self.datagrams;
+        self.frames.push(frame)?;
+        self.datagrams = self.datagrams.wrapping_add(1);
+        Ok(())
+    }
+
+    /// Begins the next turn after the last frame.
+    fn go_on(&mut self) {
+        self.next = self.next.wrapping_add(1);
+        if self.next >= self.frames.len() {
+            self.next = 0;
+            self.identification = self.identification.wrapping_add(self.datagrams);
+        }
+    }
+
+    /// Sends the next frame, and returns its place. `draw` says, by chance, whether numbers are left out before it:
+    /// seldom one, more seldom some, which turns the frame away.
+    fn send(&mut self, draw: u64, stamp: u64) -> usize {
+        let place = self.next;
+        let Some(template) = self.frames.get_mut(place) else {
+            return place;
         };
-        for _ in 0..left_out(jump, self.losses, draw) {
+        for _ in 0..left_out(template.jump, self.losses, draw) {
             self.number = number_after(self.number);
         }
-        let number = self.number;
-        self.number = number_after(number);
-        self.next = if frame < self.frames.len() && frame + 1 < self.frames.len() {
-            frame + 1
-        } else {
-            0
-        };
-        (frame, number)
+        template.mark(Marks {
+            identification: self.identification.wrapping_add(template.datagram),
+            stamp,
+            sequence_number: self.number,
+        });
+        self.number = number_after(self.number);
+        self.go_on();
+        place
     }
 }
 
@@ -118,22 +150,17 @@ impl Traffic {
         self.flows.len()
     }
 
-    /// The next frame, of a link by chance.
+    /// Sends the next frame, of a link by chance.
     pub(crate) fn send(&mut self) -> Sent {
         let draw = self.draw();
         let link = (draw >> 20) as usize % self.flows.len().max(1);
         self.sent = self.sent.wrapping_add(1);
         self.time = self.time.wrapping_add(20 + (draw & 0x3f));
-        let (frame, number) = match self.flows.get_mut(link) {
-            Some(flow) => flow.step(draw >> 6),
-            None => (0, 0),
+        let frame = match self.flows.get_mut(link) {
+            Some(flow) => flow.send(draw >> 6, self.sent),
+            None => 0,
         };
-        Sent {
-            link,
-            frame,
-            number,
-            stamp: self.sent,
-        }
+        Sent { link, frame }
     }
 
     /// Writes the octets of the next frame, in place of what is there.
@@ -144,13 +171,6 @@ impl Traffic {
         };
         to.clear();
         to.extend_from_slice(&template.octets)?;
-        let at = template.stamp;
-        if at > 0 && at < to.len() && to.len() - at > 8 {
-            to[at..at + 8].copy_from_slice(&sent.stamp.to_be_bytes());
-        }
-        if let Some(last) = to.last_mut() {
-            *last = sent.number;
-        }
         Ok(())
     }
 }
