@@ -1,14 +1,16 @@
 //! An end system that goes on for days: one thread brings the frames of both networks, partitions read and take beside
 //! it, and each link's epoch is taken out before it is long.
-use crate::configs::{DEPTH, Shape, config_of, link_number};
+use crate::configs::{Shape, config_of, link_number};
 use crate::digest::Digest;
+use crate::outcomes::{add_deliveries, add_epoch, add_verdict, cause_number};
+use crate::partitions::{first_of, read_newest, take_all};
 use crate::profiles::{Profile, traffic};
 use crate::refused;
 use end_system::{NoGate, Reply};
-use es_base::{LinkNo, Net, PortNo, VERDICT_KINDS};
-use link_receiver::{Epoch, PortEnd};
+use es_base::{LinkNo, Net, VERDICT_KINDS};
+use link_receiver::PortEnd;
 use queuing_port::Taker;
-use sampling_port::{MOST_TRIES, Read, Reader};
+use sampling_port::Reader;
 use slot_core::READERS;
 use std::alloc::Global;
 use std::io;
@@ -45,9 +47,7 @@ struct Partitions {
 fn add_end(partitions: &mut Partitions, end: Option<PortEnd>) -> io::Result<()> {
     match end {
         Some(PortEnd::Sampling { readers, .. }) => {
-            let [first, b, c, d, e, f, g, h] = readers;
-            drop((b, c, d, e, f, g, h));
-            partitions.readers.push(first)?;
+            partitions.readers.push(first_of(readers))?;
             Ok(())
         }
         Some(PortEnd::Queuing { taker, .. }) => {
@@ -78,54 +78,25 @@ fn partitions_of(alloc: Global, running: &mut Running<NoGate>) -> io::Result<Par
 }
 
 /// Each partition reads the newest message of its port.
-fn read_all(readers: &mut [Reader<READERS>], digest: &mut Digest) {
-    let mut out = [0; 1471];
+fn read_ports(readers: &mut [Reader<READERS>], digest: &mut Digest) {
+    let mut room = [0; 1471];
     for reader in readers {
-        match reader.read(MOST_TRIES, &mut out) {
-            Read::Message { number, time, len } => {
-                digest.add(number);
-                digest.add(time);
-                if len <= out.len() {
-                    digest.add_octets(&out[..len]);
-                }
-            }
-            Read::Empty => digest.add(1),
-            Read::Busy { number: _ } => digest.add(2),
-        }
+        let time = read_newest(reader, &mut room, digest);
+        digest.add(time);
     }
 }
 
 /// Each partition takes all messages of its queue.
-fn take_all<R: Wait>(rt: &R, takers: &mut [Taker], digest: &mut Digest) {
+fn take_queues<R: Wait>(rt: &R, takers: &mut [Taker], digest: &mut Digest) {
     for taker in takers {
-        for _ in 0..DEPTH {
-            let Some(message) = taker.take(rt) else { break };
-            digest.add(message.time);
-            digest.add_octets(message.octets.as_slice());
-        }
+        take_all(rt, taker, digest);
     }
 }
 
 fn add_reply(digest: &mut Digest, reply: Reply) {
     match reply {
-        Reply::Filtered(cause) => digest.add(cause.kind() as u64),
-        Reply::Link { place, verdict, .. } => {
-            digest.add(place);
-            digest.add(verdict.kind() as u64);
-        }
-    }
-}
-
-/// What an epoch has, as one who writes it away looks at it.
-fn add_epoch(digest: &mut Digest, epoch: &Epoch) {
-    digest.add(epoch.first());
-    let events = epoch.events();
-    for place in 0..events.len() {
-        if let Some(event) = events.get(place) {
-            digest.add(event.time);
-            digest.add(event.frame.len() as u64);
-            digest.add(event.verdict.kind() as u64);
-        }
+        Reply::Filtered(cause) => digest.add(cause_number(cause)),
+        Reply::Link { vl, place, verdict } => add_verdict(digest, vl, place, verdict),
     }
 }
 
@@ -153,11 +124,7 @@ fn add_settled(alloc: Global, running: Running<NoGate>, digest: &mut Digest) -> 
             digest.add(link.tally().count(Net::A, kind));
             digest.add(link.tally().count(Net::B, kind));
         }
-        for port in 0..SHAPE.sampling + SHAPE.queuing {
-            for message in link.deliveries(alloc, PortNo(port))? {
-                digest.add_octets(message.octets.as_slice());
-            }
-        }
+        add_deliveries(alloc, digest, link, SHAPE.sampling + SHAPE.queuing)?;
     }
     Ok(())
 }
@@ -177,8 +144,8 @@ pub(crate) fn run<R: Wait>(rt: &R, alloc: Global, seed: u64, rounds: u64) -> io:
         let reply = running.receive(rt, alloc, Net::B, sent.time.wrapping_add(late), &octets)?;
         add_reply(&mut digest, reply);
         if frame % 64 == 0 {
-            read_all(&mut partitions.readers, &mut digest);
-            take_all(rt, &mut partitions.takers, &mut digest);
+            read_ports(&mut partitions.readers, &mut digest);
+            take_queues(rt, &mut partitions.takers, &mut digest);
         }
         if frame % SPAN == 0 && frame < rounds.wrapping_mul(EPOCHS).wrapping_mul(SPAN) {
             take_epochs(rt, alloc, &mut running, &mut digest)?;

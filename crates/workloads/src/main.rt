@@ -20,6 +20,8 @@ mod days;
 mod digest;
 mod frames;
 mod networks;
+mod outcomes;
+mod partitions;
 mod pieces;
 mod profiles;
 mod task;

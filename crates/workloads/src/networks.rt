@@ -1,18 +1,29 @@
 //! An end system with a thread for each network. Both bring the same frames, a little after one another, so both ask
-//! for one link at about the same time. Each thread takes the messages of half of the queues. The threads wait for each
-//! other so often that each frame is forwarded once, whichever copy comes first; which one that is isn't printed.
+//! for one link at about the same time. Each thread reads half of the sampling ports and takes of half of the queues,
+//! once it has brought a batch. The threads wait for each other so often that each frame is forwarded once, whichever
+//! copy comes first, and so that what is read and taken is the same, whatever the schedule.
+//!
+//! Which copy comes first is up to the threads. So the digest has sums over both copies of each frame: over their
+//! verdicts, and over their places among all events of their link. Left out are which of both verdicts and places is
+//! which copy's, the order of the events, and the times of messages, which are those of the copy that came first. Of the
+//! histories, which repeat what was given and replied, it has the events of the first link, and what was delivered to
+//! the first queuing port of each.
 ghost use Rattle.std.specs.Prelude.{◌≡◌, IfOk};
 ghost use Rattle.es_base.specs.declared.place.Net.TheVariants.{A, B};
 ghost use Rattle.end_system.specs.System.{IsPassOf};
 
 use crate::configs::{DEPTH, Shape, config_of};
-use crate::digest::Digest;
+use crate::digest::{Digest, digest_of, mixed};
+use crate::outcomes::{arrival_number, cause_number, verdict_number};
+use crate::partitions::{first_of, read_newest};
 use crate::profiles::{Profile, traffic};
 use crate::traffic::Traffic;
-use end_system::{EndSystem, LinkEnds, NetPass, NoGate, Opened, Settled};
+use end_system::{EndSystem, LinkEnds, NetPass, NoGate, Opened, Reply, Settled};
 use es_base::{Memory, Net, PortNo, VERDICT_KINDS};
-use link_receiver::PortEnd;
+use link_receiver::{LinkState, PortEnd};
 use queuing_port::Taker;
+use sampling_port::Reader;
+use slot_core::READERS;
 use std::alloc::Global;
 use std::sync::Wait;
 use std::sync::atomic::{AtomicU64, Ordering};
@@ -61,21 +72,91 @@ impl Queue {
     }
 }
 
-/// The queues of every other link, from this one on.
-fn queues_of(alloc: Global, ends: Vec<LinkEnds>) -> Result<(Vec<Queue>, Vec<Queue>), Memory> {
-    let mut even = Vec::new(alloc);
-    let mut odd = Vec::new(alloc);
+/// Sums over the replies to both copies of each frame.
+#[derive(Clone, Copy, Drop)]
+struct Replies {
+    verdicts: u64,
+    places: u64,
+}
+
+impl Replies {
+    fn new() -> Replies {
+        Replies {
+            verdicts: 0,
+            places: 0,
+        }
+    }
+
+    /// Adds the reply to a copy of the frame with this number.
+    fn add(&mut self, frame: u64, reply: Reply) {
+        let number = match reply {
+            Reply::Filtered(cause) => cause_number(cause),
+            Reply::Link { vl, place, verdict } => {
+                let place = mixed(mixed(u64::from(vl.0)) ^ place);
+                self.places = self.places.wrapping_add(place);
+                verdict_number(verdict)
+            }
+        };
+        let verdict = mixed(mixed(frame) ^ number);
+        self.verdicts = self.verdicts.wrapping_add(verdict);
+    }
+}
+
+/// What a thread has beside its network's pass: the ends of half of the ports, and what came of them and of its frames.
+#[derive(Drop)]
+struct Share {
+    queues: Vec<Queue>,
+    readers: Vec<Reader<READERS>>,
+    read: Digest,
+    replies: Replies,
+}
+
+impl Share {
+    fn new(alloc: Global) -> Share {
+        Share {
+            queues: Vec::new(alloc),
+            readers: Vec::new(alloc),
+            read: Digest::new(),
+            replies: Replies::new(),
+        }
+    }
+
+    fn add_end(&mut self, end: PortEnd) -> Result<(), Memory> {
+        match end {
+            PortEnd::Queuing { taker, .. } => self.queues.push(Queue {
+                taker,
+                digest: Digest::new(),
+            })?,
+            PortEnd::Sampling { readers, .. } => self.readers.push(first_of(readers))?,
+        }
+        Ok(())
+    }
+
+    /// Takes all that waits in the queues.
+    fn take_all<R: Wait>(&mut self, rt: &R) {
+        for queue in self.queues.iter_mut() {
+            queue.take_all(rt);
+        }
+    }
+
+    /// Reads the newest message of each port.
+    fn read_all(&mut self) {
+        let mut room = [0; 1471];
+        for reader in self.readers.iter_mut() {
+            let _time = read_newest(reader, &mut room, &mut self.read);
+        }
+    }
+}
+
+/// The ends of every other link, for each thread.
+fn shares_of(alloc: Global, ends: Vec<LinkEnds>) -> Result<(Share, Share), Memory> {
+    let mut even = Share::new(alloc);
+    let mut odd = Share::new(alloc);
     for link in ends {
         let is_odd = link.vl.0 % 2 == 1;
         for end in link.ports {
-            if let PortEnd::Queuing { taker, .. } = end {
-                let queue = Queue {
-                    taker,
-                    digest: Digest::new(),
-                };
-                let queues = if is_odd { &mut odd } else { &mut even };
-                queues.push(queue)?;
-            }
+            let share = if is_odd { &mut odd } else { &mut even };
+            share.add_end(end)?;
         }
     }
     Ok((even, odd))
@@ -105,7 +186,7 @@ fn wait_for<R: Wait>(rt: &R, other: &AtomicU64, batches: u64) {
 #[derive(Drop)]
 struct Ended {
     pass: NetPass,
-    queues: Vec<Queue>,
+    share: Share,
 }
 
 /// Gives the frames of one batch to their links.
@@ -116,6 +197,7 @@ fn give_batch<R: Wait>(
     pass: &mut NetPass,
     traffic: &mut Traffic,
     octets: &mut Vec<u8>,
+    replies: &mut Replies,
 ) -> Result<(), Memory>
     requires { IsPassOf system.now pass.old }
     ensures own { IsPassOf system.now pass.new }
@@ -125,7 +207,8 @@ fn give_batch<R: Wait>(
     for _ in 0..BATCH {
         traffic.next(octets)?;
         let time = traffic.time.wrapping_add(late);
-        let _reply = system.receive(rt, alloc, pass, time, octets)?;
+        let reply = system.receive(rt, alloc, pass, time, octets)?;
+        replies.add(traffic.sent, reply);
     }
     Ok(())
 }
@@ -137,7 +220,7 @@ fn give_all<R: Wait>(
     system: &EndSystem<NoGate>,
     mut pass: NetPass,
     mut traffic: Traffic,
-    mut queues: Vec<Queue>,
+    mut share: Share,
     batches: u64,
     own: &AtomicU64,
     other: &AtomicU64,
@@ -149,13 +232,20 @@ fn give_all<R: Wait>(
     let mut octets = Vec::with_capacity(alloc, 1514)?;
     for batch in 0..batches {
         wait_for(rt, other, batch);
-        give_batch(rt, alloc, system, &mut pass, &mut traffic, &mut octets)?;
-        for queue in queues.iter_mut() {
-            queue.take_all(rt);
-        }
+        give_batch(
+            rt,
+            alloc,
+            system,
+            &mut pass,
+            &mut traffic,
+            &mut octets,
+            &mut share.replies,
+        )?;
+        share.take_all(rt);
+        share.read_all();
         own.store(batch + 1, Ordering::SeqCst);
     }
-    Ok(Ended { pass, queues })
+    Ok(Ended { pass, share })
 }
 
 /// The same. The other thread waits for this one no more, memory or not.
@@ -165,7 +255,7 @@ fn run_network<R: Wait>(
     system: &EndSystem<NoGate>,
     pass: NetPass,
     traffic: Traffic,
-    queues: Vec<Queue>,
+    share: Share,
     batches: u64,
     own: &AtomicU64,
     other: &AtomicU64,
@@ -174,37 +264,64 @@ fn run_network<R: Wait>(
     ensures own { IfOk result (λ ended. IsPassOf system.now ended.pass) }
     ensures net { IfOk result (λ ended. ended.pass.net ≡ pass.net) }
 {
-    let ended = give_all(
-        rt, alloc, system, pass, traffic, queues, batches, own, other,
-    );
+    let ended = give_all(rt, alloc, system, pass, traffic, share, batches, own, other);
     own.store(u64::MAX, Ordering::SeqCst);
     ended
 }
 
-/// Counts of both networks together, and what was delivered to the first queuing port of each link.
-fn add_settled(alloc: Global, digest: &mut Digest, settled: &Settled) -> Result<(), Memory> {
-    for link in settled.links.iter() {
-        for kind in 1..=VERDICT_KINDS {
-            let tally = link.tally();
-            digest.add(
-                tally
-                    .count(Net::A, kind)
-                    .wrapping_add(tally.count(Net::B, kind)),
-            );
+/// The events of a link as two sums: over frames with their arrivals, and over frames with their verdicts.
+fn add_events(digest: &mut Digest, link: &LinkState) {
+    let (mut arrivals, mut verdicts) = (0u64, 0u64);
+    let history = link.history();
+    for place in 0..history.len() {
+        if let Some(event) = history.get(place) {
+            let frame = digest_of(event.frame.as_slice());
+            let arrival = mixed(frame ^ mixed(arrival_number(event.net, event.time)));
+            let verdict = mixed(frame ^ mixed(verdict_number(event.verdict)));
+            arrivals = arrivals.wrapping_add(arrival);
+            verdicts = verdicts.wrapping_add(verdict);
         }
-        digest.add(link.history().len() as u64);
-        for message in link.deliveries(alloc, PortNo(SHAPE.sampling))? {
-            digest.add_octets(message.octets.as_slice());
-        }
+    }
+    digest.add(arrivals);
+    digest.add(verdicts);
+}
+
+/// Counts of both networks together, and what was delivered to the first queuing port of the link.
+fn add_link(alloc: Global, digest: &mut Digest, link: &LinkState) -> Result<(), Memory> {
+    for kind in 1..=VERDICT_KINDS {
+        let tally = link.tally();
+        digest.add(
+            tally
+                .count(Net::A, kind)
+                .wrapping_add(tally.count(Net::B, kind)),
+        );
+    }
+    digest.add(link.history().len() as u64);
+    for message in link.deliveries(alloc, PortNo(SHAPE.sampling))? {
+        digest.add_octets(message.octets.as_slice());
     }
     Ok(())
 }
 
-fn add_queues<R: Wait>(rt: &R, digest: &mut Digest, queues: Vec<Queue>) {
-    for mut queue in queues {
-        queue.take_all(rt);
+fn add_settled(alloc: Global, digest: &mut Digest, settled: &Settled) -> Result<(), Memory> {
+    for link in settled.links.iter() {
+        add_link(alloc, digest, link)?;
+    }
+    if let Some(first) = settled.links.first() {
+        add_events(digest, first);
+    }
+    Ok(())
+}
+
+/// What came of both threads' ports, and of all frames.
+fn add_shares(digest: &mut Digest, a: Share, b: Share) {
+    for queue in a.queues.iter().chain(b.queues.iter()) {
         digest.add(queue.digest.sum);
     }
+    digest.add(a.read.sum);
+    digest.add(b.read.sum);
+    digest.add(a.replies.verdicts.wrapping_add(b.replies.verdicts));
+    digest.add(a.replies.places.wrapping_add(b.replies.places));
 }
 
 /// Both networks, to their end.
@@ -220,7 +337,7 @@ pub(crate) fn run<R: Threads + Wait + Sync>(
         b: pass_b,
         ends,
     } = EndSystem::open(alloc, &config_of(alloc, SHAPE)?, NoGate)?;
-    let (queues_a, queues_b) = queues_of(alloc, ends)?;
+    let (share_a, share_b) = shares_of(alloc, ends)?;
     let sent_a = traffic(alloc, SHAPE, PROFILE, seed)?;
     let sent_b = traffic(alloc, SHAPE, PROFILE, seed)?;
     let batches = rounds.wrapping_mul(BATCHES);
@@ -234,7 +351,7 @@ pub(crate) fn run<R: Threads + Wait + Sync>(
             ensures { IfOk result (λ ended. IsPassOf shared.entry.now ended.pass × (ended.pass.net ≡ A)) }
         {
             run_network(
-                rt, alloc, shared, pass_a, sent_a, queues_a, batches, at_a, at_b,
+                rt, alloc, shared, pass_a, sent_a, share_a, batches, at_a, at_b,
             )
         },
         move ||
@@ -242,15 +359,14 @@ pub(crate) fn run<R: Threads + Wait + Sync>(
             ensures { IfOk result (λ ended. IsPassOf shared.entry.now ended.pass × (ended.pass.net ≡ B)) }
         {
             run_network(
-                rt, alloc, shared, pass_b, sent_b, queues_b, batches, at_b, at_a,
+                rt, alloc, shared, pass_b, sent_b, share_b, batches, at_b, at_a,
             )
         },
     );
     let (a, b) = (a?, b?);
     let mut digest = Digest::new();
-    add_queues(rt, &mut digest, a.queues);
-    add_queues(rt, &mut digest, b.queues);
     let settled = system.settle(a.pass, b.pass);
+    add_shares(&mut digest, a.share, b.share);
     add_settled(alloc, &mut digest, &settled)?;
     Ok(digest)
 }

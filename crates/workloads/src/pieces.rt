@@ -1,11 +1,13 @@
 //! A receiver for one task on what is awkward: the longest datagrams in pieces of 8 octets, from their end, or the last
 //! piece first; pieces of four datagrams in turn, with a fifth that gives one up; bursts of frames that are out of
-//! sequence or of no link; and queues that nobody takes of.
-use crate::configs::{QUEUING_UDP, Shape, config_of};
+//! sequence or of no link; and queues that nobody takes of. A partition takes what is joined of pieces.
+use crate::configs::{DEPTH, QUEUING_UDP, Shape, config_of};
 use crate::digest::{Digest, mixed};
 use crate::frames::{Template, datagram, pieces, whole};
+use crate::outcomes::{add_verdict, cause_number};
+use crate::refused;
 use crate::traffic::{Flow, Traffic};
-use receiver::{Net, PortOutlet, Receiver, Reply};
+use receiver::{Net, Opened, PortOutlet, Receiver, Reply, RingTaker};
 use std::alloc::Global;
 use std::io;
 
@@ -21,6 +23,9 @@ const LONGEST: u16 = 8192;
 
 /// How many frames are sent in a round.
 const FRAMES: u64 = 40_000;
+
+/// How many frames are sent between two looks of the partitions.
+const SPAN: u64 = 1024;
 
 /// A datagram in pieces of 8 octets: by `way` from its end, the last piece first, or each piece in its place.
 fn smallest_pieces(alloc: Global, link: u8, way: u8, seed: u64) -> io::Result<Vec<Template>> {
@@ -98,32 +103,84 @@ fn flow(alloc: Global, link: u8, seed: u64) -> io::Result<Flow> {
 
 fn add_reply(digest: &mut Digest, reply: Reply) {
     match reply {
-        Reply::Filtered(cause) => digest.add(cause.kind() as u64),
-        Reply::Link { place, verdict, .. } => {
-            digest.add(place);
-            digest.add(verdict.kind() as u64);
+        Reply::Filtered(cause) => digest.add(cause_number(cause)),
+        Reply::Link {
+            at,
+            vl,
+            place,
+            verdict,
+        } => {
+            digest.add(at as u64);
+            add_verdict(digest, vl, place, verdict);
         }
+    }
+}
+
+/// The ends of the queues of datagrams that are joined of pieces.
+fn takers_of(alloc: Global, opened: &mut Opened<PortOutlet>) -> io::Result<Vec<RingTaker>> {
+    let mut takers = Vec::new(alloc);
+    for link in 0..SHAPE.links {
+        let name = format!(in alloc; "q{link}-0")?;
+        match opened.take_taker(name.as_str()) {
+            Some(taker) => takers.push(taker)?,
+            None => return Err(refused()),
+        }
+    }
+    Ok(takers)
+}
+
+/// Takes the oldest message of a queue, and adds it. False if there is none.
+fn take_one(taker: &mut RingTaker, room: &mut [u8], digest: &mut Digest) -> bool {
+    if room.len() < taker.max() {
+        return false;
+    }
+    let Some(taken) = taker.take(room) else {
+        return false;
+    };
+    digest.add(taken.time);
+    if let Some(octets) = room.get(..taken.len) {
+        digest.add_octets(octets);
+    }
+    true
+}
+
+/// Takes all that waits in a queue.
+fn take_all(taker: &mut RingTaker, room: &mut [u8], digest: &mut Digest) {
+    for _ in 0..DEPTH {
+        if !take_one(taker, room, digest) {
+            return;
+        }
+    }
+}
+
+/// Each partition takes all that waits in its queue.
+fn take_queues(takers: &mut [RingTaker], room: &mut [u8], digest: &mut Digest) {
+    for taker in takers {
+        take_all(taker, room, digest);
     }
 }
 
 /// All frames, each on both networks.
 pub(crate) fn run(alloc: Global, seed: u64, rounds: u64) -> io::Result<Digest> {
     let mut digest = Digest::new();
-    let opened = Receiver::<PortOutlet>::open(alloc, &config_of(alloc, SHAPE)?)?;
-    let receiver::Opened {
-        mut receiver,
-        ends: _ends,
-    } = opened;
+    let mut opened = Receiver::<PortOutlet>::open(alloc, &config_of(alloc, SHAPE)?)?;
+    let mut takers = takers_of(alloc, &mut opened)?;
+    let mut room = vec![in alloc; 0u8; 8192]?;
     let mut sent = Traffic::new(alloc, seed);
     for link in 0..SHAPE.links {
         sent.add(flow(alloc, link, seed)?)?;
     }
     let mut octets = Vec::with_capacity(alloc, 1514)?;
-    for _ in 0..rounds.wrapping_mul(FRAMES) {
+    for frame in 1..=rounds.wrapping_mul(FRAMES) {
         sent.next(&mut octets)?;
         let late = sent.time.wrapping_add(sent.draw() & 0x1ff);
+        let receiver = &mut opened.receiver;
         add_reply(&mut digest, receiver.receive(Net::A, sent.time, &octets));
         add_reply(&mut digest, receiver.receive(Net::B, late, &octets));
+        if frame % SPAN == 0 {
+            take_queues(&mut takers, &mut room, &mut digest);
+        }
     }
+    take_queues(&mut takers, &mut room, &mut digest);
     Ok(digest)
 }

@@ -5,7 +5,7 @@ use crate::digest::Digest;
 use crate::profiles::{Profile, traffic};
 use crate::refused;
 use crate::traffic::Traffic;
-use receiver::{Freshness, PartitionReader, Reading};
+use receiver::{Freshness, HeldMessage, PartitionReader, Reading};
 use receiver_slots::{FaultReply, FrameReply, ReaderSlot, ReceiverSlot, TakeReply, TakerSlot};
 use std::alloc::Global;
 use std::io;
@@ -124,13 +124,21 @@ fn hand_ends(alloc: Global, receiving: &mut Receiving, shape: Shape, link: u8) -
     Ok(())
 }
 
+/// Adds the reply to a frame whole. Kind, cause, port and link number stand beside one another.
+fn add_reply(digest: &mut Digest, code: u32, reply: &FrameReply) {
+    let kind = u64::from(reply.kind) << 56 ^ u64::from(reply.cause) << 48;
+    let port = u64::from(reply.port) << 32 ^ u64::from(reply.vl);
+    digest.add(kind ^ port);
+    digest.add((reply.link as u64) << 32 ^ u64::from(code));
+    digest.add(reply.place);
+    digest.add(reply.number);
+}
+
 /// A frame that came on a network.
 fn receive(receiving: &mut Receiving, net: u32, time: u64, octets: &[u8], digest: &mut Digest) {
     let mut reply = no_frame();
     let code = receiving.receiver.receive(net, time, octets, &mut reply);
-    digest.add(u64::from(code));
-    digest.add(u64::from(reply.kind) << 32 | u64::from(reply.port));
-    digest.add(reply.place ^ reply.number);
+    add_reply(digest, code, &reply);
 }
 
 /// A partition reads its port.
@@ -141,22 +149,35 @@ fn read(receiving: &mut Receiving, at: usize, now: u64, digest: &mut Digest) {
     match reader.read(now, &mut receiving.room) {
         Reading::Message {
             number,
-            time: _,
+            time,
             len,
             validity,
         } => {
             digest.add(number << 1 | u64::from(validity == Freshness::Fresh));
-            if let Some(octets) = receiving.room.get(..len.min(24)) {
+            digest.add(time);
+            if let Some(octets) = receiving.room.get(..len) {
                 digest.add_octets(octets);
             }
         }
         Reading::Empty => digest.add(1),
-        Reading::Busy { number: _ } => digest.add(2),
+        Reading::Busy { number } => digest.add(number << 2 | 2),
     }
 }
 
-/// A partition holds the newest message, looks at a part of it, and releases it.
-fn hold(receiving: &mut Receiving, at: usize, digest: &mut Digest) {
+/// Adds a message that is held, with its octets.
+fn add_held(digest: &mut Digest, held: &mut HeldMessage, now: u64, room: &mut [u8]) {
+    let fresh = held.validity(now) == Freshness::Fresh;
+    digest.add(held.number() << 1 | u64::from(fresh));
+    digest.add(held.time());
+    let len = held.len();
+    if let Some(octets) = room.get_mut(..len) {
+        held.copy_range(0, octets);
+        digest.add_octets(octets);
+    }
+}
+
+/// A partition holds the newest message, looks at all of it, and releases it.
+fn hold(receiving: &mut Receiving, at: usize, now: u64, digest: &mut Digest) {
     let Some(place) = receiving.readers.get_mut(at) else {
         return;
     };
@@ -165,16 +186,13 @@ fn hold(receiving: &mut Receiving, at: usize, digest: &mut Digest) {
     };
     match reader.hold() {
         Ok(mut held) => {
-            let mut part = [0; 16];
-            let len = held.len();
-            if len >= 16 {
-                held.copy_range(len - 16, &mut part);
-            }
-            digest.add(held.number());
-            digest.add_octets(&part);
+            add_held(digest, &mut held, now, &mut receiving.room);
             *place = Some(held.release());
         }
-        Err((reader, _)) => *place = Some(reader),
+        Err((reader, _)) => {
+            digest.add(3);
+            *place = Some(reader);
+        }
     }
 }
 
@@ -185,12 +203,13 @@ fn take(receiving: &mut Receiving, at: usize, digest: &mut Digest) {
     };
     for _ in 0..64 {
         let mut reply = nothing_taken();
-        let _code = taker.take(&mut receiving.room, &mut reply);
+        let code = taker.take(&mut receiving.room, &mut reply);
+        digest.add(u64::from(code) << 32 ^ u64::from(reply.found));
         if reply.found == 0 {
             return;
         }
         digest.add(reply.time);
-        if let Some(octets) = receiving.room.get(..reply.len.min(24)) {
+        if let Some(octets) = receiving.room.get(..reply.len) {
             digest.add_octets(octets);
         }
     }
@@ -205,7 +224,7 @@ fn step(receiving: &mut Receiving, frame: u64, draw: u64, now: u64, digest: &mut
     let at = (draw >> 8) as usize;
     read(receiving, at % readers, now, digest);
     if frame % 4 == 0 {
-        hold(receiving, (at >> 8) % readers, digest);
+        hold(receiving, (at >> 8) % readers, now, digest);
     }
     take(receiving, frame as usize % takers, digest);
 }

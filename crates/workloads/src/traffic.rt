@@ -107,8 +107,8 @@ impl Flow {
 pub(crate) struct Traffic {
     flows: Vec<Flow>,
     state: u64,
-    /// How many frames were sent.
-    sent: u64,
+    /// How many frames were sent, counted from a number of the seed's.
+    pub sent: u64,
     /// When the latest was sent, in microseconds.
     pub time: u64,
 }

@@ -1,0 +1,76 @@
+//! What became of frames, as numbers.
+use crate::digest::Digest;
+use crate::partitions::add_message;
+use es_base::{Event, FilterCause, LinkNo, Memory, Net, PortNo, Verdict};
+use link_receiver::{Epoch, LinkState};
+use std::alloc::Global;
+
+/// A verdict: its kind, its port, and its cause or message number.
+pub(crate) fn verdict_number(verdict: Verdict) -> u64 {
+    let (port, more) = match verdict {
+        Verdict::BadHeader(fault) => (0, fault as u64),
+        Verdict::Sampled(port, number) => (port.0, number),
+        Verdict::TooLong(port)
+        | Verdict::FragmentedSample(port)
+        | Verdict::Queued(port)
+        | Verdict::Overflow(port)
+        | Verdict::Exhausted(port) => (port.0, 0),
+        Verdict::OutOfSequence
+        | Verdict::Redundant
+        | Verdict::BadFragment
+        | Verdict::FragmentHeld
+        | Verdict::BadUdp
+        | Verdict::NoPort => (0, 0),
+    };
+    more << 16 | u64::from(port) << 8 | verdict.kind() as u64
+}
+
+/// Why a frame was filtered. No verdict has this number.
+pub(crate) fn cause_number(cause: FilterCause) -> u64 {
+    100u64.wrapping_add(cause.kind() as u64)
+}
+
+/// Adds what became of a frame of a link.
+pub(crate) fn add_verdict(digest: &mut Digest, vl: LinkNo, place: u64, verdict: Verdict) {
+    digest.add(u64::from(vl.0));
+    digest.add(place);
+    digest.add(verdict_number(verdict));
+}
+
+/// When a frame came, and on which network.
+pub(crate) fn arrival_number(net: Net, time: u64) -> u64 {
+    time << 1 | u64::from(net == Net::B)
+}
+
+/// Adds an event whole.
+fn add_event(digest: &mut Digest, event: &Event) {
+    digest.add(arrival_number(event.net, event.time));
+    digest.add(verdict_number(event.verdict) << 1 | u64::from(event.room));
+    digest.add_octets(event.frame.as_slice());
+}
+
+/// Adds an epoch whole, as one who writes it away looks at it.
+pub(crate) fn add_epoch(digest: &mut Digest, epoch: &Epoch) {
+    digest.add(epoch.first());
+    let events = epoch.events();
+    for place in 0..events.len() {
+        if let Some(event) = events.get(place) {
+            add_event(digest, event);
+        }
+    }
+}
+
+/// Adds what a link's history delivered to each of its ports.
+pub(crate) fn add_deliveries(
+    alloc: Global,
+    digest: &mut Digest,
+    link: &LinkState,
+    ports: u8,
+) -> Result<(), Memory> {
+    for port in 0..ports {
+        for message in link.deliveries(alloc, PortNo(port))? {
+            add_message(digest, &message);
+        }
+    }
+    Ok(())
+}
