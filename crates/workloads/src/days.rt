@@ -134,20 +134,20 @@ pub(crate) fn run<R: Wait>(rt: &R, alloc: Global, seed: u64, rounds: u64) -> io:
     let mut digest = Digest::new();
     let mut running = Running::open(alloc, &config_of(alloc, SHAPE)?, NoGate)?;
     let mut partitions = partitions_of(alloc, &mut running)?;
-    let mut sent = traffic(alloc, SHAPE, PROFILE, seed)?;
-    let mut octets = Vec::with_capacity(alloc, 1514)?;
-    for frame in 1..=rounds.wrapping_mul(EPOCHS).wrapping_mul(SPAN) {
-        sent.next(&mut octets)?;
-        let late = sent.draw() & 0x1ff;
-        let reply = running.receive(rt, alloc, Net::A, sent.time, &octets)?;
+    let mut traffic = traffic(alloc, SHAPE, PROFILE, seed)?;
+    let frames = rounds.wrapping_mul(EPOCHS).wrapping_mul(SPAN);
+    for frame in 1..=frames {
+        let sent = traffic.send();
+        let octets = traffic.octets(sent);
+        let reply = running.receive(rt, alloc, Net::A, sent.time, octets)?;
         add_reply(&mut digest, reply);
-        let reply = running.receive(rt, alloc, Net::B, sent.time.wrapping_add(late), &octets)?;
+        let reply = running.receive(rt, alloc, Net::B, sent.later(), octets)?;
         add_reply(&mut digest, reply);
         if frame % 64 == 0 {
             read_ports(&mut partitions.readers, &mut digest);
             take_queues(rt, &mut partitions.takers, &mut digest);
         }
-        if frame % SPAN == 0 && frame < rounds.wrapping_mul(EPOCHS).wrapping_mul(SPAN) {
+        if frame % SPAN == 0 && frame < frames {
             take_epochs(rt, alloc, &mut running, &mut digest)?;
         }
     }

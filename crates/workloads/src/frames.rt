@@ -131,7 +131,8 @@ fn header(packet: Packet<'_>) -> [u16; 10] {
 
 /// The frame of a packet. Its last eight octets are others each time, if `stamped`.
 pub(crate) fn frame(alloc: Global, packet: Packet<'_>, stamped: bool) -> io::Result<Template> {
-    let mut octets = Vec::with_capacity(alloc, 1514)?;
+    let room = packet.octets.len().saturating_add(HEADERS + 1);
+    let mut octets = Vec::with_capacity(alloc, room.max(60))?;
     octets.extend_from_slice(&ETHERNET)?;
     let [high, low] = link_number(packet.link).to_be_bytes();
     octets[4] = high;
@@ -163,9 +164,12 @@ pub(crate) fn datagram(alloc: Global, udp: u16, len: u16, seed: u64) -> io::Resu
     for word in [5001, udp, len.wrapping_add(8), 0] {
         push_word(&mut octets, word)?;
     }
-    for place in 0..len {
-        octets.push((mixed(seed.wrapping_add(u64::from(place))) & 0xff) as u8)?;
+    for place in 0..len / 8 {
+        let eight = mixed(seed.wrapping_add(u64::from(place)));
+        octets.extend_from_slice(&eight.to_le_bytes())?;
     }
+    let last = mixed(seed ^ u64::from(len)).to_le_bytes();
+    octets.extend_from_slice(&last[..usize::from(len % 8)])?;
     Ok(octets)
 }
 

@@ -196,7 +196,6 @@ fn give_batch<R: Wait>(
     system: &EndSystem<NoGate>,
     pass: &mut NetPass,
     traffic: &mut Traffic,
-    octets: &mut Vec<u8>,
     replies: &mut Replies,
 ) -> Result<(), Memory>
     requires { IsPassOf system.now pass.old }
@@ -205,10 +204,10 @@ fn give_batch<R: Wait>(
 {
     let late = if pass.net() == Net::A { 0 } else { SKEW };
     for _ in 0..BATCH {
-        traffic.next(octets)?;
-        let time = traffic.time.wrapping_add(late);
-        let reply = system.receive(rt, alloc, pass, time, octets)?;
-        replies.add(traffic.sent, reply);
+        let sent = traffic.send();
+        let time = sent.time.wrapping_add(late);
+        let reply = system.receive(rt, alloc, pass, time, traffic.octets(sent))?;
+        replies.add(sent.number, reply);
     }
     Ok(())
 }
@@ -229,7 +228,6 @@ fn give_all<R: Wait>(
     ensures own { IfOk result (λ ended. IsPassOf system.now ended.pass) }
     ensures net { IfOk result (λ ended. ended.pass.net ≡ pass.net) }
 {
-    let mut octets = Vec::with_capacity(alloc, 1514)?;
     for batch in 0..batches {
         wait_for(rt, other, batch);
         give_batch(
@@ -238,7 +236,6 @@ fn give_all<R: Wait>(
             system,
             &mut pass,
             &mut traffic,
-            &mut octets,
             &mut share.replies,
         )?;
         share.take_all(rt);

@@ -101,6 +101,15 @@ fn flow(alloc: Global, link: u8, seed: u64) -> io::Result<Flow> {
     Ok(flow)
 }
 
+/// The senders of all links.
+fn traffic(alloc: Global, seed: u64) -> io::Result<Traffic> {
+    let mut traffic = Traffic::new(alloc, seed);
+    for link in 0..SHAPE.links {
+        traffic.add(flow(alloc, link, seed)?)?;
+    }
+    Ok(traffic)
+}
+
 fn add_reply(digest: &mut Digest, reply: Reply) {
     match reply {
         Reply::Filtered(cause) => digest.add(cause_number(cause)),
@@ -166,17 +175,13 @@ pub(crate) fn run(alloc: Global, seed: u64, rounds: u64) -> io::Result<Digest> {
     let mut opened = Receiver::<PortOutlet>::open(alloc, &config_of(alloc, SHAPE)?)?;
     let mut takers = takers_of(alloc, &mut opened)?;
     let mut room = vec![in alloc; 0u8; 8192]?;
-    let mut sent = Traffic::new(alloc, seed);
-    for link in 0..SHAPE.links {
-        sent.add(flow(alloc, link, seed)?)?;
-    }
-    let mut octets = Vec::with_capacity(alloc, 1514)?;
+    let mut traffic = traffic(alloc, seed)?;
     for frame in 1..=rounds.wrapping_mul(FRAMES) {
-        sent.next(&mut octets)?;
-        let late = sent.time.wrapping_add(sent.draw() & 0x1ff);
+        let sent = traffic.send();
+        let octets = traffic.octets(sent);
         let receiver = &mut opened.receiver;
-        add_reply(&mut digest, receiver.receive(Net::A, sent.time, &octets));
-        add_reply(&mut digest, receiver.receive(Net::B, late, &octets));
+        add_reply(&mut digest, receiver.receive(Net::A, sent.time, octets));
+        add_reply(&mut digest, receiver.receive(Net::B, sent.later(), octets));
         if frame % SPAN == 0 {
             take_queues(&mut takers, &mut room, &mut digest);
         }

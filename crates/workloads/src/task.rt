@@ -230,23 +230,14 @@ fn step(receiving: &mut Receiving, frame: u64, draw: u64, now: u64, digest: &mut
 }
 
 /// So many frames, each on both networks.
-fn give(
-    alloc: Global,
-    receiving: &mut Receiving,
-    sent: &mut Traffic,
-    frames: u64,
-    digest: &mut Digest,
-) -> io::Result<()> {
-    let mut octets = Vec::with_capacity(alloc, 1514)?;
+fn give(receiving: &mut Receiving, traffic: &mut Traffic, frames: u64, digest: &mut Digest) {
     for frame in 0..frames {
-        sent.next(&mut octets)?;
-        let draw = sent.draw();
-        let late = sent.time.wrapping_add(draw & 0x1ff);
-        receive(receiving, 0, sent.time, &octets, digest);
-        receive(receiving, 1, late, &octets, digest);
-        step(receiving, frame, draw, late, digest);
+        let sent = traffic.send();
+        let octets = traffic.octets(sent);
+        receive(receiving, 0, sent.time, octets, digest);
+        receive(receiving, 1, sent.later(), octets, digest);
+        step(receiving, frame, sent.draw, sent.later(), digest);
     }
-    Ok(())
 }
 
 /// Both configurations, one after the other.
@@ -255,13 +246,8 @@ pub(crate) fn run(alloc: Global, seed: u64, rounds: u64) -> io::Result<Digest> {
     for shape in [ONE_LINK, ALL_LINKS] {
         let mut receiving = open(alloc, shape)?;
         let mut sent = traffic(alloc, shape, PROFILE, seed)?;
-        give(
-            alloc,
-            &mut receiving,
-            &mut sent,
-            rounds.wrapping_mul(FRAMES),
-            &mut digest,
-        )?;
+        let frames = rounds.wrapping_mul(FRAMES);
+        give(&mut receiving, &mut sent, frames, &mut digest);
     }
     Ok(digest)
 }

@@ -156,7 +156,7 @@ impl Texts {
             if let Some(link) = lines.links.get_mut(sent.link) {
                 if let Some(line) = link.get_mut(sent.frame) {
                     write_line(line, template);
-                    self.add(line, traffic.time, late, networks(sent.link))?;
+                    self.add(line, sent.time, late, networks(sent.link))?;
                 }
             }
         }

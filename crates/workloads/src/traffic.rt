@@ -39,6 +39,19 @@ fn number_after(number: u8) -> u8 {
 pub(crate) struct Sent {
     pub link: usize,
     pub frame: usize,
+    /// How many frames were sent until then, counted from a number of the seed's.
+    pub number: u64,
+    /// When it was sent, in microseconds.
+    pub time: u64,
+    /// A number by chance.
+    pub draw: u64,
+}
+
+impl Sent {
+    /// When it comes on network B, in microseconds: up to 511 after it came on A, by chance.
+    pub(crate) fn later(self) -> u64 {
+        self.time.wrapping_add(self.draw & 0x1ff)
+    }
 }
 
 impl Flow {
@@ -108,9 +121,9 @@ pub(crate) struct Traffic {
     flows: Vec<Flow>,
     state: u64,
     /// How many frames were sent, counted from a number of the seed's.
-    pub sent: u64,
+    sent: u64,
     /// When the latest was sent, in microseconds.
-    pub time: u64,
+    time: u64,
 }
 
 impl Traffic {
@@ -129,7 +142,7 @@ impl Traffic {
     }
 
     /// The next number by chance.
-    pub(crate) fn draw(&mut self) -> u64 {
+    fn draw(&mut self) -> u64 {
         self.state = self
             .state
             .wrapping_mul(6_364_136_223_846_793_005)
@@ -150,7 +163,7 @@ impl Traffic {
         self.flows.len()
     }
 
-    /// Sends the next frame, of a link by chance.
+    /// Sends the next frame, of a link by chance. Its octets stand until another one is sent.
     pub(crate) fn send(&mut self) -> Sent {
         let draw = self.draw();
         let link = (draw >> 20) as usize % self.flows.len().max(1);
@@ -160,17 +173,20 @@ impl Traffic {
             Some(flow) => flow.send(draw >> 6, self.sent),
             None => 0,
         };
-        Sent { link, frame }
+        Sent {
+            link,
+            frame,
+            number: self.sent,
+            time: self.time,
+            draw: self.draw(),
+        }
     }
 
-    /// Writes the octets of the next frame, in place of what is there.
-    pub(crate) fn next(&mut self, to: &mut Vec<u8>) -> Result<(), Memory> {
-        let sent = self.send();
-        let Some(template) = self.templates(sent.link).get(sent.frame) else {
-            return Ok(());
-        };
-        to.clear();
-        to.extend_from_slice(&template.octets)?;
-        Ok(())
+    /// The octets of the frame that was sent last.
+    pub(crate) fn octets(&self, sent: Sent) -> &[u8] {
+        match self.templates(sent.link).get(sent.frame) {
+            Some(template) => template.octets.as_slice(),
+            None => &[],
+        }
     }
 }
