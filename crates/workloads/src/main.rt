@@ -12,12 +12,14 @@
 //! | `task` | a receiver for one task by the slots of the C library, with partitions that read, hold and take |
 //! | `traces` | two traces in memory, played by one thread |
 //! | `pieces` | a receiver for one task on what is awkward: datagrams in pieces of 8 octets, bursts that are turned away |
+//! | `evidence` | links whose epochs are taken out often, and of each port what was delivered to it since then |
 //! | `all` | all of these, one after another |
 #![tactic(auto)]
 
 mod configs;
 mod days;
 mod digest;
+mod evidence;
 mod frames;
 mod networks;
 mod outcomes;
@@ -40,6 +42,11 @@ use std::thread::Threads;
 
 /// How many rounds a job has if none are asked for.
 const ROUNDS: u64 = 100;
+
+/// The names of all jobs.
+const JOBS: [&str; 7] = [
+    "networks", "threads", "days", "task", "traces", "pieces", "evidence",
+];
 
 /// What can't be made, or can't be so.
 fn refused() -> io::Error {
@@ -91,6 +98,7 @@ fn run<R: Threads + Wait + Sync>(
         "task" => task::run(alloc, seed, rounds),
         "traces" => traces::run(alloc, seed, rounds),
         "pieces" => pieces::run(alloc, seed, rounds),
+        "evidence" => evidence::run(rt, alloc, seed, rounds),
         _ => Err(refused()),
     }
 }
@@ -102,7 +110,7 @@ fn main(rt: HostRuntime) -> io::Result<()> {
         let digest = run(&rt, rt.alloc(), name, asked.seed, asked.rounds)?;
         return println!(rt; "{name} {:016x}", digest.sum);
     }
-    for name in ["networks", "threads", "days", "task", "traces", "pieces"] {
+    for name in JOBS {
         let digest = run(&rt, rt.alloc(), name, asked.seed, asked.rounds)?;
         println!(rt; "{name} {:016x}", digest.sum)?;
     }
