@@ -9,24 +9,20 @@ use link_receiver::LinkState;
 use std::alloc::Global;
 use std::process::Abort;
 use std::sync::Wait;
-use test_inputs::fragments::PacketName::LastTo8199;
-use test_inputs::fragments::padding_after;
+use test_inputs::fragments::PacketName::{First, LastTo8199};
+use test_inputs::fragments::{PacketName, padding_after};
 use test_inputs::{CONSTANT, ETHERNET, LINK, frame_of};
 
 /// How many octets may be asked for.
 const MOST: usize = 2_000;
 
-/// The frame of the last 16 octets of the longest datagram.
-fn last_frame(rt: &impl Abort, alloc: Global) -> Vec<u8> {
-    let (ip, octets) = LastTo8199.texts();
-    frame_of(alloc, &[ETHERNET, ip, octets, padding_after(octets)], 0).expect(rt, OWN)
-}
-
-/// A link in which a datagram waits of which only the end came.
-fn link_with_an_end(rt: &(impl Abort + Wait), alloc: Global) -> LinkState {
+/// A link in which a datagram waits of which only this piece came.
+fn link_with(rt: &(impl Abort + Wait), alloc: Global, name: PacketName) -> LinkState {
     let settings = LINK.settings(alloc).expect(rt, OWN);
     let (mut state, _ends) = LinkState::new(alloc, &settings).expect(rt, OWN);
-    let octets = last_frame(rt, alloc);
+    let (ip, octets) = name.texts();
+    let texts = [ETHERNET, ip, octets, padding_after(octets)];
+    let octets = frame_of(alloc, &texts, 0).expect(rt, OWN);
     let frame = read_frame(CONSTANT, &octets).expect(rt, "a frame");
     assert!(rt; frame.vl == state.settings().vl());
     let verdict = state.take(rt, alloc, A, 1000, &frame).expect(rt, OWN);
@@ -34,7 +30,7 @@ fn link_with_an_end(rt: &(impl Abort + Wait), alloc: Global) -> LinkState {
     state
 }
 
-/// An epoch takes memory for what came of a datagram and not for what is before it.
+/// An epoch takes memory for what came of a datagram and not for what is before or after it.
 fn check_epoch(rt: &impl Abort, alloc: Global, mut state: LinkState) {
     mark(rt, alloc);
     let epoch = state.take_epoch(alloc);
@@ -43,5 +39,10 @@ fn check_epoch(rt: &impl Abort, alloc: Global, mut state: LinkState) {
 
 #[test]
 fn an_epoch_with_the_end_of_a_datagram_takes_little_memory(rt: HostRuntime) {
-    check_epoch(&rt, rt.alloc(), link_with_an_end(&rt, rt.alloc()));
+    check_epoch(&rt, rt.alloc(), link_with(&rt, rt.alloc(), LastTo8199));
+}
+
+#[test]
+fn an_epoch_with_the_beginning_of_a_datagram_takes_little_memory(rt: HostRuntime) {
+    check_epoch(&rt, rt.alloc(), link_with(&rt, rt.alloc(), First));
 }

@@ -15,7 +15,8 @@ pub(crate) fn mixed(number: u64) -> u64 {
 /// Adds words to lanes, each to its own.
 fn add_words(lanes: &mut [u64; 4], words: &[[u8; 8]]) {
     for (lane, word) in lanes.iter_mut().zip(words) {
-        *lane = (*lane ^ u64::from_le_bytes(*word)).wrapping_mul(0x9e37_79b9_7f4a_7c15);
+        let product = (*lane ^ u64::from_le_bytes(*word)).wrapping_mul(0x9e37_79b9_7f4a_7c15);
+        *lane = product.rotate_left(29);
     }
 }
 

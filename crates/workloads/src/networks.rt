@@ -274,7 +274,8 @@ fn add_events(digest: &mut Digest, link: &LinkState) {
         if let Some(event) = history.get(place) {
             let frame = digest_of(event.frame.as_slice());
             let arrival = mixed(frame ^ mixed(arrival_number(event.net, event.time)));
-            let verdict = mixed(frame ^ mixed(verdict_number(event.verdict)));
+            let verdict = verdict_number(event.verdict) << 1 | u64::from(event.room);
+            let verdict = mixed(frame ^ mixed(verdict));
             arrivals = arrivals.wrapping_add(arrival);
             verdicts = verdicts.wrapping_add(verdict);
         }

@@ -49,7 +49,7 @@ fn add_event(digest: &mut Digest, event: &Event) {
     digest.add_octets(event.frame.as_slice());
 }
 
-/// Adds an epoch whole, as one who writes it away looks at it.
+/// Adds an epoch, as one who writes it away looks at it: all but its settings, which are those of the configuration.
 pub(crate) fn add_epoch(digest: &mut Digest, epoch: &Epoch) {
     digest.add(epoch.first());
     let events = epoch.events();
