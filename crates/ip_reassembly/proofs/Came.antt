@@ -45,22 +45,14 @@ no_piece marks offset =
 
 -- ---- the first run
 
--- the lower of two places
-pub lower_of : (a b : ℕ) → (a ≤ min a b) ⊎ (b ≤ min a b)
-lower_of a b = ⊎_elim (λ (less : a < b). inl (omega arith)) (λ (above : b ≤ a). inr (omega arith)) (cases_lt a b)
-
-pub first_that_goes_on : (marks : List Bool) (offset end least gap low to : ℕ) → offset ≤ end → end ≤ length marks → IsRun marks least gap → (least ≤ low) ⊎ (offset ≤ low)
-    → offset ≤ gap → IsRun marks end to → IsRun (with_marks marks offset end) low to
-first_that_goes_on marks offset end least gap low to order within first low_is near rest =
-    run_after marks offset end low to order within (λ i from below.
+pub first_that_goes_on : (marks : List Bool) (offset end gap to : ℕ) → offset ≤ end → end ≤ length marks → IsRun marks 0 gap → offset ≤ gap → IsRun marks end to
+    → IsRun (with_marks marks offset end) 0 to
+first_that_goes_on marks offset end gap to order within first near rest =
+    run_after marks offset end 0 to order within (λ i from below.
     ⊎_elim
     (λ (before : i < end).
     ⊎_elim
-    (λ (early : i < offset).
-    ⊎_elim
-    (λ (l : least ≤ low). inr (first i (omega arith) (omega arith)))
-    (λ (o : offset ≤ low). absurd (omega arith))
-    low_is)
+    (λ (early : i < offset). inr (first i from (omega arith)))
     (λ (above : offset ≤ i). inl (above, before))
     (cases_lt i offset))
     (λ (past : end ≤ i). inr (rest i past below))
@@ -99,17 +91,17 @@ came_within_longer marks least reach low order within = record {
 off : (n i : ℕ) → slice_index_or (replicate n false) i false ≡ false
 off n i = grind (arith, common_steps)
 
-pub no_runs : (n least : ℕ) → least ≤ longest_joined → AreRuns (replicate n false) (record { least = least; gap = least; last = 0; reach = 0 })
-no_runs n least bound = record {
+pub no_runs : (n least : ℕ) → AreRuns (replicate n false) (record { least = least; gap = 0; last = 0; reach = 0 })
+no_runs n least = record {
   within = record {
     none_before = λ i less. off n i;
     none_from = λ i above. off n i;
   };
   first = λ i above below. absurd (omega arith);
-  gap = off n least;
+  gap = off n 0;
   last = λ i above below. absurd (omega arith);
   order = omega arith;
-  gap_bound = bound;
+  gap_bound = omega arith;
   reach_bound = omega arith;
 }
 
@@ -182,35 +174,11 @@ outside marks offset end total i order within below gap =
     (cases_lt i end))
     (cases_lt i offset)
 
--- the first octet that didn't come
-abbrev pub first_missing : Runs → ℕ
-first_missing runs = if runs.least == 0 then runs.gap else 0
-
-missing_is : (marks : List Bool) (runs : Runs) → AreRuns marks runs
-    → IsRun marks 0 (first_missing runs) × (slice_index_or marks (first_missing runs) false ≡ false)
-missing_is marks runs are =
-    ⊎_elim
-    (λ (is : (runs.least == 0) ≡ true).
-    let low : runs.least ≡ 0 = eqb-true _ _ is in
-    rw is (rw low at are.first, are.gap))
-    (λ (other : (runs.least == 0) ≡ false).
-    let high : 0 < runs.least =
-    ⊎_elim
-    (λ (below : 0 < runs.least). below)
-    (λ (none : runs.least ≤ 0). absurd (false≢true (sym other ∙ eq-eqb runs.least 0 (omega arith))))
-    (cases_lt 0 runs.least)
-    in
-    rw other ((λ i above below. absurd (omega arith)), are.within.none_before 0 high))
-    (cases_Bool (runs.least == 0))
-
-pub all_covered : (marks : List Bool) (offset end total : ℕ) (runs : Runs) → offset ≤ end → end ≤ length marks → AreRuns (with_marks marks offset end) runs → total ≤ first_missing runs
+pub all_covered : (marks : List Bool) (offset end total : ℕ) (runs : Runs) → offset ≤ end → end ≤ length marks → AreRuns (with_marks marks offset end) runs → total ≤ runs.gap
     → AreCovered marks offset end total true
-all_covered marks offset end total runs order within are enough =
-    let found = missing_is (with_marks marks offset end) runs are in
-    λ i below. inside marks offset end i order within (found.0 i (omega arith) (omega (arith, below, enough)))
+all_covered marks offset end total runs order within are enough = λ i below.
+    inside marks offset end i order within (are.first i (omega arith) (omega (arith, below, enough)))
 
-pub not_covered : (marks : List Bool) (offset end total : ℕ) (runs : Runs) → offset ≤ end → end ≤ length marks → AreRuns (with_marks marks offset end) runs → first_missing runs < total
+pub not_covered : (marks : List Bool) (offset end total : ℕ) (runs : Runs) → offset ≤ end → end ≤ length marks → AreRuns (with_marks marks offset end) runs → runs.gap < total
     → AreCovered marks offset end total false
-not_covered marks offset end total runs order within are short =
-    let found = missing_is (with_marks marks offset end) runs are in
-    outside marks offset end total (first_missing runs) order within short found.1
+not_covered marks offset end total runs order within are short = outside marks offset end total runs.gap order within short are.gap

@@ -1,4 +1,4 @@
--- Where octets came: their first run, their last one, and none outside of both.
+-- Where octets came: up to a gap, in a run at the end, and none outside of a least place and a reach.
 use Rattle.std.specs.Prelude.{◌≡◌, ℕ, ◌-◌, ◌<◌, ◌≤◌, Bool, true, false, List, ◌++◌, take, drop, replicate, slice_index_or}
 use Rattle.es_base.specs.Limits.{longest_joined}
 use Rattle.ip_reassembly.specs.declared.runs.Runs.{Runs}
@@ -16,11 +16,11 @@ pub record CameWithin (marks : List Bool) (least reach : ℕ) : Type 0 where
 abbrev pub IsRun : List Bool → ℕ → ℕ → Type 0
 IsRun marks from to = (i : ℕ) → from ≤ i → i < to → slice_index_or marks i false ≡ true
 
--- these marks have a first run, which a gap ends, and a last one; those that are set lie between the beginning of the
--- first and the end of the last
+-- these marks are set up to a gap, which isn't, and from a last place up to the reach; none is set before the least
+-- place or from the reach on
 pub record AreRuns (marks : List Bool) (runs : Runs) : Type 0 where
   pub within : CameWithin marks runs.least runs.reach
-  pub first : IsRun marks runs.least runs.gap
+  pub first : IsRun marks 0 runs.gap
   pub gap : slice_index_or marks runs.gap false ≡ false
   pub last : IsRun marks runs.last runs.reach
   pub order : runs.last ≤ runs.reach

@@ -127,8 +127,8 @@ impl Buffer {
     {
         let end = offset + len;
         let total = total_with(self.total, more, end)?;
-        let missing = self.runs.with(&self.marks, offset, end).first_missing();
-        if missing >= total { Some(total) } else { None }
+        let gap = self.runs.with(&self.marks, offset, end).gap;
+        if gap >= total { Some(total) } else { None }
     }
 
     /// The first `len` octets, which are the datagram's if it is complete and so long.

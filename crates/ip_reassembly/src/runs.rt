@@ -1,5 +1,5 @@
 //! Where the octets of one datagram came, so that few marks have to be looked at.
-ghost use Rattle.std.specs.Prelude.{◌≡◌, ℕ, ◌==◌, ◌<◌, ◌≤◌, Bool, false, List, length, min, max, replicate, slice_index_or, if◌then◌else◌};
+ghost use Rattle.std.specs.Prelude.{◌≡◌, ℕ, ◌<◌, ◌≤◌, Bool, false, List, length, max, replicate, slice_index_or};
 ghost use Rattle.es_base.specs.Limits.{longest_joined};
 ghost use Rattle.ip_reassembly.specs.Covering.{AreSet};
 ghost use Rattle.ip_reassembly.specs.Runs.{AreRuns, IsRun, with_marks};
@@ -9,17 +9,17 @@ use crate::buffer::LONGEST_JOINED;
 /// How many marks are looked at together.
 const BLOCK: usize = 64;
 
-/// The first run of octets that came, and the last one; with one run, both are this one. No octet came before the
-/// first or after the last.
+/// Where octets came: the gap that has to be filled next, and a run at the end. The gap only moves on, so each mark is
+/// looked at once for each look whether a piece completes the datagram, however often pieces come again.
 #[derive(Clone, Copy)]
 pub(crate) struct Runs {
-    /// Where the first run begins: 8200 if no octet came.
+    /// The place of the first octet that came: 8200 if none did.
     pub(crate) least: usize,
-    /// The place after the first run, whose octet didn't come: 8200 if no octet came.
+    /// The place of the first octet of the datagram that didn't come: 0 if its first one didn't.
     pub(crate) gap: usize,
-    /// Where the last run begins.
+    /// A place from which on all octets up to the reach came.
     pub(crate) last: usize,
-    /// The place after the last run: 0 if no octet came.
+    /// The place after the last octet that came: 0 if none did.
     pub(crate) reach: usize,
 }
 
@@ -30,7 +30,7 @@ impl Runs {
     {
         Runs {
             least: LONGEST_JOINED,
-            gap: LONGEST_JOINED,
+            gap: 0,
             last: 0,
             reach: 0,
         }
@@ -55,27 +55,17 @@ impl Runs {
         }
     }
 
-    /// The place of the first octet of the datagram that didn't come.
-    pub(crate) fn first_missing(self) -> usize
-        ensures { result ≡ (if self.least == 0 then self.gap else 0) }
-    {
-        if self.least == 0 { self.gap } else { 0 }
-    }
-
-    /// The place after the first run, with a piece. Marks are looked at only where it closes the gap before a run
-    /// that isn't the last.
+    /// The gap after a piece. Marks are looked at only where the piece meets the gap and ends before the run at the
+    /// end.
     fn gap_with(self, marks: &[bool], offset: usize, end: usize) -> usize
         requires order { offset < end }
         requires within { end ≤ length marks.now }
         requires bound { length marks.now ≡ longest_joined }
         requires runs { AreRuns marks.now self }
-        ensures run { IsRun (with_marks marks.now offset end) (min self.least offset) result }
+        ensures run { IsRun (with_marks marks.now offset end) 0 result }
         ensures gap { slice_index_or (with_marks marks.now offset end) result false ≡ false }
         ensures bound { result ≤ longest_joined }
     {
-        if end < self.least {
-            return end;
-        }
         if offset > self.gap || end <= self.gap {
             return self.gap;
         }
@@ -85,7 +75,7 @@ impl Runs {
         run_end(marks, end, self.reach)
     }
 
-    /// Where the last run begins, with a piece.
+    /// Where the run at the end begins, with a piece.
     fn last_with(self, offset: usize, end: usize) -> usize
         requires { offset < end }
         ensures run { (marks : List Bool) → end ≤ length marks → AreRuns marks self →

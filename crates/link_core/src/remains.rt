@@ -37,8 +37,8 @@ impl Remains {
 }
 
 impl Standing {
-    /// What remains of these events once nothing goes on from them. It takes memory for the pieces that wait: a list of
-    /// up to four partial datagrams, and at most the octets of as many buffers of reassembly.
+    /// What remains of these events once nothing goes on from them. It takes memory for the pieces that wait: at
+    /// most the octets of four buffers of reassembly.
     pub fn remains(&self, alloc: Global) -> Result<Remains, Memory>
         ensures { IfOk result (λ remains. remains ≡ self.now) }
     {

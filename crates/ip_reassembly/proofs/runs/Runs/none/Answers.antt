@@ -1,6 +1,5 @@
-use Rattle.std.proofs.Common.{arith}
 use Rattle.ip_reassembly.proofs.Came.{no_runs}
 use Rattle.ip_reassembly.proofs.runs.Runs.none.Goals as goal
 
 pub returns : goal.returns
-returns c = λ places. no_runs places 8200 (omega arith)
+returns c = λ places. no_runs places 8200

@@ -10,7 +10,7 @@ returns c =
     record {
       within = came_within_both marks c.args.offset c.args.end runs.least runs.reach c.min.result c.max.result
           c.requires.order c.requires.within are.within (omega arith) (omega arith) (omega arith) (omega arith);
-      first = rw c.min.ensures c.gap_with.ensures.run;
+      first = c.gap_with.ensures.run;
       gap = c.gap_with.ensures.gap;
       last = rw c.max.ensures (c.last_with.ensures.run marks c.requires.within are);
       order = rw c.max.ensures (c.last_with.ensures.order are.order);
