@@ -1,13 +1,12 @@
 //! What holds of every run, and of epochs that follow one another.
-ghost use Rattle.std.specs.Prelude.{◌≡◌, ◌++◌, List, Some, length, reverse};
+ghost use Rattle.std.specs.Prelude.{◌≡◌, ◌++◌, List, reverse};
 ghost use Rattle.es_base.specs.declared.event.Event.{Event};
 ghost use Rattle.es_base.specs.Settings.{Settings};
 ghost use Rattle.es_base.specs.Left.{left_by};
 ghost use Rattle.es_base.specs.Run.{IsRun};
-ghost use Rattle.link_receiver.specs.Before.{Before, StoodBefore};
 ghost use Rattle.link_receiver.specs.ByPlace.{EachByPlace};
 ghost use Rattle.link_receiver.specs.Epoch.{Handed, Hands};
-ghost use Rattle.link_receiver.specs.Link.{Link};
+ghost use Rattle.link_receiver.specs.Link.{GoesOnAlike, Link, past_of};
 
 /// In a run the verdict at each place is what becomes of the frame after the events before that
 /// place.
@@ -15,16 +14,15 @@ pub fn verdicts_by_place()
     ensures { (settings : Settings) (history : List Event) → IsRun settings (reverse history) → EachByPlace settings history }
 {}
 
-/// Events that were taken out of a link, and a run after them: the two joined are a run.
+/// Events that are taken out of a link stay in its past: the link goes on after them and all before them.
 pub fn epochs_join()
-    ensures { (old : Link) (epoch : Handed) (new : Link) (later : List Event) → Hands old epoch new
-        → ((earlier : List Event) → StoodBefore new.before new.settings earlier → IsRun new.settings (later ++ earlier))
-        → (earlier : List Event) → StoodBefore epoch.before epoch.settings earlier → IsRun epoch.settings (later ++ (reverse epoch.events ++ earlier)) }
+    ensures { (old : Link) (epoch : Handed) (new : Link) → Hands old epoch new →
+        (new.before ≡ reverse epoch.events ++ epoch.before) × (past_of new ≡ past_of old) }
 {}
 
-/// What is kept of the events that were taken out follows from what they left: any other run of as many events that left
-/// the same may have been those.
+/// What counts of the events that were taken out of a link is what they left: any other run that left the same may have
+/// been those.
 pub fn whatever_left_the_same_may_have_stood_before()
-    ensures { (before : Before) (settings : Settings) (one two : List Event) → left_by settings one ≡ left_by settings two
-        → IsRun settings two → length one ≡ length two → StoodBefore (Some before) settings one → StoodBefore (Some before) settings two }
+    ensures { (link : Link) (two : List Event) → left_by link.settings link.before ≡ left_by link.settings two → IsRun link.settings two
+        → IsRun link.settings (past_of link) → GoesOnAlike link (record link { before = two }) }
 {}

@@ -16,14 +16,11 @@ ghost use Rattle.slot_core.specs.State.{StartsWith};
 ghost use Rattle.sampling_port.specs.Ends.{is_told};
 ghost use Rattle.queuing_port.specs.Queue.{BeginsWith, Holds};
 ghost use Rattle.link_receiver.specs.Ends.{AreEndsOf, IsNewLink, IsOfItsPort, IsWithinDepth};
-ghost use Rattle.link_receiver.specs.Link.{Takes, decision_after, deliveries_of, from, number_before, past_of, published_at, queues, samples};
-ghost use Rattle.link_receiver.specs.Before.{StoodBefore, taken_out};
-ghost use Rattle.link_receiver.specs.Counted.{EndsIn};
+ghost use Rattle.link_receiver.specs.Link.{Takes, decision_after, deliveries_of, deliveries_since, past_of, published_at, queues, samples};
 ghost use Rattle.link_receiver.specs.Epoch.{Hands};
 ghost use Rattle.link_receiver.specs.Outlet.{HasRoomFor};
 ghost use Rattle.link_receiver.specs.declared.epoch.EpochFault.TheVariants.{TooMany};
 
-use crate::before::Before;
 use crate::ends::PortEnd;
 use crate::epoch::{Epoch, EpochFault};
 use crate::history::{MOST_EVENTS, reserve_event};
@@ -37,6 +34,7 @@ use frame_reader::{Frame, frame_in};
 use ip_reassembly::Waiting;
 use link_core::{Place, Standing, settled};
 use link_deliveries::deliveries_after;
+use past_log::Past;
 use queuing_port::Taker;
 use sampling_port::Reader;
 use slot_core::READERS;
@@ -45,14 +43,18 @@ use std::marker::Model;
 use std::mem;
 use std::sync::Wait;
 
-/// The state of one link: its settings, its history, and what is kept of the events that were taken out
-/// before it. The rest follows from these: what is kept of all events, and for each port the end that
-/// publishes its messages or puts them into its queue.
+/// The state of one link: its settings, and its history. The rest follows from these and from the events that were
+/// taken out before it, which only proofs know: what is kept of all events, and for each port the end that publishes
+/// its messages or puts them into its queue.
 #[derive(Drop)]
 pub struct LinkState {
     settings: LinkSettings,
-    /// What is kept of the events before the history. None if there were none.
-    before: Option<Before>,
+    /// The events before the history.
+    before: Past,
+    /// How many they were.
+    taken: u64,
+    /// The pieces of datagrams that weren't complete before the history. None if nothing was before it.
+    pieces: Option<Waiting>,
     history: BlockList<Event>,
     /// What is kept of all events.
     kept: Standing,
@@ -70,12 +72,12 @@ impl Model for LinkState {
 
     ghost view = { λ s. record {
       settings = s.settings;
-      before = s.before;
+      before = s.before.events;
       history = s.history.items;
       channels = map channel_of s.outlets.items;
     } };
 
-    ghost invariant = { λ s. IsKept s.settings s.before s.history.items s.kept s.outlets.items };
+    ghost invariant = { λ s. IsKept s.settings s.before.events s.history.items s.taken s.pieces s.kept s.outlets.items };
 }
 
 impl LinkState {
@@ -89,7 +91,9 @@ impl LinkState {
         let (outlets, ends) = open_outlets(alloc, settings.ports())?;
         let state = LinkState {
             settings: settings.copy(alloc)?,
-            before: None,
+            before: Past::new(),
+            taken: 0,
+            pieces: None,
             history: BlockList::new(alloc),
             kept: Standing::opening(alloc, settings)?,
             outlets,
@@ -108,9 +112,8 @@ impl LinkState {
     /// their frames came. Each has a frame of this link. There are at most `MOST_EVENTS`.
     pub fn history(&self) -> &BlockList<Event>
         ensures events { result.now.items ≡ self.now.history }
-        ensures earlier { (earlier : List Event) × StoodBefore self.now.before self.now.settings earlier × AreFramesOf self.now.settings earlier }
-        ensures run { (earlier : List Event) → StoodBefore self.now.before self.now.settings earlier → IsRun self.now.settings (past_of (from earlier self.now)) }
-        ensures frames { AreFramesOf self.now.settings (reverse self.now.history) }
+        ensures run { IsRun self.now.settings (past_of self.now) }
+        ensures frames { AreFramesOf self.now.settings (past_of self.now) }
         ensures few { length self.now.history ≤ most_events }
     {
         &self.history
@@ -118,13 +121,10 @@ impl LinkState {
 
     /// How many events were taken out: the place of the history's first event among all events of the link.
     pub fn taken(&self) -> u64
-        ensures value { result ≡ taken_out self.now.before }
+        ensures value { result ≡ length self.now.before }
         ensures few { result ≤ most_events }
     {
-        match &self.before {
-            None => 0,
-            Some(before) => before.taken,
-        }
+        self.taken
     }
 
     /// Takes the history out: the link goes on from what it left. What becomes of a frame is what it would have
@@ -133,7 +133,7 @@ impl LinkState {
     pub fn take_epoch(&mut self, alloc: Global) -> Result<Epoch, EpochFault>
         ensures ok { IfOk result (λ epoch. Hands self.old epoch self.new) }
         ensures err { OnErr result (self.new ≡ self.old) }
-        ensures fault { IfErr result (λ fault. (fault ≡ TooMany) ↔ (most_events < taken_out self.old.before + length self.old.history)) }
+        ensures fault { IfErr result (λ fault. (fault ≡ TooMany) ↔ (most_events < length self.old.before + length self.old.history)) }
     {
         let taken = self.taken() + self.history.len() as u64;
         if taken > MOST_EVENTS as u64 {
@@ -142,18 +142,20 @@ impl LinkState {
         let Ok(settings) = self.settings.copy(alloc) else {
             return Err(EpochFault::Memory);
         };
-        let Ok(kept) = self.kept.remains(alloc) else {
+        let Ok(pieces) = self.kept.reassembly().waiting(alloc) else {
             return Err(EpochFault::Memory);
         };
-        let before = mem::replace(&mut self.before, Some(Before { kept, taken }));
+        self.pieces = Some(pieces);
+        let all = self.before.and_all(&self.history);
+        let before = mem::replace(&mut self.before, all);
+        let first = mem::replace(&mut self.taken, taken);
         let events = mem::replace(&mut self.history, BlockList::new(alloc));
-        Ok(Epoch::of(settings, before, events))
+        Ok(Epoch::of(settings, before, first, events))
     }
 
     /// How many events came on each network with each kind of verdict, from the first event on.
     pub fn tally(&self) -> &VerdictTally
-        ensures { (earlier : List Event) → StoodBefore self.now.before self.now.settings earlier →
-            HasCounts result.now (past_of (from earlier self.now)) }
+        ensures { HasCounts result.now (past_of self.now) }
     {
         self.kept.tally()
     }
@@ -161,8 +163,7 @@ impl LinkState {
     /// The messages that the history delivered to a port, in order, worked out from it. This walks through the
     /// history, up to the last event that delivered one.
     pub fn deliveries(&self, alloc: Global, port: PortNo) -> Result<Vec<Message>, Memory>
-        ensures { IfOk result (λ messages. (earlier : List Event) → StoodBefore self.now.before self.now.settings earlier →
-            messages.items ≡ deliveries_of (from earlier self.now) port) }
+        ensures { IfOk result (λ messages. messages.items ≡ deliveries_since self.now port) }
     {
         deliveries_after(
             alloc,
@@ -175,12 +176,9 @@ impl LinkState {
 
     /// The pieces of datagrams that weren't complete before the history.
     fn pieces_before(&self) -> Option<&Waiting>
-        ensures { (earlier : List Event) → StoodBefore self.now.before self.now.settings earlier → KeepsPieces (option_copied result) self.now.settings earlier }
+        ensures { KeepsPieces (option_copied result) self.now.settings self.now.before }
     {
-        match &self.before {
-            None => None,
-            Some(before) => Some(before.kept.waiting()),
-        }
+        self.pieces.as_ref()
     }
 
     /// A sampling port of this link and a reader of it meet: the reader then knows all that was delivered to
@@ -192,10 +190,8 @@ impl LinkState {
         ensures link { self.new ≡ self.old }
         ensures reader { reader.new ≡ is_told reader.old reader.new.seen }
         ensures before { StartsWith reader.new.seen reader.old.seen }
-        ensures seen { (earlier : List Event) → StoodBefore self.old.before self.old.settings earlier →
-            EndsIn reader.new.seen (number_before (from earlier self.old) port) (published_at (from earlier self.old) port) }
-        ensures octets { (earlier : List Event) → StoodBefore self.old.before self.old.settings earlier →
-            All (λ message. AreOctets message.octets) (deliveries_of (from earlier self.old) port) }
+        ensures seen { reader.new.seen ≡ published_at self.old port }
+        ensures octets { All (λ message. AreOctets message.octets) (deliveries_of self.old port) }
     {
         self.outlets[port.0 as usize].meet_reader(reader);
     }
@@ -208,8 +204,7 @@ impl LinkState {
         requires { slice_get self.old.channels port.0 ≡ Some (queues taker.old.queue) }
         ensures link { self.new ≡ self.old }
         ensures taker { taker.new ≡ record taker.old { put = taker.new.put } }
-        ensures put { (earlier : List Event) → StoodBefore self.old.before self.old.settings earlier →
-            EndsIn taker.new.put (number_before (from earlier self.old) port) (deliveries_of (from earlier self.old) port) }
+        ensures put { taker.new.put ≡ deliveries_of self.old port }
         ensures before { BeginsWith taker.new.put taker.old.put }
         ensures held { Holds taker.new result }
         ensures depth { IsWithinDepth (slice_get self.old.settings.ports port.0) result }
@@ -220,8 +215,7 @@ impl LinkState {
     /// What would become of a frame of this link that came now, at `now` microseconds. Nothing changes. The
     /// frame's link number isn't looked at: whose frame it is, is for the caller to know.
     pub fn decide(&self, net: Net, now: u64, frame: &Frame<'_>) -> Decision
-        ensures { (earlier : List Event) → StoodBefore self.now.before self.now.settings earlier →
-            result ≡ decision_after (from earlier self.now) (arrived net now frame.now.whole.now) }
+        ensures { result ≡ decision_after self.now (arrived net now frame.now.whole.now) }
     {
         let step = self.kept.look(&self.settings, net, now, frame);
         self.kept.decide(&self.settings, &step)

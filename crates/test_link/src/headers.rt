@@ -7,7 +7,7 @@ use std::alloc::Global;
 use std::process::Abort;
 use std::sync::Wait;
 use test_inputs::rows::{FOR_NAV, POS};
-use test_inputs::{IP, LINK, PAYLOAD, UDP, longest};
+use test_inputs::{IP, LINK, PAYLOAD, UDP, frame_of, longest};
 
 /// An IPv4 header, a UDP header, and the verdict of their frame.
 type Row = (&'static str, &'static str, Verdict);
@@ -74,6 +74,28 @@ fn flags_of_the_ip_header() -> [Row; 2] {
     ]
 }
 
+/// Type of service, time to live, the source address and the UDP checksum aren't looked at.
+fn what_is_not_looked_at() -> [Row; 4] {
+    [
+        (
+            "45b8002d000100000111cd140a010101e0e00011",
+            UDP,
+            Sampled(POS, 1),
+        ),
+        (
+            "4500002d0001000040118ecc0a010101e0e00011",
+            UDP,
+            Sampled(POS, 1),
+        ),
+        (
+            "4500002d000100000111caca0c030201e0e00011",
+            UDP,
+            Sampled(POS, 1),
+        ),
+        (IP, "1389138800191234", Sampled(POS, 1)),
+    ]
+}
+
 /// A UDP header may say 8 octets and as many as came, 25, but not 7 and not 26.
 fn lengths_of_udp_datagrams() -> [Row; 3] {
     [
@@ -124,6 +146,24 @@ fn a_frame_that_was_cut_has_a_bad_header(rt: HostRuntime) {
 #[test]
 fn other_flags_are_ignored(rt: HostRuntime) {
     check_first(&rt, rt.alloc(), &flags_of_the_ip_header());
+}
+
+#[test]
+fn other_parts_are_ignored(rt: HostRuntime) {
+    check_first(&rt, rt.alloc(), &what_is_not_looked_at());
+}
+
+/// A frame with this Ethernet header comes to its port.
+fn check_from(rt: &(impl Abort + Wait), alloc: Global, ethernet: &str) {
+    let octets = frame_of(alloc, &[ethernet, IP, UDP, PAYLOAD], 0).expect(rt, "a frame");
+    let (mut state, _) = opened(rt, alloc, LINK);
+    let verdict = receive(rt, alloc, &mut state, Net::A, 1000, &octets);
+    assert!(rt; verdict == Sampled(POS, 1), "{verdict:?}");
+}
+
+#[test]
+fn the_source_address_is_ignored(rt: HostRuntime) {
+    check_from(&rt, rt.alloc(), "0300000000110a1b2c3d4e5f0800");
 }
 
 #[test]

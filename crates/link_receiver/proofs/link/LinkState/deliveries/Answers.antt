@@ -4,12 +4,17 @@ use Rattle.std.proofs.Math.Seq.{drop-append_seam}
 use Rattle.std.proofs.lemmas.Result.{IfOk-weaker}
 use Rattle.std.specs.Option.{option_copied}
 use Rattle.es_base.specs.declared.event.Event.{Event}
-use Rattle.es_base.specs.Deliveries.{deliveries}
+use Rattle.es_base.specs.Deliveries.{deliveries, number_delivered}
 use Rattle.es_base.specs.Run.{IsRun}
 use Rattle.link_deliveries.specs.Before.{AreSince, KeepsPieces}
-use Rattle.link_receiver.specs.Before.{StoodBefore}
-use Rattle.link_receiver.specs.Link.{deliveries_of, from, number_before}
+use Rattle.link_receiver.specs.Link.{deliveries_since}
+use Rattle.link_receiver.proofs.Epochs.{frames_since}
 use Rattle.link_receiver.proofs.link.LinkState.deliveries.Goals as goal
+
+pub deliveries_after-requires : goal.deliveries_after-requires
+deliveries_after-requires c =
+    let link = c.args.self.now in
+    record { frames = rw (c.settings.ensures, c.history.ensures.events) (frames_since link.settings link.before (reverse link.history) c.history.ensures.frames) }
 
 pub returns : goal.returns
 returns c =
@@ -18,8 +23,8 @@ returns c =
     let port = c.args.port in
     IfOk-weaker c.deliveries_after.result
     (λ messages. (earlier : List Event) → KeepsPieces (option_copied c.pieces_before.result) settings earlier → IsRun settings (reverse link.history ++ earlier) → AreSince settings earlier (reverse link.history) port messages.items)
-    (λ messages. (earlier : List Event) → StoodBefore link.before settings earlier → messages.items ≡ deliveries_of (from earlier link) port)
-    (λ messages has earlier stood.
-    let since = has earlier (c.pieces_before.ensures earlier stood) (c.history.ensures.run earlier stood) in
-    sym (ap (drop (number_before (from earlier link) port)) since ∙ drop-append_seam (deliveries settings earlier port) messages.items))
+    (λ messages. messages.items ≡ deliveries_since link port)
+    (λ messages has.
+    let since = has link.before c.pieces_before.ensures c.history.ensures.run in
+    sym (ap (drop (number_delivered settings link.before port)) since ∙ drop-append_seam (deliveries settings link.before port) messages.items))
     (rw (c.settings.ensures, c.history.ensures.events) at c.deliveries_after.ensures)

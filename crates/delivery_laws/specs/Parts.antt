@@ -1,0 +1,67 @@
+-- What is sent in parts, and that no part is mixed with those of another datagram (RFC 791 3.2).
+--
+-- Parts are lost, and come twice or in another order; only how late they may come is asked of the networks (`AreOfOne`).
+use Rattle.std.specs.Prelude.{◌≡◌, ◌⊎◌, ℕ, ◌+◌, ◌≤◌, Bool, true, false, List, [], ◌∷◌, length, take, drop, Ok}
+use Rattle.es_base.specs.declared.place.PortNo.{PortNo}
+use Rattle.es_base.specs.declared.event.Event.{Event}
+use Rattle.es_base.specs.declared.event.Message.{Message}
+use Rattle.es_base.specs.Deliveries.{is_same_port}
+use Rattle.es_base.specs.Packet.{PacketParts}
+use Rattle.es_base.specs.Fragments.{key_of}
+use Rattle.es_base.specs.Groups.{is_same_key}
+use Rattle.es_base.specs.Outcome.{Payload, datagram_payload}
+use Rattle.es_base.specs.Reassembly.{packet_in}
+use Rattle.es_base.specs.Settings.{Settings}
+
+-- a packet has a part of a datagram or the whole of it: the octets from its offset on; and if no more follow, those
+-- up to its end
+pub record IsPartOf (datagram : List ℕ) (packet : PacketParts) : Type 0 where
+  pub within : packet.offset + length packet.octets ≤ length datagram
+  pub octets : packet.octets ≡ take (length packet.octets) (drop packet.offset datagram)
+  pub ends : packet.more ≡ false → packet.offset + length packet.octets ≡ length datagram
+
+-- what the frame of an event has, if it has a packet, is a part of the datagram that is named for it
+abbrev pub IsPart : (Event → List ℕ) → Event → Type 0
+IsPart datagram e = (packet : PacketParts) → packet_in e.frame ≡ Ok packet → IsPartOf (datagram e) packet
+
+-- two frames whose packets have one key, the later of which comes within the limit after the other, have parts of one
+-- datagram
+abbrev pub AreOfOne : ℕ → (Event → List ℕ) → Event → Event → Type 0
+AreOfOne limit datagram later earlier =
+    (one other : PacketParts) → packet_in later.frame ≡ Ok one → packet_in earlier.frame ≡ Ok other → is_same_key (key_of other) (key_of one) ≡ true
+    → later.time ≤ earlier.time + limit → datagram earlier ≡ datagram later
+
+abbrev pub AreOfOneWith : ℕ → (Event → List ℕ) → Event → List Event → Type 0
+AreOfOneWith limit datagram e [] = Unit {0}
+AreOfOneWith limit datagram e (earlier ∷ past) = AreOfOne limit datagram e earlier × AreOfOneWith limit datagram e past
+
+-- all frames of a past have parts of datagrams, and no two datagrams have one key within the limit
+abbrev pub HaveParts : ℕ → (Event → List ℕ) → List Event → Type 0
+HaveParts limit datagram [] = Unit {0}
+HaveParts limit datagram (e ∷ past) = IsPart datagram e × AreOfOneWith limit datagram e past × HaveParts limit datagram past
+
+-- a message is that which a datagram has for a port of the link, where this frame has the datagram or a part of it
+pub record IsMessageOf (settings : Settings) (frame datagram : List ℕ) (payload : Payload) : Type 0 where
+  pub packet : PacketParts
+  pub reads : packet_in frame ≡ Ok packet
+  pub joined : Bool
+  pub admits : datagram_payload settings.ports (record { destination = packet.destination; joined = joined; octets = datagram }) ≡ Ok payload
+
+-- ---- what a port gets
+
+-- a message at a port, with the time of an event, was sent: it is that of the datagram of this event
+pub record WasSent (settings : Settings) (datagram : Event → List ℕ) (port : PortNo) (e : Event) (message : Message) : Type 0 where
+  pub payload : Payload
+  pub of : IsMessageOf settings e.frame (datagram e) payload
+  pub to : is_same_port payload.port port ≡ true
+  pub time : message.time ≡ e.time
+  pub octets : message.octets ≡ payload.octets
+
+abbrev pub WasSentIn : Settings → (Event → List ℕ) → PortNo → List Event → Message → Type 0
+WasSentIn settings datagram port [] message = ⊥
+WasSentIn settings datagram port (e ∷ past) message = WasSent settings datagram port e message ⊎ WasSentIn settings datagram port past message
+
+-- each of some messages was sent
+abbrev pub WereSentIn : Settings → (Event → List ℕ) → PortNo → List Event → List Message → Type 0
+WereSentIn settings datagram port past [] = Unit {0}
+WereSentIn settings datagram port past (message ∷ later) = WasSentIn settings datagram port past message × WereSentIn settings datagram port past later

@@ -1,0 +1,35 @@
+//! A program that gives a frame to each network, takes an epoch out and ends: what the law of an end system says of it.
+#![tactic(auto)]
+
+ghost use Rattle.std.specs.Prelude.{◌≡◌, IfOk};
+ghost use Rattle.end_system_example.specs.Whole.{IsWhole};
+
+use end_system::{EndSystem, NoGate, Opened, Settled};
+use es_base::{Config, LinkNo, Memory};
+use std::alloc::{AllocError, Global};
+use std::sync::Wait;
+
+/// Gives a frame to each network's pass, takes an epoch out of a link, and settles the system.
+pub fn run<R: Wait>(
+    rt: &R,
+    alloc: Global,
+    config: &Config,
+    frames: (&[u8], &[u8]),
+    vl: LinkNo,
+) -> Result<Settled, Memory>
+    ensures { IfOk result (λ settled. IsWhole config.now settled) }
+{
+    let Opened {
+        system,
+        mut a,
+        mut b,
+        ends: _,
+    } = EndSystem::open(alloc, config, NoGate)?;
+    let _ = system.receive(rt, alloc, &mut a, 1000, frames.0)?;
+    let _ = system.receive(rt, alloc, &mut b, 1001, frames.1)?;
+    let _ = match system.take_epoch(rt, alloc, &mut a, vl) {
+        Ok(epoch) => epoch,
+        Err(_) => return Err(AllocError),
+    };
+    Ok(system.settle(a, b))
+}
