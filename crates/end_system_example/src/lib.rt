@@ -1,4 +1,5 @@
-//! A program that gives a frame to each network, takes an epoch out and ends: what the law of an end system says of it.
+//! A program that gives a frame to each network, takes an epoch out and ends: what the law of an end system says of
+//! these three calls.
 #![tactic(auto)]
 
 ghost use Rattle.std.specs.Prelude.{◌≡◌, IfOk};
@@ -9,7 +10,8 @@ use es_base::{Config, LinkNo, Memory};
 use std::alloc::{AllocError, Global};
 use std::sync::Wait;
 
-/// Gives a frame to each network's pass, takes an epoch out of a link, and settles the system.
+/// Gives network A's pass a frame at 1000 microseconds and network B's at 1001, takes an epoch out of the link with
+/// this number by A's pass, and settles the system.
 pub fn run<R: Wait>(
     rt: &R,
     alloc: Global,
@@ -17,7 +19,7 @@ pub fn run<R: Wait>(
     frames: (&[u8], &[u8]),
     vl: LinkNo,
 ) -> Result<Settled, Memory>
-    ensures { IfOk result (λ settled. IsWhole config.now settled) }
+    ensures { IfOk result (λ settled. IsWhole config.now frames.0.now frames.1.now vl settled) }
 {
     let Opened {
         system,

@@ -1,22 +1,22 @@
 //! One link's state.
 ghost use Rattle.std.specs.Prelude.{◌≡◌, ◌<◌, ◌≤◌, ◌+◌, ◌↔◌, ◌++◌, IfErr, IfOk, OnErr, Some, List, Option, [], length, reverse, slice_get, true};
 ghost use Rattle.std.specs.List.{All};
-ghost use Rattle.std.specs.Option.{option_copied};
-ghost use Rattle.link_deliveries.specs.Before.{KeepsPieces};
 ghost use Rattle.std.specs.Vec.{vec_capacity};
 ghost use Rattle.es_base.specs.declared.event.Event.{Event};
 ghost use Rattle.es_base.specs.Limits.{most_events, verdict_kinds};
 ghost use Rattle.es_base.specs.Frame.{IsFrame, link_number_of};
 ghost use Rattle.es_base.specs.Past.{AreFramesOf, arrived};
+ghost use Rattle.es_base.specs.Reassembly.{groups_in};
 ghost use Rattle.es_base.specs.Run.{IsRun};
 ghost use Rattle.es_base.specs.Tally.{HasCounts};
+ghost use Rattle.ip_reassembly.specs.Kept.{StandsFor};
 ghost use Rattle.link_core.specs.Offer.{IsPlaceAt};
 ghost use Rattle.slot_core.specs.Octets.{AreOctets};
 ghost use Rattle.slot_core.specs.State.{StartsWith};
 ghost use Rattle.sampling_port.specs.Ends.{is_told};
 ghost use Rattle.queuing_port.specs.Queue.{BeginsWith, Holds};
 ghost use Rattle.link_receiver.specs.Ends.{AreEndsOf, IsNewLink, IsOfItsPort, IsWithinDepth};
-ghost use Rattle.link_receiver.specs.Link.{Takes, decision_after, deliveries_of, deliveries_since, past_of, published_at, queues, samples};
+ghost use Rattle.link_receiver.specs.Link.{Takes, decision_after, all_deliveries_of, deliveries_since, past_of, published_at, queues, samples};
 ghost use Rattle.link_receiver.specs.Epoch.{Hands};
 ghost use Rattle.link_receiver.specs.Outlet.{HasRoomFor};
 ghost use Rattle.link_receiver.specs.declared.epoch.EpochFault.TheVariants.{TooMany};
@@ -49,12 +49,12 @@ use std::sync::Wait;
 #[derive(Drop)]
 pub struct LinkState {
     settings: LinkSettings,
-    /// The events before the history.
+    /// The events before the history, for proofs alone.
     before: Past,
     /// How many they were.
     taken: u64,
-    /// The pieces of datagrams that weren't complete before the history. None if nothing was before it.
-    pieces: Option<Waiting>,
+    /// The pieces of datagrams that weren't complete before the history.
+    pieces: Waiting,
     history: BlockList<Event>,
     /// What is kept of all events.
     kept: Standing,
@@ -89,13 +89,16 @@ impl LinkState {
         ensures ports { IfOk result (λ opened. All (IsOfItsPort opened.0.channels) opened.1.items) }
     {
         let (outlets, ends) = open_outlets(alloc, settings.ports())?;
+        let copied = settings.copy(alloc)?;
+        let kept = Standing::opening(alloc, settings)?;
+        let pieces = kept.reassembly().waiting(alloc)?;
         let state = LinkState {
-            settings: settings.copy(alloc)?,
+            settings: copied,
             before: Past::new(),
             taken: 0,
-            pieces: None,
+            pieces,
             history: BlockList::new(alloc),
-            kept: Standing::opening(alloc, settings)?,
+            kept,
             outlets,
         };
         Ok((state, ends))
@@ -114,6 +117,7 @@ impl LinkState {
         ensures events { result.now.items ≡ self.now.history }
         ensures run { IsRun self.now.settings (past_of self.now) }
         ensures frames { AreFramesOf self.now.settings (past_of self.now) }
+        ensures own_frames { AreFramesOf self.now.settings (reverse self.now.history) }
         ensures few { length self.now.history ≤ most_events }
     {
         &self.history
@@ -145,7 +149,7 @@ impl LinkState {
         let Ok(pieces) = self.kept.reassembly().waiting(alloc) else {
             return Err(EpochFault::Memory);
         };
-        self.pieces = Some(pieces);
+        self.pieces = pieces;
         let all = self.before.and_all(&self.history);
         let before = mem::replace(&mut self.before, all);
         let first = mem::replace(&mut self.taken, taken);
@@ -168,17 +172,17 @@ impl LinkState {
         deliveries_after(
             alloc,
             self.settings(),
-            self.pieces_before(),
+            Some(self.pieces_before()),
             self.history(),
             port,
         )
     }
 
     /// The pieces of datagrams that weren't complete before the history.
-    fn pieces_before(&self) -> Option<&Waiting>
-        ensures { KeepsPieces (option_copied result) self.now.settings self.now.before }
+    fn pieces_before(&self) -> &Waiting
+        ensures { StandsFor result.now self.now.settings.reassembly (groups_in self.now.settings self.now.before) }
     {
-        self.pieces.as_ref()
+        &self.pieces
     }
 
     /// A sampling port of this link and a reader of it meet: the reader then knows all that was delivered to
@@ -189,9 +193,9 @@ impl LinkState {
         requires { slice_get self.old.channels port.0 ≡ Some (samples reader.old.port) }
         ensures link { self.new ≡ self.old }
         ensures reader { reader.new ≡ is_told reader.old reader.new.seen }
-        ensures before { StartsWith reader.new.seen reader.old.seen }
+        ensures goes_on { StartsWith reader.new.seen reader.old.seen }
         ensures seen { reader.new.seen ≡ published_at self.old port }
-        ensures octets { All (λ message. AreOctets message.octets) (deliveries_of self.old port) }
+        ensures octets { All (λ message. AreOctets message.octets) (all_deliveries_of self.old port) }
     {
         self.outlets[port.0 as usize].meet_reader(reader);
     }
@@ -204,8 +208,8 @@ impl LinkState {
         requires { slice_get self.old.channels port.0 ≡ Some (queues taker.old.queue) }
         ensures link { self.new ≡ self.old }
         ensures taker { taker.new ≡ record taker.old { put = taker.new.put } }
-        ensures put { taker.new.put ≡ deliveries_of self.old port }
-        ensures before { BeginsWith taker.new.put taker.old.put }
+        ensures put { taker.new.put ≡ all_deliveries_of self.old port }
+        ensures goes_on { BeginsWith taker.new.put taker.old.put }
         ensures held { Holds taker.new result }
         ensures depth { IsWithinDepth (slice_get self.old.settings.ports port.0) result }
     {

@@ -1,4 +1,4 @@
-//! A walk through a history goes on from a copy of all that was kept before it, or from what remains of that: both come
+//! A walk through a history goes on from a copy of all that was kept before it, or from what waits of that: both come
 //! to the same messages.
 use crate::epochs::{Step, check_epoch, check_number, check_step};
 use crate::frames::opened;
@@ -77,8 +77,8 @@ fn check_walks(
     let before = Some(kept.reassembly());
     let messages = deliveries(alloc, settings, before, state.history(), NAV).expect(rt, "memory");
     check_messages(rt, alloc, &messages, wanted);
-    let remains = kept.remains(alloc).expect(rt, "memory");
-    let before = Some(remains.waiting());
+    let waiting = kept.reassembly().waiting(alloc).expect(rt, "memory");
+    let before = Some(&waiting);
     let messages = deliveries_after(alloc, settings, before, state.history(), NAV).expect(
         rt, "memory",
     );
@@ -111,7 +111,7 @@ fn four_that_wait() -> [PacketRow; 4] {
 }
 
 #[test]
-fn a_walk_from_a_copy_and_from_what_remains_come_to_the_same(rt: HostRuntime) {
+fn a_walk_from_a_copy_and_from_what_waits_come_to_the_same(rt: HostRuntime) {
     let nothing_waits = Nav(A, 1100, 1, FOR_NAV);
     check_after(&rt, rt.alloc(), &[], nothing_waits, &[(1100, PAYLOAD)]);
     let joined = [(1100, JOINED_PAYLOAD)];

@@ -9,6 +9,8 @@ mod counts;
 #[cfg(test)]
 mod epochs;
 #[cfg(test)]
+mod example;
+#[cfg(test)]
 mod filtered;
 #[cfg(test)]
 mod histories;

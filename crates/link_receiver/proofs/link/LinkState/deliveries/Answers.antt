@@ -1,20 +1,18 @@
-use Rattle.std.proofs.Common.{◌≡◌, ◌∙◌, ◌++◌, ap, sym, reverse, List}
+use Rattle.std.proofs.Common.{◌≡◌, ◌∙◌, ◌++◌, ap, sym, reverse, List, Some}
 use Rattle.std.specs.Prelude.{drop}
 use Rattle.std.proofs.Math.Seq.{drop-append_seam}
 use Rattle.std.proofs.lemmas.Result.{IfOk-weaker}
-use Rattle.std.specs.Option.{option_copied}
 use Rattle.es_base.specs.declared.event.Event.{Event}
 use Rattle.es_base.specs.Deliveries.{deliveries, number_delivered}
 use Rattle.es_base.specs.Run.{IsRun}
 use Rattle.link_deliveries.specs.Before.{AreSince, KeepsPieces}
 use Rattle.link_receiver.specs.Link.{deliveries_since}
-use Rattle.link_receiver.proofs.Epochs.{frames_since}
 use Rattle.link_receiver.proofs.link.LinkState.deliveries.Goals as goal
 
 pub deliveries_after-requires : goal.deliveries_after-requires
 deliveries_after-requires c =
     let link = c.args.self.now in
-    record { frames = rw (c.settings.ensures, c.history.ensures.events) (frames_since link.settings link.before (reverse link.history) c.history.ensures.frames) }
+    record { frames = rw (c.settings.ensures, c.history.ensures.events) c.history.ensures.own_frames }
 
 pub returns : goal.returns
 returns c =
@@ -22,7 +20,7 @@ returns c =
     let settings = link.settings in
     let port = c.args.port in
     IfOk-weaker c.deliveries_after.result
-    (λ messages. (earlier : List Event) → KeepsPieces (option_copied c.pieces_before.result) settings earlier → IsRun settings (reverse link.history ++ earlier) → AreSince settings earlier (reverse link.history) port messages.items)
+    (λ messages. (earlier : List Event) → KeepsPieces (Some c.pieces_before.result.now) settings earlier → IsRun settings (reverse link.history ++ earlier) → AreSince settings earlier (reverse link.history) port messages.items)
     (λ messages. messages.items ≡ deliveries_since link port)
     (λ messages has.
     let since = has link.before c.pieces_before.ensures c.history.ensures.run in
