@@ -30,9 +30,17 @@ fn document(rt: &impl Abort, alloc: Global) -> String {
     text
 }
 
+/// The link at this place has this number.
+fn check_number(rt: &impl Abort, config: &Config, place: usize, vl: u16) {
+    let link = config.links().get(place).expect(rt, "a link");
+    assert!(rt; link.vl() == LinkNo(vl), "{place}");
+}
+
 fn check_each_found(rt: &impl Abort, config: &Config) {
     for place in 0..LINKS {
-        check_place(rt, config, number_at(place), Some(usize::from(place)));
+        let vl = number_at(place);
+        check_place(rt, config, vl, Some(usize::from(place)));
+        check_number(rt, config, usize::from(place), vl);
     }
 }
 

@@ -65,3 +65,16 @@ fn check_lengths(rt: &impl Abort, alloc: Global) {
 fn lines_up_to_the_longest_are_read(rt: HostRuntime) {
     check_lengths(&rt, rt.alloc());
 }
+
+/// This many comments of 9 bytes, and then a line with a fault.
+fn check_comments(rt: &impl Abort, alloc: Global, count: usize, line: u64) {
+    let mut trace = "# nothing\n".repeat(alloc, count).expect(rt, "memory");
+    trace.push_str("x").expect(rt, "memory");
+    let fault = read(alloc, trace.as_str().as_bytes()).err();
+    assert!(rt; fault == Some(fault_at(line, TraceCause::Time)));
+}
+
+#[test]
+fn a_fault_after_a_million_bytes_of_comments_is_told_with_its_line(rt: HostRuntime) {
+    check_comments(&rt, rt.alloc(), 100_000, 100_001);
+}

@@ -118,3 +118,24 @@ fn udp_datagrams_are_refused_by_their_first_fault(rt: HostRuntime) {
     check_udp(&rt, &[0, 0, 0, 0, 0, 8, 0, 0], None);
     check_udp(&rt, &[0, 0, 0, 0, 0, 9, 0, 0], Some(UdpFault::Length));
 }
+
+/// The datagram has this payload.
+fn check_payload(rt: &impl Abort, octets: &[u8], payload: &[u8]) {
+    let datagram = read_udp(octets).expect(rt, "a UDP datagram");
+    assert!(rt; datagram.payload == payload, "{octets:?}");
+    let head = read_udp_head(&head_of(octets), octets.len()).expect(rt, "a UDP header");
+    check_field(
+        rt,
+        "octets",
+        head.payload_octets as u64,
+        payload.len() as u64,
+    );
+}
+
+/// The length field says 10, 8 and all of the 11 octets.
+#[test]
+fn a_smaller_length_cuts_the_payload(rt: HostRuntime) {
+    check_payload(&rt, &[0, 1, 0, 2, 0, 10, 0, 0, 7, 8, 9], &[7, 8]);
+    check_payload(&rt, &[0, 1, 0, 2, 0, 8, 0, 0, 7, 8, 9], &[]);
+    check_payload(&rt, &[0, 1, 0, 2, 0, 11, 0, 0, 7, 8, 9], &[7, 8, 9]);
+}

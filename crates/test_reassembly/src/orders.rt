@@ -84,3 +84,36 @@ fn check_end_below(rt: &impl Abort, alloc: Global) {
 fn octets_past_the_end_do_not_count_for_those_before_it(rt: HostRuntime) {
     check_end_below(&rt, rt.alloc());
 }
+
+/// The UDP header of a datagram of 32 octets for UDP port 5000.
+const FOR_5000: [u8; 8] = [0x13, 0x89, 0x13, 0x88, 0, 32, 0, 0];
+
+/// That of one for UDP port 5002, and the 8 octets after it.
+const FOR_5002: [u8; 16] = [0x13, 0x89, 0x13, 0x8a, 0, 32, 0, 0, 9, 9, 9, 9, 9, 9, 9, 9];
+
+/// The datagram of the later header, and of piece 2.
+const HEADER_ANEW: [u8; 32] = [
+    0x13, 0x89, 0x13, 0x8a, 0, 32, 0, 0, 9, 9, 9, 9, 9, 9, 9, 9, 2, 2, 2, 2, 2, 2, 2, 2, 2, 2, 2,
+    2, 2, 2, 2, 2,
+];
+
+/// A header comes alone, then the last piece, and then another header with the octets between both, which completes the
+/// datagram.
+fn check_header_anew(rt: &impl Abort, alloc: Global) {
+    let mut reassembly = Reassembly::new(alloc, 50_000).expect(rt, "memory");
+    check_held(rt, &mut reassembly, &piece(0, true, &FOR_5000));
+    check_held(rt, &mut reassembly, &piece(2, false, &octets_from(2)));
+    let filling = piece(0, true, &FOR_5002);
+    let whole = Preview::Whole {
+        len: 32,
+        head: [0x13, 0x89, 0x13, 0x8a, 0, 32, 0, 0],
+        joined: true,
+    };
+    assert!(rt; reassembly.preview(&filling, 1_000) == whole);
+    check_joined(rt, reassembly.offer(&filling, 1_000), &HEADER_ANEW);
+}
+
+#[test]
+fn the_header_of_the_piece_that_completes_a_datagram_is_the_later_one(rt: HostRuntime) {
+    check_header_anew(&rt, rt.alloc());
+}

@@ -1,5 +1,5 @@
 //! Readers and takers, in slots of their own.
-use crate::given::{NOTHING_READ, NOTHING_TAKEN, bring, opened};
+use crate::given::{NOTHING_READ, NOTHING_TAKEN, bring, frame, opened, reply};
 use receiver_slots::codes::{
     ALREADY_OPEN, DONE, HOLDS_NONE, HOLDS_ONE, NO_NAME, NONE_LEFT, NOT_OPEN, OUT_OF_RANGE,
     TOO_SHORT,
@@ -65,7 +65,7 @@ fn eight_readers_are_handed_out_by_the_name_of_a_port(rt: HostRuntime) {
 }
 
 /// A read at this time, in microseconds: what is answered, and what is told.
-fn read(slot: &mut ReaderSlot, now: u64, out: &mut [u8]) -> (u32, ReadReply) {
+pub(crate) fn read(slot: &mut ReaderSlot, now: u64, out: &mut [u8]) -> (u32, ReadReply) {
     let mut told = NOTHING_READ;
     let code = slot.read(now, out, &mut told);
     (code, told)
@@ -147,7 +147,7 @@ fn a_reader_reads_holds_and_copies_the_newest_message(rt: HostRuntime) {
 }
 
 /// A take: what is answered, and what is told.
-fn take(slot: &mut TakerSlot, out: &mut [u8]) -> (u32, TakeReply) {
+pub(crate) fn take(slot: &mut TakerSlot, out: &mut [u8]) -> (u32, TakeReply) {
     let mut told = NOTHING_TAKEN;
     let code = slot.take(out, &mut told);
     (code, told)
@@ -195,4 +195,27 @@ fn check_takes(rt: &impl Abort, alloc: Global) {
 #[test]
 fn a_taker_takes_each_message_once_and_in_order(rt: HostRuntime) {
     check_takes(&rt, rt.alloc());
+}
+
+/// A sample comes at this time, and then a message for `nav`: both have it.
+fn check_time(rt: &impl Abort, alloc: Global, time: u64) {
+    let (mut slot, mut nav) = (opened(rt, alloc), TakerSlot::empty());
+    let mut pos = reader(rt, &mut slot);
+    assert!(rt; slot.hand_taker(&mut nav, b"nav") == DONE);
+    let sampled = reply(rt, &mut slot, (0, time), &frame(rt, alloc, false, 1)).kind;
+    let queued = reply(rt, &mut slot, (0, time), &frame(rt, alloc, true, 2)).kind;
+    assert!(rt; sampled == SAMPLED && queued == QUEUED);
+    let (mut out, found, len) = ([0; 8192], 1, 17);
+    let taken = TakeReply { found, time, len };
+    assert!(rt; take(&mut nav, &mut out) == (DONE, taken));
+    let mut newest = message(1, 1);
+    newest.time = time;
+    assert!(rt; read(&mut pos, time, &mut out) == (DONE, newest));
+    let _ = pos.into_reader();
+}
+
+#[test]
+fn times_of_64_bits_are_told_whole(rt: HostRuntime) {
+    check_time(&rt, rt.alloc(), (1 << 48) + 7);
+    check_time(&rt, rt.alloc(), u64::MAX);
 }

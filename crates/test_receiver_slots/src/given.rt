@@ -47,13 +47,17 @@ pub(crate) fn text(rt: &impl Abort, alloc: Global) -> String {
     text
 }
 
-pub(crate) fn opened(rt: &impl Abort, alloc: Global) -> ReceiverSlot {
+/// A receiver of the configuration of this text.
+pub(crate) fn opened_with(rt: &impl Abort, alloc: Global, text: &str) -> ReceiverSlot {
     let mut slot = ReceiverSlot::empty();
     let mut fault = NO_FAULT;
-    let text = text(rt, alloc);
-    assert!(rt; slot.open_text(alloc, text.as_str().as_bytes(), &mut fault) == DONE);
+    assert!(rt; slot.open_text(alloc, text.as_bytes(), &mut fault) == DONE);
     assert!(rt; fault == NO_FAULT);
     slot
+}
+
+pub(crate) fn opened(rt: &impl Abort, alloc: Global) -> ReceiverSlot {
+    opened_with(rt, alloc, text(rt, alloc).as_str())
 }
 
 /// A smallest frame of link 17 for `pos` or `nav`, with this sequence number.

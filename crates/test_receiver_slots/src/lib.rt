@@ -8,6 +8,8 @@ mod frames;
 #[cfg(test)]
 mod given;
 #[cfg(test)]
+mod greatest;
+#[cfg(test)]
 mod opening;
 #[cfg(test)]
 mod places;

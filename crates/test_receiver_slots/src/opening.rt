@@ -72,9 +72,24 @@ fn check_faults(rt: &impl Abort, alloc: Global) {
     );
 }
 
+/// The first port of the second link has the name of a port of the first.
+fn check_name_of_another_link(rt: &impl Abort, alloc: Global) {
+    let text = text(rt, alloc);
+    let double = text
+        .replace(alloc, "\"alt\"", "\"nav\"")
+        .expect(rt, "memory");
+    check_fault(
+        rt,
+        alloc,
+        double.as_str().as_bytes(),
+        fault(7, 0, (2, 1, 0)),
+    );
+}
+
 #[test]
 fn the_fault_of_a_text_is_told_by_numbers(rt: HostRuntime) {
     check_faults(&rt, rt.alloc());
+    check_name_of_another_link(&rt, rt.alloc());
 }
 
 fn check_opened_twice(rt: &impl Abort, alloc: Global) {

@@ -3,7 +3,7 @@ use es_base::Net::{A, B};
 use es_base::{FILTER_CAUSES, LinkNo, PortNo, Verdict, VerdictTally};
 use output_lines::{
     BusyLine, CountLine, EmptyLine, EventLine, FilteredCountLine, MessageLine, QueueLine,
-    SampleLine, VerdictText,
+    SampleLine, VerdictText, add_line, add_words,
 };
 use sampling_port::Freshness;
 use std::alloc::Global;
@@ -181,4 +181,18 @@ fn check_no_counts(rt: &impl Abort, alloc: Global) {
 #[test]
 fn counts_of_nothing_are_zeros(rt: HostRuntime) {
     check_no_counts(&rt, rt.alloc());
+}
+
+/// A line is added to a text that is as long as this, and so are words.
+fn check_after(rt: &impl Abort, alloc: Global, length: usize) {
+    let mut text = Vec::new(alloc);
+    text.resize(length, b'.').expect(rt, "memory");
+    add_words(&mut text, "count").expect(rt, "memory");
+    add_line(&mut text, EmptyLine { name: "pos" }).expect(rt, "memory");
+    assert!(rt; text.get(length..) == Some(b"countport pos sampling empty\n"));
+}
+
+#[test]
+fn lines_are_added_to_a_text_of_a_million_bytes(rt: HostRuntime) {
+    check_after(&rt, rt.alloc(), 1_000_000);
 }

@@ -4,13 +4,19 @@ use crate::histories::check_events;
 use crate::rows::receive;
 use end_system::{NoGate, Reply};
 use es_base::Net::{A, B};
-use es_base::Verdict::{Redundant, Sampled};
+use es_base::Verdict::{Queued, Redundant, Sampled};
 use es_base::{LinkNo, PortNo, Verdict};
-use link_receiver::LinkState;
+use link_receiver::{LinkState, PortEnd};
+use queuing_port::Taker;
+use sampling_port::{MOST_TRIES, Read, Reader};
+use slot_core::READERS;
 use std::alloc::Global;
 use std::process::Abort;
 use std::sync::Wait;
-use test_inputs_systems::{Given, Running, sampling_links, smallest_for};
+use test_inputs::{
+    GREATEST_PORTS, greatest_frame, greatest_payload, greatest_samples, greatest_text,
+};
+use test_inputs_systems::{Given, Running, config_of, sampling_links, smallest_for};
 
 /// The first port of a link, which samples.
 const FIRST: PortNo = PortNo(0);
@@ -100,4 +106,77 @@ fn many_numbers(rt: &impl Abort, alloc: Global) -> Vec<u16> {
 fn sixty_four_links_are_told_apart(rt: HostRuntime) {
     let numbers = many_numbers(&rt, rt.alloc());
     check_links(&rt, rt.alloc(), &numbers);
+}
+
+/// A new system of the greatest configuration, whose last link, 65535, has 32 ports.
+fn opened_greatest(rt: &impl Abort, alloc: Global) -> Running<NoGate> {
+    let text = greatest_text(alloc).expect(rt, "memory");
+    let config = config_of(alloc, &[text.as_str()]).expect(rt, "a configuration");
+    Running::open(alloc, &config, NoGate).expect(rt, "memory")
+}
+
+/// A frame comes for this port, after one for each port before it.
+fn check_port(rt: &(impl Abort + Wait), alloc: Global, running: &mut Running<NoGate>, port: u16) {
+    let frame = greatest_frame(alloc, u16::MAX, port, port as u8).expect(rt, "octets");
+    let time = u64::from(port) + 100;
+    let reply = receive(rt, alloc, running, A, time, &frame);
+    let no = PortNo(port as u8);
+    let verdict = if greatest_samples(port) {
+        Sampled(no, 1)
+    } else {
+        Queued(no)
+    };
+    check_reply(rt, reply, u16::MAX, u64::from(port), verdict);
+}
+
+/// The octets of the message for this port.
+fn message_of(rt: &impl Abort, alloc: Global, port: u16) -> Vec<u8> {
+    let payload = greatest_payload(alloc, port).expect(rt, "memory");
+    hex::decode(alloc, payload.as_str()).expect(rt, "octets")
+}
+
+/// Each reader reads this message, which is the first of its port.
+fn check_readers(rt: &impl Abort, readers: &mut [Reader<READERS>], time: u64, octets: &[u8]) {
+    for reader in readers.iter_mut() {
+        let mut out = [0; 1471];
+        let (number, len) = (1, octets.len());
+        let wanted = Read::Message { number, time, len };
+        assert!(rt; reader.read(MOST_TRIES, &mut out) == wanted, "{time}");
+        assert!(rt; out.starts_with(octets), "{time}");
+    }
+}
+
+/// The taker takes this message.
+fn check_taken(rt: &(impl Abort + Wait), taker: &mut Taker, time: u64, octets: &[u8]) {
+    let message = taker.take(rt).expect(rt, "a message");
+    assert!(rt;
+        message.time == time && message.octets.as_slice() == octets,
+        "{time}"
+    );
+}
+
+/// The end of this port has its own message.
+fn check_end(rt: &(impl Abort + Wait), alloc: Global, running: &mut Running<NoGate>, port: u16) {
+    let name = format!(in alloc; "p{port}").expect(rt, "memory");
+    let octets = message_of(rt, alloc, port);
+    let time = u64::from(port) + 100;
+    match running.end_of(name.as_str()).expect(rt, "an end") {
+        PortEnd::Sampling { readers, .. } => check_readers(rt, readers, time, &octets),
+        PortEnd::Queuing { taker, .. } => check_taken(rt, taker, time, &octets),
+    }
+}
+
+fn check_ports(rt: &(impl Abort + Wait), alloc: Global) {
+    let mut running = opened_greatest(rt, alloc);
+    for port in 0..GREATEST_PORTS {
+        check_port(rt, alloc, &mut running, port);
+    }
+    for port in 0..GREATEST_PORTS {
+        check_end(rt, alloc, &mut running, port);
+    }
+}
+
+#[test]
+fn thirty_two_ports_of_a_link_are_told_apart(rt: HostRuntime) {
+    check_ports(&rt, rt.alloc());
 }
