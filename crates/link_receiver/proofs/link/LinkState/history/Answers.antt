@@ -4,5 +4,5 @@ use Rattle.link_receiver.proofs.link.LinkState.history.Goals as goal
 
 pub returns-clause-own_frames : goal.returns-clause-own_frames
 returns-clause-own_frames c =
-    let link = c.args.self.now in
-    frames_since link.settings link.before (reverse link.history) c.returns.ensures.frames
+    let state = c.self.inside in
+    rw (← c.self.view_is) (frames_since state.settings state.before.events (reverse state.history.items) c.self.invariant.all.frames)
