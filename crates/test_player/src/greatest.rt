@@ -20,7 +20,7 @@ fn add_frames(rt: &impl Abort, alloc: Global, trace: &mut String) {
         add_frame(rt, alloc, trace, u64::from(place), &frame);
     }
     for port in 0..GREATEST_PORTS {
-        let frame = greatest_frame(alloc, u16::MAX, port, port as u8).expect(rt, "a frame");
+        let frame = greatest_frame(alloc, u16::MAX, port, (port % 256) as u8).expect(rt, "a frame");
         add_frame(rt, alloc, trace, u64::from(port) + 100, &frame);
     }
 }
@@ -144,7 +144,7 @@ fn add_fragment(rt: &impl Abort, alloc: Global, trace: &mut String, fragment: u1
     let ip = header_of(rt, alloc, fragment);
     let digits = message_digits(rt, alloc, fragment);
     let texts = [ETHERNET, ip.as_str(), udp_of(fragment), digits.as_str()];
-    let number = fragment as u8;
+    let number = (fragment % 256) as u8;
     add_line(rt, alloc, trace, u64::from(fragment), &texts, number);
 }
 

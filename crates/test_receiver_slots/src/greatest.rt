@@ -59,7 +59,7 @@ fn at_port(port: u16) -> FrameReply {
 }
 
 fn check_frame(rt: &impl Abort, alloc: Global, slot: &mut ReceiverSlot, port: u16) {
-    let octets = greatest_frame(alloc, u16::MAX, port, port as u8).expect(rt, "octets");
+    let octets = greatest_frame(alloc, u16::MAX, port, (port % 256) as u8).expect(rt, "octets");
     let told = reply(rt, slot, (0, time_of(port)), &octets);
     assert!(rt; told == at_port(port), "{told:?}");
 }

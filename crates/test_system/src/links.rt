@@ -117,10 +117,10 @@ fn opened_greatest(rt: &impl Abort, alloc: Global) -> Running<NoGate> {
 
 /// A frame comes for this port, after one for each port before it.
 fn check_port(rt: &(impl Abort + Wait), alloc: Global, running: &mut Running<NoGate>, port: u16) {
-    let frame = greatest_frame(alloc, u16::MAX, port, port as u8).expect(rt, "octets");
+    let frame = greatest_frame(alloc, u16::MAX, port, (port % 256) as u8).expect(rt, "octets");
     let time = u64::from(port) + 100;
     let reply = receive(rt, alloc, running, A, time, &frame);
-    let no = PortNo(port as u8);
+    let no = PortNo((port % 256) as u8);
     let verdict = if greatest_samples(port) {
         Sampled(no, 1)
     } else {
