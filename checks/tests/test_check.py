@@ -85,12 +85,32 @@ def test_what_captures_show(written):
         "3: link 16: no frame of it in the captures"]
 
 
-def test_a_skew_longer_than_a_turn_of_the_numbers(written):
+def steady(count, gap):
+    """A trace of link 17 with a frame each `gap` microseconds."""
     frame = next(line.split()[1] for line in (ROOT / "examples" / "network_a.trace").read_text().splitlines() if line[0] == "1")
-    trace = written("t", "".join(f"{number * 10} {frame[:-2]}{number % 256:02x}\n" for number in range(300)))
-    assert slips_of(written, ONE.replace("skew_max_us = 1000", "skew_max_us = 2551"), trace) == \
-        ["3: link 17: skew_max_us 2551 is longer than a turn of its sequence numbers, 2550 us"]
-    assert slips_of(written, ONE.replace("skew_max_us = 1000", "skew_max_us = 2550"), trace) == []
+    return "".join(f"{number * gap} {frame[:-2]}{number % 256:02x}\n" for number in range(count))
+
+
+def with_skew(skew, more=""):
+    return ONE.replace("skew_max_us = 1000", f"skew_max_us = {skew}{more}")
+
+
+def test_a_skew_of_128_gaps(written):
+    trace = written("t", steady(200, 10))
+    for skew in (1280, 1281, 2551):
+        assert slips_of(written, with_skew(skew), trace) == [
+            f"3: link 17: skew_max_us {skew} isn't below the 1280 us in which 128 more of its frames came; what the delays "
+            "differ by counts, too (docs/DELIVERY.md)"]
+    assert slips_of(written, with_skew(1279), trace) == slips_of(written, with_skew(1000000, "\nredundancy = false"), trace) == []
+
+
+def test_the_gaps_are_those_of_128_frames_at_their_closest(written):
+    """128 frames and a gap of 127 show nothing; of both networks the one counts whose frames are closest."""
+    few, many, closer = (written(name, steady(*given)) for name, given in
+                         [("few", (128, 10)), ("many", (129, 10)), ("closer", (300, 9))])
+    assert slips_of(written, with_skew(1280), few) == slips_of(written, with_skew(1151), many, closer) == []
+    assert "the 1280 us in which" in slips_of(written, with_skew(1280), many)[0]
+    assert "the 1152 us in which" in slips_of(written, with_skew(1152), many, closer)[0]
 
 
 def test_a_foreign_constant_that_most_frames_have(written):

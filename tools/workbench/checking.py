@@ -27,7 +27,7 @@ OF_OTHER_KIND = {"sampling": "depth", "queuing": "refresh_us"}
 GIVEN_TWICE = {"link": "vl", "port": "udp", "name": "name"}
 HEADER = re.compile(r'\s*\[\[?\s*"?([\w-]+)"?(\s*\.\s*"?port"?)?\s*[\].]')
 KEY = re.compile(r'\s*"?([\w-]+)"?\s*[=.]')
-TURN = 255  # sequence numbers until one comes again
+AHEAD = 128  # gaps after which a sequence number isn't ahead any more
 MOST_CONSTANTS = 1000  # that are counted
 
 
@@ -239,7 +239,7 @@ class Seen:
     def __init__(self, trace, constant, known):
         self.source, self.unit, self.constant, self.known = trace.source, trace.unit, constant, known
         self.links, self.interfaces, self.constants = (collections.Counter() for _ in range(3))
-        self.firsts, self.times, self.turns = {}, {}, {}
+        self.firsts, self.times, self.spans = {}, {}, {}
         for entry in trace.entries():
             if not entry.left_out and len(entry.octets) >= frames.SHORTEST:
                 self.see(entry)
@@ -254,10 +254,10 @@ class Seen:
         self.interfaces[frames.interface_of(entry.octets)] += 1
         self.firsts.setdefault(link, entry.number)
         if link in self.known:
-            times = self.times.setdefault(link, collections.deque(maxlen=TURN + 1))
+            times = self.times.setdefault(link, collections.deque(maxlen=AHEAD + 1))
             times.append(entry.time)
-            if len(times) > TURN:
-                self.turns[link] = min(self.turns.get(link, entry.time), (entry.time - times[0]) // 1000)
+            if len(times) > AHEAD:
+                self.spans[link] = min(self.spans.get(link, entry.time), (entry.time - times[0]) // 1000)
 
     def foreign_constant(self):
         """Of most frames, if it isn't that of the configuration."""
@@ -279,9 +279,10 @@ def shown(given, config, places):
         place = f"{given.config}:{line_at(places, path)}: link {vl}: "
         if not any(seen.links[vl] for seen in both):
             yield f"{place}no frame of it in the captures"
-        turn = min((seen.turns[vl] for seen in both if vl in seen.turns), default=None)
-        if link.get("redundancy", True) and turn is not None and turn < link["skew_max_us"]:
-            yield f"{place}skew_max_us {link['skew_max_us']} is longer than a turn of its sequence numbers, {turn} us"
+        span = min((seen.spans[vl] for seen in both if vl in seen.spans), default=None)
+        if link.get("redundancy", True) and span is not None and span <= link["skew_max_us"]:
+            yield (f"{place}skew_max_us {link['skew_max_us']} isn't below the {span} us in which {AHEAD} more of its frames "
+                   "came; what the delays differ by counts, too (docs/DELIVERY.md)")
     if frames.are_crossed([seen.interfaces for seen in both]):
         yield (f"{both[0].source}: crossed networks: most source addresses of A say interface 2, and most of B "
                "interface 1")
