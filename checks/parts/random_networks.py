@@ -1,8 +1,8 @@
 """Random senders and networks: the frames of a link, the copies that two networks bring, and the messages that its
 ports are to get.
 
-On `Networks` all conditions of docs/DELIVERY.md hold; each class of `DROPPED` drops one, and holds the others. A bound
-is often drawn as the last number that is allowed. The time that a frame waits for its link isn't here, since the program
+Where all conditions of docs/DELIVERY.md hold the networks are of a class of `HOLDING`; each of `DROPPED` drops one, and
+holds the others. A bound is often drawn as the last number that is allowed. The time that a frame waits for its link isn't here, since the program
 takes frames in the order of their times. Times are in microseconds, and a frame's index counts from 0.
 """
 import collections
@@ -79,9 +79,9 @@ class Networks:
         return min(LONGEST_SKEW, 128 * self.gap - self.spread - 1)
 
     def drawn_limit(self):
-        return self.r.choice([self.longest_wait(), LONGEST_LIMIT])
+        return self.r.choice([self.longest_datagram(), LONGEST_LIMIT])
 
-    def longest_wait(self):
+    def longest_datagram(self):
         """From a datagram's first fragment to its last, of all that came."""
         return max((self.firsts[parts[-1]] - self.firsts[parts[0]] for parts in self.whole().values()), default=0)
 
@@ -120,7 +120,7 @@ class Networks:
 
     def send(self):
         """The time and the sequence number of each frame, and the frames that are the first after a restart."""
-        time, number = self.r.randrange(10_000), self.r.randrange(256)
+        time, number = self.r.randrange(10_000), self.r.choice([0, 255, self.r.randrange(256)])
         self.sent, self.numbers, self.restarts = [time], [number], set()
         for index in range(1, self.count):
             if self.r.random() < self.restart:
@@ -215,6 +215,28 @@ class Networks:
         return body + bytes(max(0, 59 - len(body))) + bytes([self.numbers[copy.index]])
 
 
+class CutOff(Networks):
+    """all hold: B begins 127 frames after A ends"""
+    count, streams, restart, frames_later = 300, 1, 0, 127
+
+    def drawn_spread(self):
+        return self.r.randrange(self.gap // 2)
+
+    def drawn_skew(self):
+        return self.longest_skew()
+
+    def later(self):
+        return 0
+
+    def came(self):
+        """A is cut off, and B begins so many frames later."""
+        end = self.r.choice([0, self.r.randrange(100)])
+        return {"A": set(range(end + 1)), "B": set(range(end + self.frames_later, self.count))}
+
+
+HOLDING = [Networks, Networks, Networks, CutOff]
+
+
 # ---- one condition dropped
 
 
@@ -237,20 +259,12 @@ class ShortSkew(Networks):
         return self.r.choice([self.spread - 1, self.r.randrange(self.spread)])
 
 
-class LongSkew(Networks):
+class LongSkew(CutOff):
     """128 gaps within SkewMax"""
-    count, streams, lost_on_both, restart = 300, 1, True, 0
+    frames_later = 128
 
     def drawn_skew(self):
-        return self.r.randint(140 * self.gap, min(LONGEST_SKEW, 250 * self.gap))
-
-    def later(self):
-        return 0
-
-    def came(self):
-        """A is cut off, and B begins 128 frames later or a few more."""
-        end = self.r.randrange(100)
-        return {"A": set(range(end + 1)), "B": set(range(end + self.r.randint(128, 135), self.count))}
+        return self.r.randint(128 * self.gap + self.spread, min(LONGEST_SKEW, 250 * self.gap))
 
 
 class SoonRestarting(Networks):
@@ -339,7 +353,7 @@ class FiveInParts(InParts):
 
 class FourInPartsWithLosses(InParts):
     """four in parts at a time, and losses on both"""
-    streams, lost_on_both, least_window, loss = 4, True, 2, 0.02
+    streams, least_window, loss = 4, 2, 0.02
 
 
 class LateFragments(Networks):
@@ -354,7 +368,7 @@ class LateFragments(Networks):
 
     def drawn_limit(self):
         """Too short for the slowest datagram."""
-        return self.longest_wait() - 1
+        return self.longest_datagram() - 1
 
 
 DROPPED = [Overtaking, ShortSkew, LongSkew, SoonRestarting, LostRestart, LostInARow, OneIdentification, FiveInParts,
@@ -382,8 +396,7 @@ class CloseTogether(FarApart):
 def in_parts(streams, loss):
     """Networks on which so many datagrams are in parts at a time, and this share of the frames is lost on both."""
     name = f"{streams} in parts at a time, {loss:.0%} lost on both"
-    return type("InParts", (InParts,), {"__doc__": name, "streams": streams, "lost_on_both": loss > 0, "least_window": 2,
-                                        "loss": loss})
+    return type("InParts", (InParts,), {"__doc__": name, "streams": streams, "loss": loss, "least_window": 2})
 
 
 QUOTED = [CloseTogether, FarApart, *(in_parts(streams, loss) for loss in (0, 0.02) for streams in range(1, 6))]
