@@ -333,7 +333,7 @@ class InParts(Networks):
         return self.r.randint(10, 500)
 
     def step(self, length):
-        return max(8, length // self.r.randint(2, 8) // 8 * 8)
+        return -(-length // (8 * self.r.randint(2, 8))) * 8
 
     def drawn_limit(self):
         return LONGEST_LIMIT
