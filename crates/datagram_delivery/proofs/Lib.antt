@@ -1,0 +1,15 @@
+pub mod Places
+pub mod Standing
+pub mod Rows
+pub mod Splits
+pub mod Offered
+pub mod Datagrams
+pub mod Open
+pub mod Unused
+pub mod Slices
+pub mod Origins
+pub mod Parts
+pub mod Interleaved
+pub mod Bringing
+pub mod Messages
+pub mod Examples

@@ -1,0 +1,250 @@
+-- Each group has parts of one datagram.
+use Rattle.std.proofs.Common.{◌≡◌, ◌∙◌, ap, sym, subst, ℕ, zero, suc, ◌+◌, ◌≤◌, inl, inr, Bool, true, false, not, cond, List, [], ◌∷◌, ◌++◌, length, take, drop, remove, Option, None, Some, is_some, refl, arith}
+use Rattle.std.specs.Prelude.{◌==◌, ◌&&◌, ◌⊎◌, slice_get, slice_set}
+use Rattle.std.proofs.lemmas.Bool.{eqb-true, ltb-false}
+use Rattle.std.proofs.lemmas.Option.{same_Some}
+use Rattle.es_base.specs.declared.fragment.DatagramKey.{DatagramKey}
+use Rattle.es_base.specs.Limits.{most_partials}
+use Rattle.es_base.specs.Packet.{PacketParts}
+use Rattle.es_base.specs.Copies.{elapsed}
+use Rattle.es_base.specs.Fragments.{is_bad, is_whole, key_of, piece_of}
+use Rattle.es_base.specs.Groups.{Found, Group, bad, begin_of, begins, datagram_with, fate, fate_if, found_at, found_for, found_if, group_with, groups_after, groups_with, has_key, is_over, is_same_key, joins, pieces_with, place_of, whole, with_room, without}
+use Rattle.es_base.proofs.Firsts.{found_at as found_place, passes_found}
+use Rattle.datagram_delivery.specs.Splitting.{Offer, are_some, groups_after_offers}
+use Rattle.datagram_delivery.specs.Parts.{IsPartOf}
+use Rattle.datagram_delivery.proofs.Unused.{begin_same}
+use Rattle.datagram_delivery.proofs.Slices.{AreSlices, IsSlice, made_is}
+use Rattle.datagram_delivery.proofs.Rows.{take_all}
+
+-- an offer, and the datagram of which it has a part
+pub record Part : Type 0 where
+  pub offer : Offer
+  pub datagram : List ℕ
+
+abbrev pub offers_in : List Part → List Offer
+offers_in [] = []
+offers_in (part ∷ before) = part.offer ∷ offers_in before
+
+abbrev pub AgreeWith : ℕ → Part → Part → Type 0
+AgreeWith limit later earlier =
+    is_same_key (key_of earlier.offer.packet) (key_of later.offer.packet) ≡ true → later.offer.time ≤ earlier.offer.time + limit → earlier.datagram ≡ later.datagram
+
+abbrev pub Agree : ℕ → Part → List Part → Type 0
+Agree limit part [] = Unit {0}
+Agree limit part (earlier ∷ before) = AgreeWith limit part earlier × Agree limit part before
+
+abbrev pub AreParts : ℕ → List Part → Type 0
+AreParts limit [] = Unit {0}
+AreParts limit (part ∷ before) = IsPartOf part.datagram part.offer.packet × Agree limit part before × AreParts limit before
+
+-- ---- where a group comes from
+
+abbrev pub IsAmong : Part → List Part → Type 0
+IsAmong part [] = ⊥
+IsAmong part (other ∷ before) = (other ≡ part) ⊎ IsAmong part before
+
+agree_at : (limit : ℕ) (later earlier : Part) (before : List Part) → Agree limit later before → IsAmong earlier before → AgreeWith limit later earlier
+agree_at limit later earlier [] agree among = absurd among
+agree_at limit later earlier (other ∷ before) agree (inl same) = subst (λ (part : Part). AgreeWith limit later part) same agree.0
+agree_at limit later earlier (other ∷ before) agree (inr among) = agree_at limit later earlier before agree.1 among
+
+-- it began with one of these parts, and has pieces of its datagram
+record Origin (before : List Part) (group : Group) : Type 0 where
+  part : Part
+  among : IsAmong part before
+  key : group.key ≡ key_of part.offer.packet
+  some : are_some group.pieces ≡ true
+  begin : begin_of group ≡ part.offer.time
+  slices : AreSlices part.datagram group.pieces
+
+abbrev HaveOrigins : List Part → List Group → Type 0
+HaveOrigins before [] = Unit {0}
+HaveOrigins before (group ∷ groups) = Origin before group × HaveOrigins before groups
+
+origins_later : (part : Part) (before : List Part) (groups : List Group) → HaveOrigins before groups → HaveOrigins (part ∷ before) groups
+origins_later part before [] have = tt
+origins_later part before (group ∷ groups) have =
+    let o = have.0 in
+    (record { part = o.part; among = inr o.among; key = o.key; some = o.some; begin = o.begin; slices = o.slices }, origins_later part before groups have.1)
+
+origin_at : (before : List Part) (groups : List Group) (i : ℕ) (group : Group) → HaveOrigins before groups → slice_get groups i ≡ Some group → Origin before group
+origin_at before [] i group have at = cc
+origin_at before (first ∷ groups) zero group have at = subst (Origin before) (same_Some first group at) have.0
+origin_at before (first ∷ groups) (suc i) group have at = origin_at before groups i group have.1 at
+
+origins_remove : (before : List Part) (groups : List Group) (i : ℕ) → HaveOrigins before groups → HaveOrigins before (remove groups i)
+origins_remove before [] zero have = tt
+origins_remove before [] (suc i) have = tt
+origins_remove before (group ∷ groups) zero have = have.1
+origins_remove before (group ∷ groups) (suc i) have = (have.0, origins_remove before groups i have.1)
+
+origins_set : (before : List Part) (groups : List Group) (i : ℕ) (group : Group) → HaveOrigins before groups → Origin before group → HaveOrigins before (slice_set groups i group)
+origins_set before [] i group have o = tt
+origins_set before (first ∷ groups) zero group have o = (o, have.1)
+origins_set before (first ∷ groups) (suc i) group have o = (have.0, origins_set before groups i group have.1 o)
+
+origins_room : (before : List Part) (groups : List Group) → HaveOrigins before groups → HaveOrigins before (with_room groups)
+origins_room before groups have = go (length groups == most_partials)
+  where
+    shorter : (groups : List Group) → HaveOrigins before groups → HaveOrigins before (drop 1 groups)
+    shorter [] have = tt
+    shorter (group ∷ groups) have = have.1
+
+    go : (full : Bool) → HaveOrigins before (cond full (drop 1 groups) groups)
+    go true = shorter groups have
+    go false = have
+
+origins_push : (before : List Part) (groups : List Group) (group : Group) → HaveOrigins before groups → Origin before group → HaveOrigins before (groups ++ group ∷ [])
+origins_push before [] group have o = (o, tt)
+origins_push before (first ∷ groups) group have o = (have.0, origins_push before groups group have.1 o)
+
+-- ---- a piece
+
+slice_of_part : (part : Part) → IsPartOf part.datagram part.offer.packet → IsSlice part.datagram (piece_of part.offer.packet part.offer.time)
+slice_of_part part is = record { within = is.within; octets = is.octets; ends = is.ends }
+
+-- what a key finds now: a group that has it and isn't over, or these
+IsFoundNow : ℕ → List Group → DatagramKey → ℕ → Found → Type 0
+IsFoundNow limit groups key now (joins place group) = (slice_get groups place ≡ Some group) × (has_key key group ≡ true) × (is_over limit now group ≡ false)
+IsFoundNow limit groups key now (begins others) = (others ≡ groups) ⊎ ((place : ℕ) × (others ≡ remove groups place))
+
+found_now : (limit : ℕ) (groups : List Group) (key : DatagramKey) (now : ℕ) → IsFoundNow limit groups key now (found_for limit groups key now)
+unfolding IsFoundNow
+found_now limit groups key now = at (place_of key groups) refl
+  where
+    over : (place : ℕ) (group : Group) → place_of key groups ≡ Some place → slice_get groups place ≡ Some group → (is : Bool) → is_over limit now group ≡ is
+        → IsFoundNow limit groups key now (cond is (begins (remove groups place)) (joins place group))
+    over place group there got true e = inr (place, refl)
+    over place group there got false e = (got, passes_found (has_key key) groups group (found_place (has_key key) groups place there ∙ got), e)
+
+    got : (place : ℕ) → place_of key groups ≡ Some place → (group : Option Group) → slice_get groups place ≡ group → IsFoundNow limit groups key now (found_if limit groups now place group)
+    got place there None is = inl refl
+    got place there (Some group) is = over place group there is (is_over limit now group) refl
+
+    at : (place : Option ℕ) → place_of key groups ≡ place → IsFoundNow limit groups key now (found_at limit groups now place)
+    at None is = inl refl
+    at (Some place) is = got place is (slice_get groups place) refl
+
+-- the group that a part joins has pieces of its datagram
+joined_slices : (limit : ℕ) (part : Part) (before : List Part) (groups : List Group) (place : ℕ) (group : Group) → Agree limit part before → HaveOrigins before groups
+    → slice_get groups place ≡ Some group → has_key (key_of part.offer.packet) group ≡ true → is_over limit part.offer.time group ≡ false → AreSlices part.datagram group.pieces
+joined_slices limit part before groups place group agree have got is not_over =
+    let o = origin_at before groups place group have got in
+    let same : is_same_key (key_of o.part.offer.packet) (key_of part.offer.packet) ≡ true = ap (λ (key : DatagramKey). is_same_key key (key_of part.offer.packet)) (sym o.key) ∙ is in
+    let not_late : elapsed part.offer.time (begin_of group) ≤ limit = ltb-false limit (elapsed part.offer.time (begin_of group)) not_over in
+    let begin = o.begin in
+    let soon : part.offer.time ≤ o.part.offer.time + limit = omega (arith, not_late, begin) in
+    subst (λ (datagram : List ℕ). AreSlices datagram group.pieces) (agree_at limit part o.part before agree o.among same soon) o.slices
+
+joined_origin : (limit : ℕ) (part : Part) (before : List Part) (groups : List Group) (place : ℕ) (group : Group) → IsPartOf part.datagram part.offer.packet → Agree limit part before → HaveOrigins before groups
+    → slice_get groups place ≡ Some group → has_key (key_of part.offer.packet) group ≡ true → is_over limit part.offer.time group ≡ false
+    → Origin (part ∷ before) (group_with group (piece_of part.offer.packet part.offer.time))
+joined_origin limit part before groups place group is_part agree have got is not_over =
+    let o = origin_at before groups place group have got in
+    let same : is_same_key (key_of o.part.offer.packet) (key_of part.offer.packet) ≡ true = ap (λ (key : DatagramKey). is_same_key key (key_of part.offer.packet)) (sym o.key) ∙ is in
+    let not_late : elapsed part.offer.time (begin_of group) ≤ limit = ltb-false limit (elapsed part.offer.time (begin_of group)) not_over in
+    let begin = o.begin in
+    let soon : part.offer.time ≤ o.part.offer.time + limit = omega (arith, not_late, begin) in
+    let one : o.part.datagram ≡ part.datagram = agree_at limit part o.part before agree o.among same soon in
+    record {
+      part = o.part;
+      among = inr o.among;
+      key = o.key;
+      some = refl;
+      begin = begin_same part.offer.time 0 group.pieces o.some ∙ o.begin;
+      slices = (subst (λ (datagram : List ℕ). IsSlice datagram (piece_of part.offer.packet part.offer.time)) (sym one) (slice_of_part part is_part), o.slices);
+    }
+
+new_origin : (part : Part) (before : List Part) → IsPartOf part.datagram part.offer.packet → Origin (part ∷ before) (record { key = key_of part.offer.packet; pieces = piece_of part.offer.packet part.offer.time ∷ [] })
+new_origin part before is_part = record { part = part; among = inl refl; key = refl; some = refl; begin = refl; slices = (slice_of_part part is_part, tt) }
+
+-- ---- the groups after a part
+
+origins_after : (limit : ℕ) (part : Part) (before : List Part) (groups : List Group) → IsPartOf part.datagram part.offer.packet → Agree limit part before → HaveOrigins before groups
+    → HaveOrigins (part ∷ before) (groups_after limit groups part.offer.packet part.offer.time)
+unfolding groups_after IsFoundNow
+origins_after limit part before groups is_part agree have = go (is_whole part.offer.packet) (is_bad part.offer.packet) refl refl
+  where
+    packet : PacketParts
+    packet = part.offer.packet
+
+    now : ℕ
+    now = part.offer.time
+
+    kept : HaveOrigins (part ∷ before) groups
+    kept = origins_later part before groups have
+
+    without_it : (place : Option ℕ) → HaveOrigins (part ∷ before) (without groups place)
+    without_it None = kept
+    without_it (Some place) = origins_remove (part ∷ before) groups place kept
+
+    stood : (others : List Group) → IsFoundNow limit groups (key_of packet) now (begins others) → HaveOrigins (part ∷ before) others
+    stood others (inl same) = subst (HaveOrigins (part ∷ before)) (sym same) kept
+    stood others (inr (place, same)) = subst (HaveOrigins (part ∷ before)) (sym same) (origins_remove (part ∷ before) groups place kept)
+
+    with_it : (found : Found) → IsFoundNow limit groups (key_of packet) now found → (complete : Bool) → HaveOrigins (part ∷ before) (groups_with groups (key_of packet) (piece_of packet now) found complete)
+    with_it (joins place group) found true = origins_remove (part ∷ before) groups place kept
+    with_it (joins place group) found false =
+        origins_set (part ∷ before) groups place (group_with group (piece_of packet now)) kept (joined_origin limit part before groups place group is_part agree have found.0 found.1 found.2)
+    with_it (begins others) found true = origins_room (part ∷ before) others (stood others found)
+    with_it (begins others) found false =
+        origins_push (part ∷ before) (with_room others) (record { key = key_of packet; pieces = piece_of packet now ∷ [] }) (origins_room (part ∷ before) others (stood others found)) (new_origin part before is_part)
+
+    go : (all unfit : Bool) → is_whole packet ≡ all → is_bad packet ≡ unfit → HaveOrigins (part ∷ before) (groups_after limit groups packet now)
+    go true unfit e f = rw e (without_it (place_of (key_of packet) groups))
+    go false true e f = rw (e, f) kept
+    go false false e f = rw (e, f) (with_it (found_for limit groups (key_of packet) now) (found_now limit groups (key_of packet) now) (is_some (datagram_with limit groups packet now)))
+
+all_origins : (limit : ℕ) (parts : List Part) → AreParts limit parts → HaveOrigins parts (groups_after_offers limit [] (offers_in parts))
+all_origins limit [] are = tt
+all_origins limit (part ∷ before) are = origins_after limit part before (groups_after_offers limit [] (offers_in before)) are.0 are.1 (all_origins limit before are.2)
+
+-- ---- what is handed on
+
+found_slices : (limit : ℕ) (part : Part) (before : List Part) (groups : List Group) (found : Found) → IsPartOf part.datagram part.offer.packet → Agree limit part before → HaveOrigins before groups
+    → IsFoundNow limit groups (key_of part.offer.packet) part.offer.time found → AreSlices part.datagram (pieces_with (piece_of part.offer.packet part.offer.time) found)
+unfolding IsFoundNow
+found_slices limit part before groups (joins place group) is_part agree have found =
+    (slice_of_part part is_part, joined_slices limit part before groups place group agree have found.0 found.1 found.2)
+found_slices limit part before groups (begins others) is_part agree have found = (slice_of_part part is_part, tt)
+
+whole_part : (datagram : List ℕ) (packet : PacketParts) → IsPartOf datagram packet → is_whole packet ≡ true → packet.octets ≡ datagram
+whole_part datagram packet is full = go (packet.offset == 0) packet.more refl refl full
+  where
+    go : (first more : Bool) → (packet.offset == 0) ≡ first → packet.more ≡ more → (first && not more) ≡ true → packet.octets ≡ datagram
+    go false more e f all = cc
+    go true true e f all = cc
+    go true false e f all =
+        let start : packet.offset ≡ 0 = eqb-true packet.offset 0 e in
+        let end = is.ends f in
+        let long : length packet.octets ≡ length datagram = omega (arith, start, end) in
+        is.octets ∙ ap (λ (n : ℕ). take (length packet.octets) (drop n datagram)) start ∙ ap (λ (n : ℕ). take n datagram) long ∙ take_all datagram
+
+pub handed_on_is_sent : (limit : ℕ) (part : Part) (before : List Part) (octets : List ℕ) (joined : Bool) → AreParts limit (part ∷ before)
+    → fate limit (groups_after_offers limit [] (offers_in before)) part.offer.packet part.offer.time ≡ whole octets joined → octets ≡ part.datagram
+unfolding fate
+handed_on_is_sent limit part before octets joined are is = go (is_whole packet) (is_bad packet) refl refl
+  where
+    packet : PacketParts
+    packet = part.offer.packet
+
+    now : ℕ
+    now = part.offer.time
+
+    groups : List Group
+    groups = groups_after_offers limit [] (offers_in before)
+
+    same_whole : (one two : List ℕ) (b c : Bool) → whole one b ≡ whole two c → one ≡ two
+    same_whole one two b c e = cc
+
+    made : (found : Option (List ℕ)) → datagram_with limit groups packet now ≡ found → fate_if found ≡ whole octets joined → octets ≡ part.datagram
+    made None e f = cc
+    made (Some all) e f =
+        let same : all ≡ octets = same_whole all octets true joined f in
+        sym same ∙ made_is part.datagram (pieces_with (piece_of packet now) (found_for limit groups (key_of packet) now)) all
+        (found_slices limit part before groups (found_for limit groups (key_of packet) now) are.0 are.1 (all_origins limit before are.2) (found_now limit groups (key_of packet) now)) e
+
+    go : (all unfit : Bool) → is_whole packet ≡ all → is_bad packet ≡ unfit → octets ≡ part.datagram
+    go true unfit e f = sym (same_whole packet.octets octets false joined (rw e at is)) ∙ whole_part part.datagram packet are.0 e
+    go false true e f = let none : bad ≡ whole octets joined = rw (e, f) at is in cc
+    go false false e f = made (datagram_with limit groups packet now) refl (rw (e, f) at is)

@@ -1,0 +1,182 @@
+-- A message that is brought to a port is that of a datagram that was sent.
+use Rattle.std.proofs.Common.{◌≡◌, ◌∙◌, ap, sym, ℕ, Bool, true, false, List, [], ◌∷◌, ◌++◌, inl, inr, Some, Result, Ok, Err, refl}
+use Rattle.std.specs.Prelude.{◌&&◌, if◌then◌else◌}
+use Rattle.es_base.specs.declared.event.Arrival.{Arrival}
+use Rattle.es_base.specs.declared.event.Event.{Event}
+use Rattle.es_base.specs.declared.place.PortNo.{PortNo}
+use Rattle.es_base.specs.declared.event.Message.{Message}
+use Rattle.es_base.specs.declared.fault.PacketFault.{PacketFault}
+use Rattle.es_base.specs.declared.verdict.Verdict.{Verdict}
+use Rattle.es_base.specs.declared.verdict.Verdict.TheVariants as verdicts
+use Rattle.es_base.specs.Returns.{◌>>=◌, map_err}
+use Rattle.std.specs.Result.{result_ok}
+use Rattle.es_base.specs.Past.{arrival_of}
+use Rattle.es_base.specs.Packet.{PacketParts}
+use Rattle.es_base.specs.Groups.{Fate, Group, bad, fate, held, whole}
+use Rattle.es_base.specs.Integrity.{passes}
+use Rattle.es_base.specs.Reassembly.{groups_by, groups_in, offered, packet_in}
+use Rattle.es_base.specs.Redundancy.{forwarded, is_forwarded, is_redundant}
+use Rattle.es_base.specs.Outcome.{Outcome, Payload, brings, brought, datagram_payload, frame_payload, out_of_sequence, outcome, packet_payload, reassembled, redundant, refused}
+use Rattle.es_base.specs.Deliveries.{delivered, deliveries, is_same_port, number_delivered, takes_one_more}
+use Rattle.es_base.specs.Settings.{Settings}
+use Rattle.datagram_delivery.specs.Splitting.{groups_after_offers}
+use Rattle.datagram_delivery.specs.Parts.{AreOfOne, AreOfOneWith, HaveParts, IsMessageOf, IsPart, WereSentIn}
+use Rattle.datagram_delivery.proofs.Origins.{Agree, AreParts, Part, handed_on_is_sent, offers_in}
+
+-- ---- the parts that reassembly is offered
+
+part_of : (Event → List ℕ) → Event → PacketParts → Part
+part_of datagram e packet = record { offer = record { packet = packet; time = e.time; room = e.room }; datagram = datagram e }
+
+part_with : (Event → List ℕ) → Event → Result PacketParts PacketFault → List Part → List Part
+part_with datagram e (Ok packet) before = part_of datagram e packet ∷ before
+part_with datagram e (Err fault) before = before
+
+part_if : (Event → List ℕ) → Event → Bool → List Part → List Part
+part_if datagram e true before = part_with datagram e (packet_in e.frame) before
+part_if datagram e false before = before
+
+parts_in : Settings → (Event → List ℕ) → List Event → List Part
+parts_in settings datagram [] = []
+parts_in settings datagram (e ∷ past) = part_if datagram e (is_forwarded settings past (arrival_of e)) (parts_in settings datagram past)
+
+groups_step : (settings : Settings) (datagram : Event → List ℕ) (e : Event) (before : List Part) (groups : List Group) → groups ≡ groups_after_offers settings.reassembly [] (offers_in before) → (is : Bool)
+    → groups_by settings.reassembly groups (offered is e.frame) e.time ≡ groups_after_offers settings.reassembly [] (offers_in (part_if datagram e is before))
+unfolding part_if part_with part_of
+groups_step settings datagram e before groups same false = same
+groups_step settings datagram e before groups same true = go (packet_in e.frame)
+  where
+    go : (read : Result PacketParts PacketFault) → groups_by settings.reassembly groups (result_ok read) e.time ≡ groups_after_offers settings.reassembly [] (offers_in (part_with datagram e read before))
+    go (Ok packet) = ap (λ groups. groups_by settings.reassembly groups (Some packet) e.time) same
+    go (Err fault) = same
+
+groups_are_those : (settings : Settings) (datagram : Event → List ℕ) (past : List Event) → groups_in settings past ≡ groups_after_offers settings.reassembly [] (offers_in (parts_in settings datagram past))
+unfolding parts_in
+groups_are_those settings datagram [] = refl
+groups_are_those settings datagram (e ∷ past) =
+    groups_step settings datagram e (parts_in settings datagram past) (groups_in settings past) (groups_are_those settings datagram past) (is_forwarded settings past (arrival_of e))
+
+-- ---- they are parts
+
+agree_step : (limit : ℕ) (datagram : Event → List ℕ) (e : Event) (packet : PacketParts) (earlier : Event) (before : List Part) → packet_in e.frame ≡ Ok packet → AreOfOne limit datagram e earlier
+    → Agree limit (part_of datagram e packet) before → (is : Bool) → Agree limit (part_of datagram e packet) (part_if datagram earlier is before)
+unfolding part_if part_with part_of
+agree_step limit datagram e packet earlier before read one agree false = agree
+agree_step limit datagram e packet earlier before read one agree true = go (packet_in earlier.frame) refl
+  where
+    go : (other : Result PacketParts PacketFault) → packet_in earlier.frame ≡ other → Agree limit (part_of datagram e packet) (part_with datagram earlier other before)
+    go (Ok other) is = (λ same soon. one packet other read is same soon, agree)
+    go (Err fault) is = agree
+
+agree_all : (settings : Settings) (limit : ℕ) (datagram : Event → List ℕ) (e : Event) (packet : PacketParts) (past : List Event) → packet_in e.frame ≡ Ok packet → AreOfOneWith limit datagram e past
+    → Agree limit (part_of datagram e packet) (parts_in settings datagram past)
+unfolding parts_in
+agree_all settings limit datagram e packet [] read one = tt
+agree_all settings limit datagram e packet (earlier ∷ past) read one =
+    agree_step limit datagram e packet earlier (parts_in settings datagram past) read one.0 (agree_all settings limit datagram e packet past read one.1) (is_forwarded settings past (arrival_of earlier))
+
+parts_step : (limit : ℕ) (datagram : Event → List ℕ) (e : Event) (before : List Part) → IsPart datagram e → ((packet : PacketParts) → packet_in e.frame ≡ Ok packet → Agree limit (part_of datagram e packet) before)
+    → AreParts limit before → (is : Bool) → AreParts limit (part_if datagram e is before)
+unfolding part_if part_with part_of
+parts_step limit datagram e before is_part agree are false = are
+parts_step limit datagram e before is_part agree are true = go (packet_in e.frame) refl
+  where
+    go : (read : Result PacketParts PacketFault) → packet_in e.frame ≡ read → AreParts limit (part_with datagram e read before)
+    go (Ok packet) is = (is_part packet is, agree packet is, are)
+    go (Err fault) is = are
+
+are_parts : (settings : Settings) (datagram : Event → List ℕ) (past : List Event) → HaveParts settings.reassembly datagram past → AreParts settings.reassembly (parts_in settings datagram past)
+unfolding parts_in
+are_parts settings datagram [] have = tt
+are_parts settings datagram (e ∷ past) have =
+    parts_step settings.reassembly datagram e (parts_in settings datagram past) have.0 (λ packet read. agree_all settings settings.reassembly datagram e packet past read have.1)
+    (are_parts settings datagram past have.2) (is_forwarded settings past (arrival_of e))
+
+-- ---- what is brought
+
+abbrev reassembled_payload : Settings → PacketParts → Fate → Result Payload Verdict
+reassembled_payload settings packet found = do
+  datagram ← reassembled packet found
+  datagram_payload settings.ports datagram
+
+abbrev read_payload : Settings → List Group → ℕ → Result PacketParts PacketFault → Result Payload Verdict
+read_payload settings groups now read = do
+  packet ← map_err verdicts.BadHeader read
+  packet_payload settings.ports settings.reassembly groups packet now
+
+brought_by : (settings : Settings) (past : List Event) (a : Arrival) (payload : Payload) → outcome settings past a ≡ brings payload → frame_payload settings (groups_in settings past) a ≡ Ok payload
+unfolding outcome
+brought_by settings past a payload is = go (passes settings past a) (is_redundant settings (forwarded settings past) a) refl refl
+  where
+    paid : (found : Result Payload Verdict) → brought found ≡ brings payload → found ≡ Ok payload
+    paid (Ok other) e = cc
+    paid (Err verdict) e = cc
+
+    go : (pass old : Bool) → passes settings past a ≡ pass → is_redundant settings (forwarded settings past) a ≡ old → frame_payload settings (groups_in settings past) a ≡ Ok payload
+    go false old e f = let other : out_of_sequence ≡ brings payload = rw e at is in cc
+    go true true e f = let other : redundant ≡ brings payload = rw (e, f) at is in cc
+    go true false e f = paid (frame_payload settings (groups_in settings past) a) (rw (e, f) at is)
+
+pub brought_was_sent : (settings : Settings) (datagram : Event → List ℕ) (e : Event) (past : List Event) (payload : Payload) → HaveParts settings.reassembly datagram (e ∷ past)
+    → outcome settings past (arrival_of e) ≡ brings payload → IsMessageOf settings e.frame (datagram e) payload
+unfolding frame_payload part_of
+brought_was_sent settings datagram e past payload have is =
+    go (packet_in e.frame) refl (brought_by settings past (arrival_of e) payload is)
+  where
+    limit : ℕ
+    limit = settings.reassembly
+
+    before : List Part
+    before = parts_in settings datagram past
+
+    handed : (packet : PacketParts) → packet_in e.frame ≡ Ok packet → (found : Fate) → fate limit (groups_in settings past) packet e.time ≡ found
+        → reassembled_payload settings packet found ≡ Ok payload → IsMessageOf settings e.frame (datagram e) payload
+    handed packet read bad e2 made = cc
+    handed packet read held e2 made = cc
+    handed packet read (whole octets joined) e2 made =
+        let part : Part = part_of datagram e packet in
+        let are : AreParts limit (part ∷ before) = (have.0 packet read, agree_all settings limit datagram e packet past read have.1, are_parts settings datagram past have.2) in
+        let same : octets ≡ datagram e = handed_on_is_sent limit part before octets joined are (ap (λ groups. fate limit groups packet e.time) (sym (groups_are_those settings datagram past)) ∙ e2) in
+        record {
+          packet = packet;
+          reads = read;
+          joined = joined;
+          admits = ap (λ (o : List ℕ). datagram_payload settings.ports (record { destination = packet.destination; joined = joined; octets = o })) (sym same) ∙ made;
+        }
+
+    go : (read : Result PacketParts PacketFault) → packet_in e.frame ≡ read → read_payload settings (groups_in settings past) e.time read ≡ Ok payload → IsMessageOf settings e.frame (datagram e) payload
+    go (Ok packet) read made = handed packet read (fate limit (groups_in settings past) packet e.time) refl made
+    go (Err fault) read made = cc
+
+-- ---- what a port gets
+
+sent_later : (settings : Settings) (datagram : Event → List ℕ) (port : PortNo) (e : Event) (past : List Event) (messages : List Message) → WereSentIn settings datagram port past messages
+    → WereSentIn settings datagram port (e ∷ past) messages
+sent_later settings datagram port e past [] sent = tt
+sent_later settings datagram port e past (message ∷ later) sent = (inr sent.0, sent_later settings datagram port e past later sent.1)
+
+sent_join : (settings : Settings) (datagram : Event → List ℕ) (port : PortNo) (past : List Event) (one two : List Message) → WereSentIn settings datagram port past one → WereSentIn settings datagram port past two
+    → WereSentIn settings datagram port past (one ++ two)
+sent_join settings datagram port past [] two sent sent_too = sent_too
+sent_join settings datagram port past (message ∷ one) two sent sent_too = (sent.0, sent_join settings datagram port past one two sent.1 sent_too)
+
+sent_here : (settings : Settings) (datagram : Event → List ℕ) (port : PortNo) (e : Event) (past : List Event) (out : Outcome) (before : ℕ)
+    → ((payload : Payload) → out ≡ brings payload → IsMessageOf settings e.frame (datagram e) payload) → WereSentIn settings datagram port (e ∷ past) (delivered out e.room e.time port before)
+sent_here settings datagram port e past out_of_sequence before was = tt
+sent_here settings datagram port e past redundant before was = tt
+sent_here settings datagram port e past (refused verdict) before was = tt
+sent_here settings datagram port e past (brings payload) before was = go (is_same_port payload.port port) (takes_one_more payload.kind e.room before) refl
+  where
+    go : (same takes : Bool) → is_same_port payload.port port ≡ same
+        → WereSentIn settings datagram port (e ∷ past) (if same && takes then record { time = e.time; octets = payload.octets } ∷ [] else [])
+    go false takes to = tt
+    go true false to = tt
+    go true true to = (inl (record { payload = payload; of = was payload refl; to = to; time = refl; octets = refl }), tt)
+
+pub all_were_sent : (settings : Settings) (datagram : Event → List ℕ) (past : List Event) (port : PortNo) → HaveParts settings.reassembly datagram past
+    → WereSentIn settings datagram port past (deliveries settings past port)
+all_were_sent settings datagram [] port have = tt
+all_were_sent settings datagram (e ∷ past) port have =
+    sent_join settings datagram port (e ∷ past) (deliveries settings past port) (delivered (outcome settings past (arrival_of e)) e.room e.time port (number_delivered settings past port))
+    (sent_later settings datagram port e past (deliveries settings past port) (all_were_sent settings datagram past port have.2))
+    (sent_here settings datagram port e past (outcome settings past (arrival_of e)) (number_delivered settings past port) (λ payload is. brought_was_sent settings datagram e past payload have is))

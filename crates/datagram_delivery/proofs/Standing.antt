@@ -1,0 +1,273 @@
+-- The group of one key, and what a packet of another key leaves of it.
+use Rattle.std.proofs.Common.{◌≡◌, ◌∙◌, ap, sym, subst, ℕ, zero, suc, ◌<◌, ◌≤◌, inl, inr, ⊎_elim, Bool, true, false, cond, List, [], ◌∷◌, ◌++◌, length, drop, remove, Option, None, Some, is_some, refl, arith, option_map}
+use Rattle.std.specs.Prelude.{◌==◌, ◌&&◌, ◌⊎◌, slice_get, slice_set}
+use Rattle.std.proofs.lemmas.Bool.{cases_Bool, false≢true, eqb-true, eq-eqb, and_parts}
+use Rattle.std.proofs.lemmas.Option.{same_Some}
+use Rattle.es_base.specs.declared.fragment.DatagramKey.{DatagramKey}
+use Rattle.es_base.specs.Limits.{most_partials}
+use Rattle.es_base.specs.Packet.{PacketParts}
+use Rattle.es_base.specs.Fragments.{Piece, is_bad, is_whole, key_of, piece_of}
+use Rattle.es_base.specs.Groups.{Found, Group, begins, datagram_with, found_at, found_for, found_if, group_with, groups_after, groups_with, has_key, is_over, is_same_key, joins, place_of, with_room, without}
+use Rattle.datagram_delivery.specs.Splitting.{begins_group, is_beginning}
+use Rattle.datagram_delivery.proofs.Places.{later_place, place_here, place_later}
+
+-- ---- keys
+
+pub same_key : (a b : DatagramKey) → is_same_key a b ≡ true → a ≡ b
+same_key a b same =
+    let one = and_parts (a.source == b.source && a.destination == b.destination) (a.ident == b.ident) (regroup (a.source == b.source) (a.destination == b.destination) (a.ident == b.ident) same) in
+    let two = and_parts (a.source == b.source) (a.destination == b.destination) one.0 in
+    let made : ℕ → ℕ → ℕ → DatagramKey = λ x y z. record { source = x; destination = y; ident = z } in
+    ap (λ (x : ℕ). made x a.destination a.ident) (eqb-true _ _ two.0) ∙ ap (λ (y : ℕ). made b.source y a.ident) (eqb-true _ _ two.1) ∙ ap (λ (z : ℕ). made b.source b.destination z) (eqb-true _ _ one.1)
+  where
+    regroup : (x y z : Bool) → (x && y && z) ≡ true → ((x && y) && z) ≡ true
+    regroup true true z is = is
+    regroup true false z is = is
+    regroup false y z is = is
+
+pub key_itself : (a : DatagramKey) → is_same_key a a ≡ true
+key_itself a = rw (eq-eqb a.source a.source refl, eq-eqb a.destination a.destination refl, eq-eqb a.ident a.ident refl) refl
+
+pub other_way : (a b : DatagramKey) → is_same_key a b ≡ false → is_same_key b a ≡ false
+other_way a b other =
+    ⊎_elim
+    (λ (same : is_same_key b a ≡ true).
+    let is = same_key b a same in
+    let itself : is_same_key a b ≡ true = rw is (key_itself a) in
+    absurd (false≢true (sym other ∙ itself)))
+    (λ (differs : is_same_key b a ≡ false). differs)
+    (cases_Bool (is_same_key b a))
+
+-- ---- no group has the key
+
+abbrev pub IsAbsent : DatagramKey → List Group → Type 0
+IsAbsent key [] = Unit {0}
+IsAbsent key (group ∷ groups) = (has_key key group ≡ false) × IsAbsent key groups
+
+pub absent_place : (key : DatagramKey) (groups : List Group) → IsAbsent key groups → place_of key groups ≡ None
+absent_place key [] absent = refl
+absent_place key (group ∷ groups) absent = place_later (has_key key) group groups absent.0 ∙ ap (option_map suc) (absent_place key groups absent.1)
+
+pub place_absent : (key : DatagramKey) (groups : List Group) → place_of key groups ≡ None → IsAbsent key groups
+place_absent key [] none = tt
+place_absent key (group ∷ groups) none =
+    ⊎_elim
+    (λ (is : has_key key group ≡ true). let e = sym none ∙ place_here (has_key key) group groups is in cc)
+    (λ (is : has_key key group ≡ false). (is, place_absent key groups (rest (place_of key groups) (sym (place_later (has_key key) group groups is) ∙ none))))
+    (cases_Bool (has_key key group))
+  where
+    rest : (place : Option ℕ) → option_map suc place ≡ None → place ≡ None
+    rest None e = refl
+    rest (Some i) e = cc
+
+pub absent_remove : (key : DatagramKey) (groups : List Group) (i : ℕ) → IsAbsent key groups → IsAbsent key (remove groups i)
+absent_remove key [] zero absent = tt
+absent_remove key [] (suc i) absent = tt
+absent_remove key (group ∷ groups) zero absent = absent.1
+absent_remove key (group ∷ groups) (suc i) absent = (absent.0, absent_remove key groups i absent.1)
+
+pub absent_set : (key : DatagramKey) (groups : List Group) (i : ℕ) (group : Group) (piece : Piece) → IsAbsent key groups → slice_get groups i ≡ Some group → IsAbsent key (slice_set groups i (group_with group piece))
+absent_set key [] i group piece absent at = cc
+absent_set key (first ∷ groups) zero group piece absent at = (ap (λ (g : Group). is_same_key g.key key) (sym (same_Some first group at)) ∙ absent.0, absent.1)
+absent_set key (first ∷ groups) (suc i) group piece absent at = (absent.0, absent_set key groups i group piece absent.1 at)
+
+pub absent_room : (key : DatagramKey) (groups : List Group) → IsAbsent key groups → IsAbsent key (with_room groups)
+absent_room key groups absent = go (length groups == most_partials)
+  where
+    go : (full : Bool) → IsAbsent key (cond full (drop 1 groups) groups)
+    go true = shorter groups absent
+      where
+        shorter : (groups : List Group) → IsAbsent key groups → IsAbsent key (drop 1 groups)
+        shorter [] absent = tt
+        shorter (group ∷ groups) absent = absent.1
+    go false = absent
+
+pub absent_push : (key : DatagramKey) (groups : List Group) (group : Group) → IsAbsent key groups → has_key key group ≡ false → IsAbsent key (groups ++ group ∷ [])
+absent_push key [] group absent other = (other, tt)
+absent_push key (first ∷ groups) group absent other = (absent.0, absent_push key groups group absent.1 other)
+
+-- ---- a group has it, and has these pieces; at most n groups that began after it stand
+
+abbrev pub Stands : DatagramKey → List Piece → ℕ → List Group → Type 0
+Stands key pieces n [] = ⊥
+Stands key pieces n (group ∷ groups) = ((group ≡ record { key = key; pieces = pieces }) × (length groups ≤ n)) ⊎ ((has_key key group ≡ false) × Stands key pieces n groups)
+
+pub stands_more : (key : DatagramKey) (pieces : List Piece) (n m : ℕ) (groups : List Group) → n ≤ m → Stands key pieces n groups → Stands key pieces m groups
+stands_more key pieces n m [] le stands = stands
+stands_more key pieces n m (group ∷ groups) le (inl here) = let few = here.1 in inl (here.0, omega arith)
+stands_more key pieces n m (group ∷ groups) le (inr later) = inr (later.0, stands_more key pieces n m groups le later.1)
+
+length_remove : (groups : List Group) (i : ℕ) → length (remove groups i) ≤ length groups
+length_remove [] zero = omega arith
+length_remove [] (suc i) = omega arith
+length_remove (group ∷ groups) zero = omega arith
+length_remove (group ∷ groups) (suc i) = let less = length_remove groups i in omega arith
+
+length_set : (groups : List Group) (i : ℕ) (group : Group) → length (slice_set groups i group) ≡ length groups
+length_set [] i group = refl
+length_set (first ∷ groups) zero group = refl
+length_set (first ∷ groups) (suc i) group = ap suc (length_set groups i group)
+
+-- our group isn't found by another key
+not_ours : (key other : DatagramKey) (pieces : List Piece) (group : Group) → is_same_key key other ≡ false → group ≡ record { key = key; pieces = pieces } → has_key other group ≡ false
+not_ours key other pieces group differ is = ap (λ (g : Group). is_same_key g.key other) is ∙ differ
+
+stands_remove : (key other : DatagramKey) (pieces : List Piece) (n : ℕ) (groups : List Group) (i : ℕ) → is_same_key key other ≡ false → Stands key pieces n groups → place_of other groups ≡ Some i
+    → Stands key pieces n (remove groups i)
+stands_remove key other pieces n [] i differ stands at = absurd stands
+stands_remove key other pieces n (group ∷ groups) i differ (inl here) at =
+    let (j, is, later) = later_place (place_of other groups) i (sym (place_later (has_key other) group groups (not_ours key other pieces group differ here.0)) ∙ at) in
+    let fewer = length_remove groups j in
+    let few = here.1 in
+    rw is (inl (here.0, omega (arith, fewer, few)))
+stands_remove key other pieces n (group ∷ groups) i differ (inr later) at =
+    ⊎_elim
+    (λ (is : has_key other group ≡ true).
+    let e : i ≡ 0 = sym (same_Some _ _ (sym (place_here (has_key other) group groups is) ∙ at)) in
+    rw e later.1)
+    (λ (is : has_key other group ≡ false).
+    let (j, e, after) = later_place (place_of other groups) i (sym (place_later (has_key other) group groups is) ∙ at) in
+    rw e (inr (later.0, stands_remove key other pieces n groups j differ later.1 after)))
+    (cases_Bool (has_key other group))
+
+stands_set : (key other : DatagramKey) (pieces : List Piece) (n : ℕ) (groups : List Group) (i : ℕ) (group : Group) (piece : Piece) → is_same_key key other ≡ false → Stands key pieces n groups
+    → place_of other groups ≡ Some i → slice_get groups i ≡ Some group → Stands key pieces n (slice_set groups i (group_with group piece))
+stands_set key other pieces n [] i group piece differ stands at got = cc
+stands_set key other pieces n (first ∷ groups) zero group piece differ (inl here) at got =
+    let (j, is, later) = later_place (place_of other groups) 0 (sym (place_later (has_key other) first groups (not_ours key other pieces first differ here.0)) ∙ at) in
+    absurd (omega arith)
+stands_set key other pieces n (first ∷ groups) (suc i) group piece differ (inl here) at got =
+    let same = length_set groups i (group_with group piece) in
+    let few = here.1 in
+    inl (here.0, omega (arith, same, few))
+stands_set key other pieces n (first ∷ groups) zero group piece differ (inr later) at got =
+    inr (ap (λ (g : Group). is_same_key g.key key) (sym (same_Some first group got)) ∙ later.0, later.1)
+stands_set key other pieces n (first ∷ groups) (suc i) group piece differ (inr later) at got =
+    ⊎_elim
+    (λ (is : has_key other first ≡ true).
+    let e : suc i ≡ 0 = sym (same_Some _ _ (sym (place_here (has_key other) first groups is) ∙ at)) in
+    absurd (omega arith))
+    (λ (is : has_key other first ≡ false).
+    let (j, e, after) = later_place (place_of other groups) (suc i) (sym (place_later (has_key other) first groups is) ∙ at) in
+    let e2 : i ≡ j = omega arith in
+    inr (later.0, stands_set key other pieces n groups i group piece differ later.1 (after ∙ ap Some (sym e2)) got))
+    (cases_Bool (has_key other first))
+
+-- room is made by giving up another group, where fewer than three that began after it stand
+stands_room : (key : DatagramKey) (pieces : List Piece) (n : ℕ) (groups : List Group) → n < 3 → Stands key pieces n groups → Stands key pieces n (with_room groups)
+stands_room key pieces n groups few stands = go (length groups == most_partials) refl
+  where
+    shorter : (groups : List Group) → length groups ≡ 4 → Stands key pieces n groups → Stands key pieces n (drop 1 groups)
+    shorter [] full stands = stands
+    shorter (group ∷ groups) full (inl here) = let less = here.1 in absurd (omega arith)
+    shorter (group ∷ groups) full (inr later) = later.1
+
+    go : (full : Bool) → (length groups == most_partials) ≡ full → Stands key pieces n (cond full (drop 1 groups) groups)
+    go true e = shorter groups (eqb-true (length groups) 4 e) stands
+    go false e = stands
+
+stands_push : (key : DatagramKey) (pieces : List Piece) (n : ℕ) (groups : List Group) (group : Group) → Stands key pieces n groups → Stands key pieces (suc n) (groups ++ group ∷ [])
+stands_push key pieces n [] group stands = absurd stands
+stands_push key pieces n (first ∷ groups) group (inl here) =
+    let more = length_push groups group in
+    let few = here.1 in
+    inl (here.0, omega (arith, more, few))
+  where
+    length_push : (groups : List Group) (group : Group) → length (groups ++ group ∷ []) ≡ suc (length groups)
+    length_push [] group = refl
+    length_push (first ∷ groups) group = ap suc (length_push groups group)
+stands_push key pieces n (first ∷ groups) group (inr later) = inr (later.0, stands_push key pieces n groups group later.1)
+
+-- ---- what a packet of another key leaves
+
+-- what a key finds among some groups
+IsFoundIn : List Group → DatagramKey → Found → Type 0
+IsFoundIn groups key (joins place group) = (place_of key groups ≡ Some place) × (slice_get groups place ≡ Some group)
+IsFoundIn groups key (begins others) = (others ≡ groups) ⊎ ((place : ℕ) × (place_of key groups ≡ Some place) × (others ≡ remove groups place))
+
+found_in : (limit : ℕ) (groups : List Group) (key : DatagramKey) (now : ℕ) → IsFoundIn groups key (found_for limit groups key now)
+unfolding IsFoundIn
+found_in limit groups key now = at (place_of key groups) refl
+  where
+    over : (place : ℕ) (group : Group) → place_of key groups ≡ Some place → slice_get groups place ≡ Some group → (is : Bool)
+        → IsFoundIn groups key (cond is (begins (remove groups place)) (joins place group))
+    over place group there got true = inr (place, there, refl)
+    over place group there got false = (there, got)
+
+    got : (place : ℕ) → place_of key groups ≡ Some place → (group : Option Group) → slice_get groups place ≡ group → IsFoundIn groups key (found_if limit groups now place group)
+    got place there None is = inl refl
+    got place there (Some group) is = over place group there is (is_over limit now group)
+
+    at : (place : Option ℕ) → place_of key groups ≡ place → IsFoundIn groups key (found_at limit groups now place)
+    at None is = inl refl
+    at (Some place) is = got place is (slice_get groups place) refl
+
+-- what holds of the groups before a packet, and is kept by each change but the beginning of a group
+pub after_other : (limit : ℕ) (groups : List Group) (packet : PacketParts) (now : ℕ) (P Q : List Group → Type 0) → P groups
+    → ((place : ℕ) → place_of (key_of packet) groups ≡ Some place → P (remove groups place))
+    → ((place : ℕ) (group : Group) → place_of (key_of packet) groups ≡ Some place → slice_get groups place ≡ Some group → P (slice_set groups place (group_with group (piece_of packet now))))
+    → (begins_group limit groups packet now ≡ true → (others : List Group) → P others → Q (with_room others))
+    → (begins_group limit groups packet now ≡ true → (others : List Group) → P others → Q (with_room others ++ record { key = key_of packet; pieces = piece_of packet now ∷ [] } ∷ []))
+    → (begins_group limit groups packet now ≡ true → Q (groups_after limit groups packet now)) × (begins_group limit groups packet now ≡ false → P (groups_after limit groups packet now))
+unfolding groups_after IsFoundIn
+after_other limit groups packet now P Q before removed put room push = go (is_whole packet) (is_bad packet) refl refl
+  where
+    key : DatagramKey
+    key = key_of packet
+
+    complete : Bool
+    complete = is_some (datagram_with limit groups packet now)
+
+    given_up : (place : Option ℕ) → place_of key groups ≡ place → P (without groups place)
+    given_up None is = before
+    given_up (Some place) is = removed place is
+
+    stood : (others : List Group) → IsFoundIn groups key (begins others) → P others
+    stood others (inl same) = subst P (sym same) before
+    stood others (inr (place, there, same)) = subst P (sym same) (removed place there)
+
+    begun : (found : Found) → found_for limit groups key now ≡ found → IsFoundIn groups key found → is_beginning found ≡ true → begins_group limit groups packet now ≡ true
+        → (whole : Bool) → Q (groups_with groups key (piece_of packet now) found whole)
+    begun (joins place group) is found true_is is_begun whole = cc
+    begun (begins others) is found true_is is_begun true = room is_begun others (stood others found)
+    begun (begins others) is found true_is is_begun false = push is_begun others (stood others found)
+
+    kept : (found : Found) → IsFoundIn groups key found → is_beginning found ≡ false → (whole : Bool) → P (groups_with groups key (piece_of packet now) found whole)
+    kept (joins place group) found none true = removed place found.0
+    kept (joins place group) found none false = put place group found.0 found.1
+    kept (begins others) found none whole = cc
+
+    go : (whole bad : Bool) → is_whole packet ≡ whole → is_bad packet ≡ bad
+        → (begins_group limit groups packet now ≡ true → Q (groups_after limit groups packet now)) × (begins_group limit groups packet now ≡ false → P (groups_after limit groups packet now))
+    go true bad e f = (λ is. absurd (false≢true (rw e at is)), λ is. rw e (given_up (place_of key groups) refl))
+    go false true e f = (λ is. absurd (false≢true (rw (e, f) at is)), λ is. rw (e, f) before)
+    go false false e f = (
+      λ is. rw (e, f) (begun (found_for limit groups key now) refl (found_in limit groups key now) (rw (e, f) at is) is complete),
+      λ is. rw (e, f) (kept (found_for limit groups key now) (found_in limit groups key now) (rw (e, f) at is) complete),
+    )
+
+-- ---- a packet of another key, and the group of ours
+
+pub absent_after : (limit : ℕ) (key : DatagramKey) (groups : List Group) (packet : PacketParts) (now : ℕ) → is_same_key (key_of packet) key ≡ false → IsAbsent key groups
+    → IsAbsent key (groups_after limit groups packet now)
+absent_after limit key groups packet now other absent =
+    let both = after_other limit groups packet now (IsAbsent key) (IsAbsent key) absent (λ place there. absent_remove key groups place absent)
+    (λ place group there got. absent_set key groups place group (piece_of packet now) absent got)
+    (λ is others standing. absent_room key others standing)
+    (λ is others standing. absent_push key (with_room others) (record { key = key_of packet; pieces = piece_of packet now ∷ [] }) (absent_room key others standing) other) in
+    ⊎_elim
+    (λ (is : begins_group limit groups packet now ≡ true). both.0 is)
+    (λ (is : begins_group limit groups packet now ≡ false). both.1 is)
+    (cases_Bool (begins_group limit groups packet now))
+
+pub stands_after : (limit : ℕ) (key : DatagramKey) (pieces : List Piece) (n : ℕ) (groups : List Group) (packet : PacketParts) (now : ℕ) → is_same_key (key_of packet) key ≡ false
+    → Stands key pieces n groups
+    → (begins_group limit groups packet now ≡ true → n < 3 → Stands key pieces (suc n) (groups_after limit groups packet now))
+    × (begins_group limit groups packet now ≡ false → Stands key pieces n (groups_after limit groups packet now))
+stands_after limit key pieces n groups packet now other stands =
+    let differ = other_way (key_of packet) key other in
+    after_other limit groups packet now (Stands key pieces n) (λ after. n < 3 → Stands key pieces (suc n) after) stands
+    (λ place there. stands_remove key (key_of packet) pieces n groups place differ stands there)
+    (λ place group there got. stands_set key (key_of packet) pieces n groups place group (piece_of packet now) differ stands there got)
+    (λ is others standing few. stands_more key pieces n (suc n) (with_room others) (omega arith) (stands_room key pieces n others few standing))
+    (λ is others standing few. stands_push key pieces n (with_room others) (record { key = key_of packet; pieces = piece_of packet now ∷ [] }) (stands_room key pieces n others few standing))

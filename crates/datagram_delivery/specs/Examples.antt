@@ -1,0 +1,103 @@
+-- A message in two fragments of which each network loses one, two messages among one another, and fragments that meet
+-- all that is asked but one thing, of which a datagram isn't completed or is mixed. Times are in microseconds.
+use Rattle.std.specs.Prelude.{ℕ, zero, suc, Bool, true, false, List, [], ◌∷◌, ◌++◌}
+use Rattle.es_base.specs.declared.place.Net.{Net}
+use Rattle.es_base.specs.declared.place.Net.TheVariants as nets
+use Rattle.es_base.specs.declared.verdict.Verdict.TheVariants as verdicts
+use Rattle.es_base.specs.declared.port.PortKind.TheVariants.{Queuing}
+use Rattle.es_base.specs.Packet.{PacketParts}
+use Rattle.es_base.specs.Settings.{Settings}
+use Rattle.frame_delivery.specs.Sending.{Copy}
+use Rattle.datagram_delivery.specs.Splitting.{Offer}
+use Rattle.datagram_delivery.specs.Datagrams.{Sent}
+use Rattle.datagram_delivery.specs.Interleaved.{Carried}
+
+-- ---- a message in two fragments
+
+-- a queuing port of this link takes messages to 224.224.0.17 and UDP port 5002
+abbrev pub link_with_queue : Settings
+link_with_queue = record {
+  vl = record { 0 = 17 };
+  skew_max = 1000;
+  redundancy = true;
+  reassembly = 50000;
+  window = 2;
+  ports = record { name = []; address = 3772776465; udp = 5002; max = 100; kind = Queuing 4 } ∷ [];
+}
+
+abbrev pub message : List ℕ
+message = 1 ∷ 2 ∷ 3 ∷ 4 ∷ 5 ∷ 6 ∷ 7 ∷ 8 ∷ 9 ∷ 10 ∷ 11 ∷ 12 ∷ 13 ∷ 14 ∷ 15 ∷ 16 ∷ []
+
+-- the octets of its datagram: the UDP header, and the message
+abbrev pub datagram_octets : List ℕ
+datagram_octets = 19 ∷ 136 ∷ 19 ∷ 138 ∷ 0 ∷ 24 ∷ 0 ∷ 0 ∷ [] ++ message
+
+-- the packets of the first frame and of those after it
+abbrev pub packet_sent : ℕ → PacketParts
+packet_sent zero = record { source = 167837953; destination = 3772776465; ident = 1; more = true; offset = 0; octets = 19 ∷ 136 ∷ 19 ∷ 138 ∷ 0 ∷ 24 ∷ 0 ∷ 0 ∷ 1 ∷ 2 ∷ 3 ∷ 4 ∷ 5 ∷ 6 ∷ 7 ∷ 8 ∷ [] }
+packet_sent (suc index) = record { source = 167837953; destination = 3772776465; ident = 1; more = false; offset = 16; octets = 9 ∷ 10 ∷ 11 ∷ 12 ∷ 13 ∷ 14 ∷ 15 ∷ 16 ∷ [] }
+
+-- the first frame, of 60 octets, as network A brings it
+abbrev pub first_frame : List ℕ
+first_frame =
+    3 ∷ 0 ∷ 0 ∷ 0 ∷ 0 ∷ 17 ∷ 2 ∷ 0 ∷ 0 ∷ 0 ∷ 1 ∷ 32 ∷ 8 ∷ 0 ∷ 69 ∷ 0 ∷ 0 ∷ 36 ∷ 0 ∷ 1 ∷
+    32 ∷ 0 ∷ 1 ∷ 17 ∷ 173 ∷ 213 ∷ 10 ∷ 1 ∷ 1 ∷ 1 ∷ 224 ∷ 224 ∷ 0 ∷ 17 ∷ 19 ∷ 136 ∷ 19 ∷ 138 ∷ 0 ∷ 24 ∷
+    0 ∷ 0 ∷ 1 ∷ 2 ∷ 3 ∷ 4 ∷ 5 ∷ 6 ∷ 7 ∷ 8 ∷ 0 ∷ 0 ∷ 0 ∷ 0 ∷ 0 ∷ 0 ∷ 0 ∷ 0 ∷ 0 ∷ 254 ∷
+    []
+
+-- the second, as network B brings it
+abbrev pub second_frame : List ℕ
+second_frame =
+    3 ∷ 0 ∷ 0 ∷ 0 ∷ 0 ∷ 17 ∷ 2 ∷ 0 ∷ 0 ∷ 0 ∷ 1 ∷ 64 ∷ 8 ∷ 0 ∷ 69 ∷ 0 ∷ 0 ∷ 28 ∷ 0 ∷ 1 ∷
+    0 ∷ 2 ∷ 1 ∷ 17 ∷ 205 ∷ 219 ∷ 10 ∷ 1 ∷ 1 ∷ 1 ∷ 224 ∷ 224 ∷ 0 ∷ 17 ∷ 9 ∷ 10 ∷ 11 ∷ 12 ∷ 13 ∷ 14 ∷
+    15 ∷ 16 ∷ 0 ∷ 0 ∷ 0 ∷ 0 ∷ 0 ∷ 0 ∷ 0 ∷ 0 ∷ 0 ∷ 0 ∷ 0 ∷ 0 ∷ 0 ∷ 0 ∷ 0 ∷ 0 ∷ 0 ∷ 255 ∷
+    []
+
+abbrev pub came_with : Net → ℕ → List ℕ → ℕ → Copy
+came_with net index frame time = record { index = index; event = record { net = net; time = time; frame = frame; room = true; verdict = verdicts.OutOfSequence } }
+
+-- B loses the first frame, and A the second
+abbrev pub in_two_fragments : List Copy
+in_two_fragments = came_with nets.B 1 second_frame 1500 ∷ came_with nets.A 0 first_frame 100 ∷ []
+
+abbrev pub message_sent : Sent
+message_sent = record {
+  payload = record { port = record { 0 = 0 }; kind = Queuing 4; joined = true; octets = message };
+  offers = record { packet = packet_sent 1; time = 1500; room = true } ∷ record { packet = packet_sent 0; time = 100; room = true } ∷ [];
+}
+
+-- ---- two messages whose fragments come among one another
+
+abbrev pub part_sent : ℕ → ℕ → ℕ → Carried
+part_sent ident index time = record {
+  offer = record { packet = record (packet_sent index) { ident = ident }; time = time; room = true };
+  payload = record { port = record { 0 = 0 }; kind = Queuing 4; joined = true; octets = message };
+}
+
+abbrev pub among_one_another : List Carried
+among_one_another = part_sent 2 1 400 ∷ part_sent 1 1 300 ∷ part_sent 2 0 200 ∷ part_sent 1 0 100 ∷ []
+
+-- ---- one thing isn't met
+
+-- a fragment of 8 octets that all have this value
+abbrev pub fragment : ℕ → ℕ → Bool → ℕ → Offer
+fragment ident offset more value = record {
+  packet = record {
+    source = 1;
+    destination = 2;
+    ident = ident;
+    more = more;
+    offset = offset;
+    octets = value ∷ value ∷ value ∷ value ∷ value ∷ value ∷ value ∷ value ∷ [];
+  };
+  time = 100;
+  room = true;
+}
+
+-- the first fragments of five datagrams
+abbrev pub five_begun : List Offer
+five_begun = fragment 5 0 true 5 ∷ fragment 4 0 true 4 ∷ fragment 3 0 true 3 ∷ fragment 2 0 true 2 ∷ fragment 1 0 true 1 ∷ []
+
+-- a datagram that lost its last fragment, and one of the same identification that lost its second
+abbrev pub same_identification : List Offer
+same_identification = fragment 1 0 true 2 ∷ fragment 1 8 true 1 ∷ fragment 1 0 true 1 ∷ []

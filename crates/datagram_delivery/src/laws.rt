@@ -1,0 +1,99 @@
+//! Which senders and networks bring each datagram once, whole, in order.
+ghost use Rattle.std.specs.Prelude.{◌≡◌, ℕ, ◌≤◌, ◌+◌, true, false, List, [], ◌∷◌, ◌++◌, length, None};
+ghost use Rattle.es_base.specs.declared.place.PortNo.{PortNo};
+ghost use Rattle.es_base.specs.declared.fragment.DatagramKey.{DatagramKey};
+ghost use Rattle.es_base.specs.declared.event.Event.{Event};
+ghost use Rattle.es_base.specs.Settings.{Settings};
+ghost use Rattle.es_base.specs.Limits.{most_samples};
+ghost use Rattle.es_base.specs.Past.{arrival_of};
+ghost use Rattle.es_base.specs.Packet.{PacketParts};
+ghost use Rattle.es_base.specs.Groups.{Group, fate, held, place_of, whole};
+ghost use Rattle.es_base.specs.Outcome.{Payload, brings, outcome};
+ghost use Rattle.es_base.specs.Deliveries.{deliveries};
+ghost use Rattle.frame_delivery.specs.Sending.{Copy, Numbering, events_of};
+ghost use Rattle.frame_delivery.specs.Once.{first_copies, has_come};
+ghost use Rattle.frame_delivery.specs.Network.{ComeWhole, Timing};
+ghost use Rattle.datagram_delivery.specs.Splitting.{AreFronts, IsLast, Offer, LeavesRoom, groups_after_offers, is_of, joined, pieces_of};
+ghost use Rattle.datagram_delivery.specs.Datagrams.{AreSent, CarryPackets, IsSplitAmong, Sent, all_offers, messages_by, messages_sent, offers_of};
+ghost use Rattle.datagram_delivery.specs.Interleaved.{AreInterleaved, Carried, carried_offers, messages_ended};
+ghost use Rattle.datagram_delivery.specs.Parts.{HaveParts, IsMessageOf, WereSentIn};
+ghost use Rattle.frame_delivery.specs.Examples.{numbering, timing};
+ghost use Rattle.datagram_delivery.specs.Examples.{among_one_another, datagram_octets, five_begun, fragment, in_two_fragments, link_with_queue, message, message_sent, packet_sent, same_identification};
+
+/// A datagram that is split into fragments is joined whole: each fragment but the last is held, and the last brings
+/// exactly the octets of all, one after the other. They come in order and within the limit of time, none is missing,
+/// and of the groups that others begin after it at most three stand at a time, as with four sub-virtual links.
+pub fn a_split_datagram_is_joined()
+    ensures held { (limit : ℕ) (groups : List Group) (key : DatagramKey) (before : List Offer) (offer : Offer) → place_of key groups ≡ None → AreFronts limit key (offer ∷ before)
+        → LeavesRoom limit groups key before → is_of key offer ≡ true
+        → fate limit (groups_after_offers limit groups before) offer.packet offer.time ≡ held }
+    ensures whole { (limit : ℕ) (groups : List Group) (key : DatagramKey) (before : List Offer) (last : Offer) → place_of key groups ≡ None → AreFronts limit key before
+        → LeavesRoom limit groups key before → is_of key last ≡ true → IsLast limit (pieces_of key before) last
+        → fate limit (groups_after_offers limit groups before) last.packet last.time ≡ whole (joined (pieces_of key before) ++ last.packet.octets) true }
+{}
+
+/// A port gets the messages that it would get if the packet of each frame of which a copy comes was offered once, in
+/// the order of sending, without any network: whatever the packets are.
+pub fn each_packet_is_offered_once()
+    ensures { (settings : Settings) (numbering : Numbering) (timing : Timing) (packet : ℕ → PacketParts) (copies : List Copy) (port : PortNo) → ComeWhole settings numbering timing copies
+        → CarryPackets packet copies
+        → deliveries settings (events_of copies) port ≡ messages_by settings (offers_of packet (first_copies copies)) port }
+{}
+
+/// If a sender sends its datagrams one after another, each whole or in fragments, and a copy comes of each frame, a port
+/// gets each message that is sent to it, once, whole, in the order of sending, with the time of its last fragment's
+/// first copy; but for those whose queue was full then.
+pub fn each_datagram_is_delivered_once()
+    ensures { (settings : Settings) (numbering : Numbering) (timing : Timing) (packet : ℕ → PacketParts) (copies : List Copy) (sents : List Sent) (port : PortNo)
+        → ComeWhole settings numbering timing copies → CarryPackets packet copies
+        → offers_of packet (first_copies copies) ≡ all_offers sents → AreSent settings sents → length sents ≤ most_samples
+        → deliveries settings (events_of copies) port ≡ messages_sent port sents }
+{}
+
+/// The same if it sends the fragments of up to four datagrams among one another, as its sub-virtual links do.
+pub fn each_datagram_among_others_is_delivered_once()
+    ensures { (settings : Settings) (numbering : Numbering) (timing : Timing) (packet : ℕ → PacketParts) (copies : List Copy) (carried : List Carried) (port : PortNo)
+        → ComeWhole settings numbering timing copies → CarryPackets packet copies → offers_of packet (first_copies copies) ≡ carried_offers carried → AreInterleaved settings carried
+        → length carried ≤ most_samples → deliveries settings (events_of copies) port ≡ messages_ended port carried }
+{}
+
+/// Whatever else comes on the link, and whatever was lost before: a message in fragments, of each of which a copy comes,
+/// is delivered whole with its last fragment, if its identification wasn't used within the limit of time, and of the groups
+/// that others begin after it at most three stand at a time.
+pub fn a_split_message_is_delivered()
+    ensures { (settings : Settings) (numbering : Numbering) (timing : Timing) (packet : ℕ → PacketParts) (copy : Copy) (before : List Copy) (first : Offer) (during earlier : List Offer) (payload : Payload)
+        → ComeWhole settings numbering timing (copy ∷ before) → CarryPackets packet (copy ∷ before) → has_come copy.index before ≡ false
+        → offers_of packet (first_copies before) ≡ during ++ first ∷ earlier
+        → IsSplitAmong settings payload earlier first during (record { packet = packet copy.index; time = copy.event.time; room = copy.event.room })
+        → outcome settings (events_of before) (arrival_of copy.event) ≡ brings payload }
+{}
+
+/// Nothing is made up, mixed or cut, whatever is lost, brought twice or out of order: a message that a port gets is that of
+/// the datagram of which the frame has a part that came at its time. It is only asked that no two frames that come within
+/// the limit of time of each other are of different datagrams with one identification.
+pub fn each_message_was_sent()
+    ensures brought { (settings : Settings) (datagram : Event → List ℕ) (e : Event) (past : List Event) (payload : Payload) → HaveParts settings.reassembly datagram (e ∷ past)
+        → outcome settings past (arrival_of e) ≡ brings payload → IsMessageOf settings e.frame (datagram e) payload }
+    ensures delivered { (settings : Settings) (datagram : Event → List ℕ) (past : List Event) (port : PortNo) → HaveParts settings.reassembly datagram past
+        → WereSentIn settings datagram port past (deliveries settings past port) }
+{}
+
+/// What is asked can be met: by four frames that two networks bring, each with a loss, over the end of the sequence
+/// numbers, and all four are forwarded; and by a message in two fragments, of which each network loses one.
+pub fn the_conditions_can_be_met()
+    ensures in_fragments { ComeWhole link_with_queue numbering timing in_two_fragments }
+    ensures carried { CarryPackets packet_sent in_two_fragments }
+    ensures offered { offers_of packet_sent (first_copies in_two_fragments) ≡ all_offers (message_sent ∷ []) }
+    ensures sent { AreSent link_with_queue (message_sent ∷ []) }
+    ensures among { AreInterleaved link_with_queue among_one_another }
+    ensures parts { HaveParts 50000 (λ e. datagram_octets) (events_of in_two_fragments) }
+    ensures delivered { deliveries link_with_queue (events_of in_two_fragments) (record { 0 = 0 }) ≡ record { time = 1500; octets = message } ∷ [] }
+{}
+
+/// What goes wrong where one condition isn't met: a frame is forwarded twice or lost, fragments of two datagrams are mixed,
+/// or a datagram isn't completed.
+pub fn each_condition_is_needed()
+    ensures fifth_group { fate 50000 (groups_after_offers 50000 [] five_begun) (fragment 1 8 false 1).packet 100 ≡ held }
+    ensures identification_again { fate 50000 (groups_after_offers 50000 [] same_identification) (fragment 1 16 false 2).packet 100
+        ≡ whole (2 ∷ 2 ∷ 2 ∷ 2 ∷ 2 ∷ 2 ∷ 2 ∷ 2 ∷ 1 ∷ 1 ∷ 1 ∷ 1 ∷ 1 ∷ 1 ∷ 1 ∷ 1 ∷ 2 ∷ 2 ∷ 2 ∷ 2 ∷ 2 ∷ 2 ∷ 2 ∷ 2 ∷ []) true }
+{}

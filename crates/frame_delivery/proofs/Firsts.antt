@@ -1,0 +1,95 @@
+-- Where no copy of a frame is overtaken, the new copies are the first copies.
+use Rattle.std.proofs.Common.{◌≡◌, ◌∙◌, sym, ap, ℕ, ◌<◌, ◌≤◌, Bool, true, false, not, List, [], ◌∷◌, refl, ⊎_elim, arith}
+use Rattle.std.specs.Prelude.{◌==◌, ◌||◌, max}
+use Rattle.std.proofs.lemmas.Bool.{cases_Bool, cases_lt, lt-ltb, le-ltb, ltb-true, ltb-false, eqb-true, eqb-false, eq-eqb, or_cases, or_left, or_parts, both_ways}
+use Rattle.frame_delivery.specs.Sending.{Copy, EachCopy}
+use Rattle.frame_delivery.specs.Once.{IsNotOvertaken, IsOvertaken, first_copies, greatest_index, has_come, is_new, new_copies}
+
+pub come_at_most : (index : ℕ) (copies : List Copy) → has_come index copies ≡ true → index ≤ greatest_index copies
+come_at_most index [] come = cc
+come_at_most index (copy ∷ before) come =
+    ⊎_elim
+    (λ (is : (copy.index == index) ≡ true). let e = eqb-true copy.index index is in omega arith)
+    (λ (is : has_come index before ≡ true). let rest = come_at_most index before is in omega arith)
+    (or_cases (copy.index == index) (has_come index before) come)
+
+-- a new copy is the first of its frame
+pub new_has_not_come : (index : ℕ) (copies : List Copy) → is_new index copies ≡ true → has_come index copies ≡ false
+new_has_not_come index [] new = refl
+new_has_not_come index (copy ∷ before) new =
+    let later : greatest_index (copy ∷ before) < index = ltb-true (greatest_index (copy ∷ before)) index new in
+    ⊎_elim
+    (λ (is : has_come index (copy ∷ before) ≡ true). let most = come_at_most index (copy ∷ before) is in absurd (omega arith))
+    (λ (is : has_come index (copy ∷ before) ≡ false). is)
+    (cases_Bool (has_come index (copy ∷ before)))
+
+pub new_are_first : (copies : List Copy) → EachCopy IsNotOvertaken copies → new_copies copies ≡ first_copies copies
+new_are_first [] each = refl
+new_are_first (copy ∷ before) each =
+    let rest = new_are_first before each.1 in
+    ⊎_elim
+    (λ (new : is_new copy.index before ≡ true). rw (new, new_has_not_come copy.index before new) (ap (λ copies. copy ∷ copies) rest))
+    (λ (old : is_new copy.index before ≡ false). rw (old, each.0 old) rest)
+    (cases_Bool (is_new copy.index before))
+
+-- each frame of which a copy came has a first copy, and no other frame has one
+pub all_have_first : (index : ℕ) (copies : List Copy) → has_come index (first_copies copies) ≡ has_come index copies
+all_have_first index [] = refl
+all_have_first index (copy ∷ before) =
+    let rest = all_have_first index before in
+    ⊎_elim
+    (λ (come : has_come copy.index before ≡ true).
+    ⊎_elim
+    (λ (is : (copy.index == index) ≡ true).
+    let e : has_come index before ≡ true = ap (λ (i : ℕ). has_come i before) (sym (eqb-true copy.index index is)) ∙ come in
+    rw (come, is) (rest ∙ e))
+    (λ (is : (copy.index == index) ≡ false). rw (come, is) rest)
+    (cases_Bool (copy.index == index)))
+    (λ (first : has_come copy.index before ≡ false). rw first (ap (λ (b : Bool). (copy.index == index) || b) rest))
+    (cases_Bool (has_come copy.index before))
+
+-- a copy that isn't overtaken is new exactly if it is the first of its frame
+pub new_is_first : (copy : Copy) (before : List Copy) → IsNotOvertaken before copy → is_new copy.index before ≡ not (has_come copy.index before)
+new_is_first copy before apart =
+    ⊎_elim
+    (λ (new : is_new copy.index before ≡ true). rw (new, new_has_not_come copy.index before new) refl)
+    (λ (old : is_new copy.index before ≡ false). rw (old, apart old) refl)
+    (cases_Bool (is_new copy.index before))
+
+-- ---- where copies are overtaken
+
+greatest_is_new : (copy : Copy) (before : List Copy) → has_come (greatest_index (copy ∷ before)) (new_copies (copy ∷ before)) ≡ true
+greatest_is_new copy [] = or_left _ _ (eq-eqb copy.index (max copy.index 0) (omega arith))
+greatest_is_new copy (other ∷ before) =
+    let greatest : ℕ = greatest_index (other ∷ before) in
+    ⊎_elim
+    (λ (less : greatest < copy.index).
+    rw (lt-ltb greatest copy.index less) (or_left _ _ (eq-eqb copy.index (max copy.index greatest) (omega arith))))
+    (λ (more : copy.index ≤ greatest).
+    let e : max copy.index greatest ≡ greatest = omega arith in
+    rw (le-ltb greatest copy.index more) (ap (λ (index : ℕ). has_come index (new_copies (other ∷ before))) e ∙ greatest_is_new other before))
+    (cases_lt greatest copy.index)
+
+old_is_overtaken : (index : ℕ) (copy : Copy) (before : List Copy) → is_new copy.index before ≡ false → has_come index (new_copies before) ≡ false → copy.index ≡ index → index < greatest_index before
+old_is_overtaken index copy [] old lost same = cc
+old_is_overtaken index copy (other ∷ before) old lost same =
+    let most : copy.index ≤ greatest_index (other ∷ before) = ltb-false (greatest_index (other ∷ before)) copy.index old in
+    ⊎_elim
+    (λ (less : index < greatest_index (other ∷ before)). less)
+    (λ (more : greatest_index (other ∷ before) ≤ index).
+    let e : index ≡ greatest_index (other ∷ before) = omega arith in
+    absurd (both_ways (has_come index (new_copies (other ∷ before))) lost (ap (λ (i : ℕ). has_come i (new_copies (other ∷ before))) e ∙ greatest_is_new other before)))
+    (cases_lt index (greatest_index (other ∷ before)))
+
+-- a frame is lost only if each of its copies is overtaken
+pub lost_is_overtaken : (copies : List Copy) (index : ℕ) → has_come index (new_copies copies) ≡ false → IsOvertaken index copies
+lost_is_overtaken [] index lost = tt
+lost_is_overtaken (copy ∷ before) index lost =
+    ⊎_elim
+    (λ (new : is_new copy.index before ≡ true).
+    let parts = or_parts (copy.index == index) (has_come index (new_copies before)) (rw new at lost) in
+    (λ same. absurd (eqb-false copy.index index parts.0 same), lost_is_overtaken before index parts.1))
+    (λ (old : is_new copy.index before ≡ false).
+    let rest = rw old at lost in
+    (λ same. old_is_overtaken index copy before old rest same, lost_is_overtaken before index rest))
+    (cases_Bool (is_new copy.index before))

@@ -1,0 +1,167 @@
+-- Redundancy management forwards the copies that are new.
+use Rattle.std.proofs.Common.{◌≡◌, ◌∙◌, sym, ap, ℕ, ◌+◌, ◌<◌, ◌≤◌, Bool, true, false, List, [], ◌∷◌, refl, ⊎_elim, arith}
+use Rattle.std.specs.Prelude.{◌&&◌, ◌||◌, nat_lt, max}
+use Rattle.std.proofs.lemmas.Bool.{cases_Bool, cases_lt, lt-ltb, le-ltb, or_left, or_right, or_from}
+use Rattle.es_base.specs.Frame.{sequence_number_of}
+use Rattle.es_base.specs.Past.{arrival_of}
+use Rattle.es_base.specs.Integrity.{passes}
+use Rattle.es_base.specs.Copies.{Forwarded, is_ahead, elapsed, greatest_time, is_first_copy}
+use Rattle.es_base.specs.Redundancy.{forwarded, is_forwarded, is_forwarded_after}
+use Rattle.es_base.specs.Settings.{Settings}
+use Rattle.frame_delivery.specs.Sending.{Copy, EachCopy, HaveNumbers, Numbering, events_of, number_of}
+use Rattle.frame_delivery.specs.Once.{AreInOrder, ComesInTime, IsForwardedIfNew, as_forwarded, greatest_index, is_new, new_copies, newest_time, passing}
+use Rattle.frame_delivery.proofs.Numbers.{ahead_of_earlier, not_ahead_of_later}
+use Rattle.frame_delivery.proofs.Kept.{each_passing}
+
+-- ---- the newest of some copies
+
+-- the copy that is listed first of the new ones, and what holds of it
+record Newest (numbering : Numbering) (copies : List Copy) : Type 0 where
+  copy : Copy
+  earlier : List Copy
+  is : new_copies copies ≡ copy ∷ earlier
+  greatest : copy.index ≡ greatest_index copies
+  number : sequence_number_of copy.event.frame ≡ number_of numbering copy.index
+
+newest_of : (numbering : Numbering) (copy : Copy) (before : List Copy) → HaveNumbers numbering (copy ∷ before) → Newest numbering (copy ∷ before)
+newest_of numbering copy [] numbers = record { copy = copy; earlier = []; is = refl; greatest = omega arith; number = numbers.0 }
+newest_of numbering copy (other ∷ before) numbers =
+    ⊎_elim
+    (λ (less : greatest_index (other ∷ before) < copy.index). record {
+      copy = copy;
+      earlier = new_copies (other ∷ before);
+      is = rw (lt-ltb (greatest_index (other ∷ before)) copy.index less) refl;
+      greatest = omega arith;
+      number = numbers.0;
+    })
+    (λ (more : copy.index ≤ greatest_index (other ∷ before)).
+    let found = newest_of numbering other before numbers.1 in
+    record {
+      copy = found.copy;
+      earlier = found.earlier;
+      is = rw (le-ltb (greatest_index (other ∷ before)) copy.index more) found.is;
+      greatest = omega (arith, found.greatest);
+      number = found.number;
+    })
+    (cases_lt (greatest_index (other ∷ before)) copy.index)
+
+-- ---- the first copy is a new one
+
+first_is_new : (numbering : Numbering) (skew_max : ℕ) (before : List Copy) (copy : Copy) → numbering.first ≤ 255 → HaveNumbers numbering before → sequence_number_of copy.event.frame ≡ number_of numbering copy.index
+    → ComesInTime numbering skew_max before copy
+    → is_first_copy skew_max (as_forwarded (new_copies before)) (sequence_number_of copy.event.frame) copy.event.time ≡ is_new copy.index before
+first_is_new numbering skew_max [] copy small numbers number in_time = refl
+first_is_new numbering skew_max (other ∷ before) copy small numbers number in_time =
+    let found = newest_of numbering other before numbers in
+    let all = other ∷ before in
+    let time : ℕ = newest_time all in
+    let as_time : greatest_time (as_forwarded (found.copy ∷ found.earlier)) ≡ time = ap (λ copies. greatest_time (as_forwarded copies)) (sym found.is) in
+    let opened : is_first_copy skew_max (as_forwarded (new_copies all)) (sequence_number_of copy.event.frame) copy.event.time
+    ≡ (nat_lt skew_max (elapsed copy.event.time time) || is_ahead (number_of numbering (greatest_index all)) (number_of numbering copy.index)) =
+    ap (λ copies. is_first_copy skew_max (as_forwarded copies) (sequence_number_of copy.event.frame) copy.event.time) found.is
+    ∙ ap (λ (t : ℕ). nat_lt skew_max (elapsed copy.event.time t) || is_ahead (sequence_number_of found.copy.event.frame) (sequence_number_of copy.event.frame)) as_time
+    ∙ ap (λ (n : ℕ). nat_lt skew_max (elapsed copy.event.time time) || is_ahead n (sequence_number_of copy.event.frame)) (found.number ∙ ap (number_of numbering) found.greatest)
+    ∙ ap (λ (n : ℕ). nat_lt skew_max (elapsed copy.event.time time) || is_ahead (number_of numbering (greatest_index all)) n) number in
+    opened
+    ∙ ⊎_elim
+    (λ (new : greatest_index all < copy.index).
+    ⊎_elim
+    (λ (over : time + skew_max < copy.event.time).
+    or_left _ _ (lt-ltb skew_max (elapsed copy.event.time time) (omega arith)) ∙ sym (lt-ltb (greatest_index all) copy.index new))
+    (λ (soon : copy.event.time ≤ time + skew_max).
+    or_right _ _ (ahead_of_earlier numbering (greatest_index all) copy.index small new (in_time.after soon).0 (in_time.after soon).1) ∙ sym (lt-ltb (greatest_index all) copy.index new))
+    (cases_lt (time + skew_max) copy.event.time))
+    (λ (old : copy.index ≤ greatest_index all).
+    let not_new : is_new copy.index all ≡ false = le-ltb (greatest_index all) copy.index old in
+    let soon : copy.event.time ≤ time + skew_max = in_time.late not_new in
+    or_from _ _ (le-ltb skew_max (elapsed copy.event.time time) (omega arith)) (not_ahead_of_later numbering (greatest_index all) copy.index small old (in_time.behind soon).0 (in_time.behind soon).1)
+    ∙ sym not_new)
+    (cases_lt (greatest_index all) copy.index)
+
+-- ---- so the new copies are forwarded
+
+forwarded_if : (settings : Settings) (earlier : List Forwarded) (copy : Copy) (before : List Copy) (new : Bool) → settings.redundancy ≡ true
+    → passes settings (events_of before) (arrival_of copy.event) ≡ true
+    → is_first_copy settings.skew_max earlier (sequence_number_of copy.event.frame) copy.event.time ≡ new
+    → is_forwarded_after settings earlier (events_of before) (arrival_of copy.event) ≡ new
+forwarded_if settings earlier copy before true on pass first = rw (pass, on, first) refl
+forwarded_if settings earlier copy before false on pass first = rw (pass, on, first) refl
+
+pub new_are_forwarded : (settings : Settings) (numbering : Numbering) (copies : List Copy) → settings.redundancy ≡ true → numbering.first ≤ 255 → HaveNumbers numbering copies
+    → EachCopy (ComesInTime numbering settings.skew_max) (passing settings copies)
+    → forwarded settings (events_of copies) ≡ as_forwarded (new_copies (passing settings copies))
+new_are_forwarded settings numbering [] on small numbers in_time = refl
+new_are_forwarded settings numbering (copy ∷ before) on small numbers in_time =
+    ⊎_elim
+    (λ (pass : passes settings (events_of before) (arrival_of copy.event) ≡ true).
+    let at = rw pass at in_time in
+    let earlier = new_are_forwarded settings numbering before on small numbers.1 at.1 in
+    let first_one = first_is_new numbering settings.skew_max (passing settings before) copy small (each_passing (λ copy. sequence_number_of copy.event.frame ≡ number_of numbering copy.index) settings before numbers.1) numbers.0 at.0 in
+    let is = forwarded_if settings (as_forwarded (new_copies (passing settings before))) copy before (is_new copy.index (passing settings before)) on pass first_one in
+    ⊎_elim
+    (λ (new : is_new copy.index (passing settings before) ≡ true). rw (earlier, is ∙ new, pass, new) refl)
+    (λ (old : is_new copy.index (passing settings before) ≡ false). rw (earlier, is ∙ old, pass, old) refl)
+    (cases_Bool (is_new copy.index (passing settings before))))
+    (λ (refused : passes settings (events_of before) (arrival_of copy.event) ≡ false).
+    let at = rw refused at in_time in
+    rw refused (new_are_forwarded settings numbering before on small numbers.1 at))
+    (cases_Bool (passes settings (events_of before) (arrival_of copy.event)))
+
+-- a copy is forwarded exactly if it passes and is new
+pub copy_is_forwarded : (settings : Settings) (numbering : Numbering) (copy : Copy) (before : List Copy) → settings.redundancy ≡ true → numbering.first ≤ 255 → HaveNumbers numbering (copy ∷ before)
+    → EachCopy (ComesInTime numbering settings.skew_max) (passing settings (copy ∷ before))
+    → is_forwarded settings (events_of before) (arrival_of copy.event) ≡ (passes settings (events_of before) (arrival_of copy.event) && is_new copy.index (passing settings before))
+copy_is_forwarded settings numbering copy before on small numbers in_time =
+    ⊎_elim
+    (λ (pass : passes settings (events_of before) (arrival_of copy.event) ≡ true).
+    let at = rw pass at in_time in
+    let earlier = new_are_forwarded settings numbering before on small numbers.1 at.1 in
+    let first_one = first_is_new numbering settings.skew_max (passing settings before) copy small (each_passing (λ copy. sequence_number_of copy.event.frame ≡ number_of numbering copy.index) settings before numbers.1) numbers.0 at.0 in
+    let is = forwarded_if settings (as_forwarded (new_copies (passing settings before))) copy before (is_new copy.index (passing settings before)) on pass first_one in
+    ap (λ frames. is_forwarded_after settings frames (events_of before) (arrival_of copy.event)) earlier ∙ is ∙ sym (ap (λ (b : Bool). b && is_new copy.index (passing settings before)) pass))
+    (λ (refused : passes settings (events_of before) (arrival_of copy.event) ≡ false). rw refused refl)
+    (cases_Bool (passes settings (events_of before) (arrival_of copy.event)))
+
+pub copies_are_forwarded : (settings : Settings) (numbering : Numbering) (copies : List Copy) → settings.redundancy ≡ true → numbering.first ≤ 255 → HaveNumbers numbering copies
+    → EachCopy (ComesInTime numbering settings.skew_max) (passing settings copies) → EachCopy (IsForwardedIfNew settings) copies
+copies_are_forwarded settings numbering [] on small numbers in_time = tt
+copies_are_forwarded settings numbering (copy ∷ before) on small numbers in_time =
+    (copy_is_forwarded settings numbering copy before on small numbers in_time, copies_are_forwarded settings numbering before on small numbers.1 (fewer settings numbering copy before in_time))
+  where
+    fewer : (settings : Settings) (numbering : Numbering) (copy : Copy) (before : List Copy) → EachCopy (ComesInTime numbering settings.skew_max) (passing settings (copy ∷ before)) → EachCopy (ComesInTime numbering settings.skew_max) (passing settings before)
+    fewer settings numbering copy before in_time =
+        ⊎_elim
+        (λ (pass : passes settings (events_of before) (arrival_of copy.event) ≡ true). let at = rw pass at in_time in at.1)
+        (λ (refused : passes settings (events_of before) (arrival_of copy.event) ≡ false). rw refused at in_time)
+        (cases_Bool (passes settings (events_of before) (arrival_of copy.event)))
+
+-- ---- in order
+
+same_greatest : (copies : List Copy) → greatest_index (new_copies copies) ≡ greatest_index copies
+same_greatest [] = refl
+same_greatest (copy ∷ []) = refl
+same_greatest (copy ∷ other ∷ before) =
+    let rest = same_greatest (other ∷ before) in
+    ⊎_elim
+    (λ (less : greatest_index (other ∷ before) < copy.index).
+    rw (lt-ltb (greatest_index (other ∷ before)) copy.index less) (ap (max copy.index) rest))
+    (λ (more : copy.index ≤ greatest_index (other ∷ before)).
+    rw (le-ltb (greatest_index (other ∷ before)) copy.index more) (rest ∙ omega arith))
+    (cases_lt (greatest_index (other ∷ before)) copy.index)
+
+-- a frame that is new after some copies is new after some of them that have the same greatest index
+still_new : (index : ℕ) (some : List Copy) (greatest : ℕ) → nat_lt greatest index ≡ true → greatest_index some ≡ greatest → is_new index some ≡ true
+still_new index [] greatest new same = refl
+still_new index (one ∷ some) greatest new same = rw same new
+
+pub new_in_order : (copies : List Copy) → AreInOrder (new_copies copies)
+new_in_order [] = tt
+new_in_order (copy ∷ before) =
+    ⊎_elim
+    (λ (new : is_new copy.index before ≡ true). rw new (go before new, new_in_order before))
+    (λ (old : is_new copy.index before ≡ false). rw old (new_in_order before))
+    (cases_Bool (is_new copy.index before))
+  where
+    go : (before : List Copy) → is_new copy.index before ≡ true → is_new copy.index (new_copies before) ≡ true
+    go [] new = refl
+    go (other ∷ earlier) new = still_new copy.index (new_copies (other ∷ earlier)) (greatest_index (other ∷ earlier)) new (same_greatest (other ∷ earlier))

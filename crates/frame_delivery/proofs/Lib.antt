@@ -1,0 +1,11 @@
+pub mod Numbers
+pub mod Kept
+pub mod Forwarding
+pub mod Passing
+pub mod Times
+pub mod Firsts
+pub mod Main
+pub mod Delivered
+pub mod Whole
+pub mod Messages
+pub mod Examples

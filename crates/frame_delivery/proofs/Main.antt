@@ -1,0 +1,182 @@
+-- The theorems on forwarding, from what is asked of the sender and of the networks.
+use Rattle.std.proofs.Common.{◌≡◌, ◌∙◌, sym, ap, subst, ℕ, ◌<◌, ◌≤◌, true, false, not, List, [], ◌∷◌, refl, arith, ⊎_elim}
+use Rattle.std.specs.Prelude.{◌&&◌, ◌==◌}
+use Rattle.std.proofs.lemmas.Bool.{and_from, and_right, both_ways, cases_Bool, eqb-true, lt-ltb, ltb-true, or_cases, or_left, or_right}
+use Rattle.es_base.specs.Past.{arrival_of}
+use Rattle.es_base.specs.Integrity.{passes}
+use Rattle.es_base.specs.Redundancy.{forwarded}
+use Rattle.es_base.specs.Settings.{Settings}
+use Rattle.frame_delivery.specs.Sending.{Copy, EachCopy, HaveNumbers, Numbering, events_of}
+use Rattle.frame_delivery.specs.Once.{AreInOrder, ComesInTime, IsForwardedIfFirst, IsForwardedIfNew, IsNotOvertaken, as_forwarded, first_copies, greatest_index, has_come, is_new, new_copies, passing}
+use Rattle.frame_delivery.specs.Network.{ComeTimely, ComeWhole, FitsSkew, HasAge, HasNoOvertaking, IsOnItsWay, KeepsOrder, KeepsTimes, LosesFew, Timing}
+use Rattle.frame_delivery.proofs.Kept.{each_passing, order_of_passing}
+use Rattle.frame_delivery.proofs.Forwarding.{copies_are_forwarded, new_are_forwarded, new_in_order}
+use Rattle.frame_delivery.proofs.Passing.{all_pass, new_passes}
+use Rattle.frame_delivery.proofs.Times.{all_in_time, none_overtaken}
+use Rattle.frame_delivery.proofs.Firsts.{new_are_first, new_has_not_come, new_is_first}
+
+-- ---- at most once, in order
+
+pub passing_in_time : (settings : Settings) (numbering : Numbering) (timing : Timing) (copies : List Copy) → KeepsTimes numbering timing copies → FitsSkew timing settings.skew_max
+    → EachCopy (ComesInTime numbering settings.skew_max) (passing settings copies)
+passing_in_time settings numbering timing copies times fits =
+    all_in_time numbering timing times.gaps times.pauses settings.skew_max (passing settings copies) fits (each_passing (IsOnItsWay timing) settings copies times.ways) (order_of_passing timing.wait settings copies times.order)
+
+pub forwarded_once : (settings : Settings) (numbering : Numbering) (timing : Timing) (copies : List Copy) → ComeTimely settings numbering timing copies
+    → (forwarded settings (events_of copies) ≡ as_forwarded (new_copies (passing settings copies))) × AreInOrder (new_copies (passing settings copies))
+forwarded_once settings numbering timing copies timely =
+    (new_are_forwarded settings numbering copies timely.redundancy timely.first timely.numbers (passing_in_time settings numbering timing copies timely.times timely.fits), new_in_order (passing settings copies))
+
+-- ---- none lost
+
+-- what holds of each copy: it is new and passes, if it is the first of its frame
+abbrev IsNewIfFirst : Settings → List Copy → Copy → Type 0
+IsNewIfFirst settings before copy =
+    has_come copy.index before ≡ false → (is_new copy.index before ≡ true) × (passes settings (events_of before) (arrival_of copy.event) ≡ true)
+
+firsts_are_new : (settings : Settings) (numbering : Numbering) (copies : List Copy) → HaveNumbers numbering copies → LosesFew numbering settings.window copies → EachCopy IsNotOvertaken copies
+    → EachCopy (IsNewIfFirst settings) copies
+firsts_are_new settings numbering [] numbers losses apart = tt
+firsts_are_new settings numbering (copy ∷ before) numbers losses apart = (
+  λ first.
+      let new : is_new copy.index before ≡ true = new_is_first copy before apart.0 ∙ ap not first in
+      (new, new_passes settings numbering copy before numbers losses new),
+  firsts_are_new settings numbering before numbers.1 losses.1 apart.1,
+)
+
+-- a copy of each frame passes
+come_passing : (settings : Settings) (index : ℕ) (copies : List Copy) → EachCopy (IsNewIfFirst settings) copies → has_come index copies ≡ true → has_come index (passing settings copies) ≡ true
+come_passing settings index [] each come = come
+come_passing settings index (copy ∷ before) each come =
+    let later = λ (is : has_come index before ≡ true). more settings index copy before (come_passing settings index before each.1 is) in
+    ⊎_elim
+    (λ (same : (copy.index == index) ≡ true).
+    let e : copy.index ≡ index = eqb-true copy.index index same in
+    ⊎_elim
+    (λ (old : has_come copy.index before ≡ true). later (ap (λ (i : ℕ). has_come i before) (sym e) ∙ old))
+    (λ (first : has_come copy.index before ≡ false). rw (each.0 first).1 (or_left _ _ same))
+    (cases_Bool (has_come copy.index before)))
+    (λ (is : has_come index before ≡ true). later is)
+    (or_cases (copy.index == index) (has_come index before) come)
+  where
+    more : (settings : Settings) (index : ℕ) (copy : Copy) (before : List Copy) → has_come index (passing settings before) ≡ true → has_come index (passing settings (copy ∷ before)) ≡ true
+    more settings index copy before come =
+        ⊎_elim
+        (λ (is : passes settings (events_of before) (arrival_of copy.event) ≡ true). rw is (or_right _ _ come))
+        (λ (is : passes settings (events_of before) (arrival_of copy.event) ≡ false). rw is come)
+        (cases_Bool (passes settings (events_of before) (arrival_of copy.event)))
+
+-- what is new after some copies is new after those that pass
+new_passing : (settings : Settings) (index : ℕ) (before : List Copy) → is_new index before ≡ true → is_new index (passing settings before) ≡ true
+new_passing settings index [] new = refl
+new_passing settings index (copy ∷ before) new =
+    let less : greatest_index (copy ∷ before) < index = ltb-true (greatest_index (copy ∷ before)) index new in
+    let most = greatest_passing settings (copy ∷ before) in
+    new_after index (passing settings (copy ∷ before)) (omega (arith, less, most))
+  where
+    greatest_passing : (settings : Settings) (copies : List Copy) → greatest_index (passing settings copies) ≤ greatest_index copies
+    greatest_passing settings [] = omega arith
+    greatest_passing settings (copy ∷ before) =
+        let rest = greatest_passing settings before in
+        ⊎_elim
+        (λ (is : passes settings (events_of before) (arrival_of copy.event) ≡ true). rw is (omega (arith, rest)))
+        (λ (is : passes settings (events_of before) (arrival_of copy.event) ≡ false). rw is (omega (arith, rest)))
+        (cases_Bool (passes settings (events_of before) (arrival_of copy.event)))
+
+    new_after : (index : ℕ) (copies : List Copy) → greatest_index copies < index → is_new index copies ≡ true
+    new_after index [] less = refl
+    new_after index (copy ∷ before) less = lt-ltb (greatest_index (copy ∷ before)) index less
+
+old_passing : (settings : Settings) (index : ℕ) (before : List Copy) → EachCopy (IsNewIfFirst settings) before → has_come index before ≡ true → is_new index (passing settings before) ≡ false
+old_passing settings index before each come =
+    ⊎_elim
+    (λ (new : is_new index (passing settings before) ≡ true).
+    absurd (both_ways (has_come index (passing settings before)) (new_has_not_come index (passing settings before) new) (come_passing settings index before each come)))
+    (λ (old : is_new index (passing settings before) ≡ false). old)
+    (cases_Bool (is_new index (passing settings before)))
+
+-- a copy passes and is new exactly if it is the first of its frame
+new_if_first : (settings : Settings) (copy : Copy) (before : List Copy) → EachCopy (IsNewIfFirst settings) (copy ∷ before)
+    → (passes settings (events_of before) (arrival_of copy.event) && is_new copy.index (passing settings before)) ≡ not (has_come copy.index before)
+new_if_first settings copy before each =
+    ⊎_elim
+    (λ (come : has_come copy.index before ≡ true). and_right _ _ (old_passing settings copy.index before each.1 come) ∙ sym (ap not come))
+    (λ (first : has_come copy.index before ≡ false).
+    let both = each.0 first in
+    and_from _ _ both.1 (new_passing settings copy.index before both.0) ∙ sym (ap not first))
+    (cases_Bool (has_come copy.index before))
+
+if_first : (settings : Settings) (copies : List Copy) → EachCopy (IsNewIfFirst settings) copies → EachCopy (IsForwardedIfNew settings) copies → EachCopy (IsForwardedIfFirst settings) copies
+if_first settings [] firsts each = tt
+if_first settings (copy ∷ before) firsts each = (each.0 ∙ new_if_first settings copy before firsts, if_first settings before firsts.1 each.1)
+
+-- so the new ones of those that pass are the first copies
+passing_are_first : (settings : Settings) (copies : List Copy) → EachCopy (IsNewIfFirst settings) copies → new_copies (passing settings copies) ≡ first_copies copies
+passing_are_first settings [] each = refl
+passing_are_first settings (copy ∷ before) each =
+    let rest = passing_are_first settings before each.1 in
+    ⊎_elim
+    (λ (come : has_come copy.index before ≡ true).
+    ⊎_elim
+    (λ (is : passes settings (events_of before) (arrival_of copy.event) ≡ true). rw (come, is, old_passing settings copy.index before each.1 come) rest)
+    (λ (is : passes settings (events_of before) (arrival_of copy.event) ≡ false). rw (come, is) rest)
+    (cases_Bool (passes settings (events_of before) (arrival_of copy.event))))
+    (λ (first : has_come copy.index before ≡ false).
+    let both = each.0 first in
+    rw (first, both.1, new_passing settings copy.index before both.0) (ap (λ copies. copy ∷ copies) rest))
+    (cases_Bool (has_come copy.index before))
+
+whole_firsts : (settings : Settings) (numbering : Numbering) (timing : Timing) (copies : List Copy) → ComeWhole settings numbering timing copies → EachCopy (IsNewIfFirst settings) copies
+whole_firsts settings numbering timing copies come =
+    let times = come.timely.times in
+    firsts_are_new settings numbering copies come.timely.numbers come.losses (none_overtaken numbering timing times.gaps times.pauses copies come.apart times.ways times.order)
+
+pub each_first_is_forwarded : (settings : Settings) (numbering : Numbering) (timing : Timing) (copies : List Copy) → ComeWhole settings numbering timing copies
+    → EachCopy (IsForwardedIfFirst settings) copies
+each_first_is_forwarded settings numbering timing copies come =
+    let timely = come.timely in
+    if_first settings copies (whole_firsts settings numbering timing copies come)
+    (copies_are_forwarded settings numbering copies timely.redundancy timely.first timely.numbers (passing_in_time settings numbering timing copies timely.times timely.fits))
+
+pub firsts_are_forwarded : (settings : Settings) (numbering : Numbering) (timing : Timing) (copies : List Copy) → ComeWhole settings numbering timing copies
+    → (forwarded settings (events_of copies) ≡ as_forwarded (first_copies copies)) × AreInOrder (first_copies copies)
+firsts_are_forwarded settings numbering timing copies come =
+    let once = forwarded_once settings numbering timing copies come.timely in
+    let firsts : new_copies (passing settings copies) ≡ first_copies copies = passing_are_first settings copies (whole_firsts settings numbering timing copies come) in
+    (once.0 ∙ ap as_forwarded firsts, subst AreInOrder firsts once.1)
+
+-- ---- without the third condition
+
+pub new_ones_forwarded : (settings : Settings) (numbering : Numbering) (timing : Timing) (copies : List Copy) → ComeTimely settings numbering timing copies → KeepsOrder copies → LosesFew numbering settings.window copies
+    → forwarded settings (events_of copies) ≡ as_forwarded (new_copies copies)
+new_ones_forwarded settings numbering timing copies timely keeps losses =
+    (forwarded_once settings numbering timing copies timely).0 ∙ ap (λ copies. as_forwarded (new_copies copies)) (all_pass settings numbering copies timely.numbers keeps losses)
+
+-- ---- without the second condition
+
+pub passing_forwarded : (settings : Settings) (numbering : Numbering) (timing : Timing) (copies : List Copy) → ComeTimely settings numbering timing copies → HasNoOvertaking timing
+    → forwarded settings (events_of copies) ≡ as_forwarded (first_copies (passing settings copies))
+passing_forwarded settings numbering timing copies timely apart =
+    let times = timely.times in
+    (forwarded_once settings numbering timing copies timely).0
+    ∙ ap as_forwarded (new_are_first (passing settings copies)
+    (none_overtaken numbering timing times.gaps times.pauses (passing settings copies) apart (each_passing (IsOnItsWay timing) settings copies times.ways) (order_of_passing timing.wait settings copies times.order)))
+
+-- ---- the age of a message
+
+first_ways : (timing : Timing) (copies : List Copy) → EachCopy (λ before copy. IsOnItsWay timing copy) copies → EachCopy (λ before copy. IsOnItsWay timing copy) (first_copies copies)
+first_ways timing [] ways = tt
+first_ways timing (copy ∷ before) ways =
+    ⊎_elim
+    (λ (come : has_come copy.index before ≡ true). rw come (first_ways timing before ways.1))
+    (λ (first : has_come copy.index before ≡ false). rw first (ways.0, first_ways timing before ways.1))
+    (cases_Bool (has_come copy.index before))
+
+ages : (timing : Timing) (now : ℕ) (copies : List Copy) → EachCopy (λ before copy. IsOnItsWay timing copy) copies → EachCopy (λ before copy. HasAge timing now copy) copies
+ages timing now [] ways = tt
+ages timing now (copy ∷ before) ways =
+    let (soonest, latest) = ways.0 in
+    (λ came. (omega (arith, soonest, latest, came), omega (arith, soonest, latest, came)), ages timing now before ways.1)
+
+pub first_ages : (numbering : Numbering) (timing : Timing) (copies : List Copy) (now : ℕ) → KeepsTimes numbering timing copies → EachCopy (λ before copy. HasAge timing now copy) (first_copies copies)
+first_ages numbering timing copies now times = ages timing now (first_copies copies) (first_ways timing copies times.ways)

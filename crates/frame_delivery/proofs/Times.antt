@@ -1,0 +1,154 @@
+-- What the times of the sender and of the networks give.
+use Rattle.std.proofs.Common.{◌≡◌, ◌∙◌, ap, ℕ, zero, suc, ◌+◌, ◌-◌, ◌*◌, ◌<◌, ◌≤◌, true, false, List, [], ◌∷◌, ⊎_elim, arith}
+use Rattle.std.specs.Prelude.{max}
+use Rattle.std.proofs.lemmas.Bool.{cases_Bool, cases_lt, lt-ltb, le-ltb, ltb-false, eq-eqb, or_left, or_right}
+use Rattle.frame_delivery.specs.Sending.{Copy, EachCopy, Numbering, RunsOn}
+use Rattle.frame_delivery.specs.Once.{ComesInTime, IsInTime, IsNotOvertaken, greatest_index, has_come, newest_time}
+use Rattle.frame_delivery.specs.Network.{FitsSkew, HasNoOvertaking, IsOnItsWay, KeepsGap, KeepsPause, Timing, time_of_all}
+
+-- ---- the times of sending
+
+module _ (numbering : Numbering) (timing : Timing) (gaps : KeepsGap timing) (pauses : KeepsPause numbering timing) where
+  -- d frames take d gaps at least
+  sent_after : (index d : ℕ) → timing.sent index + d * timing.gap ≤ timing.sent (index + d)
+  sent_after index zero = let e : index + 0 ≡ index = omega arith in rw e (omega arith)
+  sent_after index (suc d) =
+      let e : index + suc d ≡ suc (index + d) = omega arith in
+      let before = sent_after index d in
+      let gap = gaps (index + d) in
+      rw e (omega (arith, before, gap))
+
+  sent_in_order : (one two : ℕ) → one ≤ two → timing.sent one ≤ timing.sent two
+  sent_in_order one two order =
+      let e : one + (two - one) ≡ two = omega arith in
+      let after = rw e at (sent_after one (two - one)) in
+      omega (arith, after)
+
+  sent_apart : (one two : ℕ) → one < two → timing.sent one + timing.gap ≤ timing.sent two
+  sent_apart one two order =
+      let after = sent_in_order (suc one) two (omega arith) in
+      let gap = gaps one in
+      omega (arith, after, gap)
+
+  sent_far_apart : (one two : ℕ) → one + 128 ≤ two → timing.sent one + 128 * timing.gap ≤ timing.sent two
+  sent_far_apart one two order =
+      let after = sent_in_order (one + 128) two order in
+      let gap = sent_after one 128 in
+      omega (arith, after, gap)
+
+  -- between two frames with a restart after the one and up to the other the sender paused
+  sent_around : (one again two : ℕ) → one < again → again ≤ two → numbering.restarts again ≡ true → timing.sent one + timing.pause ≤ timing.sent two
+  sent_around one zero two after within is = absurd (omega arith)
+  sent_around one (suc again) two after within is =
+      let before = sent_in_order one again (omega arith) in
+      let pause = pauses again is in
+      let later = sent_in_order (suc again) two within in
+      omega (arith, before, pause, later)
+
+  runs_on : (one two : ℕ) → timing.sent two < timing.sent one + timing.pause → RunsOn numbering one two
+  runs_on one two soon index after within =
+      ⊎_elim
+      (λ (again : numbering.restarts index ≡ true). let paused = sent_around one index two after within again in absurd (omega (arith, paused)))
+      (λ (on : numbering.restarts index ≡ false). on)
+      (cases_Bool (numbering.restarts index))
+
+  -- ---- the times of copies
+
+  -- the newest copy came in its time
+  newest_in_time : (copy : Copy) (before : List Copy) → EachCopy (λ before copy. IsOnItsWay timing copy) (copy ∷ before)
+      → (timing.sent (greatest_index (copy ∷ before)) + timing.least ≤ newest_time (copy ∷ before))
+      × (newest_time (copy ∷ before) ≤ timing.sent (greatest_index (copy ∷ before)) + timing.greatest)
+      × (timing.sent (greatest_index (copy ∷ before)) + timing.least ≤ time_of_all (copy ∷ before))
+  newest_in_time copy [] ways =
+      let e : max copy.index 0 ≡ copy.index = omega arith in
+      let (soonest, latest) = ways.0 in
+      rw e (omega arith, omega arith, omega arith)
+  newest_in_time copy (other ∷ before) ways =
+      let (one, two, three) = newest_in_time other before ways.1 in
+      let (soonest, latest) = ways.0 in
+      ⊎_elim
+      (λ (less : greatest_index (other ∷ before) < copy.index).
+      let e : max copy.index (greatest_index (other ∷ before)) ≡ copy.index = omega arith in
+      let order = sent_in_order (greatest_index (other ∷ before)) copy.index (omega arith) in
+      rw (lt-ltb (greatest_index (other ∷ before)) copy.index less, e) (omega arith, omega arith, omega arith))
+      (λ (more : copy.index ≤ greatest_index (other ∷ before)).
+      let e : max copy.index (greatest_index (other ∷ before)) ≡ greatest_index (other ∷ before) = omega arith in
+      rw (le-ltb (greatest_index (other ∷ before)) copy.index more, e) (one, two, omega arith))
+      (cases_lt (greatest_index (other ∷ before)) copy.index)
+
+  in_time : (skew_max : ℕ) (other : Copy) (before : List Copy) (copy : Copy) → FitsSkew timing skew_max → EachCopy (λ before copy. IsOnItsWay timing copy) (other ∷ before)
+      → IsOnItsWay timing copy → time_of_all (other ∷ before) ≤ copy.event.time + timing.wait → IsInTime numbering skew_max (other ∷ before) copy
+  in_time skew_max other before copy fits ways way order =
+      let all = other ∷ before in
+      let (soonest, latest, came) = newest_in_time other before ways in
+      let greatest : ℕ = greatest_index all in
+      let covers = fits.covers in
+      let frames = fits.frames in
+      let restarts = fits.restarts in
+      let waits = fits.waits in
+      record {
+        late = λ not_new.
+            let old : copy.index ≤ greatest = ltb-false greatest copy.index not_new in
+            let sent = sent_in_order copy.index greatest old in
+            omega (arith, way.1, soonest, covers, sent);
+        after = λ soon. (
+          ⊎_elim
+              (λ (far : greatest + 127 < copy.index).
+              let sent = sent_far_apart greatest copy.index (omega arith) in
+              absurd (omega (arith, way.0, latest, frames, sent, soon)))
+              (λ (near : copy.index ≤ greatest + 127). near)
+              (cases_lt (greatest + 127) copy.index),
+          runs_on greatest copy.index (omega (arith, way.0, latest, restarts, soon)),
+        );
+        behind = λ soon. (
+          ⊎_elim
+              (λ (far : copy.index + 127 < greatest).
+              let sent = sent_far_apart copy.index greatest (omega arith) in
+              absurd (omega (arith, way.1, came, frames, sent, order, waits)))
+              (λ (near : greatest ≤ copy.index + 127). near)
+              (cases_lt (copy.index + 127) greatest),
+          runs_on copy.index greatest (omega (arith, way.1, came, restarts, order, waits)),
+        );
+      }
+
+  pub all_in_time : (skew_max : ℕ) (copies : List Copy) → FitsSkew timing skew_max → EachCopy (λ before copy. IsOnItsWay timing copy) copies
+      → EachCopy (λ before copy. time_of_all before ≤ copy.event.time + timing.wait) copies → EachCopy (ComesInTime numbering skew_max) copies
+  all_in_time skew_max [] fits ways order = tt
+  all_in_time skew_max (copy ∷ []) fits ways order = (tt, tt)
+  all_in_time skew_max (copy ∷ other ∷ before) fits ways order =
+      (in_time skew_max other before copy fits ways.1 ways.0 order.0, all_in_time skew_max (other ∷ before) fits ways.1 order.1)
+
+  -- ---- no copy overtakes
+
+  -- a copy of the latest frame came
+  latest_has_come : (copy : Copy) (before : List Copy) → has_come (greatest_index (copy ∷ before)) (copy ∷ before) ≡ true
+  latest_has_come copy [] = or_left _ _ (eq-eqb copy.index (max copy.index 0) (omega arith))
+  latest_has_come copy (other ∷ before) =
+      let greatest : ℕ = greatest_index (other ∷ before) in
+      ⊎_elim
+      (λ (less : greatest < copy.index). or_left _ _ (eq-eqb copy.index (max copy.index greatest) (omega arith)))
+      (λ (more : copy.index ≤ greatest).
+      let e : max copy.index greatest ≡ greatest = omega arith in
+      or_right _ _ (ap (λ (index : ℕ). has_come index (other ∷ before)) e ∙ latest_has_come other before))
+      (cases_lt greatest copy.index)
+
+  not_overtaken : (copy : Copy) (before : List Copy) → HasNoOvertaking timing → EachCopy (λ before copy. IsOnItsWay timing copy) before → IsOnItsWay timing copy
+      → time_of_all before ≤ copy.event.time + timing.wait → IsNotOvertaken before copy
+  not_overtaken copy [] apart ways way order = λ old. cc
+  not_overtaken copy (other ∷ before) apart ways way order = λ old.
+      let greatest : ℕ = greatest_index (other ∷ before) in
+      let (soonest, latest, came) = newest_in_time other before ways in
+      let at_most : copy.index ≤ greatest = ltb-false greatest copy.index old in
+      ⊎_elim
+      (λ (less : copy.index < greatest).
+      let sent = sent_apart copy.index greatest less in
+      absurd (omega (arith, way.1, came, sent, order, apart)))
+      (λ (more : greatest ≤ copy.index).
+      let e : copy.index ≡ greatest = omega arith in
+      ap (λ (index : ℕ). has_come index (other ∷ before)) e ∙ latest_has_come other before)
+      (cases_lt copy.index greatest)
+
+  pub none_overtaken : (copies : List Copy) → HasNoOvertaking timing → EachCopy (λ before copy. IsOnItsWay timing copy) copies
+      → EachCopy (λ before copy. time_of_all before ≤ copy.event.time + timing.wait) copies → EachCopy IsNotOvertaken copies
+  none_overtaken [] apart ways order = tt
+  none_overtaken (copy ∷ before) apart ways order = (not_overtaken copy before apart ways.1 ways.0 order.0, none_overtaken before apart ways.1 order.1)

@@ -1,0 +1,5 @@
+use Rattle.frame_delivery.proofs.Messages.{all_delivered}
+use Rattle.frame_delivery.proofs.laws.all_messages_are_delivered.Goals as goal
+
+pub returns : goal.returns
+returns c = all_delivered

@@ -1,0 +1,5 @@
+use Rattle.frame_delivery.proofs.Forwarding.{copies_are_forwarded}
+use Rattle.frame_delivery.proofs.laws.new_frames_are_forwarded.Goals as goal
+
+pub returns : goal.returns
+returns c = copies_are_forwarded

@@ -1,0 +1,8 @@
+use Rattle.frame_delivery.proofs.Examples.{all_met, met_forwarded}
+use Rattle.frame_delivery.proofs.laws.the_conditions_can_be_met.Goals as goal
+
+pub returns : goal.returns
+returns c = record {
+  met = all_met;
+  forwarded = met_forwarded;
+}

@@ -1,0 +1,58 @@
+-- Copies that meet all that is asked, and copies that meet all but one thing, of which the receiver loses a frame, or
+-- forwards one twice. Frames have the sequence number alone. Times are in microseconds.
+use Rattle.std.specs.Prelude.{ℕ, ◌*◌, true, false, List, [], ◌∷◌}
+use Rattle.es_base.specs.declared.place.Net.{Net}
+use Rattle.es_base.specs.declared.place.Net.TheVariants as nets
+use Rattle.es_base.specs.declared.verdict.Verdict.TheVariants as verdicts
+use Rattle.es_base.specs.Copies.{Forwarded}
+use Rattle.es_base.specs.Settings.{Settings}
+use Rattle.frame_delivery.specs.Sending.{Copy, Numbering}
+use Rattle.frame_delivery.specs.Network.{Timing}
+
+-- a link with this SkewMax, and a window of 2
+abbrev pub link : ℕ → Settings
+link skew_max = record { vl = record { 0 = 17 }; skew_max = skew_max; redundancy = true; reassembly = 50000; window = 2; ports = [] }
+
+-- a copy of a frame: its network, the index and the sequence number of its frame, its time
+abbrev pub came : Net → ℕ → ℕ → ℕ → Copy
+came net index number time = record { index = index; event = record { net = net; time = time; frame = number ∷ []; room = true; verdict = verdicts.OutOfSequence } }
+
+abbrev pub frame_at : ℕ → ℕ → Forwarded
+frame_at number time = record { sequence_number = number; time = time }
+
+-- ---- all is met
+
+-- the first frame has number 254, and the sender doesn't restart
+abbrev pub numbering : Numbering
+numbering = record { first = 254; restarts = λ index. false }
+
+-- a frame each millisecond, 100 to 900 microseconds on its way
+abbrev pub timing : Timing
+timing = record { sent = λ index. 1000 * index; gap = 1000; pause = 2000; least = 100; greatest = 900; wait = 100 }
+
+-- of four frames network A loses the second, and B the third
+abbrev pub with_losses : List Copy
+with_losses =
+    came nets.B 3 2 3900 ∷ came nets.A 3 2 3100 ∷ came nets.A 2 1 2200 ∷ came nets.B 1 255 1500 ∷ came nets.B 0 254 900 ∷ came nets.A 0 254 100 ∷ []
+
+-- ---- one thing isn't met
+
+-- the second copy comes later than SkewMax after the first
+abbrev pub after_skew_max : List Copy
+after_skew_max = came nets.B 0 1 1101 ∷ came nets.A 0 1 100 ∷ []
+
+-- A brings three frames, 1500 microseconds on their way; B, which takes 100, loses the second
+abbrev pub overtaken : List Copy
+overtaken = came nets.A 2 3 3500 ∷ came nets.A 1 2 2500 ∷ came nets.B 2 3 2100 ∷ came nets.A 0 1 1500 ∷ came nets.B 0 1 100 ∷ []
+
+-- each network loses two frames in a row, which is the window
+abbrev pub two_lost : List Copy
+two_lost = came nets.B 3 4 3900 ∷ came nets.A 3 4 3100 ∷ came nets.B 0 1 900 ∷ came nets.A 0 1 100 ∷ []
+
+-- A is cut off after a frame, and B begins 128 frames later, within a long SkewMax
+abbrev pub far_apart : List Copy
+far_apart = came nets.B 128 129 128100 ∷ came nets.A 0 1 100 ∷ []
+
+-- the sender restarts within SkewMax
+abbrev pub soon_restarted : List Copy
+soon_restarted = came nets.A 1 0 1100 ∷ came nets.A 0 57 100 ∷ []

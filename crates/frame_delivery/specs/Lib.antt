@@ -1,0 +1,5 @@
+pub mod Sending
+pub mod Once
+pub mod Network
+pub mod Messages
+pub mod Examples

@@ -1,0 +1,109 @@
+-- What is asked of the sender and of the two networks. Times are in microseconds.
+use Rattle.std.specs.Prelude.{◌≡◌, ◌⊎◌, true, ℕ, suc, ◌+◌, ◌*◌, ◌≤◌, ◌<◌, max, List, [], ◌∷◌, Option, None, Some, if◌then◌else◌}
+use Rattle.es_base.specs.declared.place.Net.{Net}
+use Rattle.es_base.specs.Copies.{elapsed}
+use Rattle.es_base.specs.Integrity.{is_same_net, latest}
+use Rattle.es_base.specs.Settings.{Settings}
+use Rattle.frame_delivery.specs.Sending.{Copy, EachCopy, HaveNumbers, Numbering, RunsOn}
+
+-- ---- what comes on each network
+
+-- the indices of the frames of which copies came on a network, the latest first
+abbrev pub indices_on : List Copy → Net → List ℕ
+indices_on [] net = []
+indices_on (copy ∷ before) net = if is_same_net copy.event.net net then copy.index ∷ indices_on before net else indices_on before net
+
+-- a frame is later than the one before it on its network, if there was one
+abbrev pub IsLater : Option ℕ → ℕ → Type 0
+IsLater None index = Unit {0}
+IsLater (Some before) index = before < index
+
+-- each network brings the frames in the order of sending, and none twice
+abbrev pub KeepsOrder : List Copy → Type 0
+KeepsOrder copies = EachCopy (λ before copy. IsLater (latest (indices_on before copy.event.net)) copy.index) copies
+
+-- a frame is one of the first `window` after the one before it on its network, with no restart between, or it is the
+-- first after a restart
+abbrev pub MayFollow : Numbering → ℕ → Option ℕ → ℕ → Type 0
+MayFollow numbering window None index = Unit {0}
+MayFollow numbering window (Some before) index = ((index ≤ before + window) × RunsOn numbering before index) ⊎ (numbering.restarts index ≡ true)
+
+-- each network loses fewer than `window` frames in a row, and not the first after a restart
+abbrev pub LosesFew : Numbering → ℕ → List Copy → Type 0
+LosesFew numbering window copies = EachCopy (λ before copy. MayFollow numbering window (latest (indices_on before copy.event.net)) copy.index) copies
+
+-- ---- how long frames are on their way
+
+-- when a sender sends, and how long a copy is on its way, on either network
+pub record Timing : Type 0 where
+  -- the time at which the frame with an index is sent
+  pub sent : ℕ → ℕ
+  -- the least time between two frames, the bandwidth allocation gap (BAG)
+  pub gap : ℕ
+  -- the least time between the last frame before a restart and the first after it
+  pub pause : ℕ
+  -- the least and the greatest time that a copy is on its way
+  pub least : ℕ
+  pub greatest : ℕ
+  -- the greatest time by which a copy is taken after one that came later: 0 for one task, and for two threads the longest
+  -- that one waits from the time that it gives its frame until its link takes it
+  pub wait : ℕ
+
+-- the sender leaves the gap after each frame
+abbrev pub KeepsGap : Timing → Type 0
+KeepsGap timing = (index : ℕ) → timing.sent index + timing.gap ≤ timing.sent (suc index)
+
+-- and the pause before each restart
+abbrev pub KeepsPause : Numbering → Timing → Type 0
+KeepsPause numbering timing = (index : ℕ) → numbering.restarts (suc index) ≡ true → timing.sent index + timing.pause ≤ timing.sent (suc index)
+
+-- a copy is on its way no shorter than the least time and no longer than the greatest
+abbrev pub IsOnItsWay : Timing → Copy → Type 0
+IsOnItsWay timing copy = (timing.sent copy.index + timing.least ≤ copy.event.time) × (copy.event.time ≤ timing.sent copy.index + timing.greatest)
+
+-- the age of a message by the time of its copy, and its age since it was sent: the copy was on its way
+abbrev pub HasAge : Timing → ℕ → Copy → Type 0
+HasAge timing now copy =
+    copy.event.time ≤ now →
+    (elapsed now copy.event.time + timing.least ≤ elapsed now (timing.sent copy.index)) × (elapsed now (timing.sent copy.index) ≤ elapsed now copy.event.time + timing.greatest)
+
+-- the time by which all of some copies came
+abbrev pub time_of_all : List Copy → ℕ
+time_of_all [] = 0
+time_of_all (copy ∷ before) = max copy.event.time (time_of_all before)
+
+-- the sender and the networks keep their times, and the copies are listed in the order in which they are taken, which is
+-- that of their times but for the wait
+pub record KeepsTimes (numbering : Numbering) (timing : Timing) (copies : List Copy) : Type 0 where
+  pub gaps : KeepsGap timing
+  pub pauses : KeepsPause numbering timing
+  pub ways : EachCopy (λ before copy. IsOnItsWay timing copy) copies
+  pub order : EachCopy (λ before copy. time_of_all before ≤ copy.event.time + timing.wait) copies
+
+-- SkewMax fits the networks: the times on the way differ by no more than it, and it is over before 128 frames
+-- more are sent, or the sender restarts
+pub record FitsSkew (timing : Timing) (skew_max : ℕ) : Type 0 where
+  pub covers : timing.greatest ≤ timing.least + skew_max
+  pub frames : timing.greatest + skew_max < timing.least + 128 * timing.gap
+  pub restarts : timing.greatest + skew_max < timing.least + timing.pause
+  pub waits : timing.wait ≤ skew_max
+
+-- no copy of a frame comes after a copy of a later frame: the times on the way, and the wait, differ by less than the gap
+abbrev pub HasNoOvertaking : Timing → Type 0
+HasNoOvertaking timing = timing.greatest + timing.wait < timing.least + timing.gap
+
+-- ---- altogether
+
+-- copies of a sender's frames come at times that fit the settings of their link
+pub record ComeTimely (settings : Settings) (numbering : Numbering) (timing : Timing) (copies : List Copy) : Type 0 where
+  pub redundancy : settings.redundancy ≡ true
+  pub first : numbering.first ≤ 255
+  pub numbers : HaveNumbers numbering copies
+  pub times : KeepsTimes numbering timing copies
+  pub fits : FitsSkew timing settings.skew_max
+
+-- and on networks that lose few in a row, with no overtaking
+pub record ComeWhole (settings : Settings) (numbering : Numbering) (timing : Timing) (copies : List Copy) : Type 0 where
+  pub timely : ComeTimely settings numbering timing copies
+  pub losses : LosesFew numbering settings.window copies
+  pub apart : HasNoOvertaking timing

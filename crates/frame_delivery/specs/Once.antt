@@ -1,0 +1,88 @@
+-- What of the copies is to be forwarded: one copy of each frame, in the order of sending.
+use Rattle.std.specs.Prelude.{◌≡◌, ℕ, ◌+◌, ◌≤◌, ◌<◌, ◌==◌, Bool, true, false, not, ◌&&◌, ◌||◌, nat_lt, max, List, [], ◌∷◌, if◌then◌else◌}
+use Rattle.es_base.specs.Frame.{sequence_number_of}
+use Rattle.es_base.specs.Past.{arrival_of}
+use Rattle.es_base.specs.Integrity.{passes}
+use Rattle.es_base.specs.Copies.{Forwarded, greatest_time}
+use Rattle.es_base.specs.Redundancy.{is_forwarded}
+use Rattle.es_base.specs.Settings.{Settings}
+use Rattle.frame_delivery.specs.Sending.{Copy, EachCopy, Numbering, RunsOn, events_of}
+
+-- ---- copies of later and later frames
+
+-- the index of the latest frame of which a copy came, 0 if none came
+abbrev pub greatest_index : List Copy → ℕ
+greatest_index [] = 0
+greatest_index (copy ∷ before) = max copy.index (greatest_index before)
+
+-- whether a frame is later than each frame of which a copy came before
+abbrev pub is_new : ℕ → List Copy → Bool
+is_new index [] = true
+is_new index (copy ∷ before) = nat_lt (greatest_index (copy ∷ before)) index
+
+-- the copies that were new when they came
+abbrev pub new_copies : List Copy → List Copy
+new_copies [] = []
+new_copies (copy ∷ before) = if is_new copy.index before then copy ∷ new_copies before else new_copies before
+
+-- each is of a later frame than all before it: no frame twice, and all in the order of sending
+abbrev pub AreInOrder : List Copy → Type 0
+AreInOrder copies = EachCopy (λ before copy. is_new copy.index before ≡ true) copies
+
+-- ---- the first copy of each frame
+
+-- whether a copy of the frame with this index came
+abbrev pub has_come : ℕ → List Copy → Bool
+has_come index [] = false
+has_come index (copy ∷ before) = copy.index == index || has_come index before
+
+-- the copies that were the first of their frame
+abbrev pub first_copies : List Copy → List Copy
+first_copies [] = []
+first_copies (copy ∷ before) = if has_come copy.index before then first_copies before else copy ∷ first_copies before
+
+-- ---- what the receiver makes of them
+
+-- the copies that pass integrity checking
+abbrev pub passing : Settings → List Copy → List Copy
+passing settings [] = []
+passing settings (copy ∷ before) =
+    if passes settings (events_of before) (arrival_of copy.event) then copy ∷ passing settings before else passing settings before
+
+-- a copy is forwarded exactly if it passes and is new after those that passed before
+abbrev pub IsForwardedIfNew : Settings → List Copy → Copy → Type 0
+IsForwardedIfNew settings before copy =
+    is_forwarded settings (events_of before) (arrival_of copy.event) ≡ (passes settings (events_of before) (arrival_of copy.event) && is_new copy.index (passing settings before))
+
+-- a copy is forwarded exactly if it is the first of its frame
+abbrev pub IsForwardedIfFirst : Settings → List Copy → Copy → Type 0
+IsForwardedIfFirst settings before copy = is_forwarded settings (events_of before) (arrival_of copy.event) ≡ not (has_come copy.index before)
+
+-- what redundancy management keeps of some copies that were forwarded
+abbrev pub as_forwarded : List Copy → List Forwarded
+as_forwarded [] = []
+as_forwarded (copy ∷ before) = record { sequence_number = sequence_number_of copy.event.frame; time = copy.event.time } ∷ as_forwarded before
+
+-- the greatest time of the copies that were new when they came
+abbrev pub newest_time : List Copy → ℕ
+newest_time copies = greatest_time (as_forwarded (new_copies copies))
+
+-- what redundancy management needs of a copy, after others came: if it isn't new, it comes no later than SkewMax
+-- after the new ones; and one that comes no later than this is of a frame at most 127 after the latest or before it,
+-- with no restart of the sender between the two
+pub record IsInTime (numbering : Numbering) (skew_max : ℕ) (before : List Copy) (copy : Copy) : Type 0 where
+  pub late : is_new copy.index before ≡ false → copy.event.time ≤ newest_time before + skew_max
+  pub after : copy.event.time ≤ newest_time before + skew_max → (copy.index ≤ greatest_index before + 127) × RunsOn numbering (greatest_index before) copy.index
+  pub behind : copy.event.time ≤ newest_time before + skew_max → (greatest_index before ≤ copy.index + 127) × RunsOn numbering copy.index (greatest_index before)
+
+abbrev pub ComesInTime : Numbering → ℕ → List Copy → Copy → Type 0
+ComesInTime numbering skew_max [] copy = Unit {0}
+ComesInTime numbering skew_max (other ∷ before) copy = IsInTime numbering skew_max (other ∷ before) copy
+
+-- no copy of a frame comes first after a copy of a later frame
+abbrev pub IsNotOvertaken : List Copy → Copy → Type 0
+IsNotOvertaken before copy = is_new copy.index before ≡ false → has_come copy.index before ≡ true
+
+-- each copy of a frame came after a copy of a later frame
+abbrev pub IsOvertaken : ℕ → List Copy → Type 0
+IsOvertaken index copies = EachCopy (λ before copy. copy.index ≡ index → index < greatest_index before) copies

@@ -1,0 +1,107 @@
+//! Which networks bring each frame once, in order, and what a port gets of frames that have whole messages.
+ghost use Rattle.std.specs.Prelude.{◌≡◌, ℕ, ◌<◌, ◌≤◌, ◌+◌, true, false, List, [], ◌∷◌, length};
+ghost use Rattle.es_base.specs.declared.place.PortNo.{PortNo};
+ghost use Rattle.es_base.specs.Settings.{Settings};
+ghost use Rattle.es_base.specs.Limits.{most_samples};
+ghost use Rattle.es_base.specs.Past.{arrival_of};
+ghost use Rattle.es_base.specs.Integrity.{passes};
+ghost use Rattle.es_base.specs.Copies.{is_ahead};
+ghost use Rattle.es_base.specs.Redundancy.{forwarded};
+ghost use Rattle.es_base.specs.Outcome.{Payload};
+ghost use Rattle.es_base.specs.Deliveries.{deliveries};
+ghost use Rattle.frame_delivery.specs.Sending.{Copy, EachCopy, HaveNumbers, Numbering, RunsOn, events_of, number_of};
+ghost use Rattle.frame_delivery.specs.Once.{AreInOrder, ComesInTime, IsForwardedIfFirst, IsForwardedIfNew, IsOvertaken, as_forwarded, first_copies, has_come, new_copies, passing};
+ghost use Rattle.frame_delivery.specs.Network.{ComeTimely, ComeWhole, HasAge, HasNoOvertaking, KeepsOrder, KeepsTimes, LosesFew, Timing};
+ghost use Rattle.frame_delivery.specs.Messages.{AllCame, CarryWhole, HaveRoom, messages_of, octets_of, octets_sent};
+ghost use Rattle.frame_delivery.specs.Examples.{after_skew_max, far_apart, frame_at, link, numbering, overtaken, soon_restarted, timing, two_lost, with_losses};
+
+/// The sequence number of a frame is ahead of those of the 127 frames before it, and of no later one up to 127.
+pub fn a_later_frame_is_ahead()
+    ensures later { (numbering : Numbering) (k i : ℕ) → numbering.first ≤ 255 → k < i → i ≤ k + 127 → RunsOn numbering k i → is_ahead (number_of numbering k) (number_of numbering i) ≡ true }
+    ensures earlier { (numbering : Numbering) (k i : ℕ) → numbering.first ≤ 255 → i ≤ k → k ≤ i + 127 → RunsOn numbering i k → is_ahead (number_of numbering k) (number_of numbering i) ≡ false }
+{}
+
+/// Each frame passes integrity checking, if each network keeps the order of the frames and loses fewer than the window
+/// in a row.
+pub fn each_frame_passes()
+    ensures { (settings : Settings) (numbering : Numbering) (copy : Copy) (before : List Copy) → HaveNumbers numbering (copy ∷ before)
+        → KeepsOrder (copy ∷ before) → LosesFew numbering settings.window (copy ∷ before) → passes settings (events_of before) (arrival_of copy.event) ≡ true }
+{}
+
+/// Of the copies that pass those are forwarded that are of a later frame than all before, if the copies come in time.
+pub fn new_frames_are_forwarded()
+    ensures { (settings : Settings) (numbering : Numbering) (copies : List Copy) → settings.redundancy ≡ true → numbering.first ≤ 255 → HaveNumbers numbering copies
+        → EachCopy (ComesInTime numbering settings.skew_max) (passing settings copies) → EachCopy (IsForwardedIfNew settings) copies }
+{}
+
+/// No frame is forwarded twice, and none after a later one, whatever the networks lose, bring twice or out of order:
+/// if the copies come at times that fit SkewMax.
+pub fn no_frame_is_forwarded_twice()
+    ensures forwarded { (settings : Settings) (numbering : Numbering) (timing : Timing) (copies : List Copy) → ComeTimely settings numbering timing copies
+        → forwarded settings (events_of copies) ≡ as_forwarded (new_copies (passing settings copies)) }
+    ensures in_order { (settings : Settings) (copies : List Copy) → AreInOrder (new_copies (passing settings copies)) }
+{}
+
+/// And none is lost of which a copy comes: the first copy of each frame is forwarded, and no other, if each network
+/// also loses fewer than the window in a row, and the times on the way differ by less than the gap.
+pub fn no_frame_is_lost()
+    ensures first { (settings : Settings) (numbering : Numbering) (timing : Timing) (copies : List Copy) → ComeWhole settings numbering timing copies
+        → EachCopy (IsForwardedIfFirst settings) copies }
+    ensures forwarded { (settings : Settings) (numbering : Numbering) (timing : Timing) (copies : List Copy) → ComeWhole settings numbering timing copies
+        → forwarded settings (events_of copies) ≡ as_forwarded (first_copies copies) }
+    ensures in_order { (settings : Settings) (numbering : Numbering) (timing : Timing) (copies : List Copy) → ComeWhole settings numbering timing copies
+        → AreInOrder (first_copies copies) }
+    ensures all { (copies : List Copy) (index : ℕ) → has_come index (first_copies copies) ≡ has_come index copies }
+{}
+
+/// Where the times on the way differ by more, a frame is still lost only if each of its copies comes after a copy of a
+/// later frame.
+pub fn a_frame_is_lost_only_if_it_is_overtaken()
+    ensures forwarded { (settings : Settings) (numbering : Numbering) (timing : Timing) (copies : List Copy) → ComeTimely settings numbering timing copies
+        → KeepsOrder copies → LosesFew numbering settings.window copies → forwarded settings (events_of copies) ≡ as_forwarded (new_copies copies) }
+    ensures lost { (copies : List Copy) (index : ℕ) → has_come index (new_copies copies) ≡ false → IsOvertaken index copies }
+{}
+
+/// Where the networks lose more in a row, each frame of which a copy passes integrity checking is still forwarded, with
+/// the first that passes, and no other.
+pub fn no_frame_that_passes_is_lost()
+    ensures { (settings : Settings) (numbering : Numbering) (timing : Timing) (copies : List Copy) → ComeTimely settings numbering timing copies → HasNoOvertaking timing
+        → forwarded settings (events_of copies) ≡ as_forwarded (first_copies (passing settings copies)) }
+{}
+
+/// The age of a message, since the time of its first copy, is less than its age since it was sent by what this copy was
+/// on its way.
+pub fn each_message_has_its_age()
+    ensures { (numbering : Numbering) (timing : Timing) (copies : List Copy) (now : ℕ) → KeepsTimes numbering timing copies → EachCopy (λ before copy. HasAge timing now copy) (first_copies copies) }
+{}
+
+/// So a port gets the message of each frame of which a copy comes, once, in the order of sending, whole, with the time of
+/// the first copy; but for those whose queue was full then.
+pub fn each_message_is_delivered_once()
+    ensures { (settings : Settings) (numbering : Numbering) (timing : Timing) (payload : ℕ → Payload) (copies : List Copy) (port : PortNo) → ComeWhole settings numbering timing copies
+        → CarryWhole settings payload copies → length copies ≤ most_samples → deliveries settings (events_of copies) port ≡ messages_of payload port (first_copies copies) }
+{}
+
+/// And if a copy of each frame comes, on one network or on both, and its queue is never full, it gets all that was sent
+/// to it.
+pub fn all_messages_are_delivered()
+    ensures { (settings : Settings) (numbering : Numbering) (timing : Timing) (payload : ℕ → Payload) (copies : List Copy) (port : PortNo) (n : ℕ) → ComeWhole settings numbering timing copies
+        → CarryWhole settings payload copies → length copies ≤ most_samples → HaveRoom payload copies → AllCame n copies → octets_of (deliveries settings (events_of copies) port) ≡ octets_sent payload port n }
+{}
+
+/// What is asked can be met: by four frames that two networks bring, each with a loss, over the end of the sequence
+/// numbers, and all four are forwarded; and by a message in two fragments, of which each network loses one.
+pub fn the_conditions_can_be_met()
+    ensures met { ComeWhole (link 1000) numbering timing with_losses }
+    ensures forwarded { forwarded (link 1000) (events_of with_losses) ≡ frame_at 2 3100 ∷ frame_at 1 2200 ∷ frame_at 255 1500 ∷ frame_at 254 100 ∷ [] }
+{}
+
+/// What goes wrong where one condition isn't met: a frame is forwarded twice or lost, fragments of two datagrams are mixed,
+/// or a datagram isn't completed.
+pub fn each_condition_is_needed()
+    ensures second_copy_after_skew_max { forwarded (link 1000) (events_of after_skew_max) ≡ frame_at 1 1101 ∷ frame_at 1 100 ∷ [] }
+    ensures overtaken_though_one_network_loses_nothing { forwarded (link 2000) (events_of overtaken) ≡ frame_at 3 2100 ∷ frame_at 1 100 ∷ [] }
+    ensures window_lost_on_both_networks { forwarded (link 1000) (events_of two_lost) ≡ frame_at 1 100 ∷ [] }
+    ensures frames_in_skew_max { forwarded (link 1000000) (events_of far_apart) ≡ frame_at 1 100 ∷ [] }
+    ensures restart_in_skew_max { forwarded (link 1000) (events_of soon_restarted) ≡ frame_at 57 100 ∷ [] }
+{}
