@@ -1,5 +1,5 @@
 -- The examples.
-use Rattle.std.proofs.Common.{◌≡◌, true, false, [], ◌∷◌, refl, arith, subst, Ok, Result, sym, ◌∙◌}
+use Rattle.std.proofs.Common.{◌≡◌, ℕ, Bool, true, false, List, [], ◌∷◌, ◌++◌, None, refl, arith, subst, Ok, Result, sym, ◌∙◌}
 use Rattle.std.proofs.lemmas.Bool.{false≢true}
 use Rattle.es_base.specs.declared.fault.PacketFault.{PacketFault}
 use Rattle.es_base.specs.Fragments as fragments
@@ -7,17 +7,18 @@ use Rattle.es_base.specs.Octets as words
 use Rattle.es_base.specs.Packet as packets
 use Rattle.es_base.specs.Outcome as outcomes
 use Rattle.es_base.specs.Packet.{PacketParts}
+use Rattle.es_base.specs.Reassembly.{packet_in}
 use Rattle.es_base.specs.Deliveries.{deliveries}
-use Rattle.es_base.specs.Groups.{fate, groups_after, held, whole}
+use Rattle.es_base.specs.Groups.{fate, groups_after, held, place_of}
 use Rattle.frame_delivery.specs.Sending.{HaveNumbers, events_of}
 use Rattle.frame_delivery.specs.Once.{first_copies}
 use Rattle.frame_delivery.specs.Network.{ComeWhole}
 use Rattle.frame_delivery.specs.Examples.{numbering, timing}
-use Rattle.datagram_delivery.specs.Splitting.{groups_after_offers}
+use Rattle.datagram_delivery.specs.Splitting.{AreFronts, IsLast, LeavesRoom, groups_after_offers, is_of, pieces_of}
 use Rattle.datagram_delivery.specs.Datagrams.{AreSent, CarryPackets, all_offers, offers_of}
 use Rattle.datagram_delivery.specs.Interleaved.{AreInterleaved}
 use Rattle.datagram_delivery.specs.Parts.{HaveParts, IsPartOf}
-use Rattle.datagram_delivery.specs.Examples.{among_one_another, datagram_octets, five_begun, fragment, in_two_fragments, link_with_queue, message, message_sent, packet_sent, same_identification}
+use Rattle.datagram_delivery.specs.Examples.{among_one_another, datagram_at, datagram_octets, datagram_of, eight, first_key, first_third, five_begun, four_begun, fragment, in_two_fragments, last_third, link_of_100, link_with_queue, message, message_sent, one_identification, packet_sent, second_third}
 use Rattle.datagram_delivery.proofs.Messages.{datagrams_delivered}
 
 -- ---- a message in two fragments
@@ -37,8 +38,9 @@ split_met = record {
       ways = ((omega arith, omega arith), ((omega arith, omega arith), tt));
       order = (omega arith, (omega arith, tt));
     };
-    fits = record { covers = omega arith; frames = omega arith; restarts = omega arith; waits = omega arith };
+    fits = record { covers = omega arith; restarts = omega arith };
   };
+  near = (λ cut soon. omega arith, (tt, tt));
   losses = (tt, (tt, tt));
   apart = omega arith;
 }
@@ -102,11 +104,80 @@ among_sent = (
 
 -- ---- one thing isn't met
 
-pub fifth_gives_up : fate 50000 (groups_after_offers 50000 [] five_begun) (fragment 1 8 false 1).packet 100 ≡ held
-unfolding fate groups_after fragments.octets_below
-fifth_gives_up = refl
+fifth_fronts : AreFronts 50000 first_key five_begun
+fifth_fronts = (λ is. cc, (λ is. cc, (λ is. cc, (λ is. cc, (λ is. record { next = record { begins = refl; good = refl; soon = omega arith }; more = refl }, tt)))))
 
-pub mixed : fate 50000 (groups_after_offers 50000 [] same_identification) (fragment 1 16 false 2).packet 100
-    ≡ whole (2 ∷ 2 ∷ 2 ∷ 2 ∷ 2 ∷ 2 ∷ 2 ∷ 2 ∷ 1 ∷ 1 ∷ 1 ∷ 1 ∷ 1 ∷ 1 ∷ 1 ∷ 1 ∷ 2 ∷ 2 ∷ 2 ∷ 2 ∷ 2 ∷ 2 ∷ 2 ∷ 2 ∷ []) true
+fifth_last : IsLast 50000 (pieces_of first_key five_begun) (fragment 1 8 false 1)
+fifth_last = record { next = record { begins = refl; good = refl; soon = omega arith }; more = refl; after = omega arith }
+
+room_for_four : LeavesRoom 50000 [] first_key four_begun
+unfolding groups_after
+room_for_four = (λ other begun. omega arith, (λ other begun. omega arith, (λ other begun. omega arith, (λ other begun. cc, tt))))
+
+no_room_for_five : LeavesRoom 50000 [] first_key five_begun → ⊥
+unfolding groups_after
+no_room_for_five room = let few = room.0 refl refl in absurd (omega (arith, few))
+
+fifth_is_held : fate 50000 (groups_after_offers 50000 [] five_begun) (fragment 1 8 false 1).packet 100 ≡ held
 unfolding fate groups_after fragments.octets_below
+fifth_is_held = refl
+
+pub fifth_gives_up : (place_of first_key [] ≡ None) × (is_of first_key (fragment 1 8 false 1) ≡ true) × AreFronts 50000 first_key five_begun × IsLast 50000 (pieces_of first_key five_begun) (fragment 1 8 false 1) × LeavesRoom 50000 [] first_key four_begun × (LeavesRoom 50000 [] first_key five_begun → ⊥)
+    × (fate 50000 (groups_after_offers 50000 [] five_begun) (fragment 1 8 false 1).packet 100 ≡ held)
+fifth_gives_up = (refl, refl, fifth_fronts, fifth_last, room_for_four, no_room_for_five, fifth_is_held)
+
+-- two datagrams of one identification
+
+third : ℕ → Bool → List ℕ → PacketParts
+third offset more octets = record { source = 167837953; destination = 3772776465; ident = 1; more = more; offset = offset; octets = octets }
+
+head_of_both : List ℕ
+head_of_both = 19 ∷ 136 ∷ 19 ∷ 138 ∷ 0 ∷ 24 ∷ 0 ∷ 0 ∷ []
+
+reads_old_first : packet_in (first_third 254) ≡ Ok (third 0 true head_of_both)
+unfolding packets.ones_sum words.u16_at words.u32_at third head_of_both
+reads_old_first = refl
+
+reads_old_second : packet_in (second_third 1 255) ≡ Ok (third 8 true (eight 1))
+unfolding packets.ones_sum words.u16_at words.u32_at third
+reads_old_second = refl
+
+reads_new_first : packet_in (first_third 2) ≡ Ok (third 0 true head_of_both)
+unfolding packets.ones_sum words.u16_at words.u32_at third head_of_both
+reads_new_first = refl
+
+reads_new_last : packet_in (last_third 2 4) ≡ Ok (third 16 false (eight 2))
+unfolding packets.ones_sum words.u16_at words.u32_at third
+reads_new_last = refl
+
+pub parts_of_two : HaveParts 99 datagram_at (events_of one_identification)
+unfolding third head_of_both
+parts_of_two = (
+  λ packet read. subst (IsPartOf (datagram_of 2)) (same_packet (third 16 false (eight 2)) packet (sym reads_new_last ∙ read)) (record { within = omega arith; octets = refl; ends = λ last. refl }),
+  (λ one other read read_too same soon. refl, (λ one other read read_too same soon. absurd (omega (arith, soon)), (λ one other read read_too same soon. absurd (omega (arith, soon)), tt))),
+  (
+    λ packet read. subst (IsPartOf (datagram_of 2)) (same_packet (third 0 true head_of_both) packet (sym reads_new_first ∙ read)) (record { within = omega arith; octets = refl; ends = λ last. cc }),
+    (λ one other read read_too same soon. absurd (omega (arith, soon)), (λ one other read read_too same soon. absurd (omega (arith, soon)), tt)),
+    (
+      λ packet read. subst (IsPartOf (datagram_of 1)) (same_packet (third 8 true (eight 1)) packet (sym reads_old_second ∙ read)) (record { within = omega arith; octets = refl; ends = λ last. cc }),
+      (λ one other read read_too same soon. refl, tt),
+      (
+        λ packet read. subst (IsPartOf (datagram_of 1)) (same_packet (third 0 true head_of_both) packet (sym reads_old_first ∙ read)) (record { within = omega arith; octets = refl; ends = λ last. cc }),
+        tt,
+        tt,
+      ),
+    ),
+  ),
+)
+
+pub not_of_one : HaveParts 100 datagram_at (events_of one_identification) → ⊥
+unfolding third
+not_of_one have = let same : datagram_of 1 ≡ datagram_of 2 = have.1.1.0 (third 16 false (eight 2)) (third 8 true (eight 1)) reads_new_last reads_old_second refl (omega arith) in cc
+
+mixed : deliveries link_of_100 (events_of one_identification) (record { 0 = 0 }) ≡ record { time = 200; octets = eight 1 ++ eight 2 } ∷ []
+unfolding fate groups_after fragments.octets_below packets.ones_sum words.u16_at words.u32_at outcomes.outcome outcomes.frame_payload outcomes.datagram_payload
 mixed = refl
+
+pub are_mixed : HaveParts 99 datagram_at (events_of one_identification) × (HaveParts 100 datagram_at (events_of one_identification) → ⊥)
+    × (deliveries link_of_100 (events_of one_identification) (record { 0 = 0 }) ≡ record { time = 200; octets = eight 1 ++ eight 2 } ∷ [])
+are_mixed = (parts_of_two, not_of_one, mixed)

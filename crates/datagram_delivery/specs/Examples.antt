@@ -1,10 +1,13 @@
 -- A message in two fragments of which each network loses one, two messages among one another, and fragments that meet
 -- all that is asked but one thing, of which a datagram isn't completed or is mixed. Times are in microseconds.
-use Rattle.std.specs.Prelude.{ℕ, zero, suc, Bool, true, false, List, [], ◌∷◌, ◌++◌}
+use Rattle.std.specs.Prelude.{ℕ, zero, suc, nat_lt, Bool, true, false, List, [], ◌∷◌, ◌++◌, if◌then◌else◌}
 use Rattle.es_base.specs.declared.place.Net.{Net}
 use Rattle.es_base.specs.declared.place.Net.TheVariants as nets
 use Rattle.es_base.specs.declared.verdict.Verdict.TheVariants as verdicts
 use Rattle.es_base.specs.declared.port.PortKind.TheVariants.{Queuing}
+use Rattle.es_base.specs.declared.event.Event.{Event}
+use Rattle.es_base.specs.declared.fragment.DatagramKey.{DatagramKey}
+use Rattle.es_base.specs.Fragments.{key_of}
 use Rattle.es_base.specs.Packet.{PacketParts}
 use Rattle.es_base.specs.Settings.{Settings}
 use Rattle.frame_delivery.specs.Sending.{Copy}
@@ -94,10 +97,64 @@ fragment ident offset more value = record {
   room = true;
 }
 
--- the first fragments of five datagrams
-abbrev pub five_begun : List Offer
-five_begun = fragment 5 0 true 5 ∷ fragment 4 0 true 4 ∷ fragment 3 0 true 3 ∷ fragment 2 0 true 2 ∷ fragment 1 0 true 1 ∷ []
+-- the first fragments of four datagrams, and of a fifth
+abbrev pub four_begun : List Offer
+four_begun = fragment 4 0 true 4 ∷ fragment 3 0 true 3 ∷ fragment 2 0 true 2 ∷ fragment 1 0 true 1 ∷ []
 
--- a datagram that lost its last fragment, and one of the same identification that lost its second
-abbrev pub same_identification : List Offer
-same_identification = fragment 1 0 true 2 ∷ fragment 1 8 true 1 ∷ fragment 1 0 true 1 ∷ []
+-- the key of the first
+abbrev pub first_key : DatagramKey
+first_key = key_of (fragment 1 0 true 1).packet
+
+abbrev pub five_begun : List Offer
+five_begun = fragment 5 0 true 5 ∷ four_begun
+
+-- ---- two datagrams of one identification
+
+-- a link whose limit of time for a datagram in parts is 100 microseconds
+abbrev pub link_of_100 : Settings
+link_of_100 = record link_with_queue { reassembly = 100 }
+
+-- eight octets of one value
+abbrev pub eight : ℕ → List ℕ
+eight value = value ∷ value ∷ value ∷ value ∷ value ∷ value ∷ value ∷ value ∷ []
+
+-- the octets of a datagram: the UDP header, and a message of this value
+abbrev pub datagram_of : ℕ → List ℕ
+datagram_of value = (19 ∷ 136 ∷ 19 ∷ 138 ∷ 0 ∷ 24 ∷ 0 ∷ 0 ∷ []) ++ eight value ++ eight value
+
+-- a frame of 60 octets with eight octets of a datagram: octets 6 and 7 of the packet's header, the header's checksum, the
+-- eight octets, the sequence number
+abbrev pub small_frame : List ℕ → List ℕ → List ℕ → ℕ → List ℕ
+small_frame place sum octets number =
+    (3 ∷ 0 ∷ 0 ∷ 0 ∷ 0 ∷ 17 ∷ 2 ∷ 0 ∷ 0 ∷ 0 ∷ 1 ∷ 32 ∷ 8 ∷ 0 ∷ 69 ∷ 0 ∷ 0 ∷ 28 ∷ 0 ∷ 1 ∷ [])
+    ++ place
+    ++ (1 ∷ 17 ∷ [])
+    ++ sum
+    ++ (10 ∷ 1 ∷ 1 ∷ 1 ∷ 224 ∷ 224 ∷ 0 ∷ 17 ∷ [])
+    ++ octets
+    ++ (0 ∷ 0 ∷ 0 ∷ 0 ∷ 0 ∷ 0 ∷ 0 ∷ 0 ∷ 0 ∷ 0 ∷ 0 ∷ 0 ∷ 0 ∷ 0 ∷ 0 ∷ 0 ∷ 0 ∷ [])
+    ++ number
+    ∷ []
+
+-- the first eight octets of a datagram, the next eight, and the last
+abbrev pub first_third : ℕ → List ℕ
+first_third number = small_frame (32 ∷ 0 ∷ []) (173 ∷ 221 ∷ []) (19 ∷ 136 ∷ 19 ∷ 138 ∷ 0 ∷ 24 ∷ 0 ∷ 0 ∷ []) number
+
+abbrev pub second_third : ℕ → ℕ → List ℕ
+second_third value number = small_frame (32 ∷ 1 ∷ []) (173 ∷ 220 ∷ []) (eight value) number
+
+abbrev pub last_third : ℕ → ℕ → List ℕ
+last_third value number = small_frame (0 ∷ 2 ∷ []) (205 ∷ 219 ∷ []) (eight value) number
+
+-- of two datagrams with one identification, sent 100 microseconds apart, the first loses its last frame, and the second
+-- its second
+abbrev pub one_identification : List Copy
+one_identification =
+    came_with nets.A 5 (last_third 2 4) 200 ∷ came_with nets.A 3 (first_third 2) 200
+    ∷ came_with nets.A 1 (second_third 1 255) 100
+    ∷ came_with nets.A 0 (first_third 254) 100
+    ∷ []
+
+-- the datagram of which a frame has a part: the first until 199 microseconds, and then the second
+abbrev pub datagram_at : Event → List ℕ
+datagram_at e = if nat_lt e.time 200 then datagram_of 1 else datagram_of 2

@@ -18,7 +18,7 @@ ghost use Rattle.datagram_delivery.specs.Datagrams.{AreSent, CarryPackets, IsSpl
 ghost use Rattle.datagram_delivery.specs.Interleaved.{AreInterleaved, Carried, carried_offers, messages_ended};
 ghost use Rattle.datagram_delivery.specs.Parts.{HaveParts, IsMessageOf, WereSentIn};
 ghost use Rattle.frame_delivery.specs.Examples.{numbering, timing};
-ghost use Rattle.datagram_delivery.specs.Examples.{among_one_another, datagram_octets, five_begun, fragment, in_two_fragments, link_with_queue, message, message_sent, packet_sent, same_identification};
+ghost use Rattle.datagram_delivery.specs.Examples.{among_one_another, datagram_at, datagram_octets, eight, first_key, five_begun, four_begun, fragment, in_two_fragments, link_of_100, link_with_queue, message, message_sent, one_identification, packet_sent};
 
 /// A datagram that is split into fragments is joined whole: each fragment but the last is held, and the last brings
 /// exactly the octets of all, one after the other. They come in order and within the limit of time, none is missing,
@@ -90,10 +90,11 @@ pub fn the_conditions_can_be_met()
     ensures delivered { deliveries link_with_queue (events_of in_two_fragments) (record { 0 = 0 }) ≡ record { time = 1500; octets = message } ∷ [] }
 {}
 
-/// What goes wrong where one condition isn't met: a frame is forwarded twice or lost, fragments of two datagrams are mixed,
-/// or a datagram isn't completed.
+/// What goes wrong where one condition isn't met, and all others are: with a fifth datagram in parts the first isn't
+/// completed, and within the limit of time, to the microsecond, one identification for two datagrams mixes them.
 pub fn each_condition_is_needed()
-    ensures fifth_group { fate 50000 (groups_after_offers 50000 [] five_begun) (fragment 1 8 false 1).packet 100 ≡ held }
-    ensures identification_again { fate 50000 (groups_after_offers 50000 [] same_identification) (fragment 1 16 false 2).packet 100
-        ≡ whole (2 ∷ 2 ∷ 2 ∷ 2 ∷ 2 ∷ 2 ∷ 2 ∷ 2 ∷ 1 ∷ 1 ∷ 1 ∷ 1 ∷ 1 ∷ 1 ∷ 1 ∷ 1 ∷ 2 ∷ 2 ∷ 2 ∷ 2 ∷ 2 ∷ 2 ∷ 2 ∷ 2 ∷ []) true }
+    ensures fifth_group { (place_of first_key [] ≡ None) × (is_of first_key (fragment 1 8 false 1) ≡ true) × AreFronts 50000 first_key five_begun × IsLast 50000 (pieces_of first_key five_begun) (fragment 1 8 false 1) × LeavesRoom 50000 [] first_key four_begun × (LeavesRoom 50000 [] first_key five_begun → ⊥)
+        × (fate 50000 (groups_after_offers 50000 [] five_begun) (fragment 1 8 false 1).packet 100 ≡ held) }
+    ensures identification_again { HaveParts 99 datagram_at (events_of one_identification) × (HaveParts 100 datagram_at (events_of one_identification) → ⊥)
+        × (deliveries link_of_100 (events_of one_identification) (record { 0 = 0 }) ≡ record { time = 200; octets = eight 1 ++ eight 2 } ∷ []) }
 {}

@@ -137,7 +137,7 @@ copies_are_forwarded settings numbering (copy ∷ before) on small numbers in_ti
 
 -- ---- in order
 
-same_greatest : (copies : List Copy) → greatest_index (new_copies copies) ≡ greatest_index copies
+pub same_greatest : (copies : List Copy) → greatest_index (new_copies copies) ≡ greatest_index copies
 same_greatest [] = refl
 same_greatest (copy ∷ []) = refl
 same_greatest (copy ∷ other ∷ before) =

@@ -2,10 +2,12 @@ pub mod Numbers
 pub mod Kept
 pub mod Forwarding
 pub mod Passing
+pub mod Near
 pub mod Times
 pub mod Firsts
 pub mod Main
 pub mod Delivered
 pub mod Whole
 pub mod Messages
+pub mod Conditions
 pub mod Examples

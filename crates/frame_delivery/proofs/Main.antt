@@ -4,28 +4,37 @@ use Rattle.std.specs.Prelude.{◌&&◌, ◌==◌}
 use Rattle.std.proofs.lemmas.Bool.{and_from, and_right, both_ways, cases_Bool, eqb-true, lt-ltb, ltb-true, or_cases, or_left, or_right}
 use Rattle.es_base.specs.Past.{arrival_of}
 use Rattle.es_base.specs.Integrity.{passes}
+use Rattle.es_base.specs.Copies.{greatest_time}
 use Rattle.es_base.specs.Redundancy.{forwarded}
 use Rattle.es_base.specs.Settings.{Settings}
 use Rattle.frame_delivery.specs.Sending.{Copy, EachCopy, HaveNumbers, Numbering, events_of}
-use Rattle.frame_delivery.specs.Once.{AreInOrder, ComesInTime, IsForwardedIfFirst, IsForwardedIfNew, IsNotOvertaken, as_forwarded, first_copies, greatest_index, has_come, is_new, new_copies, passing}
-use Rattle.frame_delivery.specs.Network.{ComeTimely, ComeWhole, FitsSkew, HasAge, HasNoOvertaking, IsOnItsWay, KeepsOrder, KeepsTimes, LosesFew, Timing}
+use Rattle.frame_delivery.specs.Once.{AreInOrder, ComesInTime, IsForwardedIfFirst, IsForwardedIfNew, IsNotOvertaken, as_forwarded, first_copies, greatest_index, has_come, is_new, new_copies, newest_time, passing}
+use Rattle.frame_delivery.specs.Network.{BeginNear, BeginsNear, ComeTimely, ComeWhole, IsNeverLate, HasAge, HasNoOvertaking, IsOnItsWay, IsOverSoon, KeepsOrder, KeepsTimes, LosesFew, Timing}
 use Rattle.frame_delivery.proofs.Kept.{each_passing, order_of_passing}
-use Rattle.frame_delivery.proofs.Forwarding.{copies_are_forwarded, new_are_forwarded, new_in_order}
+use Rattle.frame_delivery.proofs.Forwarding.{copies_are_forwarded, new_are_forwarded, new_in_order, same_greatest}
+use Rattle.frame_delivery.proofs.Near.{near_the_newest}
 use Rattle.frame_delivery.proofs.Passing.{all_pass, new_passes}
-use Rattle.frame_delivery.proofs.Times.{all_in_time, none_overtaken}
+use Rattle.frame_delivery.proofs.Times.{AreNotLate, all_in_time, apart_not_late, begin_near, none_overtaken, not_late}
 use Rattle.frame_delivery.proofs.Firsts.{new_are_first, new_has_not_come, new_is_first}
 
 -- ---- at most once, in order
 
-pub passing_in_time : (settings : Settings) (numbering : Numbering) (timing : Timing) (copies : List Copy) → KeepsTimes numbering timing copies → FitsSkew timing settings.skew_max
-    → EachCopy (ComesInTime numbering settings.skew_max) (passing settings copies)
-passing_in_time settings numbering timing copies times fits =
-    all_in_time numbering timing times.gaps times.pauses settings.skew_max (passing settings copies) fits (each_passing (IsOnItsWay timing) settings copies times.ways) (order_of_passing timing.wait settings copies times.order)
+pub passing_in_time : (settings : Settings) (numbering : Numbering) (timing : Timing) (copies : List Copy) → ComeTimely settings numbering timing copies → AreNotLate numbering timing
+    → BeginNear settings.skew_max (passing settings copies) → EachCopy (ComesInTime numbering settings.skew_max) (passing settings copies)
+passing_in_time settings numbering timing copies timely on_time near =
+    let times = timely.times in
+    all_in_time numbering timing times.gaps times.pauses settings.skew_max (passing settings copies) timely.fits on_time near (each_passing (IsOnItsWay timing) settings copies times.ways) (order_of_passing timing.wait settings copies times.order)
 
-pub forwarded_once : (settings : Settings) (numbering : Numbering) (timing : Timing) (copies : List Copy) → ComeTimely settings numbering timing copies
+pub forwarded_once : (settings : Settings) (numbering : Numbering) (timing : Timing) (copies : List Copy) → ComeTimely settings numbering timing copies → AreNotLate numbering timing
+    → BeginNear settings.skew_max (passing settings copies)
     → (forwarded settings (events_of copies) ≡ as_forwarded (new_copies (passing settings copies))) × AreInOrder (new_copies (passing settings copies))
-forwarded_once settings numbering timing copies timely =
-    (new_are_forwarded settings numbering copies timely.redundancy timely.first timely.numbers (passing_in_time settings numbering timing copies timely.times timely.fits), new_in_order (passing settings copies))
+forwarded_once settings numbering timing copies timely on_time near =
+    (new_are_forwarded settings numbering copies timely.redundancy timely.first timely.numbers (passing_in_time settings numbering timing copies timely on_time near), new_in_order (passing settings copies))
+
+pub forwarded_at_most_once : (settings : Settings) (numbering : Numbering) (timing : Timing) (copies : List Copy) → ComeTimely settings numbering timing copies → IsNeverLate timing
+    → BeginNear settings.skew_max (passing settings copies) → forwarded settings (events_of copies) ≡ as_forwarded (new_copies (passing settings copies))
+forwarded_at_most_once settings numbering timing copies timely on_time near =
+    (forwarded_once settings numbering timing copies timely (not_late numbering timing timely.times.gaps timely.times.pauses on_time) near).0
 
 -- ---- none lost
 
@@ -131,36 +140,80 @@ whole_firsts settings numbering timing copies come =
     let times = come.timely.times in
     firsts_are_new settings numbering copies come.timely.numbers come.losses (none_overtaken numbering timing times.gaps times.pauses copies come.apart times.ways times.order)
 
+-- where few are lost, the copies that pass are as near as all
+newest_passing : (settings : Settings) (copies : List Copy) → EachCopy (IsNewIfFirst settings) copies → EachCopy IsNotOvertaken copies → new_copies (passing settings copies) ≡ new_copies copies
+newest_passing settings copies firsts apart = passing_are_first settings copies firsts ∙ sym (new_are_first copies apart)
+
+passing_near : (settings : Settings) (copies : List Copy) → EachCopy (IsNewIfFirst settings) copies → EachCopy IsNotOvertaken copies → BeginNear settings.skew_max copies
+    → BeginNear settings.skew_max (passing settings copies)
+passing_near settings [] firsts apart near = tt
+passing_near settings (copy ∷ before) firsts apart near =
+    let rest = passing_near settings before firsts.1 apart.1 near.1 in
+    ⊎_elim
+    (λ (is : passes settings (events_of before) (arrival_of copy.event) ≡ true). rw is (begins copy before (passing settings before) refl firsts.1 apart.1 near.0, rest))
+    (λ (is : passes settings (events_of before) (arrival_of copy.event) ≡ false). rw is rest)
+    (cases_Bool (passes settings (events_of before) (arrival_of copy.event)))
+  where
+    begins : (copy : Copy) (before some : List Copy) → passing settings before ≡ some → EachCopy (IsNewIfFirst settings) before → EachCopy IsNotOvertaken before → BeginsNear settings.skew_max before copy
+        → BeginsNear settings.skew_max some copy
+    begins copy before [] is firsts apart near = tt
+    begins copy [] (one ∷ some) is firsts apart near = cc
+    begins copy (other ∷ before) (one ∷ some) is firsts apart near = λ cut soon.
+        let same : new_copies (one ∷ some) ≡ new_copies (other ∷ before) = ap new_copies (sym is) ∙ newest_passing settings (other ∷ before) firsts apart in
+        let newest : newest_time (one ∷ some) ≡ newest_time (other ∷ before) = ap (λ copies. greatest_time (as_forwarded copies)) same in
+        let greatest : greatest_index (one ∷ some) ≡ greatest_index (other ∷ before) = sym (same_greatest (one ∷ some)) ∙ ap greatest_index same ∙ same_greatest (other ∷ before) in
+        let close = near_the_newest settings.skew_max other before copy near (omega (arith, soon, newest)) in
+        omega (arith, close, greatest)
+
+whole_near : (settings : Settings) (numbering : Numbering) (timing : Timing) (copies : List Copy) → ComeWhole settings numbering timing copies → BeginNear settings.skew_max (passing settings copies)
+whole_near settings numbering timing copies come =
+    let times = come.timely.times in
+    passing_near settings copies (whole_firsts settings numbering timing copies come) (none_overtaken numbering timing times.gaps times.pauses copies come.apart times.ways times.order) come.near
+
+whole_on_time : (settings : Settings) (numbering : Numbering) (timing : Timing) (copies : List Copy) → ComeWhole settings numbering timing copies → AreNotLate numbering timing
+whole_on_time settings numbering timing copies come = apart_not_late numbering timing come.timely.times.gaps come.timely.times.pauses come.apart
+
 pub each_first_is_forwarded : (settings : Settings) (numbering : Numbering) (timing : Timing) (copies : List Copy) → ComeWhole settings numbering timing copies
     → EachCopy (IsForwardedIfFirst settings) copies
 each_first_is_forwarded settings numbering timing copies come =
     let timely = come.timely in
     if_first settings copies (whole_firsts settings numbering timing copies come)
-    (copies_are_forwarded settings numbering copies timely.redundancy timely.first timely.numbers (passing_in_time settings numbering timing copies timely.times timely.fits))
+    (copies_are_forwarded settings numbering copies timely.redundancy timely.first timely.numbers
+    (passing_in_time settings numbering timing copies timely (whole_on_time settings numbering timing copies come) (whole_near settings numbering timing copies come)))
 
 pub firsts_are_forwarded : (settings : Settings) (numbering : Numbering) (timing : Timing) (copies : List Copy) → ComeWhole settings numbering timing copies
     → (forwarded settings (events_of copies) ≡ as_forwarded (first_copies copies)) × AreInOrder (first_copies copies)
 firsts_are_forwarded settings numbering timing copies come =
-    let once = forwarded_once settings numbering timing copies come.timely in
+    let once = forwarded_once settings numbering timing copies come.timely (whole_on_time settings numbering timing copies come) (whole_near settings numbering timing copies come) in
     let firsts : new_copies (passing settings copies) ≡ first_copies copies = passing_are_first settings copies (whole_firsts settings numbering timing copies come) in
     (once.0 ∙ ap as_forwarded firsts, subst AreInOrder firsts once.1)
 
--- ---- without the third condition
+-- ---- where copies are overtaken
 
-pub new_ones_forwarded : (settings : Settings) (numbering : Numbering) (timing : Timing) (copies : List Copy) → ComeTimely settings numbering timing copies → KeepsOrder copies → LosesFew numbering settings.window copies
-    → forwarded settings (events_of copies) ≡ as_forwarded (new_copies copies)
-new_ones_forwarded settings numbering timing copies timely keeps losses =
-    (forwarded_once settings numbering timing copies timely).0 ∙ ap (λ copies. as_forwarded (new_copies copies)) (all_pass settings numbering copies timely.numbers keeps losses)
+pub new_ones_forwarded : (settings : Settings) (numbering : Numbering) (timing : Timing) (copies : List Copy) → ComeTimely settings numbering timing copies → IsNeverLate timing → BeginNear settings.skew_max copies
+    → KeepsOrder copies → LosesFew numbering settings.window copies → forwarded settings (events_of copies) ≡ as_forwarded (new_copies copies)
+new_ones_forwarded settings numbering timing copies timely on_time near keeps losses =
+    let all : passing settings copies ≡ copies = all_pass settings numbering copies timely.numbers keeps losses in
+    forwarded_at_most_once settings numbering timing copies timely on_time (subst (BeginNear settings.skew_max) (sym all) near) ∙ ap (λ copies. as_forwarded (new_copies copies)) all
 
--- ---- without the second condition
+-- ---- where more are lost
 
 pub passing_forwarded : (settings : Settings) (numbering : Numbering) (timing : Timing) (copies : List Copy) → ComeTimely settings numbering timing copies → HasNoOvertaking timing
-    → forwarded settings (events_of copies) ≡ as_forwarded (first_copies (passing settings copies))
-passing_forwarded settings numbering timing copies timely apart =
+    → BeginNear settings.skew_max (passing settings copies) → forwarded settings (events_of copies) ≡ as_forwarded (first_copies (passing settings copies))
+passing_forwarded settings numbering timing copies timely apart near =
     let times = timely.times in
-    (forwarded_once settings numbering timing copies timely).0
+    (forwarded_once settings numbering timing copies timely (apart_not_late numbering timing times.gaps times.pauses apart) near).0
     ∙ ap as_forwarded (new_are_first (passing settings copies)
     (none_overtaken numbering timing times.gaps times.pauses (passing settings copies) apart (each_passing (IsOnItsWay timing) settings copies times.ways) (order_of_passing timing.wait settings copies times.order)))
+
+-- ---- where SkewMax is short
+
+pub short_is_near : (settings : Settings) (numbering : Numbering) (timing : Timing) (copies : List Copy) → KeepsTimes numbering timing copies → IsOverSoon timing settings.skew_max
+    → BeginNear settings.skew_max copies × BeginNear settings.skew_max (passing settings copies)
+short_is_near settings numbering timing copies times over = (
+  begin_near numbering timing times.gaps times.pauses settings.skew_max copies over times.ways,
+  begin_near numbering timing times.gaps times.pauses settings.skew_max (passing settings copies) over (each_passing (IsOnItsWay timing) settings copies times.ways),
+)
 
 -- ---- the age of a message
 

@@ -4,7 +4,13 @@ use Rattle.std.specs.Prelude.{max}
 use Rattle.std.proofs.lemmas.Bool.{cases_Bool, cases_lt, lt-ltb, le-ltb, ltb-false, eq-eqb, or_left, or_right}
 use Rattle.frame_delivery.specs.Sending.{Copy, EachCopy, Numbering, RunsOn}
 use Rattle.frame_delivery.specs.Once.{ComesInTime, IsInTime, IsNotOvertaken, greatest_index, has_come, newest_time}
-use Rattle.frame_delivery.specs.Network.{FitsSkew, HasNoOvertaking, IsOnItsWay, KeepsGap, KeepsPause, Timing, time_of_all}
+use Rattle.frame_delivery.specs.Network.{BeginNear, BeginsNear, IsNeverLate, FitsSkew, HasNoOvertaking, IsOnItsWay, IsOverSoon, KeepsGap, KeepsPause, Timing, time_of_all}
+use Rattle.frame_delivery.proofs.Near.{near_the_newest}
+
+-- a frame of which a copy may be taken after one of another is at most 127 before that, with no restart between
+abbrev pub AreNotLate : Numbering → Timing → Type 0
+AreNotLate numbering timing =
+    (index other : ℕ) → timing.sent other + timing.least ≤ timing.sent index + timing.greatest + timing.wait → (other ≤ index + 127) × RunsOn numbering index other
 
 -- ---- the times of sending
 
@@ -52,6 +58,30 @@ module _ (numbering : Numbering) (timing : Timing) (gaps : KeepsGap timing) (pau
       (λ (on : numbering.restarts index ≡ false). on)
       (cases_Bool (numbering.restarts index))
 
+  -- ---- how late a copy may be taken
+
+  pub not_late : IsNeverLate timing → AreNotLate numbering timing
+  not_late on_time index other near =
+      let frames = on_time.frames in
+      let restarts = on_time.restarts in (
+        ⊎_elim
+            (λ (far : index + 127 < other).
+            let sent = sent_far_apart index other (omega arith) in
+            absurd (omega (arith, near, frames, sent)))
+            (λ (close : other ≤ index + 127). close)
+            (cases_lt (index + 127) other),
+        runs_on index other (omega (arith, near, restarts)),
+      )
+
+  pub apart_not_late : HasNoOvertaking timing → AreNotLate numbering timing
+  apart_not_late apart index other near =
+      ⊎_elim
+      (λ (later : index < other).
+      let sent = sent_apart index other later in
+      absurd (omega (arith, near, sent, apart)))
+      (λ (earlier : other ≤ index). (omega (arith, earlier), λ again after within. absurd (omega (arith, earlier, after, within))))
+      (cases_lt index other)
+
   -- ---- the times of copies
 
   -- the newest copy came in its time
@@ -76,47 +106,53 @@ module _ (numbering : Numbering) (timing : Timing) (gaps : KeepsGap timing) (pau
       rw (le-ltb (greatest_index (other ∷ before)) copy.index more, e) (one, two, omega arith))
       (cases_lt (greatest_index (other ∷ before)) copy.index)
 
-  in_time : (skew_max : ℕ) (other : Copy) (before : List Copy) (copy : Copy) → FitsSkew timing skew_max → EachCopy (λ before copy. IsOnItsWay timing copy) (other ∷ before)
+  in_time : (skew_max : ℕ) (other : Copy) (before : List Copy) (copy : Copy) → FitsSkew timing skew_max → AreNotLate numbering timing
+      → (copy.event.time ≤ newest_time (other ∷ before) + skew_max → copy.index ≤ greatest_index (other ∷ before) + 127)
+      → EachCopy (λ before copy. IsOnItsWay timing copy) (other ∷ before)
       → IsOnItsWay timing copy → time_of_all (other ∷ before) ≤ copy.event.time + timing.wait → IsInTime numbering skew_max (other ∷ before) copy
-  in_time skew_max other before copy fits ways way order =
+  in_time skew_max other before copy fits on_time near ways way order =
       let all = other ∷ before in
       let (soonest, latest, came) = newest_in_time other before ways in
       let greatest : ℕ = greatest_index all in
       let covers = fits.covers in
-      let frames = fits.frames in
       let restarts = fits.restarts in
-      let waits = fits.waits in
+      let not_behind = on_time copy.index greatest (omega (arith, way.1, came, order)) in
       record {
         late = λ not_new.
             let old : copy.index ≤ greatest = ltb-false greatest copy.index not_new in
             let sent = sent_in_order copy.index greatest old in
             omega (arith, way.1, soonest, covers, sent);
-        after = λ soon. (
-          ⊎_elim
-              (λ (far : greatest + 127 < copy.index).
-              let sent = sent_far_apart greatest copy.index (omega arith) in
-              absurd (omega (arith, way.0, latest, frames, sent, soon)))
-              (λ (near : copy.index ≤ greatest + 127). near)
-              (cases_lt (greatest + 127) copy.index),
-          runs_on greatest copy.index (omega (arith, way.0, latest, restarts, soon)),
-        );
-        behind = λ soon. (
-          ⊎_elim
-              (λ (far : copy.index + 127 < greatest).
-              let sent = sent_far_apart copy.index greatest (omega arith) in
-              absurd (omega (arith, way.1, came, frames, sent, order, waits)))
-              (λ (near : greatest ≤ copy.index + 127). near)
-              (cases_lt (copy.index + 127) greatest),
-          runs_on copy.index greatest (omega (arith, way.1, came, restarts, order, waits)),
-        );
+        after = λ soon. (near soon, runs_on greatest copy.index (omega (arith, way.0, latest, restarts, soon)));
+        behind = λ soon. not_behind;
       }
 
-  pub all_in_time : (skew_max : ℕ) (copies : List Copy) → FitsSkew timing skew_max → EachCopy (λ before copy. IsOnItsWay timing copy) copies
+  pub all_in_time : (skew_max : ℕ) (copies : List Copy) → FitsSkew timing skew_max → AreNotLate numbering timing → BeginNear skew_max copies → EachCopy (λ before copy. IsOnItsWay timing copy) copies
       → EachCopy (λ before copy. time_of_all before ≤ copy.event.time + timing.wait) copies → EachCopy (ComesInTime numbering skew_max) copies
-  all_in_time skew_max [] fits ways order = tt
-  all_in_time skew_max (copy ∷ []) fits ways order = (tt, tt)
-  all_in_time skew_max (copy ∷ other ∷ before) fits ways order =
-      (in_time skew_max other before copy fits ways.1 ways.0 order.0, all_in_time skew_max (other ∷ before) fits ways.1 order.1)
+  all_in_time skew_max [] fits on_time near ways order = tt
+  all_in_time skew_max (copy ∷ []) fits on_time near ways order = (tt, tt)
+  all_in_time skew_max (copy ∷ other ∷ before) fits on_time near ways order = (
+    in_time skew_max other before copy fits on_time (near_the_newest skew_max other before copy near.0) ways.1 ways.0 order.0,
+    all_in_time skew_max (other ∷ before) fits on_time near.1 ways.1 order.1,
+  )
+
+  -- ---- where networks begin
+
+  -- where SkewMax is over soon, each network begins near the other
+  begins_near : (skew_max : ℕ) (copy : Copy) (before : List Copy) → IsOverSoon timing skew_max → EachCopy (λ before copy. IsOnItsWay timing copy) before → IsOnItsWay timing copy → BeginsNear skew_max before copy
+  begins_near skew_max copy [] over ways way = tt
+  begins_near skew_max copy (other ∷ before) over ways way = λ cut soon.
+      let greatest : ℕ = greatest_index (other ∷ before) in
+      let (soonest, latest, came) = newest_in_time other before ways in
+      ⊎_elim
+      (λ (far : greatest + 127 < copy.index).
+      let sent = sent_far_apart greatest copy.index (omega arith) in
+      absurd (omega (arith, way.0, latest, over, sent, soon)))
+      (λ (near : copy.index ≤ greatest + 127). near)
+      (cases_lt (greatest + 127) copy.index)
+
+  pub begin_near : (skew_max : ℕ) (copies : List Copy) → IsOverSoon timing skew_max → EachCopy (λ before copy. IsOnItsWay timing copy) copies → BeginNear skew_max copies
+  begin_near skew_max [] over ways = tt
+  begin_near skew_max (copy ∷ before) over ways = (begins_near skew_max copy before over ways.1 ways.0, begin_near skew_max before over ways.1)
 
   -- ---- no copy overtakes
 

@@ -1,6 +1,6 @@
 -- Copies that meet all that is asked, and copies that meet all but one thing, of which the receiver loses a frame, or
 -- forwards one twice. Frames have the sequence number alone. Times are in microseconds.
-use Rattle.std.specs.Prelude.{ℕ, ◌*◌, true, false, List, [], ◌∷◌}
+use Rattle.std.specs.Prelude.{ℕ, ◌*◌, ◌==◌, true, false, List, [], ◌∷◌}
 use Rattle.es_base.specs.declared.place.Net.{Net}
 use Rattle.es_base.specs.declared.place.Net.TheVariants as nets
 use Rattle.es_base.specs.declared.verdict.Verdict.TheVariants as verdicts
@@ -26,9 +26,14 @@ frame_at number time = record { sequence_number = number; time = time }
 abbrev pub numbering : Numbering
 numbering = record { first = 254; restarts = λ index. false }
 
+-- frames that are sent with this gap, the least pause before a restart, the least and the greatest time on the way, and
+-- the wait
+abbrev pub timed : ℕ → ℕ → ℕ → ℕ → ℕ → Timing
+timed gap pause least greatest wait = record { sent = λ index. gap * index; gap = gap; pause = pause; least = least; greatest = greatest; wait = wait }
+
 -- a frame each millisecond, 100 to 900 microseconds on its way
 abbrev pub timing : Timing
-timing = record { sent = λ index. 1000 * index; gap = 1000; pause = 2000; least = 100; greatest = 900; wait = 100 }
+timing = timed 1000 2000 100 900 100
 
 -- of four frames network A loses the second, and B the third
 abbrev pub with_losses : List Copy
@@ -37,22 +42,41 @@ with_losses =
 
 -- ---- one thing isn't met
 
--- the second copy comes later than SkewMax after the first
+-- the first frame has number 1, and the sender doesn't restart
+abbrev pub from_one : Numbering
+from_one = record { first = 1; restarts = λ index. false }
+
+-- the second copy comes 1 microsecond later than SkewMax after the first
 abbrev pub after_skew_max : List Copy
 after_skew_max = came nets.B 0 1 1101 ∷ came nets.A 0 1 100 ∷ []
 
--- A brings three frames, 1500 microseconds on their way; B, which takes 100, loses the second
+-- A brings three frames, 1100 microseconds on their way; B, which takes 100, loses the second
 abbrev pub overtaken : List Copy
-overtaken = came nets.A 2 3 3500 ∷ came nets.A 1 2 2500 ∷ came nets.B 2 3 2100 ∷ came nets.A 0 1 1500 ∷ came nets.B 0 1 100 ∷ []
+overtaken = came nets.A 2 3 3100 ∷ came nets.A 1 2 2100 ∷ came nets.B 2 3 2100 ∷ came nets.A 0 1 1100 ∷ came nets.B 0 1 100 ∷ []
 
 -- each network loses two frames in a row, which is the window
 abbrev pub two_lost : List Copy
 two_lost = came nets.B 3 4 3900 ∷ came nets.A 3 4 3100 ∷ came nets.B 0 1 900 ∷ came nets.A 0 1 100 ∷ []
 
--- A is cut off after a frame, and B begins 128 frames later, within a long SkewMax
+-- A is cut off after a frame, and B begins 128 frames later, just before SkewMax is over
 abbrev pub far_apart : List Copy
 far_apart = came nets.B 128 129 128100 ∷ came nets.A 0 1 100 ∷ []
 
--- the sender restarts within SkewMax
+-- the sender restarts after its first frame
+abbrev pub from_57 : Numbering
+from_57 = record { first = 57; restarts = λ index. index == 1 }
+
+-- it does so just before SkewMax is over
 abbrev pub soon_restarted : List Copy
 soon_restarted = came nets.A 1 0 1100 ∷ came nets.A 0 57 100 ∷ []
+
+-- A's first frame comes just after B brought one 128 frames later; with a window of 64, so that the list is short
+abbrev pub wide_link : Settings
+wide_link = record (link 128000) { window = 64 }
+
+abbrev pub far_behind : List Copy
+far_behind = came nets.A 0 1 128100 ∷ came nets.B 128 129 128100 ∷ came nets.B 64 65 64100 ∷ came nets.B 0 1 100 ∷ []
+
+-- B's copy of the last frame before a restart is taken after A's of the first after it
+abbrev pub behind_a_restart : List Copy
+behind_a_restart = came nets.B 0 57 100 ∷ came nets.A 1 0 2100 ∷ came nets.A 0 57 100 ∷ []

@@ -2,4 +2,5 @@ pub mod Sending
 pub mod Once
 pub mod Network
 pub mod Messages
+pub mod Conditions
 pub mod Examples

@@ -5,6 +5,7 @@ use Rattle.es_base.specs.Copies.{elapsed}
 use Rattle.es_base.specs.Integrity.{is_same_net, latest}
 use Rattle.es_base.specs.Settings.{Settings}
 use Rattle.frame_delivery.specs.Sending.{Copy, EachCopy, HaveNumbers, Numbering, RunsOn}
+use Rattle.frame_delivery.specs.Once.{greatest_index, newest_time}
 
 -- ---- what comes on each network
 
@@ -80,13 +81,36 @@ pub record KeepsTimes (numbering : Numbering) (timing : Timing) (copies : List C
   pub ways : EachCopy (λ before copy. IsOnItsWay timing copy) copies
   pub order : EachCopy (λ before copy. time_of_all before ≤ copy.event.time + timing.wait) copies
 
--- SkewMax fits the networks: the times on the way differ by no more than it, and it is over before 128 frames
--- more are sent, or the sender restarts
+-- SkewMax fits the networks: the times on the way differ by no more than it, and it is over before the sender
+-- restarts
 pub record FitsSkew (timing : Timing) (skew_max : ℕ) : Type 0 where
   pub covers : timing.greatest ≤ timing.least + skew_max
-  pub frames : timing.greatest + skew_max < timing.least + 128 * timing.gap
   pub restarts : timing.greatest + skew_max < timing.least + timing.pause
-  pub waits : timing.wait ≤ skew_max
+
+-- no copy is taken so late that 128 frames more, or the first after a restart, came before it
+pub record IsNeverLate (timing : Timing) : Type 0 where
+  pub frames : timing.greatest + timing.wait < timing.least + 128 * timing.gap
+  pub restarts : timing.greatest + timing.wait < timing.least + timing.pause
+
+-- SkewMax is over before 128 frames more are sent
+abbrev pub IsOverSoon : Timing → ℕ → Type 0
+IsOverSoon timing skew_max = timing.greatest + skew_max < timing.least + 128 * timing.gap
+
+-- a network begins with a frame, or comes back with it after it brought none of 127 frames or more
+abbrev pub IsAfterCut : Option ℕ → ℕ → Type 0
+IsAfterCut None index = Unit {0}
+IsAfterCut (Some before) index = before + 127 < index
+
+-- a network that begins with a copy, or comes back with it, does so with one of the 127 frames after the newest that
+-- came, or after SkewMax is over, or with an earlier frame
+abbrev pub BeginsNear : ℕ → List Copy → Copy → Type 0
+BeginsNear skew_max [] copy = Unit {0}
+BeginsNear skew_max (other ∷ before) copy =
+    IsAfterCut (latest (indices_on (other ∷ before) copy.event.net)) copy.index → copy.event.time ≤ newest_time (other ∷ before) + skew_max
+    → copy.index ≤ greatest_index (other ∷ before) + 127
+
+abbrev pub BeginNear : ℕ → List Copy → Type 0
+BeginNear skew_max copies = EachCopy (BeginsNear skew_max) copies
 
 -- no copy of a frame comes after a copy of a later frame: the times on the way, and the wait, differ by less than the gap
 abbrev pub HasNoOvertaking : Timing → Type 0
@@ -102,8 +126,9 @@ pub record ComeTimely (settings : Settings) (numbering : Numbering) (timing : Ti
   pub times : KeepsTimes numbering timing copies
   pub fits : FitsSkew timing settings.skew_max
 
--- and on networks that lose few in a row, with no overtaking
+-- and on networks that begin near each other and lose few in a row, with no overtaking
 pub record ComeWhole (settings : Settings) (numbering : Numbering) (timing : Timing) (copies : List Copy) : Type 0 where
   pub timely : ComeTimely settings numbering timing copies
+  pub near : BeginNear settings.skew_max copies
   pub losses : LosesFew numbering settings.window copies
   pub apart : HasNoOvertaking timing

@@ -11,9 +11,10 @@ ghost use Rattle.es_base.specs.Outcome.{Payload};
 ghost use Rattle.es_base.specs.Deliveries.{deliveries};
 ghost use Rattle.frame_delivery.specs.Sending.{Copy, EachCopy, HaveNumbers, Numbering, RunsOn, events_of, number_of};
 ghost use Rattle.frame_delivery.specs.Once.{AreInOrder, ComesInTime, IsForwardedIfFirst, IsForwardedIfNew, IsOvertaken, as_forwarded, first_copies, has_come, new_copies, passing};
-ghost use Rattle.frame_delivery.specs.Network.{ComeTimely, ComeWhole, HasAge, HasNoOvertaking, KeepsOrder, KeepsTimes, LosesFew, Timing};
+ghost use Rattle.frame_delivery.specs.Network.{BeginNear, ComeTimely, ComeWhole, IsNeverLate, HasAge, HasNoOvertaking, IsOverSoon, KeepsOrder, KeepsTimes, LosesFew, Timing};
+ghost use Rattle.frame_delivery.specs.Conditions.{MeetAll, MeetAllBut, apart, covers, is_asked_for_all, is_asked_for_once, late, late_restart, losses, near, restarts};
 ghost use Rattle.frame_delivery.specs.Messages.{AllCame, CarryWhole, HaveRoom, messages_of, octets_of, octets_sent};
-ghost use Rattle.frame_delivery.specs.Examples.{after_skew_max, far_apart, frame_at, link, numbering, overtaken, soon_restarted, timing, two_lost, with_losses};
+ghost use Rattle.frame_delivery.specs.Examples.{after_skew_max, behind_a_restart, far_apart, far_behind, frame_at, from_57, from_one, link, numbering, overtaken, soon_restarted, timed, timing, two_lost, wide_link, with_losses};
 
 /// The sequence number of a frame is ahead of those of the 127 frames before it, and of no later one up to 127.
 pub fn a_later_frame_is_ahead()
@@ -35,10 +36,10 @@ pub fn new_frames_are_forwarded()
 {}
 
 /// No frame is forwarded twice, and none after a later one, whatever the networks lose, bring twice or out of order:
-/// if the copies come at times that fit SkewMax.
+/// if the copies come at times that fit SkewMax, none is too late, and networks begin near each other.
 pub fn no_frame_is_forwarded_twice()
-    ensures forwarded { (settings : Settings) (numbering : Numbering) (timing : Timing) (copies : List Copy) → ComeTimely settings numbering timing copies
-        → forwarded settings (events_of copies) ≡ as_forwarded (new_copies (passing settings copies)) }
+    ensures forwarded { (settings : Settings) (numbering : Numbering) (timing : Timing) (copies : List Copy) → ComeTimely settings numbering timing copies → IsNeverLate timing
+        → BeginNear settings.skew_max (passing settings copies) → forwarded settings (events_of copies) ≡ as_forwarded (new_copies (passing settings copies)) }
     ensures in_order { (settings : Settings) (copies : List Copy) → AreInOrder (new_copies (passing settings copies)) }
 {}
 
@@ -57,8 +58,8 @@ pub fn no_frame_is_lost()
 /// Where the times on the way differ by more, a frame is still lost only if each of its copies comes after a copy of a
 /// later frame.
 pub fn a_frame_is_lost_only_if_it_is_overtaken()
-    ensures forwarded { (settings : Settings) (numbering : Numbering) (timing : Timing) (copies : List Copy) → ComeTimely settings numbering timing copies
-        → KeepsOrder copies → LosesFew numbering settings.window copies → forwarded settings (events_of copies) ≡ as_forwarded (new_copies copies) }
+    ensures forwarded { (settings : Settings) (numbering : Numbering) (timing : Timing) (copies : List Copy) → ComeTimely settings numbering timing copies → IsNeverLate timing
+        → BeginNear settings.skew_max copies → KeepsOrder copies → LosesFew numbering settings.window copies → forwarded settings (events_of copies) ≡ as_forwarded (new_copies copies) }
     ensures lost { (copies : List Copy) (index : ℕ) → has_come index (new_copies copies) ≡ false → IsOvertaken index copies }
 {}
 
@@ -66,7 +67,16 @@ pub fn a_frame_is_lost_only_if_it_is_overtaken()
 /// the first that passes, and no other.
 pub fn no_frame_that_passes_is_lost()
     ensures { (settings : Settings) (numbering : Numbering) (timing : Timing) (copies : List Copy) → ComeTimely settings numbering timing copies → HasNoOvertaking timing
-        → forwarded settings (events_of copies) ≡ as_forwarded (first_copies (passing settings copies)) }
+        → BeginNear settings.skew_max (passing settings copies) → forwarded settings (events_of copies) ≡ as_forwarded (first_copies (passing settings copies)) }
+{}
+
+/// Networks begin near each other if SkewMax is over before 128 frames more are sent. So it is only for a longer SkewMax
+/// that one has to ask where a network begins, or comes back after a cut.
+pub fn a_short_skew_max_is_near()
+    ensures all { (settings : Settings) (numbering : Numbering) (timing : Timing) (copies : List Copy) → KeepsTimes numbering timing copies → IsOverSoon timing settings.skew_max
+        → BeginNear settings.skew_max copies }
+    ensures passing { (settings : Settings) (numbering : Numbering) (timing : Timing) (copies : List Copy) → KeepsTimes numbering timing copies → IsOverSoon timing settings.skew_max
+        → BeginNear settings.skew_max (passing settings copies) }
 {}
 
 /// The age of a message, since the time of its first copy, is less than its age since it was sent by what this copy was
@@ -89,19 +99,35 @@ pub fn all_messages_are_delivered()
         → CarryWhole settings payload copies → length copies ≤ most_samples → HaveRoom payload copies → AllCame n copies → octets_of (deliveries settings (events_of copies) port) ≡ octets_sent payload port n }
 {}
 
-/// What is asked can be met: by four frames that two networks bring, each with a loss, over the end of the sequence
-/// numbers, and all four are forwarded; and by a message in two fragments, of which each network loses one.
-pub fn the_conditions_can_be_met()
-    ensures met { ComeWhole (link 1000) numbering timing with_losses }
-    ensures forwarded { forwarded (link 1000) (events_of with_losses) ≡ frame_at 2 3100 ∷ frame_at 1 2200 ∷ frame_at 255 1500 ∷ frame_at 254 100 ∷ [] }
+/// The conditions that these two laws ask, one by one: if each of them is met, the law holds. So none is left out below.
+pub fn these_are_the_conditions()
+    ensures all { (settings : Settings) (numbering : Numbering) (timing : Timing) (copies : List Copy) → MeetAll is_asked_for_all settings numbering timing copies → ComeWhole settings numbering timing copies }
+    ensures once { (settings : Settings) (numbering : Numbering) (timing : Timing) (copies : List Copy) → MeetAll is_asked_for_once settings numbering timing copies
+        → ComeTimely settings numbering timing copies × IsNeverLate timing × BeginNear settings.skew_max (passing settings copies) }
 {}
 
-/// What goes wrong where one condition isn't met: a frame is forwarded twice or lost, fragments of two datagrams are mixed,
-/// or a datagram isn't completed.
+/// What is asked can be met: by four frames that two networks bring, each with a loss, over the end of the sequence
+/// numbers, and all four are forwarded; and with a SkewMax of a second, a thousand gaps, as well as with one of a gap.
+pub fn the_conditions_can_be_met()
+    ensures met { ComeWhole (link 1000) numbering timing with_losses }
+    ensures with_a_long_skew_max { ComeWhole (link 1000000) numbering (timed 1000 2000000 100 900 100) with_losses }
+    ensures forwarded { forwarded (link 1000) (events_of with_losses) ≡ frame_at 2 3100 ∷ frame_at 1 2200 ∷ frame_at 255 1500 ∷ frame_at 254 100 ∷ [] }
+    ensures forwarded_with_it { forwarded (link 1000000) (events_of with_losses) ≡ frame_at 2 3100 ∷ frame_at 1 2200 ∷ frame_at 255 1500 ∷ frame_at 254 100 ∷ [] }
+{}
+
+/// What goes wrong where one condition isn't met, and all others that the law asks are, most of them by a microsecond or
+/// by one frame: a frame of which a copy comes is lost, or one is forwarded twice or after a later one.
 pub fn each_condition_is_needed()
-    ensures second_copy_after_skew_max { forwarded (link 1000) (events_of after_skew_max) ≡ frame_at 1 1101 ∷ frame_at 1 100 ∷ [] }
-    ensures overtaken_though_one_network_loses_nothing { forwarded (link 2000) (events_of overtaken) ≡ frame_at 3 2100 ∷ frame_at 1 100 ∷ [] }
-    ensures window_lost_on_both_networks { forwarded (link 1000) (events_of two_lost) ≡ frame_at 1 100 ∷ [] }
-    ensures frames_in_skew_max { forwarded (link 1000000) (events_of far_apart) ≡ frame_at 1 100 ∷ [] }
-    ensures restart_in_skew_max { forwarded (link 1000) (events_of soon_restarted) ≡ frame_at 57 100 ∷ [] }
+    ensures second_copy_after_skew_max { MeetAllBut is_asked_for_all covers (link 1000) from_one (timed 2000 4000 100 1101 0) after_skew_max
+        × (forwarded (link 1000) (events_of after_skew_max) ≡ frame_at 1 1101 ∷ frame_at 1 100 ∷ []) }
+    ensures overtaken_though_one_network_loses_nothing { MeetAllBut is_asked_for_all apart (link 1000) from_one (timed 1000 4000 100 1100 0) overtaken
+        × (forwarded (link 1000) (events_of overtaken) ≡ frame_at 3 2100 ∷ frame_at 1 100 ∷ []) }
+    ensures window_lost_on_both_networks { MeetAllBut is_asked_for_all losses (link 1000) from_one timing two_lost × (forwarded (link 1000) (events_of two_lost) ≡ frame_at 1 100 ∷ []) }
+    ensures begun_far_apart { MeetAllBut is_asked_for_all near (link 128000) from_one (timed 1000 200000 100 100 0) far_apart × (forwarded (link 128000) (events_of far_apart) ≡ frame_at 1 100 ∷ []) }
+    ensures restart_in_skew_max { MeetAllBut is_asked_for_all restarts (link 1000) from_57 (timed 1000 1000 100 100 0) soon_restarted
+        × (forwarded (link 1000) (events_of soon_restarted) ≡ frame_at 57 100 ∷ []) }
+    ensures late_by_128_frames { MeetAllBut is_asked_for_once late wide_link from_one (timed 1000 300000 100 128100 0) far_behind
+        × (forwarded wide_link (events_of far_behind) ≡ frame_at 1 128100 ∷ frame_at 129 128100 ∷ frame_at 65 64100 ∷ frame_at 1 100 ∷ []) }
+    ensures late_by_a_restart { MeetAllBut is_asked_for_once late_restart (link 1000) from_57 (timed 2000 2000 100 100 2000) behind_a_restart
+        × (forwarded (link 1000) (events_of behind_a_restart) ≡ frame_at 57 100 ∷ frame_at 0 2100 ∷ frame_at 57 100 ∷ []) }
 {}

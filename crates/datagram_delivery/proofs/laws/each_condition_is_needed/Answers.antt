@@ -1,8 +1,8 @@
-use Rattle.datagram_delivery.proofs.Examples.{fifth_gives_up, mixed}
+use Rattle.datagram_delivery.proofs.Examples.{are_mixed, fifth_gives_up}
 use Rattle.datagram_delivery.proofs.laws.each_condition_is_needed.Goals as goal
 
 pub returns : goal.returns
 returns c = record {
   fifth_group = fifth_gives_up;
-  identification_again = mixed;
+  identification_again = are_mixed;
 }

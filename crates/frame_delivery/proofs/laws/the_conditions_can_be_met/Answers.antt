@@ -1,8 +1,10 @@
-use Rattle.frame_delivery.proofs.Examples.{all_met, met_forwarded}
+use Rattle.frame_delivery.proofs.Examples.{all_met, long_forwarded, long_met, met_forwarded}
 use Rattle.frame_delivery.proofs.laws.the_conditions_can_be_met.Goals as goal
 
 pub returns : goal.returns
 returns c = record {
   met = all_met;
+  with_a_long_skew_max = long_met;
   forwarded = met_forwarded;
+  forwarded_with_it = long_forwarded;
 }

@@ -1,0 +1,38 @@
+-- The conditions, one by one, are what the laws ask.
+use Rattle.std.proofs.Common.{List, refl}
+use Rattle.es_base.specs.Settings.{Settings}
+use Rattle.frame_delivery.specs.Sending.{Copy, Numbering}
+use Rattle.frame_delivery.specs.Once.{passing}
+use Rattle.frame_delivery.specs.Network.{BeginNear, ComeTimely, ComeWhole, IsNeverLate, Timing}
+use Rattle.frame_delivery.specs.Conditions.{MeetAll, apart, covers, is_asked_for_all, is_asked_for_once, late, late_restart, losses, near, restarts}
+
+pub come_whole : (settings : Settings) (numbering : Numbering) (timing : Timing) (copies : List Copy) → MeetAll is_asked_for_all settings numbering timing copies → ComeWhole settings numbering timing copies
+come_whole settings numbering timing copies meet =
+    let (are, met) = meet in
+    record {
+      timely = record {
+        redundancy = are.redundancy;
+        first = are.first;
+        numbers = are.numbers;
+        times = are.times;
+        fits = record { covers = met covers refl; restarts = met restarts refl };
+      };
+      near = (met near refl).0;
+      losses = met losses refl;
+      apart = met apart refl;
+    }
+
+pub come_once : (settings : Settings) (numbering : Numbering) (timing : Timing) (copies : List Copy) → MeetAll is_asked_for_once settings numbering timing copies
+    → ComeTimely settings numbering timing copies × IsNeverLate timing × BeginNear settings.skew_max (passing settings copies)
+come_once settings numbering timing copies meet =
+    let (are, met) = meet in (
+      record {
+        redundancy = are.redundancy;
+        first = are.first;
+        numbers = are.numbers;
+        times = are.times;
+        fits = record { covers = met covers refl; restarts = met restarts refl };
+      },
+      record { frames = met late refl; restarts = met late_restart refl },
+      (met near refl).1,
+    )

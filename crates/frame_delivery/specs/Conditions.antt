@@ -1,0 +1,72 @@
+-- The conditions on the sender and the networks, each with a name, and copies that meet all that a law asks but one.
+use Rattle.std.specs.Prelude.{◌≡◌, ◌+◌, ◌*◌, ◌≤◌, ◌<◌, Bool, true, false, List}
+use Rattle.es_base.specs.Settings.{Settings}
+use Rattle.frame_delivery.specs.Sending.{Copy, HaveNumbers, Numbering}
+use Rattle.frame_delivery.specs.Once.{passing}
+use Rattle.frame_delivery.specs.Network.{BeginNear, HasNoOvertaking, KeepsTimes, LosesFew, Timing}
+
+pub data Condition : Type 0 where
+  -- SkewMax covers what the times on the way differ by
+  covers : Condition
+  -- SkewMax is over before the sender restarts
+  restarts : Condition
+  -- the networks begin near each other
+  near : Condition
+  -- each network loses few in a row
+  losses : Condition
+  -- no copy of a frame comes after one of a later frame
+  apart : Condition
+  -- no copy is taken so late that 128 frames more came before it
+  late : Condition
+  -- nor the first after a restart
+  late_restart : Condition
+
+-- what a condition says
+abbrev pub IsMet : Condition → Settings → Numbering → Timing → List Copy → Type 0
+IsMet covers settings numbering timing copies = timing.greatest ≤ timing.least + settings.skew_max
+IsMet restarts settings numbering timing copies = timing.greatest + settings.skew_max < timing.least + timing.pause
+IsMet near settings numbering timing copies = BeginNear settings.skew_max copies × BeginNear settings.skew_max (passing settings copies)
+IsMet losses settings numbering timing copies = LosesFew numbering settings.window copies
+IsMet apart settings numbering timing copies = HasNoOvertaking timing
+IsMet late settings numbering timing copies = timing.greatest + timing.wait < timing.least + 128 * timing.gap
+IsMet late_restart settings numbering timing copies = timing.greatest + timing.wait < timing.least + timing.pause
+
+-- those that `no_frame_is_lost` asks
+abbrev pub is_asked_for_all : Condition → Bool
+is_asked_for_all covers = true
+is_asked_for_all restarts = true
+is_asked_for_all near = true
+is_asked_for_all losses = true
+is_asked_for_all apart = true
+is_asked_for_all late = false
+is_asked_for_all late_restart = false
+
+-- those that `no_frame_is_forwarded_twice` asks
+abbrev pub is_asked_for_once : Condition → Bool
+is_asked_for_once covers = true
+is_asked_for_once restarts = true
+is_asked_for_once near = true
+is_asked_for_once losses = false
+is_asked_for_once apart = false
+is_asked_for_once late = true
+is_asked_for_once late_restart = true
+
+-- what both laws ask besides: redundancy management is on, and the copies are those of a sender's frames, and come at
+-- the times that are named
+pub record AreCopies (settings : Settings) (numbering : Numbering) (timing : Timing) (copies : List Copy) : Type 0 where
+  pub redundancy : settings.redundancy ≡ true
+  pub first : numbering.first ≤ 255
+  pub numbers : HaveNumbers numbering copies
+  pub times : KeepsTimes numbering timing copies
+
+-- all conditions that a law asks are met
+abbrev pub MeetAll : (Condition → Bool) → Settings → Numbering → Timing → List Copy → Type 0
+MeetAll is_asked settings numbering timing copies =
+    AreCopies settings numbering timing copies × ((condition : Condition) → is_asked condition ≡ true → IsMet condition settings numbering timing copies)
+
+-- all are met but this one
+pub record MeetAllBut (is_asked : Condition → Bool) (one : Condition) (settings : Settings) (numbering : Numbering) (timing : Timing) (copies : List Copy) : Type 0 where
+  pub are : AreCopies settings numbering timing copies
+  pub asked : is_asked one ≡ true
+  pub others : (other : Condition) → is_asked other ≡ true → (other ≡ one → ⊥) → IsMet other settings numbering timing copies
+  pub not_met : IsMet one settings numbering timing copies → ⊥
