@@ -9,6 +9,7 @@ pub mod Unused
 pub mod Slices
 pub mod Origins
 pub mod Parts
+pub mod Few
 pub mod Interleaved
 pub mod Bringing
 pub mod Messages

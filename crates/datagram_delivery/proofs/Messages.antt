@@ -23,7 +23,7 @@ use Rattle.datagram_delivery.proofs.Standing.{absent_place, key_itself}
 use Rattle.datagram_delivery.proofs.Splits.{last_completes}
 use Rattle.datagram_delivery.proofs.Offered.{deliveries_are, forwarded_brings, groups_are}
 use Rattle.datagram_delivery.proofs.Datagrams.{all_sent_are_delivered, offers_join}
-use Rattle.datagram_delivery.proofs.Unused.{all_begun, first_front, same_groups, same_room, unused_begins}
+use Rattle.datagram_delivery.proofs.Unused.{all_begun, first_front, same_begin, same_groups, same_room, unused_begins}
 use Rattle.datagram_delivery.proofs.Interleaved.{all_ended_are_delivered}
 
 -- ---- any packets
@@ -60,16 +60,17 @@ split_delivered settings numbering timing packet copy before first during earlie
     let ours : List Offer = during ++ first ∷ [] in
     let each = each_first_is_forwarded settings numbering timing (copy ∷ before) come in
     let is : is_forwarded settings (events_of before) (arrival_of copy.event) ≡ true = each.0 ∙ ap not is_first in
-    let alone = unused_begins limit key first.time earlier standing (all_begun limit earlier) split.unused in
-    let front = first_front limit key first during split.fronts split.begins in
+    let alone = unused_begins limit key first.time earlier standing (all_begun limit earlier) split.parts.unused in
+    let front = first_front limit key first during split.parts.fronts split.parts.begins in
     let groups : groups_in settings (events_of before) ≡ groups_after_offers limit alone.others ours =
     groups_are settings packet before each.1 carry.1 ∙ ap (groups_after_offers limit []) (same ∙ sym (append_assoc during (first ∷ []) earlier)) ∙ offers_join limit [] ours earlier
-    ∙ same_groups limit key first during standing alone.others split.begins front alone.found alone.absent in
-    let room = same_room limit key first during standing alone.others split.begins front alone.found alone.absent split.room in
-    let completes = last_completes limit alone.others key ours last (absent_place key alone.others alone.absent) split.fronts room (key_itself key) split.ends in
+    ∙ same_groups limit key first during standing alone.others split.parts.begins front alone.found alone.absent in
+    let begun = same_begin limit key first standing alone.others split.parts.begins front alone.found alone.absent in
+    let room = same_room limit key first during standing alone.others split.parts.begins begun split.room in
+    let completes = last_completes limit alone.others key ours last (absent_place key alone.others alone.absent) split.parts.fronts room (key_itself key) split.parts.ends in
     forwarded_brings settings (events_of before) (arrival_of copy.event) (packet copy.index) is carry.0
     ∙ ap (λ groups. brought (packet_payload settings.ports limit groups (packet copy.index) copy.event.time)) groups
-    ∙ whole_brings settings (groups_after_offers limit alone.others ours) last (joined (pieces_of key ours) ++ last.packet.octets) payload completes split.admits
+    ∙ whole_brings settings (groups_after_offers limit alone.others ours) last (joined (pieces_of key ours) ++ last.packet.octets) payload completes split.parts.admits
   where
     whole_brings : (settings : Settings) (groups : List Group) (offer : Offer) (octets : List ℕ) (payload : Payload)
         → fate settings.reassembly groups offer.packet offer.time ≡ whole octets true

@@ -7,10 +7,10 @@ use Rattle.es_base.specs.Packet.{PacketParts}
 use Rattle.es_base.specs.Copies.{elapsed}
 use Rattle.es_base.specs.Fragments.{Piece, datagram_from, is_whole, key_of, piece_of}
 use Rattle.es_base.specs.Groups.{Found, Group, begin_or, begins, datagram_with, fate, fate_if, found_at, found_for, found_if, groups_after, groups_with, has_key, held, is_over, is_same_key, joins, pieces_with, place_of, whole, with_room}
-use Rattle.datagram_delivery.specs.Splitting.{AreFronts, IsFront, IsLast, Offer, LeavesRoom, begins_group, begun_since, groups_after_offers, is_of, joined, pieces_of}
+use Rattle.datagram_delivery.specs.Splitting.{AreFronts, IsFront, IsLast, Offer, LeavesRoom, begins_group, begun_meanwhile, begun_since, groups_after_offers, is_of, joined, pieces_of}
 use Rattle.datagram_delivery.specs.Datagrams.{AreOf}
 use Rattle.datagram_delivery.proofs.Places.{place_here, place_later}
-use Rattle.datagram_delivery.proofs.Standing.{IsAbsent, Stands, absent_after, absent_place, absent_room, key_itself, place_absent, same_key, stands_after}
+use Rattle.datagram_delivery.proofs.Standing.{IsAbsent, Stands, absent_after, absent_place, absent_room, key_itself, place_absent, same_key, stands_after, stands_exactly}
 use Rattle.datagram_delivery.proofs.Rows.{AreFollowed, AreInRow, row_is_held, row_is_joined}
 
 -- ---- the group of the key, where it stands
@@ -126,7 +126,8 @@ fronts_row limit key (offer ∷ before) fronts =
     (cases_Bool (is_of key offer))
 
 other_state : (limit : ℕ) (key : DatagramKey) (earlier : List Piece) (n : ℕ) (groups : List Group) (offer : Offer) → is_of key offer ≡ false → IsState key earlier n groups
-    → begins_group limit groups offer.packet offer.time ≡ true → n < 3 → IsState key earlier (suc n) (groups_after limit groups offer.packet offer.time)
+    → begins_group limit groups offer.packet offer.time ≡ true → begun_meanwhile limit groups key offer.packet offer.time < 3
+    → IsState key earlier (suc (begun_meanwhile limit groups key offer.packet offer.time)) (groups_after limit groups offer.packet offer.time)
 other_state limit key [] n groups offer other state begun few = absent_after limit key groups offer.packet offer.time other state
 other_state limit key (first ∷ earlier) n groups offer other state begun few =
     (stands_after limit key (first ∷ earlier) n groups offer.packet offer.time other state).0 begun few
@@ -138,17 +139,6 @@ same_state limit key (first ∷ earlier) n groups offer other state begun =
     (stands_after limit key (first ∷ earlier) n groups offer.packet offer.time other state).1 begun
 
 -- the number of groups that began later, as it is
-stands_exactly : (key : DatagramKey) (pieces : List Piece) (n : ℕ) (groups : List Group) → Stands key pieces n groups → Stands key pieces (begun_since key groups) groups
-stands_exactly key pieces n [] stands = absurd stands
-stands_exactly key pieces n (group ∷ groups) (inl here) =
-    let ours : has_key key group ≡ true = ap (λ (g : Group). is_same_key g.key key) here.0 ∙ key_itself key in
-    inl (here.0, rw ours (omega arith))
-stands_exactly key pieces n (group ∷ groups) (inr later) =
-    inr (later.0, subst (λ (m : ℕ). Stands key pieces m groups) (sym (since_others key group groups later.0)) (stands_exactly key pieces n groups later.1))
-  where
-    since_others : (key : DatagramKey) (group : Group) (groups : List Group) → has_key key group ≡ false → begun_since key (group ∷ groups) ≡ begun_since key groups
-    since_others key group groups other = rw other refl
-
 exactly : (key : DatagramKey) (pieces : List Piece) (n : ℕ) (groups : List Group) → IsState key pieces n groups → IsState key pieces (begun_since key groups) groups
 exactly key [] n groups state = state
 exactly key (piece ∷ earlier) n groups state = stands_exactly key (piece ∷ earlier) n groups state
@@ -169,7 +159,7 @@ state_after limit groups key (offer ∷ before) absent fronts room =
     ⊎_elim
     (λ (begun : begins_group limit standing offer.packet offer.time ≡ true).
     let new = other_state limit key (pieces_of key before) n standing offer other state begun (room.0 other begun) in
-    rw other (exactly key (pieces_of key before) (suc n) (groups_after limit standing offer.packet offer.time) new))
+    rw other (exactly key (pieces_of key before) (suc (begun_meanwhile limit standing key offer.packet offer.time)) (groups_after limit standing offer.packet offer.time) new))
     (λ (not_begun : begins_group limit standing offer.packet offer.time ≡ false).
     let new = same_state limit key (pieces_of key before) n standing offer other state not_begun in
     rw other (exactly key (pieces_of key before) n (groups_after limit standing offer.packet offer.time) new))

@@ -8,7 +8,7 @@ use Rattle.es_base.specs.Limits.{most_partials}
 use Rattle.es_base.specs.Packet.{PacketParts}
 use Rattle.es_base.specs.Fragments.{Piece, is_bad, is_whole, key_of, piece_of}
 use Rattle.es_base.specs.Groups.{Found, Group, begins, datagram_with, found_at, found_for, found_if, group_with, groups_after, groups_with, has_key, is_over, is_same_key, joins, place_of, with_room, without}
-use Rattle.datagram_delivery.specs.Splitting.{begins_group, is_beginning}
+use Rattle.datagram_delivery.specs.Splitting.{begins_group, begun_meanwhile, begun_since, is_beginning, others_in}
 use Rattle.datagram_delivery.proofs.Places.{later_place, place_here, place_later}
 
 -- ---- keys
@@ -206,8 +206,8 @@ found_in limit groups key now = at (place_of key groups) refl
 pub after_other : (limit : ℕ) (groups : List Group) (packet : PacketParts) (now : ℕ) (P Q : List Group → Type 0) → P groups
     → ((place : ℕ) → place_of (key_of packet) groups ≡ Some place → P (remove groups place))
     → ((place : ℕ) (group : Group) → place_of (key_of packet) groups ≡ Some place → slice_get groups place ≡ Some group → P (slice_set groups place (group_with group (piece_of packet now))))
-    → (begins_group limit groups packet now ≡ true → (others : List Group) → P others → Q (with_room others))
-    → (begins_group limit groups packet now ≡ true → (others : List Group) → P others → Q (with_room others ++ record { key = key_of packet; pieces = piece_of packet now ∷ [] } ∷ []))
+    → (begins_group limit groups packet now ≡ true → (others : List Group) → found_for limit groups (key_of packet) now ≡ begins others → P others → Q (with_room others))
+    → (begins_group limit groups packet now ≡ true → (others : List Group) → found_for limit groups (key_of packet) now ≡ begins others → P others → Q (with_room others ++ record { key = key_of packet; pieces = piece_of packet now ∷ [] } ∷ []))
     → (begins_group limit groups packet now ≡ true → Q (groups_after limit groups packet now)) × (begins_group limit groups packet now ≡ false → P (groups_after limit groups packet now))
 unfolding groups_after IsFoundIn
 after_other limit groups packet now P Q before removed put room push = go (is_whole packet) (is_bad packet) refl refl
@@ -229,8 +229,8 @@ after_other limit groups packet now P Q before removed put room push = go (is_wh
     begun : (found : Found) → found_for limit groups key now ≡ found → IsFoundIn groups key found → is_beginning found ≡ true → begins_group limit groups packet now ≡ true
         → (whole : Bool) → Q (groups_with groups key (piece_of packet now) found whole)
     begun (joins place group) is found true_is is_begun whole = cc
-    begun (begins others) is found true_is is_begun true = room is_begun others (stood others found)
-    begun (begins others) is found true_is is_begun false = push is_begun others (stood others found)
+    begun (begins others) is found true_is is_begun true = room is_begun others is (stood others found)
+    begun (begins others) is found true_is is_begun false = push is_begun others is (stood others found)
 
     kept : (found : Found) → IsFoundIn groups key found → is_beginning found ≡ false → (whole : Bool) → P (groups_with groups key (piece_of packet now) found whole)
     kept (joins place group) found none true = removed place found.0
@@ -253,21 +253,41 @@ pub absent_after : (limit : ℕ) (key : DatagramKey) (groups : List Group) (pack
 absent_after limit key groups packet now other absent =
     let both = after_other limit groups packet now (IsAbsent key) (IsAbsent key) absent (λ place there. absent_remove key groups place absent)
     (λ place group there got. absent_set key groups place group (piece_of packet now) absent got)
-    (λ is others standing. absent_room key others standing)
-    (λ is others standing. absent_push key (with_room others) (record { key = key_of packet; pieces = piece_of packet now ∷ [] }) (absent_room key others standing) other) in
+    (λ is others found standing. absent_room key others standing)
+    (λ is others found standing. absent_push key (with_room others) (record { key = key_of packet; pieces = piece_of packet now ∷ [] }) (absent_room key others standing) other) in
     ⊎_elim
     (λ (is : begins_group limit groups packet now ≡ true). both.0 is)
     (λ (is : begins_group limit groups packet now ≡ false). both.1 is)
     (cases_Bool (begins_group limit groups packet now))
 
+-- the number of groups that began later, as it is
+pub stands_exactly : (key : DatagramKey) (pieces : List Piece) (n : ℕ) (groups : List Group) → Stands key pieces n groups → Stands key pieces (begun_since key groups) groups
+stands_exactly key pieces n [] stands = absurd stands
+stands_exactly key pieces n (group ∷ groups) (inl here) =
+    let ours : has_key key group ≡ true = ap (λ (g : Group). is_same_key g.key key) here.0 ∙ key_itself key in
+    inl (here.0, rw ours (omega arith))
+stands_exactly key pieces n (group ∷ groups) (inr later) =
+    inr (later.0, subst (λ (m : ℕ). Stands key pieces m groups) (sym (since_others key group groups later.0)) (stands_exactly key pieces n groups later.1))
+  where
+    since_others : (key : DatagramKey) (group : Group) (groups : List Group) → has_key key group ≡ false → begun_since key (group ∷ groups) ≡ begun_since key groups
+    since_others key group groups other = rw other refl
+
 pub stands_after : (limit : ℕ) (key : DatagramKey) (pieces : List Piece) (n : ℕ) (groups : List Group) (packet : PacketParts) (now : ℕ) → is_same_key (key_of packet) key ≡ false
     → Stands key pieces n groups
-    → (begins_group limit groups packet now ≡ true → n < 3 → Stands key pieces (suc n) (groups_after limit groups packet now))
+    → (begins_group limit groups packet now ≡ true → begun_meanwhile limit groups key packet now < 3
+    → Stands key pieces (suc (begun_meanwhile limit groups key packet now)) (groups_after limit groups packet now))
     × (begins_group limit groups packet now ≡ false → Stands key pieces n (groups_after limit groups packet now))
 stands_after limit key pieces n groups packet now other stands =
     let differ = other_way (key_of packet) key other in
-    after_other limit groups packet now (Stands key pieces n) (λ after. n < 3 → Stands key pieces (suc n) after) stands
+    let m : ℕ = begun_meanwhile limit groups key packet now in
+    after_other limit groups packet now (Stands key pieces n) (λ after. begun_meanwhile limit groups key packet now < 3 → Stands key pieces (suc (begun_meanwhile limit groups key packet now)) after) stands
     (λ place there. stands_remove key (key_of packet) pieces n groups place differ stands there)
     (λ place group there got. stands_set key (key_of packet) pieces n groups place group (piece_of packet now) differ stands there got)
-    (λ is others standing few. stands_more key pieces n (suc n) (with_room others) (omega arith) (stands_room key pieces n others few standing))
-    (λ is others standing few. stands_push key pieces n (with_room others) (record { key = key_of packet; pieces = piece_of packet now ∷ [] }) (stands_room key pieces n others few standing))
+    (λ is others found standing few. stands_more key pieces m (suc m) (with_room others) (omega arith) (stands_there others found standing few))
+    (λ is others found standing few. stands_push key pieces m (with_room others) (record { key = key_of packet; pieces = piece_of packet now ∷ [] }) (stands_there others found standing few))
+  where
+    stands_there : (others : List Group) → found_for limit groups (key_of packet) now ≡ begins others → Stands key pieces n others → begun_meanwhile limit groups key packet now < 3
+        → Stands key pieces (begun_meanwhile limit groups key packet now) (with_room others)
+    stands_there others found standing few =
+        let e : begun_since key others ≡ begun_meanwhile limit groups key packet now = sym (ap (λ (f : Found). begun_since key (others_in f)) found) in
+        stands_room key pieces (begun_meanwhile limit groups key packet now) others few (subst (λ (m : ℕ). Stands key pieces m others) e (stands_exactly key pieces n others standing))

@@ -10,7 +10,7 @@ use Rattle.es_base.specs.Copies.{elapsed}
 use Rattle.es_base.specs.Fragments.{Piece, datagram_from, is_bad, is_whole, key_of, piece_of}
 use Rattle.es_base.specs.Groups.{Found, Group, begin_of, begin_or, begins, datagram_with, found_at, found_for, found_if, group_with, groups_after, groups_with, has_key, is_over, is_same_key, joins, pieces_with, place_of, with_room, without}
 use Rattle.es_base.proofs.Firsts.{found_at as found_place, passes_found}
-use Rattle.datagram_delivery.specs.Splitting.{AreFronts, IsFront, LeavesRoom, Offer, are_some, begins_group, begun_since, groups_after_offers, is_of}
+use Rattle.datagram_delivery.specs.Splitting.{AreFronts, IsFront, LeavesRoom, Offer, are_some, begins_group, begun_meanwhile, groups_after_offers, is_of}
 use Rattle.datagram_delivery.specs.Datagrams.{IsUnused}
 use Rattle.datagram_delivery.proofs.Places.{later_place, place_here, place_later}
 use Rattle.datagram_delivery.proofs.Splits.{more_not_whole}
@@ -46,7 +46,7 @@ begun_at before [] i group have at = cc
 begun_at before (first ∷ groups) zero group have at = subst (Begun before) (same_Some first group at) have.0
 begun_at before (first ∷ groups) (suc i) group have at = begun_at before groups i group have.2 at
 
-begun_remove : (before : List Offer) (groups : List Group) (i : ℕ) → AreBegun before groups → AreBegun before (remove groups i)
+pub begun_remove : (before : List Offer) (groups : List Group) (i : ℕ) → AreBegun before groups → AreBegun before (remove groups i)
 begun_remove before [] zero have = tt
 begun_remove before [] (suc i) have = tt
 begun_remove before (group ∷ groups) zero have = have.2
@@ -90,7 +90,7 @@ removed_absent before key (group ∷ groups) place have there =
 -- ---- the groups after offers
 
 -- what a key finds: a group that it has, or no group of it among others
-IsFoundThere : List Group → DatagramKey → Found → Type 0
+unfoldable pub IsFoundThere : List Group → DatagramKey → Found → Type 0
 IsFoundThere groups key (joins place group) = slice_get groups place ≡ Some group
 IsFoundThere groups key (begins others) = IsAbsent key others × ((others ≡ groups) ⊎ ((place : ℕ) × (others ≡ remove groups place)))
 
@@ -107,7 +107,7 @@ place_has key (group ∷ groups) place there none =
     place_has key groups j after (ap (slice_get (group ∷ groups)) (sym e) ∙ none))
     (cases_Bool (has_key key group))
 
-found_there : (limit : ℕ) (before : List Offer) (groups : List Group) (key : DatagramKey) (now : ℕ) → AreBegun before groups → IsFoundThere groups key (found_for limit groups key now)
+pub found_there : (limit : ℕ) (before : List Offer) (groups : List Group) (key : DatagramKey) (now : ℕ) → AreBegun before groups → IsFoundThere groups key (found_for limit groups key now)
 unfolding IsFoundThere
 found_there limit before groups key now have = at (place_of key groups) refl
   where
@@ -127,7 +127,7 @@ pub begin_same : (one two : ℕ) (pieces : List Piece) → are_some pieces ≡ t
 begin_same one two [] some = cc
 begin_same one two (piece ∷ earlier) some = refl
 
-begun_after : (limit : ℕ) (offer : Offer) (before : List Offer) (groups : List Group) → AreBegun before groups → AreBegun (offer ∷ before) (groups_after limit groups offer.packet offer.time)
+pub begun_after : (limit : ℕ) (offer : Offer) (before : List Offer) (groups : List Group) → AreBegun before groups → AreBegun (offer ∷ before) (groups_after limit groups offer.packet offer.time)
 unfolding groups_after IsFoundThere
 begun_after limit offer before groups have = go (is_whole offer.packet) (is_bad offer.packet) refl refl
   where
@@ -178,15 +178,16 @@ unused_at limit key time offer (other ∷ before) unused (inl same) is = subst (
 unused_at limit key time offer (other ∷ before) unused (inr among) is = unused_at limit key time offer before unused.1 among is
 
 -- it begins a group, and no other of the key stands
-pub record BeginsAlone (limit : ℕ) (groups : List Group) (key : DatagramKey) (now : ℕ) : Type 0 where
+pub record BeginsAlone (limit : ℕ) (before : List Offer) (groups : List Group) (key : DatagramKey) (now : ℕ) : Type 0 where
   pub others : List Group
+  pub begun : AreBegun before others
   pub found : found_for limit groups key now ≡ begins others
   pub absent : IsAbsent key others
 
-pub unused_begins : (limit : ℕ) (key : DatagramKey) (now : ℕ) (before : List Offer) (groups : List Group) → AreBegun before groups → IsUnused limit key now before → BeginsAlone limit groups key now
+pub unused_begins : (limit : ℕ) (key : DatagramKey) (now : ℕ) (before : List Offer) (groups : List Group) → AreBegun before groups → IsUnused limit key now before → BeginsAlone limit before groups key now
 unused_begins limit key now before groups have unused = at (place_of key groups) refl
   where
-    got : (place : ℕ) → place_of key groups ≡ Some place → (group : Option Group) → slice_get groups place ≡ group → BeginsAlone limit groups key now
+    got : (place : ℕ) → place_of key groups ≡ Some place → (group : Option Group) → slice_get groups place ≡ group → BeginsAlone limit before groups key now
     got place there None is = absurd (place_has key groups place there is)
     got place there (Some group) is =
         let o = begun_at before groups place group have is in
@@ -197,12 +198,13 @@ unused_begins limit key now before groups have unused = at (place_of key groups)
         let over : is_over limit now group ≡ true = lt-ltb limit (elapsed now (begin_of group)) (omega (arith, old, begin)) in
         record {
           others = remove groups place;
+          begun = begun_remove before groups place have;
           found = ap (found_at limit groups now) there ∙ ap (found_if limit groups now place) is ∙ rw over refl;
           absent = removed_absent before key groups place have there;
         }
 
-    at : (place : Option ℕ) → place_of key groups ≡ place → BeginsAlone limit groups key now
-    at None is = record { others = groups; found = ap (found_at limit groups now) is; absent = place_absent key groups is }
+    at : (place : Option ℕ) → place_of key groups ≡ place → BeginsAlone limit before groups key now
+    at None is = record { others = groups; begun = have; found = ap (found_at limit groups now) is; absent = place_absent key groups is }
     at (Some place) is = got place is (slice_get groups place) refl
 
 -- ---- so the datagram that it begins finds what it would find among others without the key
@@ -212,7 +214,7 @@ pub first_front : (limit : ℕ) (key : DatagramKey) (first : Offer) (during : Li
 first_front limit key first [] fronts ours = fronts.0 ours
 first_front limit key first (offer ∷ during) fronts ours = first_front limit key first during fronts.1 ours
 
-same_begin : (limit : ℕ) (key : DatagramKey) (first : Offer) (groups others : List Group) → is_of key first ≡ true → IsFront limit [] first → found_for limit groups key first.time ≡ begins others → IsAbsent key others
+pub same_begin : (limit : ℕ) (key : DatagramKey) (first : Offer) (groups others : List Group) → is_of key first ≡ true → IsFront limit [] first → found_for limit groups key first.time ≡ begins others → IsAbsent key others
     → groups_after limit groups first.packet first.time ≡ groups_after limit others first.packet first.time
 unfolding groups_after
 same_begin limit key first groups others ours front found absent =
@@ -240,12 +242,19 @@ same_groups limit key first [] groups others ours front found absent = same_begi
 same_groups limit key first (offer ∷ during) groups others ours front found absent =
     ap (λ groups. groups_after limit groups offer.packet offer.time) (same_groups limit key first during groups others ours front found absent)
 
-pub same_room : (limit : ℕ) (key : DatagramKey) (first : Offer) (during : List Offer) (groups others : List Group) → is_of key first ≡ true → IsFront limit [] first → found_for limit groups key first.time ≡ begins others
-    → IsAbsent key others → LeavesRoom limit groups key (during ++ first ∷ []) → LeavesRoom limit others key (during ++ first ∷ [])
-same_room limit key first [] groups others ours front found absent room = (λ other begun. absurd (both_ways (is_of key first) other ours), tt)
-same_room limit key first (offer ∷ during) groups others ours front found absent room =
-    let same = same_groups limit key first during groups others ours front found absent in (
+-- and others leave it the same room
+pub same_room : (limit : ℕ) (key : DatagramKey) (first : Offer) (during : List Offer) (one two : List Group) → is_of key first ≡ true
+    → groups_after_offers limit one (first ∷ []) ≡ groups_after_offers limit two (first ∷ []) → LeavesRoom limit one key (during ++ first ∷ []) → LeavesRoom limit two key (during ++ first ∷ [])
+same_room limit key first [] one two ours same room = (λ other begun. absurd (both_ways (is_of key first) other ours), tt)
+same_room limit key first (offer ∷ during) one two ours same room =
+    let e = same_after during same in (
       λ other begun.
-          subst (λ (standing : List Group). begun_since key standing < 3) same (room.0 other (subst (λ (standing : List Group). begins_group limit standing offer.packet offer.time ≡ true) (sym same) begun)),
-      same_room limit key first during groups others ours front found absent room.1,
+          subst (λ (standing : List Group). begun_meanwhile limit standing key offer.packet offer.time < 3) e
+          (room.0 other (subst (λ (standing : List Group). begins_group limit standing offer.packet offer.time ≡ true) (sym e) begun)),
+      same_room limit key first during one two ours same room.1,
     )
+  where
+    same_after : (during : List Offer) → groups_after_offers limit one (first ∷ []) ≡ groups_after_offers limit two (first ∷ [])
+        → groups_after_offers limit one (during ++ first ∷ []) ≡ groups_after_offers limit two (during ++ first ∷ [])
+    same_after [] same = same
+    same_after (offer ∷ during) same = ap (λ groups. groups_after limit groups offer.packet offer.time) (same_after during same)

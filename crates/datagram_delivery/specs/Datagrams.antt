@@ -68,19 +68,22 @@ IsUnused limit key time [] = Unit {0}
 IsUnused limit key time (offer ∷ before) = (is_of key offer ≡ true → offer.time + limit < time) × IsUnused limit key time before
 
 -- A datagram that is sent in fragments, among other packets: `first` is its first fragment, `last` its last, `during`
--- came between the two, and `earlier` before. Its identification wasn't used within the limit of time, and of the groups
--- that others begin after it at most three stand at a time.
-pub record IsSplitAmong (settings : Settings) (payload : Payload) (earlier : List Offer) (first : Offer) (during : List Offer) (last : Offer) : Type 0 where
+-- came between the two, and `earlier` before. Its identification wasn't used within the limit of time.
+pub record IsSplitInOrder (settings : Settings) (payload : Payload) (earlier : List Offer) (first : Offer) (during : List Offer) (last : Offer) : Type 0 where
   pub begins : is_of (key_of last.packet) first ≡ true
   pub unused : IsUnused settings.reassembly (key_of last.packet) first.time earlier
   pub fronts : AreFronts settings.reassembly (key_of last.packet) (during ++ first ∷ [])
-  pub room : LeavesRoom settings.reassembly (groups_after_offers settings.reassembly [] earlier) (key_of last.packet) (during ++ first ∷ [])
   pub ends : IsLast settings.reassembly (pieces_of (key_of last.packet) (during ++ first ∷ [])) last
   pub admits : datagram_payload settings.ports (record {
     destination = last.packet.destination;
     joined = true;
     octets = joined (pieces_of (key_of last.packet) (during ++ first ∷ [])) ++ last.packet.octets;
   }) ≡ Ok payload
+
+-- and of the groups that others begin after it at most three stand at a time
+pub record IsSplitAmong (settings : Settings) (payload : Payload) (earlier : List Offer) (first : Offer) (during : List Offer) (last : Offer) : Type 0 where
+  pub parts : IsSplitInOrder settings payload earlier first during last
+  pub room : LeavesRoom settings.reassembly (groups_after_offers settings.reassembly [] earlier) (key_of last.packet) (during ++ first ∷ [])
 
 -- ---- datagrams one after another
 

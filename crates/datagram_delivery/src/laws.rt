@@ -7,14 +7,15 @@ ghost use Rattle.es_base.specs.Settings.{Settings};
 ghost use Rattle.es_base.specs.Limits.{most_samples};
 ghost use Rattle.es_base.specs.Past.{arrival_of};
 ghost use Rattle.es_base.specs.Packet.{PacketParts};
+ghost use Rattle.es_base.specs.Fragments.{key_of};
 ghost use Rattle.es_base.specs.Groups.{Group, fate, held, place_of, whole};
 ghost use Rattle.es_base.specs.Outcome.{Payload, brings, outcome};
 ghost use Rattle.es_base.specs.Deliveries.{deliveries};
 ghost use Rattle.frame_delivery.specs.Sending.{Copy, Numbering, events_of};
 ghost use Rattle.frame_delivery.specs.Once.{first_copies, has_come};
 ghost use Rattle.frame_delivery.specs.Network.{ComeWhole, Timing};
-ghost use Rattle.datagram_delivery.specs.Splitting.{AreFronts, IsLast, Offer, LeavesRoom, groups_after_offers, is_of, joined, pieces_of};
-ghost use Rattle.datagram_delivery.specs.Datagrams.{AreSent, CarryPackets, IsSplitAmong, Sent, all_offers, messages_by, messages_sent, offers_of};
+ghost use Rattle.datagram_delivery.specs.Splitting.{AreFronts, IsLast, Offer, LeavesRoom, groups_after_offers, is_of, joined, other_keys, pieces_of};
+ghost use Rattle.datagram_delivery.specs.Datagrams.{AreSent, CarryPackets, IsSplitAmong, IsSplitInOrder, Sent, all_offers, messages_by, messages_sent, offers_of};
 ghost use Rattle.datagram_delivery.specs.Interleaved.{AreInterleaved, Carried, carried_offers, messages_ended};
 ghost use Rattle.datagram_delivery.specs.Parts.{HaveParts, IsMessageOf, WereSentIn};
 ghost use Rattle.frame_delivery.specs.Examples.{numbering, timing};
@@ -30,6 +31,16 @@ pub fn a_split_datagram_is_joined()
     ensures whole { (limit : ℕ) (groups : List Group) (key : DatagramKey) (before : List Offer) (last : Offer) → place_of key groups ≡ None → AreFronts limit key before
         → LeavesRoom limit groups key before → is_of key last ≡ true → IsLast limit (pieces_of key before) last
         → fate limit (groups_after_offers limit groups before) last.packet last.time ≡ whole (joined (pieces_of key before) ++ last.packet.octets) true }
+{}
+
+/// It keeps its place if at most three other datagrams have a fragment between its first and its last: then of the groups
+/// that others begin at most three stand at a time. Those are datagrams as the sender counts them, each by its
+/// identification; a datagram that is sent whole isn't counted.
+pub fn three_others_leave_room()
+    ensures room { (limit : ℕ) (key : DatagramKey) (earlier offers : List Offer) → place_of key (groups_after_offers limit [] earlier) ≡ None → length (other_keys key offers) ≤ 3
+        → LeavesRoom limit (groups_after_offers limit [] earlier) key offers }
+    ensures message { (settings : Settings) (payload : Payload) (earlier : List Offer) (first : Offer) (during : List Offer) (last : Offer) → IsSplitInOrder settings payload earlier first during last
+        → length (other_keys (key_of last.packet) during) ≤ 3 → IsSplitAmong settings payload earlier first during last }
 {}
 
 /// A port gets the messages that it would get if the packet of each frame of which a copy comes was offered once, in
