@@ -1,10 +1,9 @@
 -- Where at most three other datagrams have a fragment meanwhile, a group isn't given up.
-use Rattle.std.proofs.Common.{◌≡◌, ◌∙◌, ap, sym, subst, ℕ, zero, suc, ◌<◌, ◌≤◌, inl, inr, ⊎_elim, Bool, true, false, cond, List, [], ◌∷◌, ◌++◌, length, drop, remove, Option, None, Some, is_some, refl, arith}
-use Rattle.std.specs.Prelude.{◌==◌, ◌&&◌, ◌||◌, not, ◌⊎◌, slice_get, slice_set, if◌then◌else◌}
+use Rattle.std.proofs.Common.{◌≡◌, ◌∙◌, ap, sym, subst, ℕ, zero, suc, ◌<◌, ◌≤◌, inl, inr, ⊎_elim, Bool, true, false, List, [], ◌∷◌, ◌++◌, length, remove, Option, None, Some, is_some, refl, arith}
+use Rattle.std.specs.Prelude.{◌&&◌, ◌||◌, not, ◌⊎◌, slice_get, slice_set, if◌then◌else◌}
 use Rattle.std.proofs.lemmas.Bool.{both_ways, cases_Bool, or_cases}
 use Rattle.std.proofs.lemmas.Option.{same_Some}
 use Rattle.es_base.specs.declared.fragment.DatagramKey.{DatagramKey}
-use Rattle.es_base.specs.Limits.{most_partials}
 use Rattle.es_base.specs.Packet.{PacketParts}
 use Rattle.es_base.specs.Fragments.{Piece, is_bad, is_whole, key_of, piece_of}
 use Rattle.es_base.specs.Groups.{Found, Group, begins, datagram_with, found_for, group_with, groups_after, groups_with, has_key, is_same_key, joins, place_of, with_room, without}
@@ -14,38 +13,22 @@ use Rattle.datagram_delivery.specs.Splitting.{LeavesRoom, Offer, begins_group, b
 use Rattle.datagram_delivery.specs.Datagrams.{IsSplitAmong, IsSplitInOrder}
 use Rattle.datagram_delivery.specs.Interleaved.{without_key}
 use Rattle.datagram_delivery.proofs.Open.{IsAmong, among_without}
-use Rattle.datagram_delivery.proofs.Standing.{IsAbsent, absent_room, key_itself, place_absent, same_key}
-use Rattle.datagram_delivery.proofs.Unused.{AreBegun, IsFoundThere, all_begun, begun_after, begun_remove, first_front, found_there, same_begin, same_room, unused_begins}
+use Rattle.datagram_delivery.proofs.Each.{AreDistinct, EachGroup, HasOther, IsAbsent, distinct_remove, each_at, each_more, each_push, each_remove, each_room, each_set, room_kept}
+use Rattle.datagram_delivery.proofs.Standing.{key_itself, place_absent, same_key}
+use Rattle.datagram_delivery.proofs.Unused.{AreBegun, IsFoundThere, all_begun, begun_after, first_front, found_there, same_begin, same_room, unused_begins}
 
 -- ---- keys of groups among some
 
+abbrev HasKeyAmong : List DatagramKey → Group → Type 0
+HasKeyAmong keys group = IsAmong group.key keys
+
 abbrev AreAmong : List DatagramKey → List Group → Type 0
-AreAmong keys [] = Unit {0}
-AreAmong keys (group ∷ groups) = IsAmong group.key keys × AreAmong keys groups
+AreAmong keys groups = EachGroup (HasKeyAmong keys) groups
 
 -- the groups that began after that of a key have keys among these
 abbrev AreBehind : DatagramKey → List DatagramKey → List Group → Type 0
 AreBehind key keys [] = Unit {0}
 AreBehind key keys (group ∷ groups) = (has_key key group ≡ true → AreAmong keys groups) × AreBehind key keys groups
-
-among_remove : (keys : List DatagramKey) (groups : List Group) (i : ℕ) → AreAmong keys groups → AreAmong keys (remove groups i)
-among_remove keys [] zero among = tt
-among_remove keys [] (suc i) among = tt
-among_remove keys (group ∷ groups) zero among = among.1
-among_remove keys (group ∷ groups) (suc i) among = (among.0, among_remove keys groups i among.1)
-
-among_set : (keys : List DatagramKey) (groups : List Group) (i : ℕ) (group : Group) (piece : Piece) → AreAmong keys groups → slice_get groups i ≡ Some group → AreAmong keys (slice_set groups i (group_with group piece))
-among_set keys [] i group piece among at = tt
-among_set keys (first ∷ groups) zero group piece among at = (subst (λ (g : Group). IsAmong g.key keys) (same_Some first group at) among.0, among.1)
-among_set keys (first ∷ groups) (suc i) group piece among at = (among.0, among_set keys groups i group piece among.1 at)
-
-among_more : (keys : List DatagramKey) (one : DatagramKey) (groups : List Group) → AreAmong keys groups → AreAmong (one ∷ keys) groups
-among_more keys one [] among = tt
-among_more keys one (group ∷ groups) among = (inr among.0, among_more keys one groups among.1)
-
-among_push : (keys : List DatagramKey) (groups : List Group) (group : Group) → AreAmong keys groups → IsAmong group.key keys → AreAmong keys (groups ++ group ∷ [])
-among_push keys [] group among is = (is, tt)
-among_push keys (first ∷ groups) group among is = (among.0, among_push keys groups group among.1 is)
 
 behind_none : (key : DatagramKey) (groups : List Group) → IsAbsent key groups → AreBehind key [] groups
 behind_none key [] absent = tt
@@ -53,30 +36,22 @@ behind_none key (group ∷ groups) absent = (λ is. absurd (both_ways (has_key k
 
 behind_more : (key : DatagramKey) (keys : List DatagramKey) (one : DatagramKey) (groups : List Group) → AreBehind key keys groups → AreBehind key (one ∷ keys) groups
 behind_more key keys one [] behind = tt
-behind_more key keys one (group ∷ groups) behind = (λ is. among_more keys one groups (behind.0 is), behind_more key keys one groups behind.1)
+behind_more key keys one (group ∷ groups) behind = (λ is. each_more (HasKeyAmong keys) (HasKeyAmong (one ∷ keys)) groups (λ group among. inr among) (behind.0 is), behind_more key keys one groups behind.1)
 
 behind_remove : (key : DatagramKey) (keys : List DatagramKey) (groups : List Group) (i : ℕ) → AreBehind key keys groups → AreBehind key keys (remove groups i)
 behind_remove key keys [] zero behind = tt
 behind_remove key keys [] (suc i) behind = tt
 behind_remove key keys (group ∷ groups) zero behind = behind.1
-behind_remove key keys (group ∷ groups) (suc i) behind = (λ is. among_remove keys groups i (behind.0 is), behind_remove key keys groups i behind.1)
+behind_remove key keys (group ∷ groups) (suc i) behind = (λ is. each_remove (HasKeyAmong keys) groups i (behind.0 is), behind_remove key keys groups i behind.1)
 
 behind_set : (key : DatagramKey) (keys : List DatagramKey) (groups : List Group) (i : ℕ) (group : Group) (piece : Piece) → AreBehind key keys groups → slice_get groups i ≡ Some group
     → AreBehind key keys (slice_set groups i (group_with group piece))
 behind_set key keys [] i group piece behind at = tt
 behind_set key keys (first ∷ groups) zero group piece behind at = (λ is. behind.0 (ap (λ (g : Group). is_same_key g.key key) (same_Some first group at) ∙ is), behind.1)
-behind_set key keys (first ∷ groups) (suc i) group piece behind at = (λ is. among_set keys groups i group piece (behind.0 is) at, behind_set key keys groups i group piece behind.1 at)
+behind_set key keys (first ∷ groups) (suc i) group piece behind at = (λ is. let among = behind.0 is in each_set (HasKeyAmong keys) groups i (group_with group piece) among (each_at (HasKeyAmong keys) groups i group among at), behind_set key keys groups i group piece behind.1 at)
 
 behind_room : (key : DatagramKey) (keys : List DatagramKey) (groups : List Group) → AreBehind key keys groups → AreBehind key keys (with_room groups)
-behind_room key keys groups behind = go (length groups == most_partials)
-  where
-    shorter : (groups : List Group) → AreBehind key keys groups → AreBehind key keys (drop 1 groups)
-    shorter [] behind = tt
-    shorter (group ∷ groups) behind = behind.1
-
-    go : (full : Bool) → AreBehind key keys (cond full (drop 1 groups) groups)
-    go true = shorter groups behind
-    go false = behind
+behind_room key keys groups behind = room_kept (AreBehind key keys) (λ group groups all. all.1) groups behind
 
 -- a group of the key, where no other has it
 behind_ours : (key : DatagramKey) (keys : List DatagramKey) (groups : List Group) (group : Group) → AreBehind key keys groups → IsAbsent key groups → AreBehind key keys (groups ++ group ∷ [])
@@ -86,7 +61,7 @@ behind_ours key keys (first ∷ groups) group behind absent = (λ is. absurd (bo
 -- a group of another key
 behind_push : (key : DatagramKey) (keys : List DatagramKey) (groups : List Group) (group : Group) → AreBehind key keys groups → IsAmong group.key keys → AreBehind key keys (groups ++ group ∷ [])
 behind_push key keys [] group behind is = (λ ours. tt, tt)
-behind_push key keys (first ∷ groups) group behind is = (λ ours. among_push keys groups group (behind.0 ours) is, behind_push key keys groups group behind.1 is)
+behind_push key keys (first ∷ groups) group behind is = (λ ours. each_push (HasKeyAmong keys) groups group (behind.0 ours) is, behind_push key keys groups group behind.1 is)
 
 -- ---- after a packet
 
@@ -120,7 +95,7 @@ behind_after limit key keys offer before groups have behind counted = go (is_who
         let roomy = behind_room key keys others standing in
         ⊎_elim
         (λ (ours : is_of key offer ≡ true).
-        behind_ours key keys (with_room others) group roomy (absent_room key others (subst (λ (k : DatagramKey). IsAbsent k others) (same_key (key_of packet) key ours) absent)))
+        behind_ours key keys (with_room others) group roomy (each_room (HasOther key) others (subst (λ (k : DatagramKey). IsAbsent k others) (same_key (key_of packet) key ours) absent)))
         (λ (other : (is_whole packet ≡ true) ⊎ IsAmong (key_of packet) keys).
         ⊎_elim
         (λ (whole : is_whole packet ≡ true). absurd (both_ways (is_whole packet) not_whole whole))
@@ -137,7 +112,7 @@ behind_after limit key keys offer before groups have behind counted = go (is_who
     go : (all unfit : Bool) → is_whole packet ≡ all → is_bad packet ≡ unfit → AreBehind key keys (groups_after limit groups packet now)
     go true unfit e f = rw e (without_it (place_of (key_of packet) groups))
     go false true e f = rw (e, f) behind
-    go false false e f = rw (e, f) (with_it (found_for limit groups (key_of packet) now) (found_there limit before groups (key_of packet) now have) e (is_some (datagram_with limit groups packet now)))
+    go false false e f = rw (e, f) (with_it (found_for limit groups (key_of packet) now) (found_there limit groups (key_of packet) now have.1) e (is_some (datagram_with limit groups packet now)))
 
 -- ---- the other keys
 
@@ -190,15 +165,6 @@ without_length key (other ∷ keys) among =
 among_others : (key : DatagramKey) (keys : List DatagramKey) (groups : List Group) → IsAbsent key groups → AreAmong keys groups → AreAmong (without_key key keys) groups
 among_others key keys [] absent among = tt
 among_others key keys (group ∷ groups) absent among = (among_without group.key key keys absent.0 among.0, among_others key keys groups absent.1 among.1)
-
--- no two have one key
-abbrev AreDistinct : List Group → Type 0
-AreDistinct [] = Unit {0}
-AreDistinct (group ∷ groups) = IsAbsent group.key groups × AreDistinct groups
-
-begun_distinct : (before : List Offer) (groups : List Group) → AreBegun before groups → AreDistinct groups
-begun_distinct before [] have = tt
-begun_distinct before (group ∷ groups) have = (have.1, begun_distinct before groups have.2)
 
 at_most_keys : (keys : List DatagramKey) (groups : List Group) → AreDistinct groups → AreAmong keys groups → length groups ≤ length keys
 at_most_keys keys [] distinct among = omega arith
@@ -269,14 +235,14 @@ few_leave_room limit earlier groups key (offer ∷ before) have absent few =
     counted (joins place group) found behind is = let one = without_length (key_of offer.packet) (other_keys key (offer ∷ before)) is in omega (arith, one)
     counted (begins others) (absent, inl same) behind is =
         begun_few key (other_keys key (offer ∷ before)) (key_of offer.packet) others (subst (AreBehind key (other_keys key (offer ∷ before))) (sym same) behind)
-        (subst AreDistinct (sym same) (begun_distinct (before ++ earlier) standing state.begun)) absent is
+        (subst AreDistinct (sym same) state.begun.1) absent is
     counted (begins others) (absent, inr (place, same)) behind is =
         begun_few key (other_keys key (offer ∷ before)) (key_of offer.packet) others (subst (AreBehind key (other_keys key (offer ∷ before))) (sym same) (behind_remove key (other_keys key (offer ∷ before)) standing place behind))
-        (subst AreDistinct (sym same) (begun_distinct (before ++ earlier) (remove standing place) (begun_remove (before ++ earlier) standing place state.begun))) absent is
+        (subst AreDistinct (sym same) (distinct_remove standing place state.begun.1)) absent is
 
     room : is_of key offer ≡ false → begins_group limit standing offer.packet offer.time ≡ true → Adds key offer (other_keys key before) (other_keys key (offer ∷ before)) → begun_meanwhile limit standing key offer.packet offer.time < 3
     room other begun added =
-        let less = counted (found_for limit standing (key_of offer.packet) offer.time) (found_there limit (before ++ earlier) standing (key_of offer.packet) offer.time state.begun) (added.kept standing state.behind)
+        let less = counted (found_for limit standing (key_of offer.packet) offer.time) (found_there limit standing (key_of offer.packet) offer.time state.begun.1) (added.kept standing state.behind)
         (among other (not_whole begun) added.counted) in
         omega (arith, less, few)
 

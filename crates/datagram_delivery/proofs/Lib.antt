@@ -1,4 +1,5 @@
 pub mod Places
+pub mod Each
 pub mod Standing
 pub mod Rows
 pub mod Splits

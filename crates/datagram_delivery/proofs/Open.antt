@@ -10,7 +10,8 @@ use Rattle.es_base.specs.Groups.{Group, has_key, is_same_key, place_of, with_roo
 use Rattle.datagram_delivery.specs.Splitting.{are_some}
 use Rattle.datagram_delivery.specs.Interleaved.{without_key}
 use Rattle.datagram_delivery.proofs.Places.{later_place, place_here, place_later}
-use Rattle.datagram_delivery.proofs.Standing.{IsAbsent, Stands, key_itself, other_way, same_key}
+use Rattle.datagram_delivery.proofs.Each.{IsAbsent}
+use Rattle.datagram_delivery.proofs.Standing.{Stands, key_itself, other_way, same_key}
 
 -- the groups with these keys, where each has these pieces
 abbrev pub groups_with_keys : (DatagramKey → List Piece) → List DatagramKey → List Group

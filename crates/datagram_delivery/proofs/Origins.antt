@@ -1,10 +1,8 @@
 -- Each group has parts of one datagram.
-use Rattle.std.proofs.Common.{◌≡◌, ◌∙◌, ap, sym, subst, ℕ, zero, suc, ◌+◌, ◌≤◌, inl, inr, Bool, true, false, not, cond, List, [], ◌∷◌, ◌++◌, length, take, drop, remove, Option, None, Some, is_some, refl, arith}
-use Rattle.std.specs.Prelude.{◌==◌, ◌&&◌, ◌⊎◌, slice_get, slice_set}
+use Rattle.std.proofs.Common.{◌≡◌, ◌∙◌, ap, sym, subst, ℕ, ◌+◌, ◌≤◌, inl, inr, Bool, true, false, not, cond, List, [], ◌∷◌, length, take, drop, remove, Option, None, Some, is_some, refl, arith}
+use Rattle.std.specs.Prelude.{◌==◌, ◌&&◌, ◌⊎◌, slice_get}
 use Rattle.std.proofs.lemmas.Bool.{eqb-true, ltb-false}
-use Rattle.std.proofs.lemmas.Option.{same_Some}
 use Rattle.es_base.specs.declared.fragment.DatagramKey.{DatagramKey}
-use Rattle.es_base.specs.Limits.{most_partials}
 use Rattle.es_base.specs.Packet.{PacketParts}
 use Rattle.es_base.specs.Copies.{elapsed}
 use Rattle.es_base.specs.Fragments.{is_bad, is_whole, key_of, piece_of}
@@ -12,6 +10,7 @@ use Rattle.es_base.specs.Groups.{Found, Group, bad, begin_of, begins, datagram_w
 use Rattle.es_base.proofs.Firsts.{found_at as found_place, passes_found}
 use Rattle.datagram_delivery.specs.Splitting.{Offer, are_some, groups_after_offers}
 use Rattle.datagram_delivery.specs.Parts.{IsPartOf}
+use Rattle.datagram_delivery.proofs.Each.{EachGroup, each_at, each_more, each_push, each_remove, each_room, each_set}
 use Rattle.datagram_delivery.proofs.Unused.{begin_same}
 use Rattle.datagram_delivery.proofs.Slices.{AreSlices, IsSlice, made_is}
 use Rattle.datagram_delivery.proofs.Rows.{take_all}
@@ -58,45 +57,11 @@ record Origin (before : List Part) (group : Group) : Type 0 where
   slices : AreSlices part.datagram group.pieces
 
 abbrev HaveOrigins : List Part → List Group → Type 0
-HaveOrigins before [] = Unit {0}
-HaveOrigins before (group ∷ groups) = Origin before group × HaveOrigins before groups
+HaveOrigins before groups = EachGroup (Origin before) groups
 
 origins_later : (part : Part) (before : List Part) (groups : List Group) → HaveOrigins before groups → HaveOrigins (part ∷ before) groups
-origins_later part before [] have = tt
-origins_later part before (group ∷ groups) have =
-    let o = have.0 in
-    (record { part = o.part; among = inr o.among; key = o.key; some = o.some; begin = o.begin; slices = o.slices }, origins_later part before groups have.1)
-
-origin_at : (before : List Part) (groups : List Group) (i : ℕ) (group : Group) → HaveOrigins before groups → slice_get groups i ≡ Some group → Origin before group
-origin_at before [] i group have at = cc
-origin_at before (first ∷ groups) zero group have at = subst (Origin before) (same_Some first group at) have.0
-origin_at before (first ∷ groups) (suc i) group have at = origin_at before groups i group have.1 at
-
-origins_remove : (before : List Part) (groups : List Group) (i : ℕ) → HaveOrigins before groups → HaveOrigins before (remove groups i)
-origins_remove before [] zero have = tt
-origins_remove before [] (suc i) have = tt
-origins_remove before (group ∷ groups) zero have = have.1
-origins_remove before (group ∷ groups) (suc i) have = (have.0, origins_remove before groups i have.1)
-
-origins_set : (before : List Part) (groups : List Group) (i : ℕ) (group : Group) → HaveOrigins before groups → Origin before group → HaveOrigins before (slice_set groups i group)
-origins_set before [] i group have o = tt
-origins_set before (first ∷ groups) zero group have o = (o, have.1)
-origins_set before (first ∷ groups) (suc i) group have o = (have.0, origins_set before groups i group have.1 o)
-
-origins_room : (before : List Part) (groups : List Group) → HaveOrigins before groups → HaveOrigins before (with_room groups)
-origins_room before groups have = go (length groups == most_partials)
-  where
-    shorter : (groups : List Group) → HaveOrigins before groups → HaveOrigins before (drop 1 groups)
-    shorter [] have = tt
-    shorter (group ∷ groups) have = have.1
-
-    go : (full : Bool) → HaveOrigins before (cond full (drop 1 groups) groups)
-    go true = shorter groups have
-    go false = have
-
-origins_push : (before : List Part) (groups : List Group) (group : Group) → HaveOrigins before groups → Origin before group → HaveOrigins before (groups ++ group ∷ [])
-origins_push before [] group have o = (o, tt)
-origins_push before (first ∷ groups) group have o = (have.0, origins_push before groups group have.1 o)
+origins_later part before groups have =
+    each_more (Origin before) (Origin (part ∷ before)) groups (λ group o. record { part = o.part; among = inr o.among; key = o.key; some = o.some; begin = o.begin; slices = o.slices }) have
 
 -- ---- a piece
 
@@ -129,7 +94,7 @@ found_now limit groups key now = at (place_of key groups) refl
 joined_slices : (limit : ℕ) (part : Part) (before : List Part) (groups : List Group) (place : ℕ) (group : Group) → Agree limit part before → HaveOrigins before groups
     → slice_get groups place ≡ Some group → has_key (key_of part.offer.packet) group ≡ true → is_over limit part.offer.time group ≡ false → AreSlices part.datagram group.pieces
 joined_slices limit part before groups place group agree have got is not_over =
-    let o = origin_at before groups place group have got in
+    let o = each_at (Origin before) groups place group have got in
     let same : is_same_key (key_of o.part.offer.packet) (key_of part.offer.packet) ≡ true = ap (λ (key : DatagramKey). is_same_key key (key_of part.offer.packet)) (sym o.key) ∙ is in
     let not_late : elapsed part.offer.time (begin_of group) ≤ limit = ltb-false limit (elapsed part.offer.time (begin_of group)) not_over in
     let begin = o.begin in
@@ -140,7 +105,7 @@ joined_origin : (limit : ℕ) (part : Part) (before : List Part) (groups : List 
     → slice_get groups place ≡ Some group → has_key (key_of part.offer.packet) group ≡ true → is_over limit part.offer.time group ≡ false
     → Origin (part ∷ before) (group_with group (piece_of part.offer.packet part.offer.time))
 joined_origin limit part before groups place group is_part agree have got is not_over =
-    let o = origin_at before groups place group have got in
+    let o = each_at (Origin before) groups place group have got in
     let same : is_same_key (key_of o.part.offer.packet) (key_of part.offer.packet) ≡ true = ap (λ (key : DatagramKey). is_same_key key (key_of part.offer.packet)) (sym o.key) ∙ is in
     let not_late : elapsed part.offer.time (begin_of group) ≤ limit = ltb-false limit (elapsed part.offer.time (begin_of group)) not_over in
     let begin = o.begin in
@@ -176,19 +141,19 @@ origins_after limit part before groups is_part agree have = go (is_whole part.of
 
     without_it : (place : Option ℕ) → HaveOrigins (part ∷ before) (without groups place)
     without_it None = kept
-    without_it (Some place) = origins_remove (part ∷ before) groups place kept
+    without_it (Some place) = each_remove (Origin (part ∷ before)) groups place kept
 
     stood : (others : List Group) → IsFoundNow limit groups (key_of packet) now (begins others) → HaveOrigins (part ∷ before) others
     stood others (inl same) = subst (HaveOrigins (part ∷ before)) (sym same) kept
-    stood others (inr (place, same)) = subst (HaveOrigins (part ∷ before)) (sym same) (origins_remove (part ∷ before) groups place kept)
+    stood others (inr (place, same)) = subst (HaveOrigins (part ∷ before)) (sym same) (each_remove (Origin (part ∷ before)) groups place kept)
 
     with_it : (found : Found) → IsFoundNow limit groups (key_of packet) now found → (complete : Bool) → HaveOrigins (part ∷ before) (groups_with groups (key_of packet) (piece_of packet now) found complete)
-    with_it (joins place group) found true = origins_remove (part ∷ before) groups place kept
+    with_it (joins place group) found true = each_remove (Origin (part ∷ before)) groups place kept
     with_it (joins place group) found false =
-        origins_set (part ∷ before) groups place (group_with group (piece_of packet now)) kept (joined_origin limit part before groups place group is_part agree have found.0 found.1 found.2)
-    with_it (begins others) found true = origins_room (part ∷ before) others (stood others found)
+        each_set (Origin (part ∷ before)) groups place (group_with group (piece_of packet now)) kept (joined_origin limit part before groups place group is_part agree have found.0 found.1 found.2)
+    with_it (begins others) found true = each_room (Origin (part ∷ before)) others (stood others found)
     with_it (begins others) found false =
-        origins_push (part ∷ before) (with_room others) (record { key = key_of packet; pieces = piece_of packet now ∷ [] }) (origins_room (part ∷ before) others (stood others found)) (new_origin part before is_part)
+        each_push (Origin (part ∷ before)) (with_room others) (record { key = key_of packet; pieces = piece_of packet now ∷ [] }) (each_room (Origin (part ∷ before)) others (stood others found)) (new_origin part before is_part)
 
     go : (all unfit : Bool) → is_whole packet ≡ all → is_bad packet ≡ unfit → HaveOrigins (part ∷ before) (groups_after limit groups packet now)
     go true unfit e f = rw e (without_it (place_of (key_of packet) groups))

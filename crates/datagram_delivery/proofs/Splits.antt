@@ -10,7 +10,8 @@ use Rattle.es_base.specs.Groups.{Found, Group, begin_or, begins, datagram_with, 
 use Rattle.datagram_delivery.specs.Splitting.{AreFronts, IsFront, IsLast, Offer, LeavesRoom, begins_group, begun_meanwhile, begun_since, groups_after_offers, is_of, joined, pieces_of}
 use Rattle.datagram_delivery.specs.Datagrams.{AreOf}
 use Rattle.datagram_delivery.proofs.Places.{place_here, place_later}
-use Rattle.datagram_delivery.proofs.Standing.{IsAbsent, Stands, absent_after, absent_place, absent_room, key_itself, place_absent, same_key, stands_after, stands_exactly}
+use Rattle.datagram_delivery.proofs.Each.{HasOther, IsAbsent, each_room}
+use Rattle.datagram_delivery.proofs.Standing.{Stands, absent_after, absent_place, key_itself, place_absent, same_key, stands_after, stands_exactly}
 use Rattle.datagram_delivery.proofs.Rows.{AreFollowed, AreInRow, row_is_held, row_is_joined}
 
 -- ---- the group of the key, where it stands
@@ -65,7 +66,7 @@ next_state limit key [] n groups offer state soon =
     let found : found_for limit groups key offer.time ≡ begins groups = ap (found_at limit groups offer.time) (absent_place key groups state) in
     let ours : Group = record { key = key; pieces = piece_of offer.packet offer.time ∷ [] } in
     subst (λ (f : Found). IsState key (piece_of offer.packet offer.time ∷ []) n (groups_with groups key (piece_of offer.packet offer.time) f false)) (sym found)
-    (pushed (with_room groups) (absent_room key groups state))
+    (pushed (with_room groups) (each_room (HasOther key) groups state))
   where
     pushed : (others : List Group) → IsAbsent key others → Stands key (piece_of offer.packet offer.time ∷ []) n (others ++ record { key = key; pieces = piece_of offer.packet offer.time ∷ [] } ∷ [])
     pushed [] absent = inl (refl, omega arith)

@@ -9,6 +9,7 @@ use Rattle.es_base.specs.Packet.{PacketParts}
 use Rattle.es_base.specs.Fragments.{Piece, is_bad, is_whole, key_of, piece_of}
 use Rattle.es_base.specs.Groups.{Found, Group, begins, datagram_with, found_at, found_for, found_if, group_with, groups_after, groups_with, has_key, is_over, is_same_key, joins, place_of, with_room, without}
 use Rattle.datagram_delivery.specs.Splitting.{begins_group, begun_meanwhile, begun_since, is_beginning, others_in}
+use Rattle.datagram_delivery.proofs.Each.{AreDistinct, HasOther, IsAbsent, absent_set, each_push, each_remove, each_room}
 use Rattle.datagram_delivery.proofs.Places.{later_place, place_here, place_later}
 
 -- ---- keys
@@ -40,10 +41,6 @@ other_way a b other =
 
 -- ---- no group has the key
 
-abbrev pub IsAbsent : DatagramKey → List Group → Type 0
-IsAbsent key [] = Unit {0}
-IsAbsent key (group ∷ groups) = (has_key key group ≡ false) × IsAbsent key groups
-
 pub absent_place : (key : DatagramKey) (groups : List Group) → IsAbsent key groups → place_of key groups ≡ None
 absent_place key [] absent = refl
 absent_place key (group ∷ groups) absent = place_later (has_key key) group groups absent.0 ∙ ap (option_map suc) (absent_place key groups absent.1)
@@ -60,31 +57,10 @@ place_absent key (group ∷ groups) none =
     rest None e = refl
     rest (Some i) e = cc
 
-pub absent_remove : (key : DatagramKey) (groups : List Group) (i : ℕ) → IsAbsent key groups → IsAbsent key (remove groups i)
-absent_remove key [] zero absent = tt
-absent_remove key [] (suc i) absent = tt
-absent_remove key (group ∷ groups) zero absent = absent.1
-absent_remove key (group ∷ groups) (suc i) absent = (absent.0, absent_remove key groups i absent.1)
-
-pub absent_set : (key : DatagramKey) (groups : List Group) (i : ℕ) (group : Group) (piece : Piece) → IsAbsent key groups → slice_get groups i ≡ Some group → IsAbsent key (slice_set groups i (group_with group piece))
-absent_set key [] i group piece absent at = cc
-absent_set key (first ∷ groups) zero group piece absent at = (ap (λ (g : Group). is_same_key g.key key) (sym (same_Some first group at)) ∙ absent.0, absent.1)
-absent_set key (first ∷ groups) (suc i) group piece absent at = (absent.0, absent_set key groups i group piece absent.1 at)
-
-pub absent_room : (key : DatagramKey) (groups : List Group) → IsAbsent key groups → IsAbsent key (with_room groups)
-absent_room key groups absent = go (length groups == most_partials)
-  where
-    go : (full : Bool) → IsAbsent key (cond full (drop 1 groups) groups)
-    go true = shorter groups absent
-      where
-        shorter : (groups : List Group) → IsAbsent key groups → IsAbsent key (drop 1 groups)
-        shorter [] absent = tt
-        shorter (group ∷ groups) absent = absent.1
-    go false = absent
-
-pub absent_push : (key : DatagramKey) (groups : List Group) (group : Group) → IsAbsent key groups → has_key key group ≡ false → IsAbsent key (groups ++ group ∷ [])
-absent_push key [] group absent other = (other, tt)
-absent_push key (first ∷ groups) group absent other = (absent.0, absent_push key groups group absent.1 other)
+pub distinct_push : (groups : List Group) (group : Group) → AreDistinct groups → IsAbsent group.key groups → AreDistinct (groups ++ group ∷ [])
+distinct_push [] group distinct absent = (tt, tt)
+distinct_push (first ∷ groups) group distinct absent =
+    (each_push (HasOther first.key) groups group distinct.0 (other_way first.key group.key absent.0), distinct_push groups group distinct.1 absent.1)
 
 -- ---- a group has it, and has these pieces; at most n groups that began after it stand
 
@@ -251,10 +227,10 @@ after_other limit groups packet now P Q before removed put room push = go (is_wh
 pub absent_after : (limit : ℕ) (key : DatagramKey) (groups : List Group) (packet : PacketParts) (now : ℕ) → is_same_key (key_of packet) key ≡ false → IsAbsent key groups
     → IsAbsent key (groups_after limit groups packet now)
 absent_after limit key groups packet now other absent =
-    let both = after_other limit groups packet now (IsAbsent key) (IsAbsent key) absent (λ place there. absent_remove key groups place absent)
+    let both = after_other limit groups packet now (IsAbsent key) (IsAbsent key) absent (λ place there. each_remove (HasOther key) groups place absent)
     (λ place group there got. absent_set key groups place group (piece_of packet now) absent got)
-    (λ is others found standing. absent_room key others standing)
-    (λ is others found standing. absent_push key (with_room others) (record { key = key_of packet; pieces = piece_of packet now ∷ [] }) (absent_room key others standing) other) in
+    (λ is others found standing. each_room (HasOther key) others standing)
+    (λ is others found standing. each_push (HasOther key) (with_room others) (record { key = key_of packet; pieces = piece_of packet now ∷ [] }) (each_room (HasOther key) others standing) other) in
     ⊎_elim
     (λ (is : begins_group limit groups packet now ≡ true). both.0 is)
     (λ (is : begins_group limit groups packet now ≡ false). both.1 is)

@@ -1,10 +1,9 @@
 -- An identification that wasn't used within the limit finds no group, or one that is over.
-use Rattle.std.proofs.Common.{◌≡◌, ◌∙◌, ap, sym, subst, ℕ, zero, suc, ◌+◌, ◌<◌, inl, inr, ⊎_elim, Bool, true, false, cond, List, [], ◌∷◌, ◌++◌, length, drop, remove, Option, None, Some, is_some, refl, arith}
-use Rattle.std.specs.Prelude.{◌==◌, ◌⊎◌, slice_get, slice_set}
+use Rattle.std.proofs.Common.{◌≡◌, ◌∙◌, ap, sym, subst, ℕ, ◌+◌, ◌<◌, inl, inr, ⊎_elim, Bool, true, false, cond, List, [], ◌∷◌, ◌++◌, remove, Option, None, Some, is_some, refl, arith}
+use Rattle.std.specs.Prelude.{◌⊎◌, slice_get, slice_set}
 use Rattle.std.proofs.lemmas.Bool.{both_ways, cases_Bool, lt-ltb}
 use Rattle.std.proofs.lemmas.Option.{same_Some}
 use Rattle.es_base.specs.declared.fragment.DatagramKey.{DatagramKey}
-use Rattle.es_base.specs.Limits.{most_partials}
 use Rattle.es_base.specs.Packet.{PacketParts}
 use Rattle.es_base.specs.Copies.{elapsed}
 use Rattle.es_base.specs.Fragments.{Piece, datagram_from, is_bad, is_whole, key_of, piece_of}
@@ -12,9 +11,10 @@ use Rattle.es_base.specs.Groups.{Found, Group, begin_of, begin_or, begins, datag
 use Rattle.es_base.proofs.Firsts.{found_at as found_place, passes_found}
 use Rattle.datagram_delivery.specs.Splitting.{AreFronts, IsFront, LeavesRoom, Offer, are_some, begins_group, begun_meanwhile, groups_after_offers, is_of}
 use Rattle.datagram_delivery.specs.Datagrams.{IsUnused}
+use Rattle.datagram_delivery.proofs.Each.{AreDistinct, EachGroup, HasOther, IsAbsent, distinct_remove, distinct_set, each_at, each_more, each_push, each_remove, each_room, each_set, room_kept}
 use Rattle.datagram_delivery.proofs.Places.{later_place, place_here, place_later}
 use Rattle.datagram_delivery.proofs.Splits.{more_not_whole}
-use Rattle.datagram_delivery.proofs.Standing.{IsAbsent, absent_place, absent_push, absent_remove, absent_room, absent_set, other_way, place_absent, same_key}
+use Rattle.datagram_delivery.proofs.Standing.{absent_place, distinct_push, place_absent, same_key}
 
 -- ---- where a group comes from
 
@@ -32,59 +32,38 @@ pub record Begun (before : List Offer) (group : Group) : Type 0 where
 
 -- each began with one of these offers, and no two have one key
 abbrev pub AreBegun : List Offer → List Group → Type 0
-AreBegun before [] = Unit {0}
-AreBegun before (group ∷ groups) = Begun before group × IsAbsent group.key groups × AreBegun before groups
+AreBegun before groups = EachGroup (Begun before) groups × AreDistinct groups
 
 begun_later : (offer : Offer) (before : List Offer) (groups : List Group) → AreBegun before groups → AreBegun (offer ∷ before) groups
-begun_later offer before [] have = tt
-begun_later offer before (group ∷ groups) have =
-    let o = have.0 in
-    (record { offer = o.offer; among = inr o.among; key = o.key; some = o.some; begin = o.begin }, have.1, begun_later offer before groups have.2)
-
-begun_at : (before : List Offer) (groups : List Group) (i : ℕ) (group : Group) → AreBegun before groups → slice_get groups i ≡ Some group → Begun before group
-begun_at before [] i group have at = cc
-begun_at before (first ∷ groups) zero group have at = subst (Begun before) (same_Some first group at) have.0
-begun_at before (first ∷ groups) (suc i) group have at = begun_at before groups i group have.2 at
+begun_later offer before groups have = (
+  each_more (Begun before) (Begun (offer ∷ before)) groups (λ group o. record { offer = o.offer; among = inr o.among; key = o.key; some = o.some; begin = o.begin }) have.0,
+  have.1,
+)
 
 pub begun_remove : (before : List Offer) (groups : List Group) (i : ℕ) → AreBegun before groups → AreBegun before (remove groups i)
-begun_remove before [] zero have = tt
-begun_remove before [] (suc i) have = tt
-begun_remove before (group ∷ groups) zero have = have.2
-begun_remove before (group ∷ groups) (suc i) have = (have.0, absent_remove group.key groups i have.1, begun_remove before groups i have.2)
+begun_remove before groups i have = (each_remove (Begun before) groups i have.0, distinct_remove groups i have.1)
 
 begun_set : (before : List Offer) (groups : List Group) (i : ℕ) (group : Group) (piece : Piece) → AreBegun before groups → slice_get groups i ≡ Some group → Begun before (group_with group piece)
     → AreBegun before (slice_set groups i (group_with group piece))
-begun_set before [] i group piece have at o = tt
-begun_set before (first ∷ groups) zero group piece have at o = (o, subst (λ (g : Group). IsAbsent g.key groups) (same_Some first group at) have.1, have.2)
-begun_set before (first ∷ groups) (suc i) group piece have at o = (have.0, absent_set first.key groups i group piece have.1 at, begun_set before groups i group piece have.2 at o)
+begun_set before groups i group piece have at o = (each_set (Begun before) groups i (group_with group piece) have.0 o, distinct_set groups i group piece have.1 at)
 
 begun_room : (before : List Offer) (groups : List Group) → AreBegun before groups → AreBegun before (with_room groups)
-begun_room before groups have = go (length groups == most_partials)
-  where
-    shorter : (groups : List Group) → AreBegun before groups → AreBegun before (drop 1 groups)
-    shorter [] have = tt
-    shorter (group ∷ groups) have = have.2
-
-    go : (full : Bool) → AreBegun before (cond full (drop 1 groups) groups)
-    go true = shorter groups have
-    go false = have
+begun_room before groups have = (each_room (Begun before) groups have.0, room_kept AreDistinct (λ group groups all. all.1) groups have.1)
 
 begun_push : (before : List Offer) (groups : List Group) (group : Group) → AreBegun before groups → IsAbsent group.key groups → Begun before group → AreBegun before (groups ++ group ∷ [])
-begun_push before [] group have absent o = (o, tt, tt)
-begun_push before (first ∷ groups) group have absent o =
-    (have.0, absent_push first.key groups group have.1 (other_way first.key group.key absent.0), begun_push before groups group have.2 absent.1 o)
+begun_push before groups group have absent o = (each_push (Begun before) groups group have.0 o, distinct_push groups group have.1 absent)
 
 -- without the group of a key no group has it
-removed_absent : (before : List Offer) (key : DatagramKey) (groups : List Group) (place : ℕ) → AreBegun before groups → place_of key groups ≡ Some place → IsAbsent key (remove groups place)
-removed_absent before key [] place have there = let none : place_of key [] ≡ None = refl in let e = sym none ∙ there in cc
-removed_absent before key (group ∷ groups) place have there =
+removed_absent : (key : DatagramKey) (groups : List Group) (place : ℕ) → AreDistinct groups → place_of key groups ≡ Some place → IsAbsent key (remove groups place)
+removed_absent key [] place distinct there = let none : place_of key [] ≡ None = refl in let e = sym none ∙ there in cc
+removed_absent key (group ∷ groups) place distinct there =
     ⊎_elim
     (λ (is : has_key key group ≡ true).
     let e : 0 ≡ place = same_Some _ _ (sym (place_here (has_key key) group groups is) ∙ there) in
-    subst (λ (i : ℕ). IsAbsent key (remove (group ∷ groups) i)) e (subst (λ (k : DatagramKey). IsAbsent k groups) (same_key group.key key is) have.1))
+    subst (λ (i : ℕ). IsAbsent key (remove (group ∷ groups) i)) e (subst (λ (k : DatagramKey). IsAbsent k groups) (same_key group.key key is) distinct.0))
     (λ (is : has_key key group ≡ false).
     let (j, e, after) = later_place (place_of key groups) place (sym (place_later (has_key key) group groups is) ∙ there) in
-    subst (λ (i : ℕ). IsAbsent key (remove (group ∷ groups) i)) (sym e) (is, removed_absent before key groups j have.2 after))
+    subst (λ (i : ℕ). IsAbsent key (remove (group ∷ groups) i)) (sym e) (is, removed_absent key groups j distinct.1 after))
     (cases_Bool (has_key key group))
 
 -- ---- the groups after offers
@@ -107,12 +86,12 @@ place_has key (group ∷ groups) place there none =
     place_has key groups j after (ap (slice_get (group ∷ groups)) (sym e) ∙ none))
     (cases_Bool (has_key key group))
 
-pub found_there : (limit : ℕ) (before : List Offer) (groups : List Group) (key : DatagramKey) (now : ℕ) → AreBegun before groups → IsFoundThere groups key (found_for limit groups key now)
+pub found_there : (limit : ℕ) (groups : List Group) (key : DatagramKey) (now : ℕ) → AreDistinct groups → IsFoundThere groups key (found_for limit groups key now)
 unfolding IsFoundThere
-found_there limit before groups key now have = at (place_of key groups) refl
+found_there limit groups key now distinct = at (place_of key groups) refl
   where
     over : (place : ℕ) (group : Group) → place_of key groups ≡ Some place → slice_get groups place ≡ Some group → (is : Bool) → IsFoundThere groups key (cond is (begins (remove groups place)) (joins place group))
-    over place group there got true = (removed_absent before key groups place have there, inr (place, refl))
+    over place group there got true = (removed_absent key groups place distinct there, inr (place, refl))
     over place group there got false = got
 
     got : (place : ℕ) → place_of key groups ≡ Some place → (group : Option Group) → slice_get groups place ≡ group → IsFoundThere groups key (found_if limit groups now place group)
@@ -150,7 +129,7 @@ begun_after limit offer before groups have = go (is_whole offer.packet) (is_bad 
 
     begun_with : (place : ℕ) (group : Group) → slice_get groups place ≡ Some group → Begun (offer ∷ before) (group_with group (piece_of packet now))
     begun_with place group got =
-        let o = begun_at (offer ∷ before) groups place group kept got in
+        let o = each_at (Begun (offer ∷ before)) groups place group kept.0 got in
         record { offer = o.offer; among = o.among; key = o.key; some = refl; begin = begin_same now 0 group.pieces o.some ∙ o.begin }
 
     with_it : (found : Found) → IsFoundThere groups (key_of packet) found → (complete : Bool) → AreBegun (offer ∷ before) (groups_with groups (key_of packet) (piece_of packet now) found complete)
@@ -159,15 +138,15 @@ begun_after limit offer before groups have = go (is_whole offer.packet) (is_bad 
     with_it (begins others) found true = begun_room (offer ∷ before) others (stood others found.1)
     with_it (begins others) found false =
         begun_push (offer ∷ before) (with_room others) (record { key = key_of packet; pieces = piece_of packet now ∷ [] }) (begun_room (offer ∷ before) others (stood others found.1))
-        (absent_room (key_of packet) others found.0) (record { offer = offer; among = inl refl; key = refl; some = refl; begin = refl })
+        (each_room (HasOther (key_of packet)) others found.0) (record { offer = offer; among = inl refl; key = refl; some = refl; begin = refl })
 
     go : (all unfit : Bool) → is_whole packet ≡ all → is_bad packet ≡ unfit → AreBegun (offer ∷ before) (groups_after limit groups packet now)
     go true unfit e f = rw e (without_it (place_of (key_of packet) groups))
     go false true e f = rw (e, f) kept
-    go false false e f = rw (e, f) (with_it (found_for limit groups (key_of packet) now) (found_there limit before groups (key_of packet) now have) (is_some (datagram_with limit groups packet now)))
+    go false false e f = rw (e, f) (with_it (found_for limit groups (key_of packet) now) (found_there limit groups (key_of packet) now have.1) (is_some (datagram_with limit groups packet now)))
 
 pub all_begun : (limit : ℕ) (offers : List Offer) → AreBegun offers (groups_after_offers limit [] offers)
-all_begun limit [] = tt
+all_begun limit [] = (tt, tt)
 all_begun limit (offer ∷ before) = begun_after limit offer before (groups_after_offers limit [] before) (all_begun limit before)
 
 -- ---- a key that wasn't used within the limit
@@ -190,7 +169,7 @@ unused_begins limit key now before groups have unused = at (place_of key groups)
     got : (place : ℕ) → place_of key groups ≡ Some place → (group : Option Group) → slice_get groups place ≡ group → BeginsAlone limit before groups key now
     got place there None is = absurd (place_has key groups place there is)
     got place there (Some group) is =
-        let o = begun_at before groups place group have is in
+        let o = each_at (Begun before) groups place group have.0 is in
         let ours : has_key key group ≡ true = passes_found (has_key key) groups group (found_place (has_key key) groups place there ∙ is) in
         let of : is_of key o.offer ≡ true = ap (λ (k : DatagramKey). is_same_key k key) (sym o.key) ∙ ours in
         let old : o.offer.time + limit < now = unused_at limit key now o.offer before unused o.among of in
@@ -200,7 +179,7 @@ unused_begins limit key now before groups have unused = at (place_of key groups)
           others = remove groups place;
           begun = begun_remove before groups place have;
           found = ap (found_at limit groups now) there ∙ ap (found_if limit groups now place) is ∙ rw over refl;
-          absent = removed_absent before key groups place have there;
+          absent = removed_absent key groups place have.1 there;
         }
 
     at : (place : Option ℕ) → place_of key groups ≡ place → BeginsAlone limit before groups key now
