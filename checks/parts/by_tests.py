@@ -111,7 +111,7 @@ def size_of(crate):
 
 
 def by_crate(tests, edit):
-    """The tests by their crates, the smallest crate first, as `MODULE::NAME`; with a wrong body those that run its code.
+    """The tests by their crates, the smallest crate first, as `MODULE::NAME`; with a wrong body those that run it.
     """
     found = {}
     for test in tests:
@@ -132,7 +132,7 @@ class Tried:
         self.answers = dict(line.split(" ", 1) for line in lines)
 
     def key(self, edit, crate, names):
-        """A number for the contents of a wrong body, of its crate, and of this crate of tests; without a wrong body, for
+        """A number for the contents of a wrong body, of its crate, and of this crate of tests; without one, for
         those of all crates that the tests run."""
         below = with_those_below([crate])
         if edit:
