@@ -44,7 +44,8 @@ pub fn no_frame_is_forwarded_twice()
 {}
 
 /// And none is lost of which a copy comes: the first copy of each frame is forwarded, and no other, if each network
-/// also loses fewer than the window in a row, and the times on the way differ by less than the gap.
+/// also loses fewer than the window in a row, and the times on the way, with the wait, differ by less than the gap. (Then
+/// none is too late.)
 pub fn no_frame_is_lost()
     ensures first { (settings : Settings) (numbering : Numbering) (timing : Timing) (copies : List Copy) → ComeWhole settings numbering timing copies
         → EachCopy (IsForwardedIfFirst settings) copies }
@@ -99,7 +100,8 @@ pub fn all_messages_are_delivered()
         → CarryWhole settings payload copies → length copies ≤ most_samples → HaveRoom payload copies → AllCame n copies → octets_of (deliveries settings (events_of copies) port) ≡ octets_sent payload port n }
 {}
 
-/// The conditions that these two laws ask, one by one: if each of them is met, the law holds. So none is left out below.
+/// The conditions that `no_frame_is_lost` and `no_frame_is_forwarded_twice` ask, one by one: where each of them is met, the
+/// law holds. So the examples below leave none out.
 pub fn these_are_the_conditions()
     ensures all { (settings : Settings) (numbering : Numbering) (timing : Timing) (copies : List Copy) → MeetAll is_asked_for_all settings numbering timing copies → ComeWhole settings numbering timing copies }
     ensures once { (settings : Settings) (numbering : Numbering) (timing : Timing) (copies : List Copy) → MeetAll is_asked_for_once settings numbering timing copies
@@ -115,8 +117,8 @@ pub fn the_conditions_can_be_met()
     ensures forwarded_with_it { forwarded (link 1000000) (events_of with_losses) ≡ frame_at 2 3100 ∷ frame_at 1 2200 ∷ frame_at 255 1500 ∷ frame_at 254 100 ∷ [] }
 {}
 
-/// What goes wrong where one condition isn't met, and all others that the law asks are, most of them by a microsecond or
-/// by one frame: a frame of which a copy comes is lost, or one is forwarded twice or after a later one.
+/// What goes wrong where one condition isn't met, by a microsecond or by one frame, and all others that the law asks are: a
+/// frame of which a copy comes is lost, or one is forwarded twice or after a later one.
 pub fn each_condition_is_needed()
     ensures second_copy_after_skew_max { MeetAllBut is_asked_for_all covers (link 1000) from_one (timed 2000 4000 100 1101 0) after_skew_max
         × (forwarded (link 1000) (events_of after_skew_max) ≡ frame_at 1 1101 ∷ frame_at 1 100 ∷ []) }
