@@ -1,0 +1,22 @@
+-- What the player writes of the messages of a link.
+use Rattle.std.specs.Prelude.{◌≡◌, ℕ, List, ◌++◌, Option, reverse}
+use Rattle.es_base.specs.Config.{Configuration}
+use Rattle.es_base.specs.Settings.{Settings}
+use Rattle.hex_trace.specs.Frames.{TimedFrame}
+use Rattle.output_lines.specs.Report.{ports_lines}
+use Rattle.trace_player.specs.Merge.{merged}
+use Rattle.trace_player.specs.Output.{output_of, report_time}
+use Rattle.datagram_delivery.specs.Interleaved.{Carried, messages_ended}
+
+-- a piece of text stands in a text
+abbrev pub StandsIn : List ℕ → List ℕ → Type 0
+StandsIn piece text = (before : List ℕ) × (after : List ℕ) × (text ≡ before ++ piece ++ after)
+
+-- the lines on a link's ports if they got the messages of these datagrams, each once, in the order of sending, at the time
+-- of the report
+abbrev pub lines_sent : Settings → List Carried → ℕ → List ℕ
+lines_sent link carried at = ports_lines at (λ port. messages_ended port carried) 0 link.ports
+
+-- they stand in what is written for two traces
+abbrev pub AreWritten : Configuration → List TimedFrame → List TimedFrame → Option ℕ → Settings → List Carried → Type 0
+AreWritten c a b asked link carried = StandsIn (lines_sent link carried (report_time asked (reverse (merged a b)))) (output_of c a b asked)
