@@ -15,10 +15,10 @@ use Rattle.frame_delivery.specs.Once.{first_copies}
 use Rattle.frame_delivery.specs.Network.{ComeWhole}
 use Rattle.frame_delivery.specs.Examples.{numbering, timing}
 use Rattle.datagram_delivery.specs.Splitting.{AreFronts, IsLast, LeavesRoom, groups_after_offers, is_of, pieces_of}
-use Rattle.datagram_delivery.specs.Datagrams.{AreSent, CarryPackets, all_offers, offers_of}
-use Rattle.datagram_delivery.specs.Interleaved.{AreInterleaved}
+use Rattle.datagram_delivery.specs.Datagrams.{AreSent, CarryPackets, all_offers, messages_by, offers_of}
+use Rattle.datagram_delivery.specs.Interleaved.{AreInterleaved, GoesOn, SendsNext, carried_offers}
 use Rattle.datagram_delivery.specs.Parts.{HaveParts, IsPartOf}
-use Rattle.datagram_delivery.specs.Examples.{among_one_another, datagram_at, datagram_octets, datagram_of, eight, first_key, first_third, five_begun, four_begun, fragment, in_two_fragments, last_third, link_of_100, link_with_queue, message, message_sent, one_identification, packet_sent, second_third}
+use Rattle.datagram_delivery.specs.Examples.{among_one_another, datagram_at, datagram_octets, datagram_of, eight, first_key, first_third, five_begun, four_begun, four_in_parts, fragment, in_two_fragments, last_third, link_of_100, link_with_queue, message, message_sent, one_identification, packet_sent, part_sent, second_third}
 use Rattle.datagram_delivery.proofs.Messages.{datagrams_delivered}
 
 -- ---- a message in two fragments
@@ -89,13 +89,13 @@ parts_met = (
 pub among_sent : AreInterleaved link_with_queue among_one_another
 unfolding outcomes.datagram_payload words.u16_at words.u32_at
 among_sent = (
-  record { next = record { begins = refl; good = refl; soon = omega arith }; first = refl; few = λ more first. cc; admits = λ last. refl },
+  record { on = record { next = record { begins = refl; good = refl; soon = omega arith }; first = refl; admits = λ last. refl }; few = λ more first. cc },
   (
-    record { next = record { begins = refl; good = refl; soon = omega arith }; first = refl; few = λ more first. cc; admits = λ last. refl },
+    record { on = record { next = record { begins = refl; good = refl; soon = omega arith }; first = refl; admits = λ last. refl }; few = λ more first. cc },
     (
-      record { next = record { begins = refl; good = refl; soon = omega arith }; first = refl; few = λ more first. omega arith; admits = λ last. cc },
+      record { on = record { next = record { begins = refl; good = refl; soon = omega arith }; first = refl; admits = λ last. cc }; few = λ more first. omega arith },
       (
-        record { next = record { begins = refl; good = refl; soon = omega arith }; first = refl; few = λ more first. omega arith; admits = λ last. cc },
+        record { on = record { next = record { begins = refl; good = refl; soon = omega arith }; first = refl; admits = λ last. cc }; few = λ more first. omega arith },
         tt,
       ),
     ),
@@ -125,6 +125,42 @@ fifth_is_held = refl
 pub fifth_gives_up : (place_of first_key [] ≡ None) × (is_of first_key (fragment 1 8 false 1) ≡ true) × AreFronts 50000 first_key five_begun × IsLast 50000 (pieces_of first_key five_begun) (fragment 1 8 false 1) × LeavesRoom 50000 [] first_key four_begun × (LeavesRoom 50000 [] first_key five_begun → ⊥)
     × (fate 50000 (groups_after_offers 50000 [] five_begun) (fragment 1 8 false 1).packet 100 ≡ held)
 fifth_gives_up = (refl, refl, fifth_fronts, fifth_last, room_for_four, no_room_for_five, fifth_is_held)
+
+four_interleaved : AreInterleaved link_with_queue four_in_parts
+unfolding outcomes.datagram_payload words.u16_at words.u32_at
+four_interleaved = (
+  record { on = record { next = record { begins = refl; good = refl; soon = omega arith }; first = refl; admits = λ last. cc }; few = λ more first. omega arith },
+  (
+    record { on = record { next = record { begins = refl; good = refl; soon = omega arith }; first = refl; admits = λ last. cc }; few = λ more first. omega arith },
+    (
+      record { on = record { next = record { begins = refl; good = refl; soon = omega arith }; first = refl; admits = λ last. cc }; few = λ more first. omega arith },
+      (
+        record { on = record { next = record { begins = refl; good = refl; soon = omega arith }; first = refl; admits = λ last. cc }; few = λ more first. omega arith },
+        tt,
+      ),
+    ),
+  ),
+)
+
+fifth_goes_on : GoesOn link_with_queue four_in_parts (part_sent 5 0 500)
+unfolding outcomes.datagram_payload words.u16_at words.u32_at
+fifth_goes_on = record { next = record { begins = refl; good = refl; soon = omega arith }; first = refl; admits = λ last. cc }
+
+fifth_is_one_too_many : SendsNext link_with_queue four_in_parts (part_sent 5 0 500) → ⊥
+fifth_is_one_too_many sends = let few = sends.few refl refl in absurd (omega (arith, few))
+
+first_ends : SendsNext link_with_queue (part_sent 5 0 500 ∷ four_in_parts) (part_sent 1 1 600)
+unfolding outcomes.datagram_payload words.u16_at words.u32_at
+first_ends = record { on = record { next = record { begins = refl; good = refl; soon = omega arith }; first = refl; admits = λ last. refl }; few = λ more first. cc }
+
+first_is_lost : messages_by link_with_queue (carried_offers (part_sent 1 1 600 ∷ part_sent 5 0 500 ∷ four_in_parts)) (record { 0 = 0 }) ≡ []
+unfolding fate groups_after fragments.octets_below outcomes.datagram_payload words.u16_at words.u32_at
+first_is_lost = refl
+
+pub fifth_in_parts : AreInterleaved link_with_queue four_in_parts × GoesOn link_with_queue four_in_parts (part_sent 5 0 500) × SendsNext link_with_queue (part_sent 5 0 500 ∷ four_in_parts) (part_sent 1 1 600)
+    × (SendsNext link_with_queue four_in_parts (part_sent 5 0 500) → ⊥)
+    × (messages_by link_with_queue (carried_offers (part_sent 1 1 600 ∷ part_sent 5 0 500 ∷ four_in_parts)) (record { 0 = 0 }) ≡ [])
+fifth_in_parts = (four_interleaved, fifth_goes_on, first_ends, fifth_is_one_too_many, first_is_lost)
 
 -- two datagrams of one identification
 

@@ -348,39 +348,39 @@ one_more settings port carried before sends done few =
     let standing : List Group = groups_after_offers limit [] offers in
     ⊎_elim
     (λ (first : (offer.packet.offset == 0) ≡ true).
-    let none : are_some pieces ≡ false = not_true (are_some pieces) (sym sends.first ∙ first) in
+    let none : are_some pieces ≡ false = not_true (are_some pieces) (sym sends.on.first ∙ first) in
     let empty : pieces ≡ [] = none_is pieces none in
     ⊎_elim
     (λ (more : offer.packet.more ≡ true).
-    let front : IsFront limit [] offer = subst (λ (ps : List Piece). IsFront limit ps offer) empty (record { next = sends.next; more = more }) in
+    let front : IsFront limit [] offer = subst (λ (ps : List Piece). IsFront limit ps offer) empty (record { next = sends.on.next; more = more }) in
     record {
-      opened = open_first limit offer offers done.opened sends.next more first none (sends.few more first);
-      messages = with_held settings port carried before done.messages (front_is_held limit (key_of offer.packet) [] 0 standing offer refl (absent_now limit offer offers done.opened sends.next none) front tt) more;
+      opened = open_first limit offer offers done.opened sends.on.next more first none (sends.few more first);
+      messages = with_held settings port carried before done.messages (front_is_held limit (key_of offer.packet) [] 0 standing offer refl (absent_now limit offer offers done.opened sends.on.next none) front tt) more;
     })
     (λ (last : offer.packet.more ≡ false).
     let all = whole_is offer first last in
-    let admits = ap (λ (ps : List Piece). datagram_payload settings.ports (record { destination = offer.packet.destination; joined = not (offer.packet.offset == 0); octets = joined ps ++ offer.packet.octets })) (sym empty) ∙ sends.admits last in
+    let admits = ap (λ (ps : List Piece). datagram_payload settings.ports (record { destination = offer.packet.destination; joined = not (offer.packet.offset == 0); octets = joined ps ++ offer.packet.octets })) (sym empty) ∙ sends.on.admits last in
     let admits_whole = ap (λ (b : Bool). datagram_payload settings.ports (record { destination = offer.packet.destination; joined = not b; octets = offer.packet.octets })) (sym first) ∙ admits in
     record {
-      opened = open_whole limit offer offers done.opened sends.next all last none;
+      opened = open_whole limit offer offers done.opened sends.on.next all last none;
       messages = with_whole settings port carried before offer.packet.octets false done.messages few (whole_fate limit standing offer.packet offer.time all) admits_whole last;
     })
     (cases_Bool offer.packet.more))
     (λ (later : (offer.packet.offset == 0) ≡ false).
-    let some : are_some pieces ≡ true = not_false (are_some pieces) (sym sends.first ∙ later) in
-    let stands = stands_now limit offer offers done.opened sends.next some in
+    let some : are_some pieces ≡ true = not_false (are_some pieces) (sym sends.on.first ∙ later) in
+    let stands = stands_now limit offer offers done.opened sends.on.next some in
     ⊎_elim
     (λ (more : offer.packet.more ≡ true). record {
-      opened = open_next limit offer offers done.opened sends.next more later some;
+      opened = open_next limit offer offers done.opened sends.on.next more later some;
       messages = with_held settings port carried before done.messages
-          (front_is_held limit (key_of offer.packet) pieces (length (open_keys offers)) standing offer refl (as_state (key_of offer.packet) pieces (length (open_keys offers)) standing some stands) (record { next = sends.next; more = more }) (done.opened.rows (key_of offer.packet)).1) more;
+          (front_is_held limit (key_of offer.packet) pieces (length (open_keys offers)) standing offer refl (as_state (key_of offer.packet) pieces (length (open_keys offers)) standing some stands) (record { next = sends.on.next; more = more }) (done.opened.rows (key_of offer.packet)).1) more;
     })
     (λ (last : offer.packet.more ≡ false).
     let after = positive offer.packet.offset later in
-    let is_last : IsLast limit pieces offer = record { next = sends.next; more = last; after = after } in
-    let admits = ap (λ (b : Bool). datagram_payload settings.ports (record { destination = offer.packet.destination; joined = not b; octets = joined pieces ++ offer.packet.octets })) (sym later) ∙ sends.admits last in
+    let is_last : IsLast limit pieces offer = record { next = sends.on.next; more = last; after = after } in
+    let admits = ap (λ (b : Bool). datagram_payload settings.ports (record { destination = offer.packet.destination; joined = not b; octets = joined pieces ++ offer.packet.octets })) (sym later) ∙ sends.on.admits last in
     record {
-      opened = open_last limit offer offers done.opened sends.next last after some;
+      opened = open_last limit offer offers done.opened sends.on.next last after some;
       messages = with_whole settings port carried before (joined pieces ++ offer.packet.octets) true done.messages few
           (last_is_whole limit (key_of offer.packet) pieces (length (open_keys offers)) standing offer refl (as_state (key_of offer.packet) pieces (length (open_keys offers)) standing some stands) (done.opened.rows (key_of offer.packet)).0 is_last) admits last;
     })

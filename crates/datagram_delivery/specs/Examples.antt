@@ -108,6 +108,10 @@ first_key = key_of (fragment 1 0 true 1).packet
 abbrev pub five_begun : List Offer
 five_begun = fragment 5 0 true 5 ∷ four_begun
 
+-- the first fragments of four messages, as a sender sends them
+abbrev pub four_in_parts : List Carried
+four_in_parts = part_sent 4 0 400 ∷ part_sent 3 0 300 ∷ part_sent 2 0 200 ∷ part_sent 1 0 100 ∷ []
+
 -- ---- two datagrams of one identification
 
 -- a link whose limit of time for a datagram in parts is 100 microseconds

@@ -46,17 +46,20 @@ open_keys (offer ∷ before) =
 -- ---- what is sent
 
 -- A packet is sent after others: it is the whole of a datagram, or the next fragment of one that is in parts, or the
--- first of another, while fewer than four are in parts. With the last octets of a datagram its message goes to a port
--- that admits it.
-pub record SendsNext (settings : Settings) (before : List Carried) (carried : Carried) : Type 0 where
+-- first of another. With the last octets of a datagram its message goes to a port that admits it.
+pub record GoesOn (settings : Settings) (before : List Carried) (carried : Carried) : Type 0 where
   pub next : ComesNext settings.reassembly (pieces_now (key_of carried.offer.packet) (carried_offers before)) carried.offer
   pub first : (carried.offer.packet.offset == 0) ≡ not (are_some (pieces_now (key_of carried.offer.packet) (carried_offers before)))
-  pub few : carried.offer.packet.more ≡ true → (carried.offer.packet.offset == 0) ≡ true → length (open_keys (carried_offers before)) < most_partials
   pub admits : carried.offer.packet.more ≡ false → datagram_payload settings.ports (record {
     destination = carried.offer.packet.destination;
     joined = not (carried.offer.packet.offset == 0);
     octets = joined (pieces_now (key_of carried.offer.packet) (carried_offers before)) ++ carried.offer.packet.octets;
   }) ≡ Ok carried.payload
+
+-- and it begins no datagram in parts while four are
+pub record SendsNext (settings : Settings) (before : List Carried) (carried : Carried) : Type 0 where
+  pub on : GoesOn settings before carried
+  pub few : carried.offer.packet.more ≡ true → (carried.offer.packet.offset == 0) ≡ true → length (open_keys (carried_offers before)) < most_partials
 
 abbrev pub AreInterleaved : Settings → List Carried → Type 0
 AreInterleaved settings [] = Unit {0}

@@ -16,10 +16,10 @@ ghost use Rattle.frame_delivery.specs.Once.{first_copies, has_come};
 ghost use Rattle.frame_delivery.specs.Network.{ComeWhole, Timing};
 ghost use Rattle.datagram_delivery.specs.Splitting.{AreFronts, IsLast, Offer, LeavesRoom, groups_after_offers, is_of, joined, other_keys, pieces_of};
 ghost use Rattle.datagram_delivery.specs.Datagrams.{AreSent, CarryPackets, IsSplitAmong, IsSplitInOrder, Sent, all_offers, messages_by, messages_sent, offers_of};
-ghost use Rattle.datagram_delivery.specs.Interleaved.{AreInterleaved, Carried, carried_offers, messages_ended};
+ghost use Rattle.datagram_delivery.specs.Interleaved.{AreInterleaved, Carried, GoesOn, SendsNext, carried_offers, messages_ended};
 ghost use Rattle.datagram_delivery.specs.Parts.{HaveParts, IsMessageOf, WereSentIn};
 ghost use Rattle.frame_delivery.specs.Examples.{numbering, timing};
-ghost use Rattle.datagram_delivery.specs.Examples.{among_one_another, datagram_at, datagram_octets, eight, first_key, five_begun, four_begun, fragment, in_two_fragments, link_of_100, link_with_queue, message, message_sent, one_identification, packet_sent};
+ghost use Rattle.datagram_delivery.specs.Examples.{among_one_another, datagram_at, datagram_octets, eight, first_key, five_begun, four_begun, four_in_parts, fragment, in_two_fragments, link_of_100, link_with_queue, message, message_sent, one_identification, packet_sent, part_sent};
 
 /// A datagram that is split into fragments is joined whole: each fragment but the last is held, and the last brings
 /// exactly the octets of all, one after the other. They come in order and within the limit of time, none is missing,
@@ -102,10 +102,13 @@ pub fn the_conditions_can_be_met()
 {}
 
 /// What goes wrong where one condition isn't met, and all others are: with a fifth datagram in parts the first isn't
-/// completed, and within the limit of time, to the microsecond, one identification for two datagrams mixes them.
+/// completed, so its message isn't delivered; and within the limit of time, to the microsecond, one identification for two datagrams mixes them.
 pub fn each_condition_is_needed()
     ensures fifth_group { (place_of first_key [] ≡ None) × (is_of first_key (fragment 1 8 false 1) ≡ true) × AreFronts 50000 first_key five_begun × IsLast 50000 (pieces_of first_key five_begun) (fragment 1 8 false 1) × LeavesRoom 50000 [] first_key four_begun × (LeavesRoom 50000 [] first_key five_begun → ⊥)
         × (fate 50000 (groups_after_offers 50000 [] five_begun) (fragment 1 8 false 1).packet 100 ≡ held) }
+    ensures fifth_in_parts { AreInterleaved link_with_queue four_in_parts × GoesOn link_with_queue four_in_parts (part_sent 5 0 500) × SendsNext link_with_queue (part_sent 5 0 500 ∷ four_in_parts) (part_sent 1 1 600)
+        × (SendsNext link_with_queue four_in_parts (part_sent 5 0 500) → ⊥)
+        × (messages_by link_with_queue (carried_offers (part_sent 1 1 600 ∷ part_sent 5 0 500 ∷ four_in_parts)) (record { 0 = 0 }) ≡ []) }
     ensures identification_again { HaveParts 99 datagram_at (events_of one_identification) × (HaveParts 100 datagram_at (events_of one_identification) → ⊥)
         × (deliveries link_of_100 (events_of one_identification) (record { 0 = 0 }) ≡ record { time = 200; octets = eight 1 ++ eight 2 } ∷ []) }
 {}

@@ -1,8 +1,9 @@
-use Rattle.datagram_delivery.proofs.Examples.{are_mixed, fifth_gives_up}
+use Rattle.datagram_delivery.proofs.Examples.{are_mixed, fifth_gives_up, fifth_in_parts}
 use Rattle.datagram_delivery.proofs.laws.each_condition_is_needed.Goals as goal
 
 pub returns : goal.returns
 returns c = record {
   fifth_group = fifth_gives_up;
+  fifth_in_parts = fifth_in_parts;
   identification_again = are_mixed;
 }
