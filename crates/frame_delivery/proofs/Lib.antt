@@ -1,4 +1,5 @@
 pub mod Numbers
+pub mod Running
 pub mod Kept
 pub mod Forwarding
 pub mod Passing

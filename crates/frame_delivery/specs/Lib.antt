@@ -1,5 +1,6 @@
 pub mod Sending
 pub mod Once
+pub mod Running
 pub mod Network
 pub mod Messages
 pub mod Conditions

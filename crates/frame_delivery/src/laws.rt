@@ -1,16 +1,20 @@
 //! Which networks bring each frame once, in order, and what a port gets of frames that have whole messages.
 ghost use Rattle.std.specs.Prelude.{◌≡◌, ℕ, ◌<◌, ◌≤◌, ◌+◌, true, false, List, [], ◌∷◌, length};
 ghost use Rattle.es_base.specs.declared.place.PortNo.{PortNo};
+ghost use Rattle.es_base.specs.declared.event.Arrival.{Arrival};
+ghost use Rattle.es_base.specs.declared.event.Event.{Event};
 ghost use Rattle.es_base.specs.Settings.{Settings};
+ghost use Rattle.es_base.specs.Frame.{sequence_number_of};
 ghost use Rattle.es_base.specs.Limits.{most_samples};
 ghost use Rattle.es_base.specs.Past.{arrival_of};
 ghost use Rattle.es_base.specs.Integrity.{passes};
-ghost use Rattle.es_base.specs.Copies.{is_ahead};
-ghost use Rattle.es_base.specs.Redundancy.{forwarded};
+ghost use Rattle.es_base.specs.Copies.{Forwarded, is_ahead};
+ghost use Rattle.es_base.specs.Redundancy.{forwarded, is_forwarded};
 ghost use Rattle.es_base.specs.Outcome.{Payload};
 ghost use Rattle.es_base.specs.Deliveries.{deliveries};
 ghost use Rattle.frame_delivery.specs.Sending.{Copy, EachCopy, HaveNumbers, Numbering, RunsOn, events_of, number_of};
 ghost use Rattle.frame_delivery.specs.Once.{AreInOrder, ComesInTime, IsForwardedIfFirst, IsForwardedIfNew, IsOvertaken, as_forwarded, first_copies, has_come, new_copies, passing};
+ghost use Rattle.frame_delivery.specs.Running.{EachForwarded, SomeForwarded};
 ghost use Rattle.frame_delivery.specs.Network.{BeginNear, ComeTimely, ComeWhole, IsNeverLate, HasAge, HasNoOvertaking, IsOverSoon, KeepsOrder, KeepsTimes, LosesFew, Timing};
 ghost use Rattle.frame_delivery.specs.Conditions.{MeetAll, MeetAllBut, apart, covers, is_asked_for_all, is_asked_for_once, late, late_restart, losses, near, restarts};
 ghost use Rattle.frame_delivery.specs.Messages.{AllCame, CarryWhole, HaveRoom, messages_of, octets_of, octets_sent};
@@ -27,6 +31,16 @@ pub fn a_later_frame_is_ahead()
 pub fn each_frame_passes()
     ensures { (settings : Settings) (numbering : Numbering) (copy : Copy) (before : List Copy) → HaveNumbers numbering (copy ∷ before)
         → KeepsOrder (copy ∷ before) → LosesFew numbering settings.window (copy ∷ before) → passes settings (events_of before) (arrival_of copy.event) ≡ true }
+{}
+
+/// SkewMax runs from each frame that was forwarded, and from no other. Once it is over since all of them, the next frame
+/// that passes is forwarded, whatever its number is. While it runs since one of them, whichever came last, a frame is
+/// redundant that isn't ahead of the one forwarded last.
+pub fn skew_max_runs_from_each_forwarded_frame()
+    ensures over { (settings : Settings) (past : List Event) (a : Arrival) → EachForwarded settings (λ e. e.time + settings.skew_max < a.time) past → passes settings past a ≡ true
+        → is_forwarded settings past a ≡ true }
+    ensures runs { (settings : Settings) (past : List Event) (a : Arrival) (latest : Forwarded) (earlier : List Forwarded) → settings.redundancy ≡ true → forwarded settings past ≡ latest ∷ earlier
+        → is_ahead latest.sequence_number (sequence_number_of a.frame) ≡ false → SomeForwarded settings (λ e. a.time ≤ e.time + settings.skew_max) past → is_forwarded settings past a ≡ false }
 {}
 
 /// Of the copies that pass those are forwarded that are of a later frame than all before, if the copies come in time.
