@@ -16,10 +16,11 @@ pub fn run<R: Wait>(
     rt: &R,
     alloc: Global,
     config: &Config,
-    frames: (&[u8], &[u8]),
+    on_a: &[u8],
+    on_b: &[u8],
     vl: LinkNo,
 ) -> Result<Settled, Memory>
-    ensures { IfOk result (λ settled. IsWhole config.now frames.0.now frames.1.now vl settled) }
+    ensures { IfOk result (λ settled. IsWhole config.now on_a.now on_b.now vl settled) }
 {
     let Opened {
         system,
@@ -27,8 +28,8 @@ pub fn run<R: Wait>(
         mut b,
         ends: _,
     } = EndSystem::open(alloc, config, NoGate)?;
-    let _ = system.receive(rt, alloc, &mut a, 1000, frames.0)?;
-    let _ = system.receive(rt, alloc, &mut b, 1001, frames.1)?;
+    let _ = system.receive(rt, alloc, &mut a, 1000, on_a)?;
+    let _ = system.receive(rt, alloc, &mut b, 1001, on_b)?;
     let _ = match system.take_epoch(rt, alloc, &mut a, vl) {
         Ok(epoch) => epoch,
         Err(_) => return Err(AllocError),

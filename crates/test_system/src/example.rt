@@ -16,8 +16,8 @@ fn run_on_copies(rt: &(impl Abort + Wait), alloc: Global) -> Settled {
     let config = config_of(alloc, &[BUILT_IN]).expect(rt, "a configuration");
     let row = smallest_row((A, 1000, 1, Sampled(POS, 1)));
     let frame = octets_of(rt, alloc, row);
-    let frames = (frame.as_slice(), frame.as_slice());
-    run(rt, alloc, &config, frames, LINK_17).expect(rt, "memory")
+    let (on_a, on_b) = (frame.as_slice(), frame.as_slice());
+    run(rt, alloc, &config, on_a, on_b, LINK_17).expect(rt, "memory")
 }
 
 /// The frame of A was sampled, that of B is redundant; both were taken out, and the history is empty.
