@@ -10,13 +10,14 @@ use test_inputs::rows::{
 };
 use test_inputs::{LINK, Link};
 
-/// Copies of both fragments on the other network are redundant, and joined with nothing.
-fn on_both_networks() -> [PacketRow; 4] {
+/// Copies of both fragments on the other network are redundant, and joined with nothing that comes later.
+fn on_both_networks() -> [PacketRow; 5] {
     [
         (A, 1000, 1, First, FragmentHeld),
         (B, 1050, 1, First, Redundant),
         (B, 1100, 2, Last, FOR_NAV),
         (A, 1150, 2, Last, Redundant),
+        (B, 1200, 3, First, FragmentHeld),
     ]
 }
 
