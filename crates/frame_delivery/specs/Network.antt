@@ -46,8 +46,8 @@ pub record Timing : Type 0 where
   -- the least and the greatest time that a copy is on its way
   pub least : ℕ
   pub greatest : ℕ
-  -- the greatest time by which a copy is taken after one that came later: 0 for one task, and for two threads the longest
-  -- that one waits from the time that it gives its frame until its link takes it
+  -- the greatest time by which a copy is taken after one that came later: 0 for one task that gives them in the order of
+  -- their times, and for two threads the longest that one waits from its frame's time until its link takes it
   pub wait : ℕ
 
 -- the sender leaves the gap after each frame
