@@ -30,13 +30,15 @@ fn samples() -> [FrameRow<'static>; 4] {
 }
 
 /// Both pieces come on both networks, with a whole datagram between them.
-fn pieces() -> [FrameRow<'static>; 5] {
+fn pieces() -> [FrameRow<'static>; 7] {
     [
         packet_row((A, 1000, 1, First, FragmentHeld)),
         packet_row((B, 1050, 1, First, Redundant)),
         (A, 1070, 2, IP, NAV_UDP, PAYLOAD, FOR_NAV),
         packet_row((B, 1100, 3, Last, FOR_NAV)),
         packet_row((A, 1150, 3, Last, Redundant)),
+        packet_row((B, 1200, 4, First, FragmentHeld)),
+        packet_row((B, 1250, 5, Last, FOR_NAV)),
     ]
 }
 
@@ -88,7 +90,11 @@ fn a_link_without_frames_delivers_nothing(rt: HostRuntime) {
 
 #[test]
 fn a_joined_datagram_is_delivered_once(rt: HostRuntime) {
-    let wanted = [(1070, PAYLOAD), (1100, JOINED_PAYLOAD)];
+    let wanted = [
+        (1070, PAYLOAD),
+        (1100, JOINED_PAYLOAD),
+        (1250, JOINED_PAYLOAD),
+    ];
     check_deliveries(&rt, rt.alloc(), 4, &pieces(), NAV, &wanted);
 }
 
