@@ -29,7 +29,7 @@ fn samples() -> [FrameRow<'static>; 4] {
     ]
 }
 
-/// Both pieces come on both networks, with a whole datagram between them.
+/// Both pieces come on both networks, with a whole datagram between them, and then both of a later datagram.
 fn pieces() -> [FrameRow<'static>; 7] {
     [
         packet_row((A, 1000, 1, First, FragmentHeld)),
