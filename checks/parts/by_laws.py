@@ -8,7 +8,7 @@ import subprocess
 
 from parts.by_tests import lay_wrong, lines_of
 from parts.options import ROOT
-from build_program import build_folder, lay_crates
+from proving import build_folder, lay_crates
 
 FOLDER = ROOT / "wrong_bodies" / "by_laws"
 

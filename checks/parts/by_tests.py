@@ -15,7 +15,7 @@ import subprocess
 from dataclasses import dataclass, field
 
 from parts.options import ROOT
-from build_program import build_folder, lay_crates, lines_of_crates, with_those_below
+from proving import build_folder, lay_crates, lines_of_crates, with_those_below
 
 CRATES = ROOT / "crates"
 OUTSIDE = ROOT / "wrong_bodies"

@@ -5,7 +5,6 @@ import sys
 from pathlib import Path
 
 ROOT = Path(__file__).resolve().parent.parent.parent
-PROGRAM = ROOT / "crates" / "afdx_play" / "out" / "afdx_play"
 TOOLS = ROOT / "tools"
 EXAMPLES = ROOT / "examples"
 NAME = f"checks/{Path(sys.argv[0]).name}"
@@ -23,8 +22,7 @@ def parser_of(description):
 
 def add_program(parser):
     """Adds the word `--program`."""
-    parser.add_argument("--program", metavar="PATH", default=str(PROGRAM),
-                        help=f"the program (default: {PROGRAM.relative_to(ROOT)})")
+    parser.add_argument("--program", metavar="PATH", help="the program (default: what ./build program leaves)")
 
 
 def end_if_missing(path, builder):
@@ -36,8 +34,11 @@ def end_if_missing(path, builder):
 
 
 def program_of(given):
-    """The absolute path of the program that a command line asks for."""
-    path = os.path.abspath(given.program)
-    what = "it" if path == str(PROGRAM) else "the usual one"
-    end_if_missing(path, f"./afdx_play --help builds {what}, proved")
-    return path
+    """The absolute path of the program that a command line asks for, or of the one of these sources."""
+    from workbench.faults import Fault
+    from workbench.program import find
+    try:
+        return find(given.program)
+    except Fault as fault:
+        print(f"{NAME}: {fault}", file=sys.stderr)
+        sys.exit(2)

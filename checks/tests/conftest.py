@@ -1,4 +1,4 @@
-"""What the tests share. The program is the one that yelunnavi finds: AFDX_PLAY, or what ./afdx_play has built."""
+"""What the tests share. The program is the one that yelunnavi finds: AFDX_PLAY, or what ./build program leaves."""
 import os
 import subprocess
 import sys

@@ -11,14 +11,23 @@ from verdict_words import PORT_KINDS
 from workbench.faults import NOT_READ, Fault
 from workbench.files import BLOCK
 
-BUILT = Path(__file__).resolve().parents[2] / "crates" / "afdx_play" / "out" / "afdx_play"
-HOW = ("./afdx_play --help proves and builds it once, in about half an hour on 4 processors; "
+ROOT = Path(__file__).resolve().parents[2]
+BUILT = ROOT / "out" / "program" / "afdx_play"
+HOW = ("./build program proves and builds it once, in about half an hour on 4 processors; "
        "--program FILE or AFDX_PLAY name another")
 
 
+def is_built():
+    """Whether the program of these sources stands where ./build leaves it. In a release, which has no ./build, it does."""
+    build = ROOT / "build"
+    return not build.exists() or not subprocess.run([build, "program", "--if-built"], stdin=subprocess.DEVNULL).returncode
+
+
 def find(given):
-    """The program's path: the one given, that of AFDX_PLAY, or where ./afdx_play leaves it."""
+    """The program's path: the one given, that of AFDX_PLAY, or where ./build leaves it."""
     path = given or os.environ.get("AFDX_PLAY")
+    if not path and not is_built():
+        raise Fault(f"no program of these sources is built: {HOW}", NOT_READ)
     path = shutil.which(path) or path if path else str(BUILT)
     if not os.access(path, os.X_OK) or os.path.isdir(path):
         raise Fault(f"no program {path}: {HOW}", NOT_READ)

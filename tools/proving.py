@@ -1,10 +1,9 @@
-#!/usr/bin/env python3
-"""Proves the program `afdx_play` with all crates that it stands on, and builds it. `./afdx_play` calls this.
+"""Proves crates with all that they stand on: for `./build`, and for the checks that need crates proved.
 
-It works in a folder of its own, ~/.cache/yelunnavi/afdx_play (or below XDG_CACHE_HOME), with copies of these crates
-alone, since the toolchain proves crates side by side only if it is told of all of them, tests included. The folder
-keeps what was proved, so only what a change touches is proved again. The program is copied to
-crates/afdx_play/out/afdx_play. A line on standard error says how far it is. The exit status is 1 if a proof failed.
+It works in a folder of its own below ~/.cache/yelunnavi (or XDG_CACHE_HOME), with copies of these crates alone, since the
+toolchain proves crates side by side only if it is told of all of them, tests included. The folder keeps what was proved,
+so only what a change touches is proved again; crates that aren't of this build wait beside it. A line on standard error
+says how far it is.
 """
 import os
 import re
@@ -68,13 +67,23 @@ def copy_changed(source, copy):
             shutil.copyfile(path, to)
 
 
+def set_aside(folder, wanted):
+    """Moves crates that aren't wanted out of a folder, with what was proved of them, and those that are back into it."""
+    crates, aside = folder / "crates", folder.with_name(f"{folder.name}.aside")
+    crates.mkdir(parents=True, exist_ok=True)
+    aside.mkdir(exist_ok=True)
+    for crate in set(crates.iterdir()) - {crates / name for name in wanted}:
+        shutil.rmtree(aside / crate.name, ignore_errors=True)
+        crate.rename(aside / crate.name)
+    for name in wanted:
+        if (aside / name).exists() and not (crates / name).exists():
+            (aside / name).rename(crates / name)
+
+
 def lay_crates(folder, names):
     """Lays copies of these crates and of all that they stand on, as a repository of its own."""
     wanted, lines = with_those_below(names), lines_of_crates()
-    (folder / "crates").mkdir(parents=True, exist_ok=True)
-    for part in (folder / "crates").glob("*/*"):
-        if part.parent.name not in wanted and part.name != "out":
-            shutil.rmtree(part)
+    set_aside(folder, wanted)
     for name in wanted:
         for part in ("src", "specs", "proofs"):
             if (ROOT / "crates" / name / part).exists():
@@ -108,26 +117,3 @@ def prove_crates(folder, count, jobs):
                 done += 1
                 say(f"{done} of {count} crates, {int(time.monotonic() - begun) // 60} min: {line[3:].strip()}")
     return "".join(report) if running.returncode else None
-
-
-def main():
-    folder = build_folder(PROGRAM)
-    wanted = lay_crates(folder, [PROGRAM])
-    say(f"proving {len(wanted)} crates and building the program: half an hour on 4 processors the first time")
-    report = prove_crates(folder, len(wanted), side_by_side())
-    if report is None:
-        done = subprocess.run(["rt", "run", "--", "--help"], cwd=folder / "crates" / PROGRAM, stdin=subprocess.DEVNULL,
-                              stdout=subprocess.PIPE, stderr=subprocess.STDOUT, text=True)
-        report = done.stdout if done.returncode else None
-    if report is not None:
-        (folder / "report").write_text(report, encoding="utf-8")
-        print("\n".join(report.splitlines()[-LINES_OF_A_FAILURE:]), file=sys.stderr)
-        say(f"not proved: the whole report is in {folder / 'report'}")
-        sys.exit(1)
-    built = ROOT / "crates" / PROGRAM / "out"
-    built.mkdir(exist_ok=True)
-    shutil.copy(folder / "crates" / PROGRAM / "out" / PROGRAM, built / PROGRAM)
-
-
-if __name__ == "__main__":
-    main()
