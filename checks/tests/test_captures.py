@@ -105,6 +105,32 @@ def test_times_are_microseconds_since_the_first_packet():
     assert f"time 0 is {base // 10**9}.{base % 10**9:09d} seconds of 1970".encode() in found.stderr
 
 
+def of_nanoseconds(*packets):
+    """A pcapng of two interfaces with a frame and its copies: for each its interface and its nanoseconds."""
+    octets = read(CAPTURES / "a.pcap")[0].octets
+    head = [captures.written_section("test"), *(captures.written_interface(name, name) for name in "ab")]
+    return b"".join(head + [captures.written_packet(net, time, octets, None, "") for net, time in packets])
+
+
+def test_frames_within_one_microsecond_keep_their_order(written):
+    """B's copy comes 400 ns before A's, and another pair as far apart the other way round."""
+    path = written("nano.pcapng", of_nanoseconds((1, 5_000_300), (0, 5_000_700), (0, 9_000_100), (1, 9_000_900)))
+    lines = [line.split()[:2] for line in play(path).splitlines() if line[:1].isdigit()]
+    assert lines == [[b"0", b"B"], [b"1", b"A"], [b"3999", b"A"], [b"4000", b"B"]]
+
+
+def test_frames_of_the_same_nanosecond_are_played_a_first(written):
+    path = written("nano.pcapng", of_nanoseconds((1, 5_000_300), (0, 5_000_300)))
+    assert [line.split()[:2] for line in play(path).splitlines() if line[:1].isdigit()] == [[b"0", b"A"], [b"0", b"B"]]
+
+
+def test_packets_that_were_lost_while_capturing_are_told(written):
+    lost = captures.written_block(captures.STATISTICS, struct.pack("<III", 1, 0, 0), (5, struct.pack("<Q", 7)))
+    found = run("play", "--config", CONFIG, written("lost.pcapng", of_nanoseconds((0, 5_000_000)) + lost))
+    assert found.returncode == 0
+    assert b"7 packets were lost while it was captured, on interface 1" in found.stderr
+
+
 def test_check_sequences_are_cut_off():
     found = run("play", "--config", CONFIG, CAPTURES / "a_fcs.pcap", CAPTURES / "b_fcs.pcap")
     assert b"17 check sequences cut off" in found.stderr

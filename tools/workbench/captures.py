@@ -17,13 +17,15 @@ SECOND = 10**9
 # Each magic number of pcap: its byte order, and the nanoseconds of the smaller part of its times.
 PCAP = {b"\xd4\xc3\xb2\xa1": ("<", 1000), b"\xa1\xb2\xc3\xd4": (">", 1000),
         b"\x4d\x3c\xb2\xa1": ("<", 1), b"\xa1\xb2\x3c\x4d": (">", 1)}
-SECTION, INTERFACE, OBSOLETE_PACKET, SIMPLE_PACKET, PACKET = 0x0A0D0D0A, 1, 2, 3, 6
+SECTION, INTERFACE, OBSOLETE_PACKET, SIMPLE_PACKET, STATISTICS, PACKET = 0x0A0D0D0A, 1, 2, 3, 5, 6
 SECTION_MAGIC = b"\x0a\x0d\x0d\x0a"
 ORDERS = {b"\x4d\x3c\x2b\x1a": "<", b"\x1a\x2b\x3c\x4d": ">"}
 LENGTHS = {order: struct.Struct(order + "I") for order in "<>"}
 HEADS = {(order, kind): struct.Struct(order + fields) for order in "<>"
          for kind, fields in [(PACKET, "5I"), (OBSOLETE_PACKET, "HxxIIII"), (SIMPLE_PACKET, "I")]}
 END, COMMENT, NAME, DESCRIPTION, RESOLUTION, FCS_LENGTH, OFFSET = 0, 1, 2, 3, 9, 13, 14
+# Of an interface's statistics: how many packets were lost there, and in the system above it.
+LOST = (5, 7)
 
 
 class Interface(NamedTuple):
@@ -55,10 +57,11 @@ def is_capture(magic):
     return magic in PCAP or magic == SECTION_MAGIC
 
 
-def packets(file, magic):
+def packets(file, magic, lost=None):
     """The packets of a capture whose first four octets were read. Ends with `Cut` where the file is cut short, and
-    with a `Fault` where it isn't of its form."""
-    return pcap(file, *PCAP[magic]) if magic in PCAP else pcapng(file, magic)
+    with a `Fault` where it isn't of its form. Into `lost` goes, by section and interface, how many packets whoever
+    captured says were lost."""
+    return pcap(file, *PCAP[magic]) if magic in PCAP else pcapng(file, magic, {} if lost is None else lost)
 
 
 def exactly(file, count):
@@ -82,18 +85,21 @@ def pcap(file, order, unit):
         yield Packet(number, 0, seconds * SECOND + part * unit, exactly(file, kept), length, about)
 
 
-def pcapng(file, magic):
+def pcapng(file, magic, lost):
     """Each section of a file numbers its interfaces anew, and packets are numbered on, as tshark does."""
-    order, interfaces, number = "<", [], 0
+    order, interfaces, number, sections = "<", [], 0, 0
     while magic:
         if len(magic) < 4:
             raise Cut
         if magic == SECTION_MAGIC:
-            order, interfaces = begin_section(file), []
+            order, interfaces, sections = begin_section(file), [], sections + 1
         else:
             kind, body = block(file, order, magic)
             if kind == INTERFACE:
                 interfaces.append(interface(order, body, len(interfaces)))
+            elif kind == STATISTICS:
+                of_interface, count = statistics(order, body)
+                lost[sections, of_interface] = count
             elif kind in (PACKET, SIMPLE_PACKET, OBSOLETE_PACKET):
                 number += 1
                 yield packet(order, kind, body, number, interfaces)
@@ -153,6 +159,15 @@ def interface(order, body, before):
         elif code == FCS_LENGTH and len(value) == 1:
             fcs = value[0] in (4, 32)  # octets, or bits: both are written
     return Interface(link_type, fcs, snapshot, units, offset)
+
+
+def statistics(order, body):
+    """An interface, and how many packets were lost there up to here."""
+    if len(body) < 12:
+        raise Fault("statistics without their interface")
+    counts = (struct.unpack(order + "Q", value)[0] for code, value in options(order, body[12:])
+              if code in LOST and len(value) == 8)
+    return LENGTHS[order].unpack(body[:4])[0], sum(counts)
 
 
 def packet(order, kind, body, number, interfaces):

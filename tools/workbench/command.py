@@ -13,11 +13,14 @@ INPUTS = """\
 FILE is a capture (pcap or pcapng) of network A, and a second one of network B;
 or one capture with two interfaces, A and B; or one or two hex traces. `-` is the
 standard input:
-  dumpcap -q -a duration:60 -i eth1 -i eth2 -w - | yelunnavi play --config C.toml -
-Times are in microseconds, rounded down, since the first packet. Frame check
-sequences are found and cut off. What can't be a line of a trace is left out and
-told on the standard error: cut by the snapshot length, with a VLAN tag, torn,
-or too late. Traces are kept in TMPDIR meanwhile, in twice the captures' room."""
+  dumpcap -q -B 64 -N 1000000 -C 268435456 -a duration:60 -i eth1 -i eth2 -w - \\
+      | yelunnavi play --config C.toml -
+With dumpcap's own sizes of its queues packets are lost from some thousands a
+second on. Times are in microseconds, rounded down, since the first packet. Frame
+check sequences are found and cut off. What can't be a line of a trace is left
+out and told on the standard error: cut by the snapshot length, with a VLAN tag,
+torn, or too late; and what the capture says was lost. Traces are kept in TMPDIR
+meanwhile, in twice the captures' room."""
 FILTERS = """\
 Wireshark then shows each verdict beside its packet, and finds it. Two settings
 keep it from taking sequence number 0 for padding, and a dissector shows links,

@@ -95,6 +95,7 @@ class Account:
 
     def __init__(self, name):
         self.name, self.packets, self.whole, self.checked, self.moved = name, 0, 0, 0, 0
+        self.newest, self.lost = 0, {}
         self.left_out = collections.defaultdict(list)
         self.counts = collections.Counter()
 
@@ -112,6 +113,10 @@ class Account:
         more += [f", {self.moved} put in order"] if self.moved else []
         if more:
             yield f"{self.name}: {self.packets} packets{''.join(more)}"
+        for (_, interface), count in self.lost.items():
+            if count:
+                yield (f"{self.name}: {count} packets were lost while it was captured, on interface {interface}: what "
+                       "they were is unknown, and looks like a fault of the network")
         for reason, numbers in self.left_out.items():
             rest = f" and {self.counts[reason] - SHOWN} more" if self.counts[reason] > SHOWN else ""
             yield f"{self.name}: left out, {reason}: packet {', '.join(map(str, numbers))}{rest}"
@@ -156,25 +161,43 @@ def in_order(entries, window):
         yield heapq.heappop(heap)
 
 
-def write(entries, base, traces, account):
-    """Writes what comes of a capture to the traces of its networks."""
-    latest, newest = [base, base], 0
+class Times:
+    """The times of the traces' lines, in microseconds. The program takes both traces' lines by these, A's first; so if a
+    frame of A came after one of B, but in the same microsecond, its line has the next one."""
+
+    def __init__(self, base):
+        self.base = base
+        self.latest = [(base, -1), (base, -1)]  # of each network: the time of its latest frame, and that of its line
+
+    def of_line(self, net, time):
+        other, of_other = self.latest[1 - net]
+        line = max((time - self.base) // 1000, self.latest[net][1])
+        if (time, net) > (other, 1 - net):
+            line = max(line, of_other + (net == 0))
+        self.latest[net] = time, line
+        return line
+
+
+def write(entries, base, traces):
+    """Writes what comes of captures to the traces of their networks: entries in the order of their times, each with the
+    account of its capture."""
+    times = Times(base)
     with contextlib.ExitStack() as stack:
         written = {net: (stack.enter_context(open(trace.path, "w", files.BLOCK, "ascii")).write,
                          stack.enter_context(open(trace.notes, "w", files.BLOCK, "ascii")).write)
                    for net, trace in traces.items()}
-        for time, number, net, octets, reason, length in entries:
-            if not reason and time < latest[net]:
+        for account, (time, number, net, octets, reason, length) in entries:
+            if not reason and time < times.latest[net][0]:
                 reason = LATE
             if reason:
                 account.leave_out(number, reason)
                 if net is not None:
                     written[net][1](f"{number} {time} {max(length, len(octets))} {octets.hex()} {reason}\n")
                 continue
-            account.moved += number < newest
-            latest[net], newest = time, max(number, newest)
+            account.moved += number < account.newest
+            account.newest = max(number, account.newest)
             line, note = written[net]
-            line(f"{(time - base) // 1000} {octets.hex()}\n")
+            line(f"{times.of_line(net, time)} {octets.hex()}\n")
             note(f"{number} {time}\n")
 
 
@@ -221,24 +244,29 @@ class Feed:
 
     def __init__(self, one, nets, given):
         self.account = Account(one.label)
-        packets = captures.packets(one.file, one.magic) if one.magic else ()
+        packets = captures.packets(one.file, one.magic, self.account.lost) if one.magic else ()
         self.rest = in_order(frames_of(packets, nets, given.fcs, self.account), given.reorder)
         self.first = next(self.rest, None)
+
+    def entries(self):
+        """What comes of its packets, each with its account."""
+        for entry in itertools.chain([self.first] if self.first else (), self.rest):
+            yield self.account, entry
 
 
 def captured(inputs, given, folder):
     """One capture has both networks, by their interfaces; of two each has one."""
     traces = [Captured(folder, net) for net in NETWORKS]
     if len(inputs) == 1:
-        feeds = [(Feed(inputs[0], dict(zip(given.interfaces, (0, 1))), given), dict(enumerate(traces)))]
+        feeds = [Feed(inputs[0], dict(zip(given.interfaces, (0, 1))), given)]
     else:
-        feeds = [(Feed(one, net, given), {net: traces[net]}) for net, one in enumerate(inputs)]
-    base = min((feed.first[0] for feed, _ in feeds if feed.first), default=0)
-    for feed, own in feeds:
-        for trace in own.values():
-            trace.source = feed.account.name
-        write(itertools.chain([feed.first] if feed.first else (), feed.rest), base, own, feed.account)
-    told = [line for feed, _ in feeds for line in feed.account.lines()]
+        feeds = [Feed(one, net, given) for net, one in enumerate(inputs)]
+    for net, trace in enumerate(traces):
+        trace.source = feeds[net % len(feeds)].account.name
+    base = min((feed.first[0] for feed in feeds if feed.first), default=0)
+    merged = heapq.merge(*(feed.entries() for feed in feeds), key=lambda entry: entry[1][0])
+    write(merged, base, dict(enumerate(traces)))
+    told = [line for feed in feeds for line in feed.account.lines()]
     if given.name == "play":
         told.append(f"time 0 is {told_time(base)}")
     for line in told:
