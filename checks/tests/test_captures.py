@@ -131,6 +131,29 @@ def test_packets_that_were_lost_while_capturing_are_told(written):
     assert b"7 packets were lost while it was captured, on interface 1" in found.stderr
 
 
+def test_the_captures_with_faults_are_what_their_script_makes(tmp_path):
+    subprocess.run([CAPTURES / "make_faults.py", tmp_path], check=True)
+    made = sorted(path.name for path in tmp_path.iterdir())
+    assert made == ["ahead_a.pcap", "ahead_b.pcap", "faults.pcapng"]
+    assert all((tmp_path / name).read_bytes() == (CAPTURES / name).read_bytes() for name in made)
+
+
+def test_each_fault_shows(tmp_path):
+    """By the rules: the copy that is too late, A after its outage, the lost fragment, the damaged frame; and no other."""
+    lines = [line.split() for line in play(CAPTURES / "faults.pcapng").splitlines() if line[:1].isdigit()]
+    odd = [(int(line[0]), line[1], line[3], line[5]) for line in lines if line[5] not in (b"sampled", b"redundant")]
+    assert odd == [(72_000, b"A", b"17", b"out-of-sequence"), (74_000, b"A", b"18", b"out-of-sequence"),
+                   (124_000, b"A", b"17", b"fragment-held"), (140_000, b"A", b"17", b"bad-header")]
+    assert [line[1] for line in lines if line[:1] == [b"33700"]] == [b"B"]
+    sampled = [line for line in lines if line[3] == b"17" and line[5] == b"sampled"]
+    assert len(sampled) == 26 and sampled[9][:2] == [b"33700", b"B"]
+
+
+def test_a_clock_that_is_ahead_makes_two_messages_of_each_frame():
+    found = verdicts(play(CAPTURES / "ahead_a.pcap", CAPTURES / "ahead_b.pcap"))
+    assert len(found) == 40 and not any(b"redundant" in words for words in found)
+
+
 def test_check_sequences_are_cut_off():
     found = run("play", "--config", CONFIG, CAPTURES / "a_fcs.pcap", CAPTURES / "b_fcs.pcap")
     assert b"17 check sequences cut off" in found.stderr
