@@ -17,10 +17,10 @@ use test_inputs_systems::{
 };
 
 /// A frame, and the reply that is wanted.
-type Row = (Vec<u8>, Reply);
+pub(crate) type Row = (Vec<u8>, Reply);
 
 /// The system receives a frame at 1000 microseconds, with this reply.
-fn check_reply<R: Abort + Wait, G: Gate>(
+pub(crate) fn check_reply<R: Abort + Wait, G: Gate>(
     rt: &R,
     alloc: Global,
     system: &EndSystem<G>,
@@ -55,7 +55,7 @@ fn check_beside<R: Abort + Wait, G: Gate>(
 }
 
 /// A frame of the link with this number, whose first message it brings.
-fn first_row(rt: &impl Abort, alloc: Global, vl: u16) -> Row {
+pub(crate) fn first_row(rt: &impl Abort, alloc: Global, vl: u16) -> Row {
     let frame = smallest_for(alloc, vl, 0).expect(rt, "octets");
     let reply = Reply::Link {
         vl: LinkNo(vl),

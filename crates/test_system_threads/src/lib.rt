@@ -14,3 +14,5 @@ mod networks;
 mod replays;
 #[cfg(test)]
 mod traces;
+#[cfg(test)]
+mod unread;
