@@ -11,11 +11,11 @@ use Rattle.es_base.specs.Groups.{Group, fate, groups_after, held, whole}
 use Rattle.es_base.specs.Outcome.{Payload, brought, datagram_payload, packet_payload}
 use Rattle.es_base.specs.Deliveries.{delivered}
 use Rattle.es_base.specs.Settings.{Settings}
+use Rattle.es_base.proofs.Keys.{key_itself}
 use Rattle.frame_delivery.specs.Messages.{goes_to}
 use Rattle.datagram_delivery.specs.Splitting.{is_of, AreFronts, Offer, LeavesRoom, groups_after_offers, joined, pieces_of}
 use Rattle.datagram_delivery.specs.Datagrams.{AreOf, AreSent, IsSent, Sent, all_offers, messages_by, messages_sent, room_of, time_of}
 use Rattle.frame_delivery.proofs.Delivered.{takes}
-use Rattle.datagram_delivery.proofs.Standing.{key_itself}
 use Rattle.datagram_delivery.proofs.Splits.{fronts_are_held, gone_after, last_completes}
 
 -- ---- offers after offers

@@ -9,12 +9,13 @@ use Rattle.es_base.specs.Fragments.{Piece, is_bad, is_whole, key_of, piece_of}
 use Rattle.es_base.specs.Groups.{Found, Group, begins, datagram_with, found_for, group_with, groups_after, groups_with, has_key, is_same_key, joins, place_of, with_room, without}
 use Rattle.es_base.specs.Outcome.{Payload}
 use Rattle.es_base.specs.Settings.{Settings}
+use Rattle.es_base.proofs.Keys.{key_itself, same_key}
 use Rattle.datagram_delivery.specs.Splitting.{LeavesRoom, Offer, begins_group, begun_meanwhile, begun_since, groups_after_offers, is_among, is_beginning, is_of, other_keys, others_in}
 use Rattle.datagram_delivery.specs.Datagrams.{IsSplitAmong, IsSplitInOrder}
 use Rattle.datagram_delivery.specs.Interleaved.{without_key}
 use Rattle.datagram_delivery.proofs.Open.{IsAmong, among_without}
 use Rattle.datagram_delivery.proofs.Each.{AreDistinct, EachGroup, HasOther, IsAbsent, distinct_remove, each_at, each_more, each_push, each_remove, each_room, each_set, room_kept}
-use Rattle.datagram_delivery.proofs.Standing.{key_itself, place_absent, same_key}
+use Rattle.datagram_delivery.proofs.Standing.{place_absent}
 use Rattle.datagram_delivery.proofs.Unused.{AreBegun, IsFoundThere, all_begun, begun_after, first_front, found_there, same_begin, same_room, unused_begins}
 
 -- ---- keys of groups among some

@@ -10,12 +10,13 @@ use Rattle.es_base.specs.Fragments.{Piece, is_whole, key_of, piece_of}
 use Rattle.es_base.specs.Groups.{Found, Group, begins, datagram_with, fate, found_at, found_for, groups_after, groups_with, held, is_same_key, place_of, whole, without}
 use Rattle.es_base.specs.Outcome.{datagram_payload}
 use Rattle.es_base.specs.Settings.{Settings}
+use Rattle.es_base.proofs.Keys.{key_itself, other_way, same_key}
 use Rattle.frame_delivery.specs.Messages.{goes_to}
 use Rattle.datagram_delivery.specs.Splitting.{ComesNext, IsFront, IsLast, Offer, are_some, groups_after_offers, joined}
 use Rattle.datagram_delivery.specs.Datagrams.{messages_by}
 use Rattle.datagram_delivery.specs.Interleaved.{AreInterleaved, Carried, SendsNext, carried_offers, messages_ended, open_keys, pieces_now, without_key}
 use Rattle.datagram_delivery.proofs.Each.{IsAbsent}
-use Rattle.datagram_delivery.proofs.Standing.{Stands, absent_place, key_itself, other_way, same_key}
+use Rattle.datagram_delivery.proofs.Standing.{Stands, absent_place}
 use Rattle.datagram_delivery.proofs.Rows.{AreFollowed, AreInRow}
 use Rattle.datagram_delivery.proofs.Splits.{IsState, found_ours, front_is_held, held_datagram, last_found, last_is_whole, last_not_whole, more_not_whole}
 use Rattle.datagram_delivery.proofs.Datagrams.{held_delivers, whole_delivers, whole_fate}

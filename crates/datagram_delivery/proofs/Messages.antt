@@ -12,6 +12,7 @@ use Rattle.es_base.specs.Redundancy.{is_forwarded}
 use Rattle.es_base.specs.Outcome.{Payload, brings, brought, datagram_payload, outcome, packet_payload}
 use Rattle.es_base.specs.Deliveries.{deliveries}
 use Rattle.es_base.specs.Settings.{Settings}
+use Rattle.es_base.proofs.Keys.{key_itself}
 use Rattle.frame_delivery.specs.Sending.{Copy, Numbering, events_of}
 use Rattle.frame_delivery.specs.Once.{first_copies, has_come}
 use Rattle.frame_delivery.specs.Network.{ComeWhole, Timing}
@@ -19,7 +20,7 @@ use Rattle.frame_delivery.proofs.Main.{each_first_is_forwarded}
 use Rattle.datagram_delivery.specs.Splitting.{Offer, groups_after_offers, joined, pieces_of}
 use Rattle.datagram_delivery.specs.Datagrams.{AreSent, CarryPackets, IsSplitAmong, Sent, all_offers, messages_by, messages_sent, offers_of}
 use Rattle.datagram_delivery.specs.Interleaved.{AreInterleaved, Carried, carried_offers, messages_ended}
-use Rattle.datagram_delivery.proofs.Standing.{absent_place, key_itself}
+use Rattle.datagram_delivery.proofs.Standing.{absent_place}
 use Rattle.datagram_delivery.proofs.Splits.{last_completes}
 use Rattle.datagram_delivery.proofs.Offered.{deliveries_are, forwarded_brings, groups_are}
 use Rattle.datagram_delivery.proofs.Datagrams.{all_sent_are_delivered, offers_join}

@@ -7,11 +7,12 @@ use Rattle.es_base.specs.declared.fragment.DatagramKey.{DatagramKey}
 use Rattle.es_base.specs.Limits.{most_partials}
 use Rattle.es_base.specs.Fragments.{Piece}
 use Rattle.es_base.specs.Groups.{Group, has_key, is_same_key, place_of, with_room}
+use Rattle.es_base.proofs.Keys.{key_itself, other_way, same_key}
 use Rattle.datagram_delivery.specs.Splitting.{are_some}
 use Rattle.datagram_delivery.specs.Interleaved.{without_key}
 use Rattle.datagram_delivery.proofs.Places.{later_place, place_here, place_later}
 use Rattle.datagram_delivery.proofs.Each.{IsAbsent}
-use Rattle.datagram_delivery.proofs.Standing.{Stands, key_itself, other_way, same_key}
+use Rattle.datagram_delivery.proofs.Standing.{Stands}
 
 -- the groups with these keys, where each has these pieces
 abbrev pub groups_with_keys : (DatagramKey → List Piece) → List DatagramKey → List Group

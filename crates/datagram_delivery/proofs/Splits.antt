@@ -7,11 +7,12 @@ use Rattle.es_base.specs.Packet.{PacketParts}
 use Rattle.es_base.specs.Copies.{elapsed}
 use Rattle.es_base.specs.Fragments.{Piece, datagram_from, is_whole, key_of, piece_of}
 use Rattle.es_base.specs.Groups.{Found, Group, begin_or, begins, datagram_with, fate, fate_if, found_at, found_for, found_if, groups_after, groups_with, has_key, held, is_over, is_same_key, joins, pieces_with, place_of, whole, with_room}
+use Rattle.es_base.proofs.Keys.{key_itself, same_key}
 use Rattle.datagram_delivery.specs.Splitting.{AreFronts, IsFront, IsLast, Offer, LeavesRoom, begins_group, begun_meanwhile, begun_since, groups_after_offers, is_of, joined, pieces_of}
 use Rattle.datagram_delivery.specs.Datagrams.{AreOf}
 use Rattle.datagram_delivery.proofs.Places.{place_here, place_later}
 use Rattle.datagram_delivery.proofs.Each.{HasOther, IsAbsent, each_room}
-use Rattle.datagram_delivery.proofs.Standing.{Stands, absent_after, absent_place, key_itself, place_absent, same_key, stands_after, stands_exactly}
+use Rattle.datagram_delivery.proofs.Standing.{Stands, absent_after, absent_place, place_absent, stands_after, stands_exactly}
 use Rattle.datagram_delivery.proofs.Rows.{AreFollowed, AreInRow, row_is_held, row_is_joined}
 
 -- ---- the group of the key, where it stands

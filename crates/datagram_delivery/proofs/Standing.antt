@@ -1,43 +1,17 @@
 -- The group of one key, and what a packet of another key leaves of it.
 use Rattle.std.proofs.Common.{◌≡◌, ◌∙◌, ap, sym, subst, ℕ, zero, suc, ◌<◌, ◌≤◌, inl, inr, ⊎_elim, Bool, true, false, cond, List, [], ◌∷◌, ◌++◌, length, drop, remove, Option, None, Some, is_some, refl, arith, option_map}
-use Rattle.std.specs.Prelude.{◌==◌, ◌&&◌, ◌⊎◌, slice_get, slice_set}
-use Rattle.std.proofs.lemmas.Bool.{cases_Bool, false≢true, eqb-true, eq-eqb, and_parts}
+use Rattle.std.specs.Prelude.{◌==◌, ◌⊎◌, slice_get, slice_set}
+use Rattle.std.proofs.lemmas.Bool.{cases_Bool, false≢true, eqb-true}
 use Rattle.std.proofs.lemmas.Option.{same_Some}
 use Rattle.es_base.specs.declared.fragment.DatagramKey.{DatagramKey}
 use Rattle.es_base.specs.Limits.{most_partials}
 use Rattle.es_base.specs.Packet.{PacketParts}
 use Rattle.es_base.specs.Fragments.{Piece, is_bad, is_whole, key_of, piece_of}
 use Rattle.es_base.specs.Groups.{Found, Group, begins, datagram_with, found_at, found_for, found_if, group_with, groups_after, groups_with, has_key, is_over, is_same_key, joins, place_of, with_room, without}
+use Rattle.es_base.proofs.Keys.{key_itself, other_way}
 use Rattle.datagram_delivery.specs.Splitting.{begins_group, begun_meanwhile, begun_since, is_beginning, others_in}
 use Rattle.datagram_delivery.proofs.Each.{AreDistinct, HasOther, IsAbsent, absent_set, each_push, each_remove, each_room}
 use Rattle.datagram_delivery.proofs.Places.{later_place, place_here, place_later}
-
--- ---- keys
-
-pub same_key : (a b : DatagramKey) → is_same_key a b ≡ true → a ≡ b
-same_key a b same =
-    let one = and_parts (a.source == b.source && a.destination == b.destination) (a.ident == b.ident) (regroup (a.source == b.source) (a.destination == b.destination) (a.ident == b.ident) same) in
-    let two = and_parts (a.source == b.source) (a.destination == b.destination) one.0 in
-    let made : ℕ → ℕ → ℕ → DatagramKey = λ x y z. record { source = x; destination = y; ident = z } in
-    ap (λ (x : ℕ). made x a.destination a.ident) (eqb-true _ _ two.0) ∙ ap (λ (y : ℕ). made b.source y a.ident) (eqb-true _ _ two.1) ∙ ap (λ (z : ℕ). made b.source b.destination z) (eqb-true _ _ one.1)
-  where
-    regroup : (x y z : Bool) → (x && y && z) ≡ true → ((x && y) && z) ≡ true
-    regroup true true z is = is
-    regroup true false z is = is
-    regroup false y z is = is
-
-pub key_itself : (a : DatagramKey) → is_same_key a a ≡ true
-key_itself a = rw (eq-eqb a.source a.source refl, eq-eqb a.destination a.destination refl, eq-eqb a.ident a.ident refl) refl
-
-pub other_way : (a b : DatagramKey) → is_same_key a b ≡ false → is_same_key b a ≡ false
-other_way a b other =
-    ⊎_elim
-    (λ (same : is_same_key b a ≡ true).
-    let is = same_key b a same in
-    let itself : is_same_key a b ≡ true = rw is (key_itself a) in
-    absurd (false≢true (sym other ∙ itself)))
-    (λ (differs : is_same_key b a ≡ false). differs)
-    (cases_Bool (is_same_key b a))
 
 -- ---- no group has the key
 

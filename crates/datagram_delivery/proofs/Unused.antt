@@ -9,12 +9,13 @@ use Rattle.es_base.specs.Copies.{elapsed}
 use Rattle.es_base.specs.Fragments.{Piece, datagram_from, is_bad, is_whole, key_of, piece_of}
 use Rattle.es_base.specs.Groups.{Found, Group, begin_of, begin_or, begins, datagram_with, found_at, found_for, found_if, group_with, groups_after, groups_with, has_key, is_over, is_same_key, joins, pieces_with, place_of, with_room, without}
 use Rattle.es_base.proofs.Firsts.{found_at as found_place, passes_found}
+use Rattle.es_base.proofs.Keys.{same_key}
 use Rattle.datagram_delivery.specs.Splitting.{AreFronts, IsFront, LeavesRoom, Offer, are_some, begins_group, begun_meanwhile, groups_after_offers, is_of}
 use Rattle.datagram_delivery.specs.Datagrams.{IsUnused}
 use Rattle.datagram_delivery.proofs.Each.{AreDistinct, EachGroup, HasOther, IsAbsent, distinct_remove, distinct_set, each_at, each_more, each_push, each_remove, each_room, each_set, room_kept}
 use Rattle.datagram_delivery.proofs.Places.{later_place, place_here, place_later}
 use Rattle.datagram_delivery.proofs.Splits.{more_not_whole}
-use Rattle.datagram_delivery.proofs.Standing.{absent_place, distinct_push, place_absent, same_key}
+use Rattle.datagram_delivery.proofs.Standing.{absent_place, distinct_push, place_absent}
 
 -- ---- where a group comes from
 

@@ -1,5 +1,5 @@
 -- No two groups have one key, and at most four stand, after each packet.
-use Rattle.std.proofs.Common.{◌≡◌, ◌∙◌, ap, sym, ℕ, zero, suc, ◌-◌, ◌<◌, ◌≤◌, ◌==◌, ◌&&◌, ⊎_elim, Bool, true, false, List, [], ◌∷◌, ◌++◌, length, drop, remove, slice_get, slice_set, Option, Some, None, is_some, refl, arith}
+use Rattle.std.proofs.Common.{◌≡◌, ◌∙◌, sym, ℕ, zero, suc, ◌-◌, ◌<◌, ◌≤◌, ◌==◌, ⊎_elim, Bool, true, false, List, [], ◌∷◌, ◌++◌, length, drop, remove, slice_get, slice_set, Option, Some, None, is_some, refl, arith}
 use Rattle.std.specs.List.{find, list_any}
 use Rattle.std.proofs.lemmas.List.{length-append, length-drop, length-set}
 use Rattle.std.proofs.lemmas.Bool.{cases_Bool, cases_lt, or_parts, eqb-true, eq-eqb, false≢true}
@@ -8,36 +8,10 @@ use Rattle.es_base.specs.declared.fragment.DatagramKey.{DatagramKey}
 use Rattle.es_base.specs.Limits.{most_partials}
 use Rattle.es_base.specs.Packet.{PacketParts}
 use Rattle.es_base.specs.Fragments.{Piece, is_whole, is_bad, key_of, piece_of}
+use Rattle.es_base.proofs.Keys.{other_way, same_key}
 use Rattle.es_base.proofs.Firsts.{found_nowhere, passes_found, found_at as found_at_place}
 use Rattle.es_base.specs.Groups.{Group, is_same_key, has_key, place_of, is_over, Found, begins, joins, found_if, found_at, found_for, with_room, without, groups_with, group_with, groups_after, datagram_with}
 use Rattle.ip_reassembly.specs.Apart.{HaveDistinctKeys, AreApart}
-
--- ---- keys
-
-same_parts : (a b c : Bool) → (a && b && c) ≡ true → (a ≡ true) × (b ≡ true) × (c ≡ true)
-same_parts true true true e = (refl, refl, refl)
-same_parts true true false e = cc
-same_parts true false c e = cc
-same_parts false b c e = cc
-
-same_key : (a b : DatagramKey) → is_same_key a b ≡ true → a ≡ b
-same_key a b same =
-    let (s, d, i) = same_parts (a.source == b.source) (a.destination == b.destination) (a.ident == b.ident) same in
-    let made : ℕ → ℕ → ℕ → DatagramKey = λ x y z. record { source = x; destination = y; ident = z } in
-    ap (λ (x : ℕ). made x a.destination a.ident) (eqb-true _ _ s) ∙ ap (λ (y : ℕ). made b.source y a.ident) (eqb-true _ _ d) ∙ ap (λ (z : ℕ). made b.source b.destination z) (eqb-true _ _ i)
-
-key_itself : (a : DatagramKey) → is_same_key a a ≡ true
-key_itself a = rw (eq-eqb a.source a.source refl, eq-eqb a.destination a.destination refl, eq-eqb a.ident a.ident refl) refl
-
-other_way : (a b : DatagramKey) → is_same_key a b ≡ false → is_same_key b a ≡ false
-other_way a b other =
-    ⊎_elim
-    (λ (same : is_same_key b a ≡ true).
-    let is = same_key b a same in
-    let itself : is_same_key a b ≡ true = rw is (key_itself a) in
-    absurd (false≢true (sym other ∙ itself)))
-    (λ (differs : is_same_key b a ≡ false). differs)
-    (cases_Bool (is_same_key b a))
 
 -- ---- groups without one of them
 
