@@ -3,7 +3,8 @@
 Those that the prover lets through, or would if the definition had the same mistake, stand in
 wrong_bodies/by_tests/CRATE/NAME.edit. They have the form of all wrong bodies, after a first line
 `test: TESTCRATE::MODULE::NAME`, the test that has to fail. A second line `by: checks/growths` says that the test fails
-only where that check runs it, so that it isn't tried here.
+only where that check runs it, so that it isn't tried here. So it is with the program in C that `checks/c_interface` runs,
+`test: checks/parts/codes.c`.
 
 Of each other wrong body docs/TRACEABILITY.md cites the tests, in its row. The cell says `the proof alone: NAME.edit`
 where none of them sees it.

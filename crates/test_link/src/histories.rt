@@ -116,3 +116,20 @@ fn a_lost_message_is_not_delivered(rt: HostRuntime) {
     let depth_1 = three_queued(lost, lost);
     check_deliveries(&rt, rt.alloc(), 1, &depth_1, NAV, &wanted[..1]);
 }
+
+/// The events of three messages for a queue of two places.
+fn check_room(rt: &(impl Abort + Wait), alloc: Global) {
+    let nav_depth = 2;
+    let (mut state, _) = opened(rt, alloc, Link { nav_depth, ..LINK });
+    let rows = three_queued(FOR_NAV, Overflow(NAV));
+    check_frames(rt, alloc, &mut state, &rows);
+    for (place, wanted) in [true, true, false].iter().enumerate() {
+        let event = state.history().get(place).expect(rt, "an event");
+        assert!(rt; event.room == *wanted, "{place}");
+    }
+}
+
+#[test]
+fn an_event_says_whether_the_queue_had_room(rt: HostRuntime) {
+    check_room(&rt, rt.alloc());
+}

@@ -110,12 +110,12 @@ pub(crate) fn check_count(rt: &impl Abort, state: &LinkState, net: Net, kind: us
     assert!(rt; count == wanted, "{net} {kind}: {count}");
 }
 
-/// Two messages for `pos` on A, a copy of the first on B, and one out of sequence there.
+/// Two messages for `pos` on A, the first at time 0, a copy of it on B, and one out of sequence there.
 fn check_counts(rt: &(impl Abort + Wait), alloc: Global) {
     let (mut state, _) = opened(rt, alloc, LINK);
-    let first = (A, 1000, 1, IP, UDP, PAYLOAD, Sampled(POS, 1));
+    let first = (A, 0, 1, IP, UDP, PAYLOAD, Sampled(POS, 1));
     check_frame(rt, alloc, &mut state, first);
-    let copy = (B, 1100, 1, IP, UDP, PAYLOAD, Redundant);
+    let copy = (B, 100, 1, IP, UDP, PAYLOAD, Redundant);
     check_frame(rt, alloc, &mut state, copy);
     let second = (A, 2000, 2, IP, UDP, PAYLOAD, Sampled(POS, 2));
     check_frame(rt, alloc, &mut state, second);
