@@ -1,11 +1,12 @@
 #!/usr/bin/env python3
 """Makes large traces without a fault, for players that are timed beside one another.
 
-    gen_trace.py --frames N --profile PROFILE --out-dir FOLDER [--links L] [--ports P] [--seed S]
+    gen_trace.py --frames N --profile PROFILE --out-dir FOLDER [--links L] [--ports P] [--seed S] [--octets OCTETS]
 
 writes FOLDER/config.toml, FOLDER/a.trace and FOLDER/b.trace (docs/FORMATS.md). N is the number of frames in both traces
 together: N/2 are sent, each on A and, a little later, on B. There are L links (1 to 64, default 16) with P ports each
-(4 to 32, default 8), the first half of them sampling ports. The same words always give the same bytes.
+(4 to 32, default 8), the first half of them sampling ports. The messages of whole datagrams have 17 to 1,471 octets, most
+of them few, or all of them OCTETS. The same words always give the same bytes.
 
 Profiles: `sampling` sends whole datagrams to sampling ports; `queuing` whole datagrams to queuing ports (which fill up,
 as the player never takes); `fragments` datagrams of 1,500 to 8,192 octets in pieces, some in another order; `mixed` all
@@ -73,8 +74,9 @@ def frame(link, octets, ethertype=IPV4, constant=CONSTANT, vl=None):
 class Sender:
     """What the senders of all links send. Each profile is a method, which gives a link and a frame."""
 
-    def __init__(self, seed, links, sampling_ports, queuing_ports):
+    def __init__(self, seed, links, sampling_ports, queuing_ports, octets=None):
         self.random = random.Random(seed)
+        self.octets = octets  # of each message, if all have as many
         self.links, self.sampling_ports, self.queuing_ports = links, sampling_ports, queuing_ports
         self.numbers = [0] * links
         self.idents = [0] * links
@@ -93,6 +95,8 @@ class Sender:
         return self.idents[link]
 
     def payload(self):
+        if self.octets is not None:
+            return self.random.randbytes(self.octets)
         draw = self.random.random()
         if draw < 0.7:
             return self.random.randbytes(self.random.randint(17, 64))
@@ -253,12 +257,13 @@ def main():
     words.add_argument("--links", type=within(1, 64), default=16)
     words.add_argument("--ports", type=within(4, 32), default=8)
     words.add_argument("--seed", type=int, default=1)
+    words.add_argument("--octets", type=within(17, 1471))
     given = words.parse_args()
     ports = given.ports // 2, given.ports - given.ports // 2
     os.makedirs(given.out_dir, exist_ok=True)
     with open(os.path.join(given.out_dir, "config.toml"), "w") as file:
         file.write(config_text(given.links, *ports))
-    sender = Sender(f"{given.profile} {given.seed}", given.links, *ports)
+    sender = Sender(f"{given.profile} {given.seed}", given.links, *ports, given.octets)
     with open(os.path.join(given.out_dir, "a.trace"), "w") as a, open(os.path.join(given.out_dir, "b.trace"), "w") as b:
         write_traces(sender, given.profile, given.frames, given.seed, a, b)
 

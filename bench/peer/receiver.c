@@ -2,6 +2,7 @@
  * The receiver: see receiver.h.
  */
 #include "receiver.h"
+#include "shared_ports.h"
 
 #include <string.h>
 
@@ -205,6 +206,10 @@ static Verdict sample(Port *port, Verdict verdict, u64 now, const u8 *payload, u
     }
     verdict.kind = SAMPLED;
     verdict.number = ++port->number;
+    if (port->form != PLAIN) {
+        publish(port, now, payload, len);
+        return verdict;
+    }
     port->time = now;
     port->len = len;
     memcpy(port->newest, payload, len);
@@ -213,6 +218,10 @@ static Verdict sample(Port *port, Verdict verdict, u64 now, const u8 *payload, u
 
 static Verdict queue(Port *port, Verdict verdict, u64 now, const u8 *payload, u32 len)
 {
+    if (port->ring) {
+        verdict.kind = put(port->ring, now, payload, len) ? QUEUED : OVERFLOWED;
+        return verdict;
+    }
     if (port->queued == port->depth) {
         verdict.kind = OVERFLOWED;
         return verdict;

@@ -31,6 +31,14 @@ enum {
 enum { TOO_SHORT_FRAME = 1, TOO_LONG_FRAME, NOT_IP, FOREIGN_CONSTANT, UNKNOWN_LINK, FILTERS };
 enum { VERSION, HEADER_LENGTH, TOTAL_LENGTH, CHECKSUM, PROTOCOL };
 
+/* How a sampling port keeps its newest message: for the receiver's thread alone, or for partitions on threads of their own
+   (shared_ports.h). */
+typedef enum { PLAIN, SEQLOCK, TRIPLE } Form;
+
+struct Seqlock;
+struct Triple;
+struct Ring;
+
 typedef struct {
     u64 time;
     u32 len;
@@ -42,6 +50,8 @@ typedef struct {
     char name[17];
     u8 name_len;
     bool sampling;
+    u8 form; /* PLAIN, if nobody says otherwise */
+    u8 readers;
     u16 udp;
     u16 max;
     u8 depth;
@@ -55,6 +65,10 @@ typedef struct {
     /* a queuing port: its messages */
     u32 queued;
     Message *queue;
+    /* those that partitions on threads of their own have in place of these, else NULL: see shared_ports.h */
+    struct Seqlock *seqlock;
+    struct Triple *triples; /* one for each reader */
+    struct Ring *ring;
 } Port;
 
 /* A datagram of which fragments are held. */

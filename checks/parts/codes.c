@@ -1,6 +1,7 @@
 /* Each answer of examples/c/yelunnavi.h comes from the library where the header says so; an opening with its Nth request for
-   memory refused answers NO_MEMORY, for each N, and gives everything back. Fails with the line of the first call that answers
-   something else, or with a status. */
+   memory refused answers NO_MEMORY, for each N, and gives everything back; a port has as many readers as the opening was told,
+   and one that holds a message holds nobody up. Fails with the line of the first call that answers something else, or with a
+   status. */
 #include "yelunnavi.h"
 #include <stdio.h>
 #include <stdlib.h>
@@ -53,20 +54,48 @@ void rattle_dealloc(void *at) {
     free(at);
 }
 
-/* Opens with each request refused in turn, and then with none. */
-static void of_memory(void) {
+/* Opens for so many readers with each request refused in turn, and then with none. */
+static void of_memory(size_t readers) {
     struct yelunnavi_fault fault = {77, 77, 77, 77, 77};
     uint32_t code = YELUNNAVI_NO_MEMORY;
     for (refused = 1; code == YELUNNAVI_NO_MEMORY; refused++) {
         requests = 0;
-        code = yelunnavi_receiver_open(&receiver, TEXT(CONFIG), &fault);
+        code = yelunnavi_receiver_open(&receiver, TEXT(CONFIG), readers, &fault);
         if (code == YELUNNAVI_NO_MEMORY && (blocks || requests < refused)) exit(10);
     }
     if (code != YELUNNAVI_DONE || refused < 20 || requests >= refused || fault.fault != 77) exit(11);
     refused = 0;
     yelunnavi_receiver_close(&receiver);
     if (blocks) exit(12);
-    fprintf(stderr, "%lu requests were refused, one at a time\n", requests);
+    fprintf(stderr, "%lu requests for %zu readers were refused, one at a time\n", requests, readers);
+}
+
+/* Numbers of readers that no port may have, told before the text is looked at. */
+static void of_no_readers(void) {
+    static const size_t wrong[] = {0, 9, 10, 256 + 1, SIZE_MAX};
+    struct yelunnavi_fault fault = {77, 77, 77, 77, 77};
+    for (size_t k = 0; k < sizeof wrong / sizeof *wrong; k++) {
+        WANT(OUT_OF_RANGE, yelunnavi_receiver_open(&receiver, TEXT(CONFIG), wrong[k], &fault));
+        WANT(OUT_OF_RANGE, yelunnavi_receiver_open(&receiver, TEXT("no TOML"), wrong[k], &fault));
+    }
+    if (fault.fault != 77 || fault.level != 77 || fault.port != 77 || blocks) exit(15);
+}
+
+/* As many readers as the opening was told are handed out, and no more. One that was closed doesn't come back. */
+static void of_readers(size_t readers) {
+    struct yelunnavi_fault fault;
+    struct yelunnavi_limits limits;
+    WANT(DONE, yelunnavi_receiver_open(&receiver, TEXT(CONFIG), readers, &fault));
+    WANT(ALREADY_OPEN, yelunnavi_receiver_open(&receiver, TEXT(CONFIG), 0, &fault));
+    for (size_t k = 0; k < readers; k++) {
+        WANT(DONE, yelunnavi_receiver_hand_reader(&receiver, &reader, TEXT("pos")));
+        WANT(DONE, yelunnavi_reader_limits(&reader, &limits));
+        if (limits.max != 1471 || limits.refresh != 20000) exit(16);
+        yelunnavi_reader_close(&reader);
+    }
+    WANT(NONE_LEFT, yelunnavi_receiver_hand_reader(&receiver, &reader, TEXT("pos")));
+    yelunnavi_receiver_close(&receiver);
+    if (blocks) exit(17);
 }
 
 static void of_the_receiver(void) {
@@ -76,10 +105,10 @@ static void of_the_receiver(void) {
     struct yelunnavi_place place;
     uint64_t count;
     WANT(NOT_OPEN, yelunnavi_receiver_receive(&receiver, YELUNNAVI_A, 0, FRAME, sizeof FRAME, &frame));
-    WANT(FAULTY, yelunnavi_receiver_open(&receiver, TEXT("[[link]]\nvl = 1\nskew_max_us = -1"), &fault));
+    WANT(FAULTY, yelunnavi_receiver_open(&receiver, TEXT("[[link]]\nvl = 1\nskew_max_us = -1"), 2, &fault));
     if (fault.fault != 4 || fault.key != 4 || fault.level != 1 || fault.link != 0) exit(2);
-    WANT(DONE, yelunnavi_receiver_open(&receiver, TEXT(CONFIG), &fault));
-    WANT(ALREADY_OPEN, yelunnavi_receiver_open(&receiver, TEXT(CONFIG), &fault));
+    WANT(DONE, yelunnavi_receiver_open(&receiver, TEXT(CONFIG), 2, &fault));
+    WANT(ALREADY_OPEN, yelunnavi_receiver_open(&receiver, TEXT(CONFIG), 2, &fault));
     WANT(NO_NETWORK, yelunnavi_receiver_receive(&receiver, 2, 0, FRAME, sizeof FRAME, &frame));
     WANT(DONE, yelunnavi_receiver_receive(&receiver, YELUNNAVI_A, 1000, FRAME, sizeof FRAME, &frame));
     if (frame.kind != 10 || frame.vl != 17 || frame.number != 1) exit(3);
@@ -100,9 +129,11 @@ static void of_the_ends(void) {
     WANT(DONE, yelunnavi_receiver_hand_reader(&receiver, &reader, TEXT("pos")));
     WANT(ALREADY_OPEN, yelunnavi_receiver_hand_reader(&receiver, &reader, TEXT("pos")));
     WANT(HOLDS_NONE, yelunnavi_reader_release(&reader));
+    WANT(HOLDS_NONE, yelunnavi_reader_copy(&reader, 0, out, 0));
     WANT(DONE, yelunnavi_reader_hold(&reader, 21000, &read));
     if (read.found != 1 || read.valid != 1 || read.number != 1 || read.time != 1000 || read.len != 17) exit(6);
     WANT(HOLDS_ONE, yelunnavi_reader_hold(&reader, 0, &read));
+    WANT(HOLDS_ONE, yelunnavi_reader_read(&reader, 0, out, sizeof out, &read));
     WANT(OUT_OF_RANGE, yelunnavi_reader_copy(&reader, 17, out, 1));
     WANT(DONE, yelunnavi_reader_copy(&reader, 1, out, 2));
     if (out[0] != 2 || out[1] != 3) exit(7);
@@ -114,16 +145,37 @@ static void of_the_ends(void) {
     if (taken.found) exit(8);
 }
 
+/* A reader holds the first message while others are published, and is closed with it: the other reader finds the newest. */
+static void of_a_hold(void) {
+    struct yelunnavi_frame frame;
+    struct yelunnavi_read read;
+    uint8_t next[sizeof FRAME], out[64];
+    memcpy(next, FRAME, sizeof next);
+    WANT(DONE, yelunnavi_reader_hold(&reader, 1000, &read));
+    WANT(DONE, yelunnavi_receiver_hand_reader(&receiver, &other, TEXT("pos")));
+    for (uint8_t number = 1; number < 10; number++) {
+        next[59] = next[42] = number;
+        WANT(DONE, yelunnavi_receiver_receive(&receiver, YELUNNAVI_A, 1000u * number, next, sizeof next, &frame));
+        if (frame.kind != 10 || frame.number != number + 1u) exit(18);
+        WANT(DONE, yelunnavi_reader_read(&other, 1000u * number, out, sizeof out, &read));
+        if (read.found != 1 || read.number != number + 1u || out[0] != number) exit(19);
+        WANT(DONE, yelunnavi_reader_copy(&reader, 0, out, 17));
+        if (out[0] != FRAME[42] || out[1] != FRAME[43]) exit(20);
+    }
+    yelunnavi_reader_close(&reader);
+    WANT(NONE_LEFT, yelunnavi_receiver_hand_reader(&receiver, &reader, TEXT("pos")));
+}
+
 /* A reader and a taker outlive their receiver. */
 static void of_a_closed_receiver(void) {
     struct yelunnavi_read read;
     struct yelunnavi_taken taken;
     uint8_t out[64];
     yelunnavi_receiver_close(&receiver);
-    WANT(DONE, yelunnavi_reader_read(&reader, 21001, out, sizeof out, &read));
-    if (read.found != 1 || read.valid != 0 || out[2] != 3) exit(13);
+    WANT(DONE, yelunnavi_reader_read(&other, 29001, out, sizeof out, &read));
+    if (read.found != 1 || read.valid != 0 || read.number != 10 || out[2] != 3) exit(13);
     WANT(DONE, yelunnavi_taker_take(&taker, out, sizeof out, &taken));
-    yelunnavi_reader_close(&reader);
+    yelunnavi_reader_close(&other);
     yelunnavi_taker_close(&taker);
 }
 
@@ -133,9 +185,14 @@ int main(void) {
     yelunnavi_reader_init(reader.room);
     yelunnavi_reader_init(other.room);
     yelunnavi_taker_init(taker.room);
-    of_memory();
+    of_memory(1);
+    of_memory(8);
+    of_no_readers();
+    of_readers(1);
+    of_readers(8);
     of_the_receiver();
     of_the_ends();
+    of_a_hold();
     of_a_closed_receiver();
     return blocks ? 14 : 0;
 }

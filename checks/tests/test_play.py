@@ -143,7 +143,7 @@ def test_own_faults(written, tmp_path):
     assert "not read: Is a directory" in fault(3, "play", "--config", CONFIG, tmp_path)
     for program in ("/nowhere", str(tmp_path)):
         told = fault(3, "play", "--config", CONFIG, A, "--program", program)
-        assert "./build program proves and builds it once, in about half an hour" in told
+        assert "./build program proves and builds it once, in 18 minutes" in told
     assert "not written" in fault(3, "play", "--config", CONFIG, A, "--scratch", "/nowhere")
     assert "not a line of the program" in fault(3, "export", "--csv", "--config", CONFIG, A, "--program", written_program(
         written, "no_lines", "echo 1 B vl 2"))

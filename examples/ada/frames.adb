@@ -45,7 +45,7 @@ begin
    if Receiver_Room > 512 or Reader_Room > 512 or Taker_Room > 512 then raise Program_Error; end if;
    Link_17.Room := Receiver_Space'Address; Pos.Room := Reader_Space'Address; Nav.Room := Taker_Space'Address;
    Receiver_Init (Link_17.Room); Reader_Init (Pos.Room); Taker_Init (Nav.Room);
-   Check (Open (Link_17, As_Octets (Text), Text'Length, Fault));
+   Check (Open (Link_17, As_Octets (Text), Text'Length, 1, Fault));
    Check (Hand_Reader (Link_17, Pos, As_Octets ("pos"), 3));
    Check (Hand_Taker (Link_17, Nav, As_Octets ("nav"), 3));
    Frame (0 .. 41) := Start;

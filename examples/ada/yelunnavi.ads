@@ -35,7 +35,8 @@ package Yelunnavi is
    procedure Reader_Init (Room : System.Address) with Import, Convention => C, External_Name => "yelunnavi_reader_init";
    procedure Taker_Init (Room : System.Address) with Import, Convention => C, External_Name => "yelunnavi_taker_init";
 
-   function Open (H : in out Receiver; Text : Octets; Length : size_t; Fault : in out Fault_Reply) return Code
+   function Open
+     (H : in out Receiver; Text : Octets; Length, Readers : size_t; Fault : in out Fault_Reply) return Code
      with Import, Convention => C, External_Name => "yelunnavi_receiver_open";
    procedure Close (H : in out Receiver) with Import, Convention => C, External_Name => "yelunnavi_receiver_close";
    function Receive

@@ -11,6 +11,9 @@ static const char *const FAULTS[] = {"", "version", "header-length", "total-leng
 static _Alignas(8) unsigned char room[512];
 static struct yelunnavi_receiver receiver = {room};
 
+/* How many readers each sampling port has. */
+enum { READERS = 1 };
+
 /* ---- what the compiler and the library call */
 
 void *memmove(void *to, const void *from, size_t octets) {
@@ -71,6 +74,6 @@ void main(void) {
     struct yelunnavi_fault fault;
     if (yelunnavi_receiver_room() > sizeof room) return;
     yelunnavi_receiver_init(receiver.room);
-    if (yelunnavi_receiver_open(&receiver, (const uint8_t *)CONFIG, sizeof CONFIG - 1, &fault) != YELUNNAVI_DONE) return;
+    if (yelunnavi_receiver_open(&receiver, (const uint8_t *)CONFIG, sizeof CONFIG - 1, READERS, &fault) != YELUNNAVI_DONE) return;
     for (size_t k = 0; k < sizeof FRAMES / sizeof FRAMES[0]; k++) show(&FRAMES[k]);
 }

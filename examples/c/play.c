@@ -10,7 +10,7 @@ static const char *const WORDS[] = {"", "out-of-sequence", "redundant", "bad-hea
 static const char *const CAUSES[] = {"", "too-short", "too-long", "not-ip", "foreign-constant", "unknown-link"};
 static const char *const FAULTS[] = {"", "version", "header-length", "total-length", "checksum", "protocol"};
 
-enum { BAD_HEADER = 3, NAMES_A_PORT = 8, SAMPLED = 10, MOST_LINKS = 64, MOST_PORTS = 32, MOST_MESSAGES = 64 };
+enum { BAD_HEADER = 3, NAMES_A_PORT = 8, SAMPLED = 10, MOST_LINKS = 64, MOST_PORTS = 32, MOST_MESSAGES = 64, READERS = 8 };
 
 /* The requests of pool.c. */
 extern unsigned long pool_requests;
@@ -58,7 +58,7 @@ static size_t open_all(const char *config, struct yelunnavi_link *of_links) {
     check(yelunnavi_receiver_room() <= sizeof receiver_room, "room for the receiver");
     check(yelunnavi_reader_room() <= sizeof ends[0][0].room && yelunnavi_taker_room() <= sizeof ends[0][0].room, "room for ends");
     yelunnavi_receiver_init(receiver.room);
-    uint32_t code = yelunnavi_receiver_open(&receiver, text, read_file(config, text, sizeof text), &fault);
+    uint32_t code = yelunnavi_receiver_open(&receiver, text, read_file(config, text, sizeof text), READERS, &fault);
     if (code) fprintf(stderr, "play: code %" PRIu32 ", fault %" PRIu32 " of key %" PRIu32 ", link %zu, port %zu\n", code, fault.fault, fault.key, fault.link, fault.port);
     check(code == YELUNNAVI_DONE, "the receiver isn't open");
     check(yelunnavi_receiver_links(&receiver, &links) == YELUNNAVI_DONE, "links");

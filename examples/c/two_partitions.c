@@ -10,7 +10,8 @@
 #include <stdatomic.h>
 #include <string.h>
 
-enum { SAMPLED = 10, QUEUED = 11 };
+/* One partition reads. */
+enum { READERS = 1, SAMPLED = 10, QUEUED = 11 };
 
 static _Alignas(8) unsigned char receiver_room[4096], pos_room[128], nav_room[128];
 static struct yelunnavi_receiver receiver = {receiver_room};
@@ -55,7 +56,7 @@ static bool open_all(const char *config) {
     yelunnavi_receiver_init(receiver.room);
     yelunnavi_reader_init(pos.room);
     yelunnavi_taker_init(nav.room);
-    return yelunnavi_receiver_open(&receiver, text, read_file(config, text, sizeof text), &fault) == YELUNNAVI_DONE
+    return yelunnavi_receiver_open(&receiver, text, read_file(config, text, sizeof text), READERS, &fault) == YELUNNAVI_DONE
         && yelunnavi_receiver_hand_reader(&receiver, &pos, (const uint8_t *)pos_name, strlen(pos_name)) == YELUNNAVI_DONE
         && yelunnavi_receiver_hand_taker(&receiver, &nav, (const uint8_t *)nav_name, strlen(nav_name)) == YELUNNAVI_DONE;
 }

@@ -10,12 +10,20 @@
                   yelunnavi_receiver_init(room);
 
    WHO MAY CALL. Each handle may be used by any one thread at a time, and handed on to another. Different handles may be
-   used by different threads at once, those of one receiver too. No call waits for another thread, and none blocks.
+   used by different threads at once, those of one receiver too. No call waits for another thread, none blocks, and none
+   tries again: each reader of a sampling port has a copy of the newest message to itself. A reader that stops in the midst
+   of a call, that holds a message for ever or that nobody uses any more holds up neither the receiver nor another reader.
 
    MEMORY. yelunnavi_receiver_open asks for memory, by rattle_alloc, rattle_realloc and rattle_dealloc below; .._close
-   give some back. No other call asks for any or gives any back. Beside these three the library needs memcpy, memmove and
-   memset, and nothing else: no operating system, no C library's start-up. It never prints, never ends the process, and
-   has no state of its own outside of the rooms and of what it asked for.
+   give some back. No other call asks for any or gives any back. For each sampling port it keeps 376 octets, and for each
+   of its readers 376 and three times the longest message of the port. Beside these three the library needs memcpy,
+   memmove and memset, and nothing else: no operating system, no C library's start-up. It never prints, never ends the
+   process, and has no state of its own outside of the rooms and of what it asked for.
+
+   TOUCHED MEMORY. The opening doesn't write to all that it asks for. An operating system may bring a page of memory in only
+   when it is first touched: with such memory a receive that comes to a new page, of a queue or of a datagram in pieces, takes
+   as long as that needs, many times what the rest of the call takes. So the three functions had better write to each page
+   that they give, as examples/c/pool.c does. Where pages may be taken out again the program locks them too (mlockall).
 
    ANSWERS. Each call but room, init and close answers a code, YELUNNAVI_DONE or why nothing was done. After any other
    code what the call was passed is as it was (of hand_reader and hand_taker see there).
@@ -72,7 +80,7 @@ enum {
     YELUNNAVI_NONE_LEFT = 9,    /* the port has no such end, or all of them were handed out */
     YELUNNAVI_HOLDS_ONE = 10,   /* the reader holds a message */
     YELUNNAVI_HOLDS_NONE = 11,  /* it holds none */
-    YELUNNAVI_OUT_OF_RANGE = 12, /* the message has no such octets */
+    YELUNNAVI_OUT_OF_RANGE = 12, /* the message has no such octets, or a sampling port can't have so many readers */
     YELUNNAVI_TOO_SHORT = 13    /* there may be messages for which there is no room */
 };
 
@@ -93,8 +101,12 @@ struct yelunnavi_fault {
 };
 
 /* Opens the receiver of a configuration: a TOML text, as docs/FORMATS.md says, `len` octets without a 0 after them. It is
-   copied. All memory is taken here; after an error none is kept. ALREADY_OPEN; FAULTY, and `fault` says why; NO_MEMORY. */
-uint32_t yelunnavi_receiver_open(struct yelunnavi_receiver *h, const uint8_t *text, size_t len, struct yelunnavi_fault *fault);
+   copied. Each sampling port gets so many readers, 1 to 8. Its messages are copied once for each of them, whether or not it
+   was handed out: that takes time in a receive, and memory, so ask for no more than there are partitions that read a port.
+   All memory is taken here; after an error none is kept. ALREADY_OPEN; OUT_OF_RANGE for 0 readers and for 9 or more; FAULTY,
+   and `fault` says why; NO_MEMORY, tested in this order. */
+uint32_t yelunnavi_receiver_open(struct yelunnavi_receiver *h, const uint8_t *text, size_t len, size_t readers,
+                                 struct yelunnavi_fault *fault);
 
 /* Gives the receiver away, if one is open. Ends that were handed out live on: a reader finds what was published before. */
 void yelunnavi_receiver_close(struct yelunnavi_receiver *h);
@@ -162,9 +174,9 @@ uint32_t yelunnavi_receiver_place(struct yelunnavi_receiver *h, const uint8_t *n
 
 /* ---- the receiver: ends of ports
 
-   Moves an end of the port with this name into a slot in which nothing is open. A sampling port has eight readers, a
-   queuing port one taker; one that was closed doesn't come back. NOT_OPEN (the receiver), ALREADY_OPEN (`to`), NO_NAME,
-   NONE_LEFT, tested in this order. */
+   Moves an end of the port with this name into a slot in which nothing is open. A sampling port has as many readers as the
+   opening was told, a queuing port one taker; one that was closed doesn't come back. A reader that is handed out late finds
+   what was published before. NOT_OPEN (the receiver), ALREADY_OPEN (`to`), NO_NAME, NONE_LEFT, tested in this order. */
 
 uint32_t yelunnavi_receiver_hand_reader(struct yelunnavi_receiver *h, struct yelunnavi_reader *to, const uint8_t *name, size_t len);
 uint32_t yelunnavi_receiver_hand_taker(struct yelunnavi_receiver *h, struct yelunnavi_taker *to, const uint8_t *name, size_t len);
@@ -172,8 +184,7 @@ uint32_t yelunnavi_receiver_hand_taker(struct yelunnavi_receiver *h, struct yelu
 /* ---- a reader of a sampling port (ARINC 664 Part 7, sampling service) */
 
 struct yelunnavi_read {
-    uint32_t found;  /* 0: nothing was published yet. 1: a message. 2: each of eight looks found a newer message than the
-                        look before, so try again later; `number` is that of the newest */
+    uint32_t found;  /* 0: nothing was published yet. 1: a message. The number 2 stays free */
     uint32_t valid;  /* 1: its age at `now` is at most the refresh period of its port (ARINC 653, READ_SAMPLING_MESSAGE) */
     uint64_t number; /* of the message, from 1 */
     uint64_t time;   /* when it came */
@@ -186,11 +197,11 @@ struct yelunnavi_limits {
 };
 
 /* Reads the newest message at `now`: as many of its octets as there is room for stand at the beginning of `out`, and what
-   follows is as it was. NOT_OPEN, HOLDS_ONE. */
+   follows is as it was. It finds a message whenever one was published. NOT_OPEN, HOLDS_ONE. */
 uint32_t yelunnavi_reader_read(struct yelunnavi_reader *h, uint64_t now, uint8_t *out, size_t len, struct yelunnavi_read *reply);
 
-/* Holds the newest message where it stands, and tells of it as a read does; with `found` other than 1 none is held. Nobody
-   writes it until it is released, and the receiver goes on all the while. NOT_OPEN, HOLDS_ONE. */
+/* Holds the newest message where it stands, and tells of it as a read does; with `found` 0 none is held. It stays as it is
+   until it is released. The receiver goes on all the while, and so do the port's other readers. NOT_OPEN, HOLDS_ONE. */
 uint32_t yelunnavi_reader_hold(struct yelunnavi_reader *h, uint64_t now, struct yelunnavi_read *reply);
 
 /* Fills `out` with octets of the message that is held, from `first` on. HOLDS_NONE; OUT_OF_RANGE if it has not so many. */
@@ -202,7 +213,7 @@ uint32_t yelunnavi_reader_release(struct yelunnavi_reader *h);
 /* Tells of the port. NOT_OPEN, HOLDS_ONE. */
 uint32_t yelunnavi_reader_limits(struct yelunnavi_reader *h, struct yelunnavi_limits *reply);
 
-/* Gives the reader away, if there is one. A message that it holds is released before. */
+/* Gives the reader away, if there is one, with the message that it holds. */
 void yelunnavi_reader_close(struct yelunnavi_reader *h);
 
 /* ---- a taker of a queuing port (ARINC 664 Part 7, queuing service) */

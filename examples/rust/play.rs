@@ -17,6 +17,9 @@ const WORDS: [&str; 14] = [
 const CAUSES: [&str; 6] = ["", "too-short", "too-long", "not-ip", "foreign-constant", "unknown-link"];
 const FAULTS: [&str; 6] = ["", "version", "header-length", "total-length", "checksum", "protocol"];
 
+/// Each sampling port is read by one reader.
+const READERS: usize = 1;
+
 /// Octets before a block, which keep how many it has.
 const HEAD: usize = 16;
 
@@ -119,7 +122,7 @@ fn main() {
     let words: Vec<String> = std::env::args().collect();
     let mut room = ReceiverRoom::new();
     let mut receiver = Receiver::new(&mut room).expect("room");
-    receiver.open(&std::fs::read(&words[1]).unwrap()).expect("a configuration");
+    receiver.open(&std::fs::read(&words[1]).unwrap(), READERS).expect("a configuration");
     let links: Vec<_> = (0..receiver.links().unwrap()).map(|link| ports(&mut receiver, link)).collect();
     let mut all = [frames(0, &words[2]), frames(1, &words[3])].concat();
     all.sort_by_key(|(time, net, _)| (*time, *net));

@@ -61,7 +61,7 @@ calls! {
     yelunnavi_receiver_init(room: *mut c_void);
     yelunnavi_reader_init(room: *mut c_void);
     yelunnavi_taker_init(room: *mut c_void);
-    yelunnavi_receiver_open(h: *mut Handle, text: *const u8, len: usize, fault: *mut Fault) -> u32;
+    yelunnavi_receiver_open(h: *mut Handle, text: *const u8, len: usize, readers: usize, fault: *mut Fault) -> u32;
     yelunnavi_receiver_close(h: *mut Handle);
     yelunnavi_receiver_receive(h: *mut Handle, net: u32, now: u64, frame: *const u8, len: usize, reply: *mut Frame) -> u32;
     yelunnavi_receiver_count(h: *mut Handle, link: usize, net: u32, kind: u32, count: *mut u64) -> u32;
@@ -147,10 +147,10 @@ fn told<T: Default>(call: impl FnOnce(*mut T) -> u32) -> Result<T, Code> {
 }
 
 impl Receiver<'_> {
-    /// Opens the receiver of a configuration. All memory is taken here.
-    pub fn open(&mut self, text: &[u8]) -> Result<(), (Code, Fault)> {
+    /// Opens the receiver of a configuration, with so many readers of each sampling port, 1 to 8. All memory is taken here.
+    pub fn open(&mut self, text: &[u8], readers: usize) -> Result<(), (Code, Fault)> {
         let mut fault = Fault::default();
-        answer(unsafe { yelunnavi_receiver_open(&mut self.handle, text.as_ptr(), text.len(), &mut fault) })
+        answer(unsafe { yelunnavi_receiver_open(&mut self.handle, text.as_ptr(), text.len(), readers, &mut fault) })
             .map_err(|code| (code, fault))
     }
 

@@ -13,7 +13,7 @@ from workbench.files import BLOCK
 
 ROOT = Path(__file__).resolve().parents[2]
 BUILT = ROOT / "out" / "program" / "afdx_play"
-HOW = ("./build program proves and builds it once, in about half an hour on 4 processors; "
+HOW = ("./build program proves and builds it once, in 18 minutes on 4 quiet processors; "
        "--program FILE or AFDX_PLAY name another")
 
 

@@ -57,15 +57,7 @@ abbrev pub IfBusy : Reading → (ℕ → Type 0) → Type 0
 IfBusy (Busy number) P = P number
 IfBusy _ P = Unit {0}
 
--- what a read by this reader into `out` says, all in all
-pub record IsRead (v w : PortReader) (before out : List ℕ) (answer : Reading) : Type 0 where
-  pub head : IfMessage answer (λ number time len _. IsHeadOf w.end.seen number time len)
-  pub octets : IfMessage answer (λ _ _ len _. IsCopyThatFits (last_of w.end.seen) before out len)
-  pub newest : IfMessage answer (λ _ _ len _. IsHeldAfter v.end w.end most_tries (3 + (min len (length before) + 7) / 8))
-  pub empty : IfEmpty answer (IsNothing v.end w.end × (out ≡ before))
-  pub busy : IfBusy answer (λ number. IsOvertaken v.end w.end most_tries number × (out ≡ before))
-
--- the same without the validity
+-- what a read by this reader into `out` says, but for the validity
 abbrev pub PlainAnswer : ReaderEnd → ReaderEnd → List ℕ → List ℕ → Read → Type 0
 PlainAnswer v w before out (Found number time len) =
     IsHeadOf w.seen number time len × IsCopyThatFits (last_of w.seen) before out len

@@ -5,17 +5,18 @@
 //! made on a handle; what a call is passed doesn't overlap.
 #![tactic(auto)]
 
-ghost use Rattle.std.specs.Prelude.{◌≡◌, ◌≢◌, ◌<◌, ◌≤◌, ◌↔◌, IsSome, length, None, Some};
+ghost use Rattle.std.specs.Prelude.{◌≡◌, ◌≢◌, ◌<◌, ◌≤◌, ◌↔◌, ◌⊎◌, IsSome, length, None, Some, false};
 ghost use Rattle.std.specs.Borrow.{sem};
 ghost use Rattle.std.specs.Mem.{type_size};
 ghost use Rattle.std.specs.Ptr.{points_to, uninit_at};
 ghost use Rattle.message_ring.specs.Queue.{Known};
-ghost use Rattle.partition_reader.specs.Reads.{PortReader};
+ghost use Rattle.mailbox_reader.specs.Reads.{PortReader};
 ghost use Rattle.receiver.specs.Taking.{HandsReader, HandsTaker};
-ghost use Rattle.receiver_slots.specs.Codes.{already_open, done, faulty, no_memory, none_left};
+ghost use Rattle.mailbox_port.specs.Port.{is_reader_count};
+ghost use Rattle.receiver_slots.specs.Codes.{already_open, done, faulty, no_memory, none_left, out_of_range};
 ghost use Rattle.receiver_slots.specs.Handing.{HandsOut, hand_reader_code, hand_taker_code};
 ghost use Rattle.receiver_slots.specs.Naming.{CountsLinks, TellsLink, TellsPlace, TellsPort, link_code, links_code, place_code, port_code};
-ghost use Rattle.receiver_slots.specs.Reading.{DidCopy, DidHold, DidRead, TellsReader, copy_code, read_code, release_code, released};
+ghost use Rattle.receiver_slots.specs.Reading.{Copies, DidHold, DidRead, TellsReader, copy_code, read_code, release_code, released};
 ghost use Rattle.receiver_slots.specs.Receiving.{CountsFrames, CountsFiltered, HasFault, Opens, Receives, count_code, filtered_code, receive_code};
 ghost use Rattle.receiver_slots.specs.Taking.{DidTake, TellsTaker, take_code, taker_code};
 ghost use Rattle.receiver_slots.specs.declared.reader_slot.ReaderState.TheVariants.{Closed, Reads};
@@ -56,24 +57,26 @@ pub unsafe extern "C" fn yelunnavi_receiver_init(at: *mut u8)
     std::ptr::write(at as *mut ReceiverSlot, ReceiverSlot::empty())
 }
 
-/// Opens the receiver of the configuration in these octets, a TOML document. All memory is taken here. FAULTY, and
-/// its first fault with its key, link and port, if it has one.
+/// Opens the receiver of the configuration in these octets, a TOML document. Each sampling port has so many readers, 1 to
+/// 8, else OUT_OF_RANGE. All memory is taken here. FAULTY, and its first fault with its key, link and port, if it has one.
 #[unsafe(no_mangle)]
 pub extern "C" fn yelunnavi_receiver_open(
     alloc: Global,
     h: &mut ReceiverHandle,
     text: &[u8],
+    readers: usize,
     fault: &mut FaultReply,
 ) -> u32
     ensures place { h.new.at ≡ h.old.at }
-    ensures opened { result ≡ done → Opens text.now h.new.now }
+    ensures opened { result ≡ done → Opens readers text.now h.new.now }
     ensures fault { result ≡ faulty → HasFault text.now fault.new }
     ensures already { (result ≡ already_open) ↔ IsSome h.old.now }
+    ensures range { h.old.now ≡ None → (result ≡ out_of_range) ↔ (is_reader_count readers ≡ false) }
     ensures same { 0 < result → h.new.now ≡ h.old.now }
     ensures others { result ≢ faulty → fault.new ≡ fault.old }
-    ensures codes { result ≤ no_memory }
+    ensures codes { (result ≤ no_memory) ⊎ (result ≡ out_of_range) }
 {
-    h.lend().open_text(alloc, text, fault)
+    h.lend().open_text(alloc, text, readers, fault)
 }
 
 /// Gives the receiver away, and the ends of its ports that weren't handed out.
@@ -103,8 +106,8 @@ pub extern "C" fn yelunnavi_receiver_receive(
     h.lend().receive(net, now, frame, reply)
 }
 
-/// Hands a reader of the sampling port with this name to a slot that has none: eight times. NONE_LEFT if the port
-/// queues, or all eight were handed out.
+/// Hands a reader of the sampling port with this name to a slot that has none: as often as the opening was told.
+/// NONE_LEFT if the port queues, or all its readers were handed out.
 #[unsafe(no_mangle)]
 pub extern "C" fn yelunnavi_receiver_hand_reader(
     h: &mut ReceiverHandle,
@@ -275,7 +278,7 @@ pub extern "C" fn yelunnavi_reader_read(
     h.lend().read(now, out, reply)
 }
 
-/// Holds the newest message, and tells its number, time, length and validity at `now` microseconds. Nobody writes it
+/// Holds the newest message, and tells its number, time, length and validity at `now` microseconds. It stays as it is
 /// until it is released.
 #[unsafe(no_mangle)]
 pub extern "C" fn yelunnavi_reader_hold(
@@ -296,9 +299,10 @@ pub extern "C" fn yelunnavi_reader_hold(
 pub extern "C" fn yelunnavi_reader_copy(h: &mut ReaderHandle, first: usize, out: &mut [u8]) -> u32
     ensures place { h.new.at ≡ h.old.at }
     ensures code { result ≡ copy_code h.old.now first (length out.old) }
-    ensures copied { result ≡ done → DidCopy h.old.now h.new.now first out.new }
+    ensures copied { result ≡ done → Copies h.old.now first out.new }
     ensures length { length out.new ≡ length out.old }
-    ensures same { 0 < result → (h.new.now ≡ h.old.now) × (out.new ≡ out.old) }
+    ensures same { 0 < result → out.new ≡ out.old }
+    ensures kept { h.new.now ≡ h.old.now }
 {
     h.lend().copy(first, out)
 }
@@ -325,7 +329,7 @@ pub extern "C" fn yelunnavi_reader_limits(h: &mut ReaderHandle, reply: &mut Limi
     h.lend().limits(reply)
 }
 
-/// Gives the reader away. A message that it holds is released before.
+/// Gives the reader away, with a message that it holds.
 #[unsafe(no_mangle)]
 pub extern "C" fn yelunnavi_reader_close(h: &mut ReaderHandle)
     ensures place { h.new.at ≡ h.old.at }

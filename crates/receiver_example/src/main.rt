@@ -7,7 +7,7 @@ mod partition;
 
 use driver::{Came, frames};
 use partition::Partition;
-use receiver::{Config, FilterCause, Net, PortOutlet, Receiver, Reply, VerdictKind};
+use receiver::{Config, FilterCause, Net, PortOutlet, ReaderCount, Receiver, Reply, VerdictKind};
 use std::alloc::Global;
 use std::io::{self, ErrorKind};
 use vl_config::read_config;
@@ -90,7 +90,11 @@ fn show_counts(rt: &HostRuntime, receiver: &Receiver<PortOutlet>, net: Net) -> i
 
 fn main(rt: HostRuntime) -> io::Result<()> {
     let alloc = rt.alloc();
-    let mut opened = Receiver::<PortOutlet>::open(alloc, &configuration(alloc)?)?;
+    let mut opened = Receiver::<PortOutlet>::open(
+        alloc,
+        &configuration(alloc)?,
+        ReaderCount::most(),
+    )?;
     let (Some(pos), Some(nav)) = (opened.take_reader("pos"), opened.take_taker("nav")) else {
         return Err(refused());
     };

@@ -1,17 +1,17 @@
 //! What runs in a partition: it has ends of ports, and nothing else of the receiver.
 ghost use Rattle.std.specs.Prelude.{◌≡◌, ◌<◌, IfNone, IfOk, IfSome, IsSome, length, take};
 ghost use Rattle.message_ring.specs.Queue.{MayBeEmpty, message, with_taken};
-ghost use Rattle.partition_reader.specs.Reads.{IfMessage, IsRead, IsSamePort};
+ghost use Rattle.mailbox_reader.specs.Reads.{IfMessage, IsRead};
 ghost use Rattle.sampling_port.specs.Age.{freshness as freshness_at};
 
-use receiver::{Memory, PartitionReader, Reading, RingTaker, Taken};
+use receiver::{MailboxReader, Memory, Reading, RingTaker, Taken};
 use std::alloc::Global;
 use std::marker::Model;
 
 /// A partition that reads `pos` and takes of `nav`, with room for the longest message of either.
 #[derive(Drop)]
 pub(crate) struct Partition {
-    pos: PartitionReader,
+    pos: MailboxReader,
     nav: RingTaker,
     out: Vec<u8>,
 }
@@ -29,7 +29,7 @@ impl Model for Partition {
 
 impl Partition {
     /// All memory of the partition is taken here.
-    pub fn new(alloc: Global, pos: PartitionReader, nav: RingTaker) -> Result<Partition, Memory>
+    pub fn new(alloc: Global, pos: MailboxReader, nav: RingTaker) -> Result<Partition, Memory>
         ensures { IfOk result (λ made. (made.pos ≡ pos) × (made.nav ≡ nav)) }
     {
         let out = vec![in alloc; 0u8; nav.max().max(pos.max())]?;
@@ -38,7 +38,6 @@ impl Partition {
 
     /// The newest message of `pos` at `now`, in microseconds, and whether it is fresh.
     pub fn read(&mut self, now: u64) -> Reading
-        ensures port { IsSamePort self.old.pos self.new.pos }
         ensures nav { self.new.nav ≡ self.old.nav }
         ensures read { IsRead self.old.pos self.new.pos self.old.out self.new.out result }
         ensures validity { IfMessage result (λ _ time _ validity. validity ≡ freshness_at now time self.old.pos.refresh) }

@@ -31,7 +31,7 @@ const OUT_OF_RANGE: FaultReply = FaultReply {
 /// The answer for a text, and the reply after it. It has no clause: a test doesn't need what each text comes to.
 fn open(alloc: Global, slot: &mut ReceiverSlot, text: &str) -> (u32, FaultReply) {
     let mut fault = UNTOUCHED;
-    let code = slot.open_text(alloc, text.as_bytes(), &mut fault);
+    let code = slot.open_text(alloc, text.as_bytes(), 8, &mut fault);
     (code, fault)
 }
 

@@ -10,9 +10,12 @@ use es_base::Net::{A, B};
 use es_base::{FilterCause, Message, Octets};
 use frame_reader::{Packet, read_frame, read_packet};
 use ip_reassembly::{Offered, Reassembly};
+use mailbox_port::{MOST_MESSAGES, ReaderCount, open_mailboxes};
+use mailbox_reader::MailboxReader;
 use message_ring::open_ring;
+use partition_reader::{PartitionReader, Reading as ReadingOfPort};
 use queuing_port::{Putter, Taker, open_queue};
-use receiver::{PartitionReader, PortOutlet, Reading, Receiver, RingTaker, Taken, VerdictKind};
+use receiver::{PortOutlet, Reading, Receiver, RingTaker, Taken, VerdictKind};
 use sampling_port::{MOST_TRIES, Read, Reader, Writer, meet, open_port};
 use slot_core::READERS;
 use std::alloc::Global;
@@ -197,9 +200,9 @@ fn a_ring_is_used(rt: HostRuntime) {
 
 // ---- a partition that only reads
 
-fn check_reading(rt: &impl Abort, reading: Reading, wanted: u64) {
+fn check_reading(rt: &impl Abort, reading: ReadingOfPort, wanted: u64) {
     match reading {
-        Reading::Message { number, .. } => assert!(rt; number == wanted),
+        ReadingOfPort::Message { number, .. } => assert!(rt; number == wanted),
         _ => panic!(rt; "a message"),
     }
 }
@@ -211,7 +214,7 @@ fn check_partition(rt: &impl Abort, alloc: Global) {
     drop(second);
     let mut reader = PartitionReader::new(first, 20_000, 16);
     let mut out = [0; 16];
-    assert!(rt; reader.read(1000, &mut out) == Reading::Empty);
+    assert!(rt; reader.read(1000, &mut out) == ReadingOfPort::Empty);
     assert_eq!(rt; writer.publish(1000, &[7, 8, 9]), Ok(1));
     check_reading(rt, reader.read(1000, &mut out), 1);
     match reader.hold() {
@@ -231,6 +234,29 @@ fn a_partition_reads(rt: HostRuntime) {
     check_partition(&rt, rt.alloc());
 }
 
+// ---- a mailbox
+
+fn check_mailbox(rt: &impl Abort, alloc: Global) {
+    let readers = ReaderCount::new(2).expect(rt, "1 to 8");
+    let (mut writer, mut mailboxes) = open_mailboxes(alloc, 16, readers).expect(rt, OWN);
+    let mailbox = mailboxes.pop().expect(rt, "a mailbox");
+    mark(rt, alloc);
+    drop(mailboxes);
+    let mut reader = MailboxReader::new(mailbox, 20_000);
+    let mut out = [0; 16];
+    assert!(rt; reader.read(1000, &mut out) == Reading::Empty);
+    assert!(rt; writer.longest() >= 3 && writer.published() < MOST_MESSAGES);
+    assert!(rt; writer.publish(1000, &[7, 8, 9]) == 1);
+    assert!(rt; reader.read(1000, &mut out) != Reading::Empty && out[2] == 9);
+    reader.update();
+    assert!(rt; reader.latest().is_some());
+}
+
+#[test]
+fn a_mailbox_is_read(rt: HostRuntime) {
+    check_mailbox(&rt, rt.alloc());
+}
+
 // ---- a receiver for one task
 
 /// A receiver of the case's configuration, a reader of `pos`, and the taker of `nav`.
@@ -238,8 +264,9 @@ fn open_receiver(
     rt: &impl Abort,
     alloc: Global,
     case: &Case,
-) -> (Receiver<PortOutlet>, PartitionReader, RingTaker) {
-    let mut opened = Receiver::<PortOutlet>::open(alloc, &case.config).expect(rt, OWN);
+) -> (Receiver<PortOutlet>, MailboxReader, RingTaker) {
+    let readers = ReaderCount::most();
+    let mut opened = Receiver::<PortOutlet>::open(alloc, &case.config, readers).expect(rt, OWN);
     let reader = opened.take_reader("pos").expect(rt, "a reader");
     let taker = opened.take_taker("nav").expect(rt, "a taker");
     (opened.receiver, reader, taker)

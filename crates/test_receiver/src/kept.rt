@@ -5,7 +5,7 @@ use es_base::Net::A;
 use es_base::PortNo;
 use es_base::Verdict::{Overflow, Queued, Sampled};
 use kept_messages::{KeptOutlet, first_at, newest_at, queued_at};
-use receiver::{OpenLink, Opened, Receiver};
+use receiver::{OpenLink, Opened, ReaderCount, Receiver};
 use std::alloc::Global;
 use std::process::Abort;
 use test_inputs::rows::{FrameRow, NAV, NAV_UDP, POS};
@@ -54,9 +54,10 @@ fn check_others(rt: &impl Abort, link: &OpenLink<KeptOutlet>) {
 
 fn check_kept(rt: &impl Abort, alloc: Global) {
     let config = config(rt, alloc);
-    let Opened { mut receiver, ends } = Receiver::<KeptOutlet>::open(alloc, &config).expect(
-        rt, "memory",
-    );
+    let readers = ReaderCount::most();
+    let Opened { mut receiver, ends } = Receiver::<KeptOutlet>::open(
+        alloc, &config, readers,
+    ).expect(rt, "memory");
     assert!(rt; ends.len() == 2);
     assert!(rt; newest_at(receiver.link(0).expect(rt, "a link"), POS).is_none());
     check_frames(rt, alloc, &mut receiver, &rows());

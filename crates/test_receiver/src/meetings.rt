@@ -3,7 +3,7 @@ ghost use Rattle.receiver.specs.Taking.{AreEndsOf};
 
 use crate::opened::{config, octets_of};
 use receiver::Net::A;
-use receiver::{Freshness, Opened, PortOutlet, Reading, Receiver, Taken};
+use receiver::{Freshness, Opened, PortOutlet, ReaderCount, Reading, Receiver, Taken};
 use std::alloc::Global;
 use std::process::Abort;
 use test_inputs::rows::{FOR_NAV, FrameRow, NAV_UDP, POS};
@@ -20,7 +20,7 @@ fn opened(rt: &impl Abort, alloc: Global) -> Opened<PortOutlet>
     ensures { AreEndsOf result.receiver result.ends.items }
 {
     let config = config(rt, alloc);
-    Receiver::<PortOutlet>::open(alloc, &config).expect(rt, "memory")
+    Receiver::<PortOutlet>::open(alloc, &config, ReaderCount::most()).expect(rt, "memory")
 }
 
 /// A sample comes, a reader meets its port, and then reads it.

@@ -1,6 +1,6 @@
 //! Ends by the names of their ports.
-use crate::opened::{config, readers_of};
-use receiver::{Opened, PortNo, PortOutlet, Receiver};
+use crate::opened::{config, open_with, readers_of};
+use receiver::{MOST_READERS, Opened, PortNo, PortOutlet, ReaderCount};
 use std::alloc::Global;
 use std::process::Abort;
 use test_inputs::rows::{NAV, POS};
@@ -14,7 +14,7 @@ fn check_places(rt: &impl Abort, opened: &Opened<PortOutlet>) {
 
 fn check_names(rt: &impl Abort, alloc: Global) {
     let config = config(rt, alloc);
-    let mut opened = Receiver::<PortOutlet>::open(alloc, &config).expect(rt, "memory");
+    let mut opened = open_with(rt, alloc, &config, MOST_READERS);
     check_places(rt, &opened);
     assert!(rt; opened.take_reader("nav").is_none() && opened.take_taker("pos").is_none());
     assert!(rt; opened.take_reader("pos2").is_none() && opened.take_taker("").is_none());
@@ -31,4 +31,23 @@ fn check_names(rt: &impl Abort, alloc: Global) {
 #[test]
 fn ends_are_had_by_name_and_no_oftener_than_there_are(rt: HostRuntime) {
     check_names(&rt, rt.alloc());
+}
+
+/// Each sampling port has as many readers as the opening was told, and no more.
+fn check_counts(rt: &impl Abort, alloc: Global) {
+    for readers in 1..=MOST_READERS {
+        let mut opened = open_with(rt, alloc, &config(rt, alloc), readers);
+        for name in ["pos", "alt"] {
+            for _ in 0..readers {
+                assert!(rt; opened.take_reader(name).is_some(), "{name}: {readers}");
+            }
+            assert!(rt; opened.take_reader(name).is_none(), "{name}: {readers}");
+        }
+    }
+    assert!(rt; ReaderCount::new(0).is_none() && ReaderCount::new(9).is_none());
+}
+
+#[test]
+fn a_sampling_port_has_as_many_readers_as_the_opening_was_told(rt: HostRuntime) {
+    check_counts(&rt, rt.alloc());
 }

@@ -1,9 +1,8 @@
 //! A receiver of the built-in configuration and a second link, the ends of link 17, and what the tests ask of them.
 use receiver::{
-    Config, Net, Opened, Outlet, PartitionReader, PortOutlet, Receiver, Reply, RingTaker, Verdict,
-    VerdictKind,
+    Config, MOST_READERS, MailboxReader, Net, Opened, Outlet, PortOutlet, ReaderCount, Receiver,
+    Reply, RingTaker, Verdict, VerdictKind,
 };
-use slot_core::READERS;
 use std::alloc::Global;
 use std::process::Abort;
 use test_inputs::rows::FrameRow;
@@ -24,7 +23,7 @@ pub(crate) fn config(rt: &impl Abort, alloc: Global) -> Config {
 #[derive(Drop)]
 pub(crate) struct Given {
     pub receiver: Receiver<PortOutlet>,
-    pub readers: Vec<PartitionReader>,
+    pub readers: Vec<MailboxReader>,
     pub taker: RingTaker,
 }
 
@@ -34,9 +33,9 @@ pub(crate) fn readers_of(
     alloc: Global,
     opened: &mut Opened<PortOutlet>,
     name: &str,
-) -> Vec<PartitionReader> {
-    let mut readers = Vec::with_capacity(alloc, READERS).expect(rt, "memory");
-    for _ in 0..READERS {
+) -> Vec<MailboxReader> {
+    let mut readers = Vec::with_capacity(alloc, MOST_READERS).expect(rt, "memory");
+    for _ in 0..MOST_READERS {
         let reader = opened.take_reader(name).expect(rt, "a reader");
         readers.push(reader).expect(rt, "memory");
     }
@@ -44,9 +43,20 @@ pub(crate) fn readers_of(
     readers
 }
 
+/// A new receiver, each of whose sampling ports has so many readers.
+pub(crate) fn open_with(
+    rt: &impl Abort,
+    alloc: Global,
+    config: &Config,
+    readers: usize,
+) -> Opened<PortOutlet> {
+    let readers = ReaderCount::new(readers).expect(rt, "1 to 8");
+    Receiver::<PortOutlet>::open(alloc, config, readers).expect(rt, "memory")
+}
+
 pub(crate) fn opened(rt: &impl Abort, alloc: Global) -> Given {
     let config = config(rt, alloc);
-    let mut opened = Receiver::<PortOutlet>::open(alloc, &config).expect(rt, "memory");
+    let mut opened = open_with(rt, alloc, &config, MOST_READERS);
     let readers = readers_of(rt, alloc, &mut opened, "pos");
     let taker = opened.take_taker("nav").expect(rt, "a taker");
     assert!(rt; opened.take_taker("nav").is_none());

@@ -2,7 +2,7 @@
 use crate::opened::{Given, check_count, check_frames, opened};
 use receiver::Net::A;
 use receiver::Verdict::{Overflow, Queued, Sampled};
-use receiver::{Freshness, PartitionReader, Reading, RingTaker, Verdict};
+use receiver::{Freshness, MailboxReader, Reading, RingTaker, Verdict};
 use std::alloc::Global;
 use std::process::Abort;
 use test_inputs::rows::{FrameRow, NAV, NAV_UDP, POS};
@@ -13,7 +13,7 @@ pub(crate) const OCTETS: [u8; 17] = [1, 2, 3, 4, 5, 6, 7, 8, 9, 10, 11, 12, 13, 
 
 /// A reader reads this message at its time: its number, and its time in microseconds. `pos` has a refresh period of
 /// 20 milliseconds.
-fn check_read(rt: &impl Abort, reader: &mut PartitionReader, (number, time): (u64, u64)) {
+fn check_read(rt: &impl Abort, reader: &mut MailboxReader, (number, time): (u64, u64)) {
     let mut out = [0; 17];
     for (now, validity) in [
         (time, Freshness::Fresh),

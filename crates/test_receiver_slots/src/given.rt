@@ -51,7 +51,7 @@ pub(crate) fn text(rt: &impl Abort, alloc: Global) -> String {
 pub(crate) fn opened_with(rt: &impl Abort, alloc: Global, text: &str) -> ReceiverSlot {
     let mut slot = ReceiverSlot::empty();
     let mut fault = NO_FAULT;
-    assert!(rt; slot.open_text(alloc, text.as_bytes(), &mut fault) == DONE);
+    assert!(rt; slot.open_text(alloc, text.as_bytes(), 8, &mut fault) == DONE);
     assert!(rt; fault == NO_FAULT);
     slot
 }

@@ -1,7 +1,7 @@
 //! Opening and closing.
 use crate::given::{FILTERED, NO_FAULT, opened, text};
-use receiver_slots::codes::{ALREADY_OPEN, DONE, FAULTY, NOT_OPEN};
-use receiver_slots::{FaultReply, ReceiverSlot};
+use receiver_slots::codes::{ALREADY_OPEN, DONE, FAULTY, NONE_LEFT, NOT_OPEN, OUT_OF_RANGE};
+use receiver_slots::{FaultReply, ReaderSlot, ReceiverSlot};
 use std::alloc::Global;
 use std::process::Abort;
 
@@ -35,7 +35,7 @@ fn is_closed(slot: &mut ReceiverSlot) -> bool {
 fn check_fault(rt: &impl Abort, alloc: Global, text: &[u8], wanted: FaultReply) {
     let mut slot = ReceiverSlot::empty();
     let mut told = NO_FAULT;
-    assert!(rt; slot.open_text(alloc, text, &mut told) == FAULTY);
+    assert!(rt; slot.open_text(alloc, text, 8, &mut told) == FAULTY);
     assert!(rt; told == wanted, "{told:?}");
     assert!(rt; is_closed(&mut slot));
 }
@@ -92,14 +92,35 @@ fn the_fault_of_a_text_is_told_by_numbers(rt: HostRuntime) {
     check_name_of_another_link(&rt, rt.alloc());
 }
 
+/// No sampling port has 0 readers, or 9. With 1 the port has one.
+fn check_reader_counts(rt: &impl Abort, alloc: Global) {
+    let text = text(rt, alloc);
+    let octets = text.as_str().as_bytes();
+    let mut slot = ReceiverSlot::empty();
+    let mut fault = NO_FAULT;
+    for readers in [0, 9, usize::MAX] {
+        assert!(rt; slot.open_text(alloc, octets, readers, &mut fault) == OUT_OF_RANGE);
+        assert!(rt; is_closed(&mut slot) && fault == NO_FAULT);
+    }
+    assert!(rt; slot.open_text(alloc, octets, 1, &mut fault) == DONE);
+    let (mut one, mut other) = (ReaderSlot::empty(), ReaderSlot::empty());
+    assert!(rt; slot.hand_reader(&mut one, b"pos") == DONE);
+    assert!(rt; slot.hand_reader(&mut other, b"pos") == NONE_LEFT);
+}
+
+#[test]
+fn a_sampling_port_has_1_to_8_readers(rt: HostRuntime) {
+    check_reader_counts(&rt, rt.alloc());
+}
+
 fn check_opened_twice(rt: &impl Abort, alloc: Global) {
     let mut slot = opened(rt, alloc);
     let text = text(rt, alloc);
     let mut fault = NO_FAULT;
-    assert!(rt; slot.open_text(alloc, text.as_str().as_bytes(), &mut fault) == ALREADY_OPEN);
+    assert!(rt; slot.open_text(alloc, text.as_str().as_bytes(), 8, &mut fault) == ALREADY_OPEN);
     slot.close();
     assert!(rt; is_closed(&mut slot));
-    assert!(rt; slot.open_text(alloc, text.as_str().as_bytes(), &mut fault) == DONE);
+    assert!(rt; slot.open_text(alloc, text.as_str().as_bytes(), 8, &mut fault) == DONE);
     assert!(rt; fault == NO_FAULT);
 }
 

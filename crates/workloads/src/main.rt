@@ -9,7 +9,7 @@
 //! | `networks` | an end system with a thread for each network, both at the same links; its histories are kept |
 //! | `threads` | two traces in memory, each played in a thread of its own |
 //! | `days` | an end system that goes on: both networks by one thread, partitions beside it, epochs that are taken out |
-//! | `task` | a receiver for one task by the slots of the C library, with partitions that read, hold and take |
+//! | `task` | a receiver for one task by the slots of the C library, with partitions that read, look and take |
 //! | `traces` | two traces in memory, played by one thread |
 //! | `pieces` | a receiver for one task on what is awkward: datagrams in pieces of 8 octets, bursts that are turned away |
 //! | `evidence` | links whose epochs are taken out often, and of each port what was delivered to it since then |

@@ -7,7 +7,7 @@ use crate::frames::{Template, datagram, pieces, whole};
 use crate::outcomes::{add_verdict, cause_number};
 use crate::refused;
 use crate::traffic::{Flow, Traffic};
-use receiver::{Net, Opened, PortOutlet, Receiver, Reply, RingTaker};
+use receiver::{Net, Opened, PortOutlet, ReaderCount, Receiver, Reply, RingTaker};
 use std::alloc::Global;
 use std::io;
 
@@ -172,7 +172,11 @@ fn take_queues(takers: &mut [RingTaker], room: &mut [u8], digest: &mut Digest) {
 /// All frames, each on both networks.
 pub(crate) fn run(alloc: Global, seed: u64, rounds: u64) -> io::Result<Digest> {
     let mut digest = Digest::new();
-    let mut opened = Receiver::<PortOutlet>::open(alloc, &config_of(alloc, SHAPE)?)?;
+    let mut opened = Receiver::<PortOutlet>::open(
+        alloc,
+        &config_of(alloc, SHAPE)?,
+        ReaderCount::most(),
+    )?;
     let mut takers = takers_of(alloc, &mut opened)?;
     let mut room = vec![in alloc; 0u8; 8192]?;
     let mut traffic = traffic(alloc, seed)?;

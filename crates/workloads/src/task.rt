@@ -1,11 +1,11 @@
 //! A receiver for one task, by the slots that programs in C have of it: both copies of each frame, and partitions that
-//! read, hold and take, most of them with nothing newer. With one link of 8 ports, and with 64 links of 32.
+//! read, look and take, most of them with nothing newer. With one link of 8 ports, and with 64 links of 32.
 use crate::configs::{Shape, config_text};
 use crate::digest::Digest;
 use crate::profiles::{Profile, traffic};
 use crate::refused;
 use crate::traffic::Traffic;
-use receiver::{Freshness, HeldMessage, PartitionReader, Reading};
+use receiver::{Freshness, Latest, MailboxReader, Reading};
 use receiver_slots::{FaultReply, FrameReply, ReaderSlot, ReceiverSlot, TakeReply, TakerSlot};
 use std::alloc::Global;
 use std::io;
@@ -38,8 +38,7 @@ const FRAMES: u64 = 7000;
 #[derive(Drop)]
 struct Receiving {
     receiver: ReceiverSlot,
-    /// Each is moved out while it holds a message.
-    readers: Vec<Option<PartitionReader>>,
+    readers: Vec<MailboxReader>,
     takers: Vec<TakerSlot>,
     /// Room for a message.
     room: Vec<u8>,
@@ -78,6 +77,9 @@ fn no_fault() -> FaultReply {
     }
 }
 
+/// One partition reads each sampling port.
+const READERS: usize = 1;
+
 /// Opens the receiver of a configuration, and has the ends of all ports handed out.
 fn open(alloc: Global, shape: Shape) -> io::Result<Receiving> {
     let mut receiving = Receiving {
@@ -90,7 +92,7 @@ fn open(alloc: Global, shape: Shape) -> io::Result<Receiving> {
     let mut fault = no_fault();
     if receiving
         .receiver
-        .open_text(alloc, text.as_bytes(), &mut fault)
+        .open_text(alloc, text.as_bytes(), READERS, &mut fault)
         != DONE
     {
         return Err(refused());
@@ -107,11 +109,10 @@ fn hand_ends(alloc: Global, receiving: &mut Receiving, shape: Shape, link: u8) -
         let name = format!(in alloc; "s{link}-{place}")?;
         let mut slot = ReaderSlot::empty();
         let code = receiving.receiver.hand_reader(&mut slot, name.as_bytes());
-        let reader = slot.into_reader();
-        if code != DONE {
-            return Err(refused());
+        match slot.into_reader() {
+            Some(reader) if code == DONE => receiving.readers.push(reader)?,
+            _ => return Err(refused()),
         }
-        receiving.readers.push(reader)?;
     }
     for place in 0..shape.queuing {
         let name = format!(in alloc; "q{link}-{place}")?;
@@ -143,7 +144,7 @@ fn receive(receiving: &mut Receiving, net: u32, time: u64, octets: &[u8], digest
 
 /// A partition reads its port.
 fn read(receiving: &mut Receiving, at: usize, now: u64, digest: &mut Digest) {
-    let Some(Some(reader)) = receiving.readers.get_mut(at) else {
+    let Some(reader) = receiving.readers.get_mut(at) else {
         return;
     };
     match reader.read(now, &mut receiving.room) {
@@ -160,39 +161,28 @@ fn read(receiving: &mut Receiving, at: usize, now: u64, digest: &mut Digest) {
             }
         }
         Reading::Empty => digest.add(1),
-        Reading::Busy { number } => digest.add(number << 2 | 2),
     }
 }
 
-/// Adds a message that is held, with its octets.
-fn add_held(digest: &mut Digest, held: &mut HeldMessage, now: u64, room: &mut [u8]) {
-    let fresh = held.validity(now) == Freshness::Fresh;
-    digest.add(held.number() << 1 | u64::from(fresh));
-    digest.add(held.time());
-    let len = held.len();
-    if let Some(octets) = room.get_mut(..len) {
-        held.copy_range(0, octets);
-        digest.add_octets(octets);
-    }
+/// Adds a message that stands in its place, with its octets.
+fn add_latest(digest: &mut Digest, latest: &Latest, fresh: bool) {
+    digest.add(latest.number() << 1 | u64::from(fresh));
+    digest.add(latest.time());
+    digest.add_octets(latest.octets());
 }
 
-/// A partition holds the newest message, looks at all of it, and releases it.
-fn hold(receiving: &mut Receiving, at: usize, now: u64, digest: &mut Digest) {
-    let Some(place) = receiving.readers.get_mut(at) else {
+/// A partition looks at the newest message, all of it, where it stands.
+fn look(receiving: &mut Receiving, at: usize, now: u64, digest: &mut Digest) {
+    let Some(reader) = receiving.readers.get_mut(at) else {
         return;
     };
-    let Some(reader) = place.take() else {
-        return;
-    };
-    match reader.hold() {
-        Ok(mut held) => {
-            add_held(digest, &mut held, now, &mut receiving.room);
-            *place = Some(held.release());
+    reader.update();
+    match reader.latest() {
+        Some(latest) => {
+            let fresh = reader.validity(now, latest) == Freshness::Fresh;
+            add_latest(digest, latest, fresh);
         }
-        Err((reader, _)) => {
-            digest.add(3);
-            *place = Some(reader);
-        }
+        None => digest.add(3),
     }
 }
 
@@ -215,7 +205,7 @@ fn take(receiving: &mut Receiving, at: usize, digest: &mut Digest) {
     }
 }
 
-/// What the partitions do after a frame: some read or hold, and one takes.
+/// What the partitions do after a frame: some read or look, and one takes.
 fn step(receiving: &mut Receiving, frame: u64, draw: u64, now: u64, digest: &mut Digest) {
     let (readers, takers) = (receiving.readers.len(), receiving.takers.len());
     if readers == 0 || takers == 0 {
@@ -224,7 +214,7 @@ fn step(receiving: &mut Receiving, frame: u64, draw: u64, now: u64, digest: &mut
     let at = (draw >> 8) as usize;
     read(receiving, at % readers, now, digest);
     if frame % 4 == 0 {
-        hold(receiving, (at >> 8) % readers, now, digest);
+        look(receiving, (at >> 8) % readers, now, digest);
     }
     take(receiving, frame as usize % takers, digest);
 }

@@ -13,9 +13,9 @@ pub meet_reader-requires : goal.meet_reader-requires
 meet_reader-requires g c =
     let opened = c.opened-opened.result in
     let place = c.expect-place.result in
-    let of_it = of_their_outlets HandsReader (λ outlet reader. IsPortOf outlet reader.end) reader_of_its_port _ opened.receiver opened.ends.items c.take_reader.new.self.ends.items c.take_reader.result
+    let of_it = of_their_outlets HandsReader IsPortOf reader_of_its_port _ opened.receiver opened.ends.items c.take_reader.new.self.ends.items c.take_reader.result
     c.take_reader.ensures.reader c.opened-opened.ensures in
     let found = sym c.place_of.ensures ∙ c.expect-place.ensures in
-    let was : HasOutlet opened.receiver place.0 place.1 (λ outlet. IsPortOf outlet c.expect-reader.result.end) = rw (found, c.expect-reader.ensures) at of_it.1 in
-    let has : HasOutlet c.take_reader.new.self.receiver place.0 place.1 (λ outlet. IsPortOf outlet c.expect-reader.result.end) = rw c.take_reader.ensures.receiver was in
-    reader_stays (came (arrived nets.A 1000 c.as_slice.result.now) c.receive-reply.result) c.take_reader.new.self.receiver c.receive-reply.new.self c.receive-reply.ensures.replies place.0 place.1 c.expect-reader.result.end has
+    let was : HasOutlet opened.receiver place.0 place.1 (λ outlet. IsPortOf outlet c.expect-reader.result) = rw (found, c.expect-reader.ensures) at of_it.1 in
+    let has : HasOutlet c.take_reader.new.self.receiver place.0 place.1 (λ outlet. IsPortOf outlet c.expect-reader.result) = rw c.take_reader.ensures.receiver was in
+    reader_stays (came (arrived nets.A 1000 c.as_slice.result.now) c.receive-reply.result) c.take_reader.new.self.receiver c.receive-reply.new.self c.receive-reply.ensures.replies place.0 place.1 c.expect-reader.result has

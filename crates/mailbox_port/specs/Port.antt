@@ -1,0 +1,66 @@
+-- What a contract sees of a sampling port with a mailbox for each of its readers.
+use Rattle.std.specs.Prelude.{◌≡◌, ℕ, ◌+◌, ◌<◌, ◌&&◌, Bool, List, [], ◌∷◌, ◌++◌, length, map, nat_le, slice_get, Some}
+use Rattle.atomic_table.specs.Seated.{TableId}
+use Rattle.es_base.specs.declared.event.Message.{Message}
+use Rattle.triple_buffer.specs.Ends.{WriterEnd, is_told, new_reader}
+use Rattle.mailbox_port.specs.declared.port.Mailbox.{Mailbox}
+
+-- ---- how many readers
+
+abbrev pub most_readers : ℕ
+most_readers = 8
+
+abbrev pub is_reader_count : ℕ → Bool
+is_reader_count count = nat_le 1 count && nat_le count most_readers
+
+-- ---- the end that publishes
+
+-- the buffers of its mailboxes, the longest message in octets, and what was published
+pub record PortEnd : Type 0 where
+  pub buffers : List TableId
+  pub longest : ℕ
+  pub published : List Message
+
+-- what the first of these writers published, as each of them did
+abbrev pub published_of : List WriterEnd → List Message
+published_of [] = []
+published_of (writer ∷ writers) = writer.published
+
+abbrev pub writer_at : ℕ → List Message → TableId → WriterEnd
+writer_at longest published buffer = record { buffer = buffer; longest = longest; published = published }
+
+abbrev pub buffers_of : List WriterEnd → List TableId
+buffers_of writers = map (λ (writer : WriterEnd). writer.buffer) writers
+
+abbrev pub port_end : List WriterEnd → ℕ → PortEnd
+port_end writers longest = record { buffers = buffers_of writers; longest = longest; published = published_of writers }
+
+-- there is a writer, and each published the same
+pub record AreAlike (writers : List WriterEnd) (longest count : ℕ) : Type 0 where
+  pub some : 0 < length writers
+  pub same : writers ≡ map (writer_at longest (published_of writers)) (buffers_of writers)
+  pub count_is : count ≡ length (published_of writers)
+
+abbrev pub new_port : List TableId → ℕ → PortEnd
+new_port buffers longest = record { buffers = buffers; longest = longest; published = [] }
+
+abbrev pub port_with : PortEnd → Message → PortEnd
+port_with port message = record port { published = port.published ++ message ∷ [] }
+
+-- ---- its mailboxes
+
+-- a mailbox of this port
+abbrev pub IsMailboxOf : PortEnd → Mailbox → Type 0
+IsMailboxOf port mailbox = slice_get port.buffers mailbox.place ≡ Some mailbox.reader.buffer
+
+-- the mailboxes with these buffers, the first of which stands at this place, before any message
+abbrev pub mailboxes_from : ℕ → ℕ → List TableId → List Mailbox
+mailboxes_from longest place [] = []
+mailboxes_from longest place (buffer ∷ buffers) = record { reader = new_reader buffer longest; place = place } ∷ mailboxes_from longest (place + 1) buffers
+
+abbrev pub new_mailboxes : List TableId → ℕ → List Mailbox
+new_mailboxes buffers longest = mailboxes_from longest 0 buffers
+
+-- its reader knows these to be published
+abbrev pub told : Mailbox → List Message → Mailbox
+told mailbox published = record { reader = is_told mailbox.reader published; place = mailbox.place }

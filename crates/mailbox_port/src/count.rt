@@ -1,0 +1,59 @@
+//! How many readers a port has.
+ghost use Rattle.std.specs.Prelude.{◌≡◌, ◌<◌, ◌≤◌, IfSome, is_some};
+ghost use Rattle.mailbox_port.specs.Port.{is_reader_count, most_readers};
+
+use std::marker::Model;
+
+/// The most readers that a port can have.
+pub const MOST_READERS: usize = 8;
+
+/// How many readers a port has, 1 to 8.
+#[derive(Clone, Copy)]
+pub struct ReaderCount {
+    count: usize,
+}
+
+impl Model for ReaderCount {
+    ghost use Rattle.std.specs.Prelude.{ℕ, ◌<◌, ◌≤◌};
+    ghost use Rattle.mailbox_port.specs.Port.{most_readers};
+
+    ghost Value = { ℕ };
+
+    ghost view = { λ c. c.count };
+
+    ghost inverse = { λ n. record { count = n } };
+
+    ghost invariant = { λ c. (0 < c.count) × (c.count ≤ most_readers) };
+}
+
+impl ReaderCount {
+    /// So many readers; None for 0, and for 9 and more.
+    pub fn new(count: usize) -> Option<ReaderCount>
+        ensures valid { is_some result ≡ is_reader_count count }
+        ensures value { IfSome result (λ made. made ≡ count) }
+    {
+        if count == 0 || MOST_READERS < count {
+            None
+        } else {
+            Some(ReaderCount { count })
+        }
+    }
+
+    /// As many as a port can have.
+    pub fn most() -> ReaderCount
+        ensures { result ≡ most_readers }
+    {
+        ReaderCount {
+            count: MOST_READERS,
+        }
+    }
+
+    /// The number, 1 to 8.
+    pub fn get(self) -> usize
+        ensures value { result ≡ self }
+        ensures some { 0 < result }
+        ensures most { result ≤ most_readers }
+    {
+        self.count
+    }
+}

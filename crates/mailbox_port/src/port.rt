@@ -1,0 +1,107 @@
+//! The end of a port that publishes, and the mailboxes that it fills.
+ghost use Rattle.std.specs.Prelude.{◌≡◌, ◌+◌, ◌<◌, ◌≤◌, length, slice_get, Some, IfOk};
+ghost use Rattle.triple_buffer.specs.Rule.{StartsWith, message};
+ghost use Rattle.triple_buffer.specs.Ends.{most_messages};
+ghost use Rattle.mailbox_port.specs.Port.{IsMailboxOf, new_mailboxes, new_port, port_with, told};
+
+use crate::count::ReaderCount;
+use es_base::Memory;
+use std::alloc::Global;
+use std::marker::Model;
+use triple_buffer::{Reader, Writer, meet, open_buffer};
+
+/// What one reader of a port has of it.
+#[derive(Drop)]
+pub struct Mailbox {
+    /// The end that reads.
+    pub reader: Reader,
+    /// The place of this mailbox among those of its port, 0 to 7.
+    pub place: usize,
+}
+
+/// The end of a port that publishes. Contracts see the buffers of its mailboxes, the longest message in octets, and each
+/// message that was published, in order.
+#[derive(Drop)]
+pub struct PortWriter {
+    writers: Vec<Writer>,
+    longest: usize,
+    count: u64,
+}
+
+impl Model for PortWriter {
+    ghost use Rattle.mailbox_port.specs.Port.{AreAlike, PortEnd, port_end};
+
+    ghost Value = { PortEnd };
+
+    ghost view = { λ p. port_end p.writers.items p.longest };
+
+    ghost invariant = { λ p. AreAlike p.writers.items p.longest p.count };
+}
+
+/// Opens a port with a mailbox for each of so many readers, for messages of up to `longest` octets. All memory is taken
+/// here.
+pub fn open_mailboxes(
+    alloc: Global,
+    longest: usize,
+    readers: ReaderCount,
+) -> Result<(PortWriter, Vec<Mailbox>), Memory>
+    ensures writer { IfOk result (λ ends. (ends.0 ≡ new_port ends.0.buffers longest) × (length ends.0.buffers ≡ readers)) }
+    ensures mailboxes { IfOk result (λ ends. ends.1.items ≡ new_mailboxes ends.0.buffers longest) }
+{
+    let readers = readers.get();
+    let mut writers = Vec::with_capacity(alloc, readers)?;
+    let mut mailboxes = Vec::with_capacity(alloc, readers)?;
+    for place in 0..readers {
+        let (writer, reader) = open_buffer(alloc, longest)?;
+        writers.push(writer)?;
+        mailboxes.push(Mailbox { reader, place })?;
+    }
+    let port = PortWriter {
+        writers,
+        longest,
+        count: 0,
+    };
+    Ok((port, mailboxes))
+}
+
+impl PortWriter {
+    /// How many messages were published.
+    pub fn published(&self) -> u64
+        ensures { result ≡ length self.now.published }
+    {
+        self.count
+    }
+
+    /// The longest message, in octets.
+    pub fn longest(&self) -> usize
+        ensures { result ≡ self.now.longest }
+    {
+        self.longest
+    }
+
+    /// Publishes a message of these octets that came at `time` microseconds, and returns its number: 1, 2, 3 and so on.
+    /// One copy and one atomic step for each reader. It waits for nobody and takes no memory; nothing that a reader does
+    /// can refuse or delay it.
+    pub fn publish(&mut self, time: u64, octets: &[u8]) -> u64
+        requires short { length octets.now ≤ self.old.longest }
+        requires few { length self.old.published < most_messages }
+        ensures number { result ≡ length self.new.published }
+        ensures published { self.new ≡ port_with self.old (message time octets.now) }
+    {
+        for place in 0..self.writers.len() {
+            self.writers[place].publish(time, octets);
+        }
+        self.count += 1;
+        self.count
+    }
+
+    /// Tells the reader of one of the port's mailboxes what was published. Nothing else changes.
+    pub fn meet(&mut self, mailbox: &mut Mailbox)
+        requires { IsMailboxOf self.old mailbox.old }
+        ensures mailbox { mailbox.new ≡ told mailbox.old self.old.published }
+        ensures writer { self.new ≡ self.old }
+        ensures before { StartsWith self.old.published mailbox.old.reader.known }
+    {
+        meet(&mut self.writers[mailbox.place], &mut mailbox.reader);
+    }
+}

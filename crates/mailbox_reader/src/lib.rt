@@ -1,0 +1,24 @@
+//! What a partition gets that only reads a sampling port of the receiver for one task (ARINC 664 Part 7, sampling
+//! service): the reader of a mailbox, which knows its port's refresh period. A read says whether its message is fresh at
+//! the time of the read, as READ_SAMPLING_MESSAGE of ARINC 653 does. The message can be read where it stands, too: it
+//! stays as it is until the next look, whatever is published meanwhile.
+//! No call waits, tries again or takes memory. Arrival times and the `now` of a call are of one clock.
+//!
+//! ```text
+//! let mut reader = MailboxReader::new(mailbox, 100_000);
+//! let mut out = [0; 16];
+//! reader.read(2000, &mut out)      // Reading::Empty
+//! writer.publish(1000, &[7, 8])    // 1
+//! reader.read(2000, &mut out)      // Reading::Message { number: 1, time: 1000, len: 2, validity: Fresh }
+//! reader.update();
+//! reader.latest()                  // Some: number 1, time 1000, octets [7, 8], in place
+//! ```
+#![tactic(auto)]
+
+mod reader;
+mod reading;
+
+pub use mailbox_port::Latest;
+pub use reader::MailboxReader;
+pub use reading::Reading;
+pub use sampling_port::Freshness;

@@ -1,0 +1,129 @@
+-- What a contract sees of the ends of a triple buffer.
+use Rattle.std.specs.Prelude.{◌≡◌, ℕ, ◌+◌, ◌<◌, true, List, [], ◌∷◌, ◌++◌, length, Option, None, Some}
+use Rattle.atomic_table.specs.Seated.{TableId}
+use Rattle.es_base.specs.declared.event.Message.{Message}
+use Rattle.triple_buffer.specs.Rule.{HasRoom, IsLastOf, StartsWith, message_in}
+use Rattle.triple_buffer.specs.Plays.{At, publishes, reader_of, takes, writer_of}
+use Rattle.triple_buffer.specs.declared.latest.Latest.{Latest}
+use Rattle.triple_buffer.specs.declared.rule.SeatView.TheVariants.{Writes, Reads}
+
+abbrev pub most_messages : ℕ
+most_messages = 1152921504606846975
+
+-- a writer: the messages that it published
+pub record WriterEnd : Type 0 where
+  pub buffer : TableId
+  pub longest : ℕ
+  pub published : List Message
+
+-- a reader: the messages up to that which it has, and those of which it knows that they were published
+pub record ReaderEnd : Type 0 where
+  pub buffer : TableId
+  pub longest : ℕ
+  pub seen : List Message
+  pub known : List Message
+
+abbrev pub writer_end : TableId → ℕ → At → WriterEnd
+writer_end buffer longest me = record { buffer = buffer; longest = longest; published = (writer_of me.0).published }
+
+abbrev pub reader_end : TableId → ℕ → At → ReaderEnd
+reader_end buffer longest me = record { buffer = buffer; longest = longest; seen = (reader_of me.0).seen; known = (reader_of me.0).known }
+
+abbrev pub new_writer : TableId → ℕ → WriterEnd
+new_writer buffer longest = record { buffer = buffer; longest = longest; published = [] }
+
+abbrev pub new_reader : TableId → ℕ → ReaderEnd
+new_reader buffer longest = record { buffer = buffer; longest = longest; seen = []; known = [] }
+
+abbrev pub with_published : WriterEnd → Message → WriterEnd
+with_published writer message = record writer { published = writer.published ++ message ∷ [] }
+
+-- It looked: it has the last message that was published then. So it has no older one than before, and none older than
+-- one of which it knew.
+pub record IsReadOf (v w : ReaderEnd) : Type 0 where
+  pub buffer : w.buffer ≡ v.buffer
+  pub longest : w.longest ≡ v.longest
+  pub newest : w.known ≡ w.seen
+  pub seen : StartsWith w.seen v.seen
+  pub known : StartsWith w.seen v.known
+
+-- it knows these to be published
+abbrev pub is_told : ReaderEnd → List Message → ReaderEnd
+is_told reader published = record reader { known = published }
+
+-- it has the last of these messages, and knows no more
+abbrev pub has_all : ReaderEnd → List Message → ReaderEnd
+has_all reader published = record reader { seen = published; known = published }
+
+-- ---- what the ends keep
+
+-- A writer has its buffer in its place.
+pub record IsWriter (me : At) (slot longest count : ℕ) : Type 0 where
+  pub view : me.0 ≡ Writes (writer_of me.0)
+  pub place : (writer_of me.0).slot ≡ slot
+  pub below : slot < 3
+  pub longest_is : (writer_of me.0).longest ≡ longest
+  pub entered : (writer_of me.0).has ≡ true
+  pub own : Latest
+  pub holds : me.1 ≡ (slot, Some own) ∷ []
+  pub room : HasRoom longest own
+  pub count_is : count ≡ length (writer_of me.0).published
+
+-- A reader has its buffer beside its place, which is vacant between its calls.
+pub record IsReader (me : At) (slot longest : ℕ) (has : Option Latest) : Type 0 where
+  pub view : me.0 ≡ Reads (reader_of me.0)
+  pub place : (reader_of me.0).slot ≡ slot
+  pub below : slot < 3
+  pub longest_is : (reader_of me.0).longest ≡ longest
+  pub entered : (reader_of me.0).has ≡ true
+  pub vacant : me.1 ≡ (slot, None) ∷ []
+  pub own : Latest
+  pub has_own : has ≡ Some own
+  pub room : HasRoom longest own
+  pub last : IsLastOf own (reader_of me.0).seen
+  pub seen : StartsWith (reader_of me.0).known (reader_of me.0).seen
+
+-- a writer's seat that may publish its buffer
+pub record MaySend (longest : ℕ) (me : At) (slot : ℕ) : Type 0 where
+  pub view : me.0 ≡ Writes (writer_of me.0)
+  pub place : (writer_of me.0).slot ≡ slot
+  pub below : slot < 3
+  pub longest_is : (writer_of me.0).longest ≡ longest
+  pub entered : (writer_of me.0).has ≡ true
+  pub own : Latest
+  pub holds : me.1 ≡ (slot, Some own) ∷ []
+  pub room : HasRoom longest own
+  pub number : own.number ≡ length (writer_of me.0).published + 1
+
+-- it published it, and has another buffer
+pub record IsSent (longest : ℕ) (before after : At) (sent : Latest) (slot : ℕ) : Type 0 where
+  pub view : after.0 ≡ Writes (publishes (writer_of before.0) (message_in sent) slot)
+  pub below : slot < 3
+  pub own : Latest
+  pub holds : after.1 ≡ (slot, Some own) ∷ []
+  pub room : HasRoom longest own
+
+-- a reader's seat that saw that the buffer between the ends is newer than this one
+pub record MayReceive (longest : ℕ) (me : At) (slot : ℕ) (has : Option Latest) : Type 0 where
+  pub view : me.0 ≡ Reads (reader_of me.0)
+  pub place : (reader_of me.0).slot ≡ slot
+  pub below : slot < 3
+  pub longest_is : (reader_of me.0).longest ≡ longest
+  pub entered : (reader_of me.0).has ≡ true
+  pub newer : (reader_of me.0).newer ≡ true
+  pub vacant : me.1 ≡ (slot, None) ∷ []
+  pub own : Latest
+  pub has_own : has ≡ Some own
+  pub room : HasRoom longest own
+
+-- it has that buffer now
+pub record IsReceived (longest : ℕ) (before after : At) (slot : ℕ) (has : Option Latest) : Type 0 where
+  pub all : List Message
+  pub view : after.0 ≡ Reads (takes (reader_of before.0) all slot)
+  pub below : slot < 3
+  pub vacant : after.1 ≡ (slot, None) ∷ []
+  pub own : Latest
+  pub has_own : has ≡ Some own
+  pub room : HasRoom longest own
+  pub last : IsLastOf own all
+  pub known : StartsWith all (reader_of before.0).known

@@ -1,0 +1,98 @@
+-- What each step tells its seat.
+use Rattle.std.specs.Prelude.{◌≡◌, ℕ, ◌<◌, ◌≤◌, true, false, List, [], ◌∷◌, ◌++◌, length, Option, Some}
+use Rattle.atomic_table.specs.Table.{Me, Step}
+use Rattle.es_base.specs.declared.event.Message.{Message}
+use Rattle.triple_buffer.specs.Rule.{HasRoom, IsLastOf, StartsWith, message_in, place_in, first_writer, first_reader}
+use Rattle.triple_buffer.specs.declared.latest.Latest.{Latest}
+use Rattle.triple_buffer.specs.declared.rule.WriterView.{WriterView}
+use Rattle.triple_buffer.specs.declared.rule.ReaderView.{ReaderView}
+use Rattle.triple_buffer.specs.declared.rule.SeatView.{SeatView}
+use Rattle.triple_buffer.specs.declared.rule.SeatView.TheVariants.{Writes, Reads, Meets, Spent}
+
+-- a seat, before or after a step
+abbrev pub At : Type 0
+At = Me (Option Latest) SeatView
+
+abbrev pub writer_of : SeatView → WriterView
+writer_of (Writes writer) = writer
+writer_of (Meets writer reader) = writer
+writer_of _ = first_writer 0
+
+abbrev pub reader_of : SeatView → ReaderView
+reader_of (Reads reader) = reader
+reader_of (Meets writer reader) = reader
+reader_of _ = first_reader 0
+
+-- ---- the writer
+
+-- the message is in the buffer now, with its number
+abbrev pub IsFilled : Option Latest → Option Latest → ℕ → Message → Type 0
+IsFilled before after number message = (old : Latest) × (new : Latest) × (before ≡ Some old) × (after ≡ Some new)
+    × (new.number ≡ number) × (message_in new ≡ message) × (length new.octets.items ≡ length old.octets.items)
+
+-- the same, of the buffer in this place
+abbrev pub IsFilledAt : List (ℕ × Option Latest) → List (ℕ × Option Latest) → ℕ → ℕ → Message → Type 0
+IsFilledAt before after slot number message = (old : Option Latest) × (new : Option Latest) × (before ≡ (slot, old) ∷ []) × (after ≡ (slot, new) ∷ [])
+    × IsFilled old new number message
+
+abbrev pub publishes : WriterView → Message → ℕ → WriterView
+publishes writer message slot = record writer { published = writer.published ++ message ∷ []; slot = slot }
+
+-- it swapped its buffer, which has this message, with the one between the ends
+abbrev pub published : Step (Option Latest) → At → ℕ → At → Type 0
+published step me found me' = (slot : ℕ) (own : Latest) → me.1 ≡ (slot, Some own) ∷ [] → (other : Latest)
+    × (me'.0 ≡ Writes (publishes (writer_of me.0) (message_in own) (place_in found))) × (me'.1 ≡ (place_in found, Some other) ∷ [])
+    × (place_in found < 3) × HasRoom (writer_of me.0).longest other
+
+-- ---- the reader
+
+abbrev pub sees_newer : ReaderView → ReaderView
+sees_newer reader = record reader { newer = true }
+
+abbrev pub sees_all : ReaderView → ReaderView
+sees_all reader = record reader { known = reader.seen }
+
+abbrev pub takes : ReaderView → List Message → ℕ → ReaderView
+takes reader all slot = record { seen = all; known = all; newer = false; slot = slot; has = reader.has; longest = reader.longest }
+
+-- it loaded the word: there is a newer message between the ends, or it has the last that was published
+abbrev pub looked : Step (Option Latest) → At → ℕ → At → Type 0
+looked step me found me' = (me'.1 ≡ me.1) × (4 ≤ found → me'.0 ≡ Reads (sees_newer (reader_of me.0)))
+    × (found < 4 → (me'.0 ≡ Reads (sees_all (reader_of me.0))) × StartsWith (reader_of me.0).seen (reader_of me.0).known)
+
+-- it swapped its buffer with the one between the ends, which has the last message that was published
+abbrev pub taken : Step (Option Latest) → At → ℕ → At → Type 0
+taken step me found me' = (all : List Message) × (latest : Latest) × (me'.0 ≡ Reads (takes (reader_of me.0) all (place_in found)))
+    × (me'.1 ≡ (place_in found, Some latest) ∷ []) × (place_in found < 3) × HasRoom (reader_of me.0).longest latest × IsLastOf latest all
+    × StartsWith all (reader_of me.0).known
+
+-- ---- the opening: the two are parted, and each takes its buffer
+
+abbrev pub parted : SeatView → SeatView
+parted (Meets writer reader) = Reads reader
+parted view = view
+
+abbrev pub writer_again : SeatView → SeatView
+writer_again (Meets writer reader) = Writes writer
+writer_again view = Spent
+
+abbrev pub writer_enters : Step (Option Latest) → At → ℕ → At → Type 0
+writer_enters step me found me' = (own : Latest) × (me'.0 ≡ Writes (record (writer_of me.0) { has = true }))
+    × (me'.1 ≡ ((writer_of me.0).slot, Some own) ∷ []) × HasRoom (writer_of me.0).longest own
+
+abbrev pub reader_enters : Step (Option Latest) → At → ℕ → At → Type 0
+reader_enters step me found me' = (own : Latest) × (me'.0 ≡ Reads (record (reader_of me.0) { has = true }))
+    × (me'.1 ≡ ((reader_of me.0).slot, Some own) ∷ []) × HasRoom (reader_of me.0).longest own × IsLastOf own (reader_of me.0).seen
+
+-- ---- a meeting: the writer's seat joins the reader's, which learns what is published, and is parted from it again
+
+abbrev pub learns : ReaderView → List Message → ReaderView
+learns reader all = record reader { known = all }
+
+abbrev pub met : SeatView → SeatView → SeatView
+met (Reads reader) (Writes writer) = Meets writer reader
+met view other = view
+
+abbrev pub told : Step (Option Latest) → At → ℕ → At → Type 0
+told step me found me' = (me'.1 ≡ me.1) × (me'.0 ≡ Meets (writer_of me.0) (learns (reader_of me.0) (writer_of me.0).published))
+    × StartsWith (writer_of me.0).published (reader_of me.0).known
