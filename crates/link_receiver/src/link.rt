@@ -222,7 +222,7 @@ impl LinkState {
         ensures { result ≡ decision_after self.now (arrived net now frame.now.whole.now) }
     {
         let step = self.kept.look(&self.settings, net, now, frame);
-        self.kept.decide(&self.settings, &step)
+        step.decision()
     }
 
     /// Takes a frame that came at `now` microseconds: the history gains one event, and the frame's
@@ -271,7 +271,7 @@ impl LinkState {
         let (net, time) = (arrival.net, arrival.time);
         let frame = frame_in(arrival.frame.as_slice());
         let step = self.kept.look(&self.settings, net, time, &frame);
-        let decision = self.kept.decide(&self.settings, &step);
+        let decision = step.decision();
         let place = self.kept.place(&self.settings, &step, true);
         let Ok(room) = room_for(alloc, &self.settings, place) else {
             return Err(arrival);
