@@ -13,7 +13,7 @@ ghost use Rattle.message_ring.specs.Queue.{Known};
 ghost use Rattle.mailbox_reader.specs.Reads.{PortReader};
 ghost use Rattle.receiver.specs.Taking.{HandsReader, HandsTaker};
 ghost use Rattle.mailbox_port.specs.Port.{is_reader_count};
-ghost use Rattle.receiver_slots.specs.Codes.{already_open, done, faulty, no_memory, none_left, out_of_range};
+ghost use Rattle.receiver_slots.specs.Codes.{already_open, done, faulty, no_memory, none_left, not_open, out_of_range};
 ghost use Rattle.receiver_slots.specs.Handing.{HandsOut, hand_reader_code, hand_taker_code};
 ghost use Rattle.receiver_slots.specs.Naming.{CountsLinks, TellsLink, TellsPlace, TellsPort, link_code, links_code, place_code, port_code};
 ghost use Rattle.receiver_slots.specs.Reading.{Copies, DidHold, DidRead, TellsReader, copy_code, read_code, release_code, released};
@@ -75,6 +75,7 @@ pub extern "C" fn yelunnavi_receiver_open(
     ensures same { 0 < result → h.new.now ≡ h.old.now }
     ensures others { result ≢ faulty → fault.new ≡ fault.old }
     ensures codes { (result ≤ no_memory) ⊎ (result ≡ out_of_range) }
+    ensures tried { result ≢ not_open }
 {
     h.lend().open_text(alloc, text, readers, fault)
 }
