@@ -1,3 +1,4 @@
+pub mod Constant
 pub mod Found
 pub mod Heads
 pub mod Sums

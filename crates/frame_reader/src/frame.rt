@@ -4,7 +4,7 @@ ghost use Rattle.es_base.specs.Returns.{Gives};
 ghost use Rattle.es_base.specs.Limits.{shortest_frame, longest_frame};
 ghost use Rattle.es_base.specs.Frame.{IsFrame, ethertype_of, ethertype_ipv4, link_number_of, sequence_number_of, inner_of, frame_of};
 
-use crate::field::u16_at;
+use crate::field::{u16_at, u32_at};
 use es_base::{FrameFault, LinkNo};
 
 /// The shortest frame, in octets: 64 of an Ethernet frame less its FCS of 4.
@@ -61,7 +61,7 @@ pub fn read_frame(constant: [u8; 4], bytes: &[u8]) -> Result<Frame<'_>, FrameFau
     if u16_at(bytes, ETHERTYPE) != ETHERTYPE_IPV4 {
         return Err(FrameFault::NotIp);
     }
-    if !bytes.starts_with(&constant) {
+    if u32_at(bytes, 0) != u32_at(&constant, 0) {
         return Err(FrameFault::ForeignConstant);
     }
     Ok(frame_in(bytes))

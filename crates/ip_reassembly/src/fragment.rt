@@ -48,6 +48,9 @@ pub(crate) fn key_of(packet: &Packet<'_>) -> DatagramKey
 pub(crate) fn head_of(octets: &[u8]) -> [u8; UDP_HEADER]
     ensures { result ≡ head_of octets.now }
 {
+    if let Some(first) = octets.first_chunk::<UDP_HEADER>() {
+        return *first;
+    }
     let mut head = [0; UDP_HEADER];
     let len = octets.len().min(UDP_HEADER);
     head[..len].copy_from_slice(&octets[..len]);

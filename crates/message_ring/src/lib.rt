@@ -18,8 +18,8 @@ ghost use Rattle.std.specs.Prelude.{◌≡◌, ◌+◌, ◌*◌, ◌<◌, ◌≤
 ghost use Rattle.message_ring.specs.Ends.{width};
 ghost use Rattle.message_ring.specs.Queue.{BeginsWith, Holds, MayBeEmpty, MayBeFull, message, opened, with_put, with_taken};
 
-use crate::ends::{has_room, next_head, pop_octets, push_octets};
-use crate::head::{HEAD, Head, write_message};
+use crate::ends::{has_room, next_head, pop_octets, push_message};
+use crate::head::{HEAD, Head, most_at_once};
 use circular_buffer::HeapCircularBuffer;
 use rtrb::{Consumer, Producer, RingBuffer};
 use std::alloc::{AllocError, Global};
@@ -47,20 +47,20 @@ pub struct RingPutter {
     needed: usize,
     // The sizes of the messages that were put last, one fewer than the queue holds.
     latest: HeapCircularBuffer<u16>,
-    // Room for one message, where it is written before it is put.
+    // Where a message of one frame is written beside its head before it is put.
     room: Vec<u8>,
 }
 
 impl Model for RingPutter {
     ghost use Rattle.std.specs.Prelude.{◌≡◌, length};
     ghost use Rattle.message_ring.specs.Queue.{Known};
-    ghost use Rattle.message_ring.specs.Ends.{KeepsPut, putter_of, width};
+    ghost use Rattle.message_ring.specs.Ends.{IsRoomFor, KeepsPut, putter_of};
 
     ghost Value = { Known };
 
     ghost view = { λ p. putter_of p.ring p.max p.depth };
 
-    ghost invariant = { λ p. KeepsPut p.ring p.max p.depth p.latest p.needed × (length p.room.items ≡ width p.max) };
+    ghost invariant = { λ p. KeepsPut p.ring p.max p.depth p.latest p.needed × IsRoomFor p.max p.room.items };
 }
 
 /// The end that takes messages. Contracts see what it knows: the whole taken list, and that part of the
@@ -98,7 +98,7 @@ pub fn open_ring(
     ensures taker { IfOk result (λ ends. ends.1 ≡ ends.0) }
 {
     let width = HEAD + max;
-    let room = Vec::from_elem(alloc, 0u8, width)?;
+    let room = Vec::from_elem(alloc, 0u8, HEAD + most_at_once(max))?;
     let latest = HeapCircularBuffer::with_capacity(alloc, depth - 1)?;
     let (producer, consumer) = RingBuffer::new(alloc, depth * width)?;
     let putter = RingPutter {
@@ -168,8 +168,7 @@ impl RingPutter {
             return Err(Full);
         }
         let size = HEAD + octets.len();
-        write_message(&mut self.room, time, octets);
-        push_octets(&mut self.ring, &self.room[..size]);
+        push_message(&mut self.ring, &mut self.room, time, octets);
         let oldest = self.latest.push_back(size as u16).unwrap_or(0);
         self.needed = self.needed - size + oldest as usize;
         Ok(())
