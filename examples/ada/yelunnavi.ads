@@ -11,6 +11,22 @@ package Yelunnavi is
 
    subtype Code is Unsigned_32;
    Done : constant Code := 0;
+   Not_Open : constant Code := 1;
+   Already_Open : constant Code := 2;
+   Faulty : constant Code := 3;
+   No_Memory : constant Code := 4;
+   No_Network : constant Code := 5;
+   No_Kind : constant Code := 6;
+   No_Place : constant Code := 7;
+   No_Name : constant Code := 8;
+   None_Left : constant Code := 9;
+   Holds_One : constant Code := 10;
+   Holds_None : constant Code := 11;
+   Out_Of_Range : constant Code := 12;
+   Too_Short : constant Code := 13;
+
+   Network_A : constant Unsigned_32 := 0;
+   Network_B : constant Unsigned_32 := 1;
 
    type Fault_Reply is record Fault, Key, Level : Unsigned_32; Link, Port : size_t; end record with Convention => C;
    type Frame_Reply is record

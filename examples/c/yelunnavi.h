@@ -67,7 +67,7 @@ void yelunnavi_taker_init(void *room);
 
 /* ---- what a call answers */
 
-enum {
+enum yelunnavi_code {
     YELUNNAVI_DONE = 0,         /* what was asked was done */
     YELUNNAVI_NOT_OPEN = 1,     /* nothing is open in the slot */
     YELUNNAVI_ALREADY_OPEN = 2, /* something is open already in the slot that is to be opened, or to get an end */
@@ -85,7 +85,7 @@ enum {
 };
 
 /* The networks. */
-enum { YELUNNAVI_A = 0, YELUNNAVI_B = 1 };
+enum yelunnavi_network { YELUNNAVI_A = 0, YELUNNAVI_B = 1 };
 
 /* ---- the receiver: open and close */
 

@@ -2,7 +2,7 @@
 //! the ports. Memory is the standard library's.
 use std::alloc::{Layout, alloc, dealloc, realloc};
 use std::ffi::c_void;
-use yelunnavi::{Frame, Reader, ReaderRoom, Receiver, ReceiverRoom, Taker, TakerRoom};
+use yelunnavi::{Frame, Network, Reader, ReaderRoom, Receiver, ReceiverRoom, Taker, TakerRoom};
 
 #[repr(C)]
 pub struct Tried {
@@ -55,13 +55,13 @@ pub unsafe extern "C" fn rattle_dealloc(at: *mut c_void) {
 }
 
 /// The frames of a trace of this network.
-fn frames(net: u32, path: &str) -> Vec<(u64, u32, Vec<u8>)> {
+fn frames(net: Network, path: &str) -> Vec<(u64, Network, Vec<u8>)> {
     let text = std::fs::read_to_string(path).unwrap();
     let lines = text.lines().filter(|line| !line.is_empty() && !line.starts_with('#'));
     lines.map(|line| frame(net, line)).collect()
 }
 
-fn frame(net: u32, line: &str) -> (u64, u32, Vec<u8>) {
+fn frame(net: Network, line: &str) -> (u64, Network, Vec<u8>) {
     let (time, digits) = line.split_once(' ').unwrap();
     let octet = |at: usize| u8::from_str_radix(&digits[at..at + 2], 16).unwrap();
     (time.parse().unwrap(), net, (0..digits.len()).step_by(2).map(octet).collect())
@@ -72,8 +72,8 @@ fn show_octets(octets: &[u8]) {
     println!("{}{digits}", if octets.is_empty() { "" } else { " " });
 }
 
-fn show_frame(time: u64, net: u32, reply: &Frame, name: &str) {
-    print!("{time} {} ", ["A", "B"][net as usize]);
+fn show_frame(time: u64, net: Network, reply: &Frame, name: &str) {
+    print!("{time} {} ", ["A", "B"][net.0 as usize]);
     if reply.kind == 0 {
         return println!("filtered {}", CAUSES[reply.cause as usize]);
     }
@@ -124,8 +124,8 @@ fn main() {
     let mut receiver = Receiver::new(&mut room).expect("room");
     receiver.open(&std::fs::read(&words[1]).unwrap(), READERS).expect("a configuration");
     let links: Vec<_> = (0..receiver.links().unwrap()).map(|link| ports(&mut receiver, link)).collect();
-    let mut all = [frames(0, &words[2]), frames(1, &words[3])].concat();
-    all.sort_by_key(|(time, net, _)| (*time, *net));
+    let mut all = [frames(Network::A, &words[2]), frames(Network::B, &words[3])].concat();
+    all.sort_by_key(|(time, net, _)| (*time, net.0));
     for (time, net, octets) in &all {
         let reply = receiver.receive(*net, *time, octets).unwrap();
         let name = links[reply.link].get(reply.port as usize).map_or("", |(name, _)| name);

@@ -6,14 +6,31 @@
 
 use core::ffi::c_void;
 
-pub const DONE: u32 = 0;
+macro_rules! numbers {
+    ($($(#[$doc:meta])* $name:ident { $($number:ident = $value:literal),* $(,)? })*) => {
+        $($(#[$doc])* #[repr(transparent)] #[derive(Clone, Copy, Debug, Default, PartialEq, Eq)]
+        pub struct $name(pub u32);
 
-/// Why a call did nothing: one of the header's YELUNNAVI codes, from 1 on.
-#[derive(Clone, Copy, Debug, PartialEq, Eq)]
-pub struct Code(pub u32);
+        impl $name {
+            $(pub const $number: $name = $name($value);)*
+        })*
+    };
+}
 
-fn answer(code: u32) -> Result<(), Code> {
-    if code == DONE { Ok(()) } else { Err(Code(code)) }
+numbers! {
+    /// Why a call did nothing, or that it did what was asked: the header's words say when each comes.
+    Code {
+        DONE = 0, NOT_OPEN = 1, ALREADY_OPEN = 2, FAULTY = 3, NO_MEMORY = 4, NO_NETWORK = 5, NO_KIND = 6, NO_PLACE = 7,
+        NO_NAME = 8, NONE_LEFT = 9, HOLDS_ONE = 10, HOLDS_NONE = 11, OUT_OF_RANGE = 12, TOO_SHORT = 13,
+    }
+    /// A network.
+    Network {
+        A = 0, B = 1,
+    }
+}
+
+fn answer(code: Code) -> Result<(), Code> {
+    if code == Code::DONE { Ok(()) } else { Err(code) }
 }
 
 macro_rules! replies {
@@ -61,25 +78,25 @@ calls! {
     yelunnavi_receiver_init(room: *mut c_void);
     yelunnavi_reader_init(room: *mut c_void);
     yelunnavi_taker_init(room: *mut c_void);
-    yelunnavi_receiver_open(h: *mut Handle, text: *const u8, len: usize, readers: usize, fault: *mut Fault) -> u32;
+    yelunnavi_receiver_open(h: *mut Handle, text: *const u8, len: usize, readers: usize, fault: *mut Fault) -> Code;
     yelunnavi_receiver_close(h: *mut Handle);
-    yelunnavi_receiver_receive(h: *mut Handle, net: u32, now: u64, frame: *const u8, len: usize, reply: *mut Frame) -> u32;
-    yelunnavi_receiver_count(h: *mut Handle, link: usize, net: u32, kind: u32, count: *mut u64) -> u32;
-    yelunnavi_receiver_filtered(h: *mut Handle, net: u32, cause: u32, count: *mut u64) -> u32;
-    yelunnavi_receiver_links(h: *mut Handle, links: *mut usize) -> u32;
-    yelunnavi_receiver_link(h: *mut Handle, link: usize, reply: *mut Link) -> u32;
-    yelunnavi_receiver_port(h: *mut Handle, link: usize, port: usize, reply: *mut Port, name: *mut [u8; 16]) -> u32;
-    yelunnavi_receiver_place(h: *mut Handle, name: *const u8, len: usize, reply: *mut Place) -> u32;
-    yelunnavi_receiver_hand_reader(h: *mut Handle, to: *mut Handle, name: *const u8, len: usize) -> u32;
-    yelunnavi_receiver_hand_taker(h: *mut Handle, to: *mut Handle, name: *const u8, len: usize) -> u32;
-    yelunnavi_reader_read(h: *mut Handle, now: u64, out: *mut u8, len: usize, reply: *mut Read) -> u32;
-    yelunnavi_reader_hold(h: *mut Handle, now: u64, reply: *mut Read) -> u32;
-    yelunnavi_reader_copy(h: *mut Handle, first: usize, out: *mut u8, len: usize) -> u32;
-    yelunnavi_reader_release(h: *mut Handle) -> u32;
-    yelunnavi_reader_limits(h: *mut Handle, reply: *mut Limits) -> u32;
+    yelunnavi_receiver_receive(h: *mut Handle, net: Network, now: u64, frame: *const u8, len: usize, reply: *mut Frame) -> Code;
+    yelunnavi_receiver_count(h: *mut Handle, link: usize, net: Network, kind: u32, count: *mut u64) -> Code;
+    yelunnavi_receiver_filtered(h: *mut Handle, net: Network, cause: u32, count: *mut u64) -> Code;
+    yelunnavi_receiver_links(h: *mut Handle, links: *mut usize) -> Code;
+    yelunnavi_receiver_link(h: *mut Handle, link: usize, reply: *mut Link) -> Code;
+    yelunnavi_receiver_port(h: *mut Handle, link: usize, port: usize, reply: *mut Port, name: *mut [u8; 16]) -> Code;
+    yelunnavi_receiver_place(h: *mut Handle, name: *const u8, len: usize, reply: *mut Place) -> Code;
+    yelunnavi_receiver_hand_reader(h: *mut Handle, to: *mut Handle, name: *const u8, len: usize) -> Code;
+    yelunnavi_receiver_hand_taker(h: *mut Handle, to: *mut Handle, name: *const u8, len: usize) -> Code;
+    yelunnavi_reader_read(h: *mut Handle, now: u64, out: *mut u8, len: usize, reply: *mut Read) -> Code;
+    yelunnavi_reader_hold(h: *mut Handle, now: u64, reply: *mut Read) -> Code;
+    yelunnavi_reader_copy(h: *mut Handle, first: usize, out: *mut u8, len: usize) -> Code;
+    yelunnavi_reader_release(h: *mut Handle) -> Code;
+    yelunnavi_reader_limits(h: *mut Handle, reply: *mut Limits) -> Code;
     yelunnavi_reader_close(h: *mut Handle);
-    yelunnavi_taker_take(h: *mut Handle, out: *mut u8, len: usize, reply: *mut Taken) -> u32;
-    yelunnavi_taker_longest(h: *mut Handle, max: *mut usize) -> u32;
+    yelunnavi_taker_take(h: *mut Handle, out: *mut u8, len: usize, reply: *mut Taken) -> Code;
+    yelunnavi_taker_longest(h: *mut Handle, max: *mut usize) -> Code;
     yelunnavi_taker_close(h: *mut Handle);
 }
 
@@ -141,7 +158,7 @@ slots! {
 }
 
 /// A reply, if the call did what was asked.
-fn told<T: Default>(call: impl FnOnce(*mut T) -> u32) -> Result<T, Code> {
+fn told<T: Default>(call: impl FnOnce(*mut T) -> Code) -> Result<T, Code> {
     let mut reply = T::default();
     answer(call(&mut reply)).map(|()| reply)
 }
@@ -154,16 +171,16 @@ impl Receiver<'_> {
             .map_err(|code| (code, fault))
     }
 
-    /// Takes a frame that came at `now`, in microseconds, on network 0, which is A, or 1, which is B.
-    pub fn receive(&mut self, net: u32, now: u64, frame: &[u8]) -> Result<Frame, Code> {
+    /// Takes a frame that came on a network at `now`, in microseconds.
+    pub fn receive(&mut self, net: Network, now: u64, frame: &[u8]) -> Result<Frame, Code> {
         told(|reply| unsafe { yelunnavi_receiver_receive(&mut self.handle, net, now, frame.as_ptr(), frame.len(), reply) })
     }
 
-    pub fn count(&mut self, link: usize, net: u32, kind: u32) -> Result<u64, Code> {
+    pub fn count(&mut self, link: usize, net: Network, kind: u32) -> Result<u64, Code> {
         told(|count| unsafe { yelunnavi_receiver_count(&mut self.handle, link, net, kind, count) })
     }
 
-    pub fn filtered(&mut self, net: u32, cause: u32) -> Result<u64, Code> {
+    pub fn filtered(&mut self, net: Network, cause: u32) -> Result<u64, Code> {
         told(|count| unsafe { yelunnavi_receiver_filtered(&mut self.handle, net, cause, count) })
     }
 

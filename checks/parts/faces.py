@@ -1,0 +1,297 @@
+"""The interface of the library for C, read as text: what crates/receiver_c exports, and its faces for C, Rust and Ada.
+
+An interface has structs, with their fields in order; calls, each with its result and its parameters in order; and numbers
+by their names. Each is in the source's words, whatever the face calls it: a field or a parameter is a name and a type;
+`octets` are pointed to and read, `FrameReply out` is pointed to and written, `room` is an address.
+"""
+import re
+from typing import NamedTuple
+
+CALLS, HANDLES = "crates/receiver_c/src/lib.rt", "crates/receiver_c/src/{}_handle.rt"
+REPLIES, CODES, NUMBERS = (f"crates/receiver_slots/src/{name}.rt" for name in ("replies", "codes", "numbers"))
+C, RUST, ADA = "examples/c/yelunnavi.h", "examples/rust/yelunnavi.rs", "examples/ada/yelunnavi.ads"
+KINDS_OF_HANDLES = ("Receiver", "Reader", "Taker")
+
+# What the faces call otherwise: the period of a sampling port, and where the room of a handle is.
+FIELDS = {("LimitReply", "limit"): "refresh"}
+ROOM = "room"
+# The structs of C and of Rust, by those of the source. Ada's have the same names.
+STRUCTS_OF_C = {
+    "FaultReply": "yelunnavi_fault", "FrameReply": "yelunnavi_frame", "ReadReply": "yelunnavi_read",
+    "TakeReply": "yelunnavi_taken", "LinkReply": "yelunnavi_link", "PortReply": "yelunnavi_port",
+    "PlaceReply": "yelunnavi_place", "LimitReply": "yelunnavi_limits",
+    **{f"{kind}Handle": f"yelunnavi_{kind.lower()}" for kind in KINDS_OF_HANDLES},
+}
+STRUCTS_OF_RUST = {
+    "FaultReply": "Fault", "FrameReply": "Frame", "ReadReply": "Read", "TakeReply": "Taken", "LinkReply": "Link",
+    "PortReply": "Port", "PlaceReply": "Place", "LimitReply": "Limits",
+}
+# What a number's name begins with in C, after YELUNNAVI_, and in Ada. In Rust it is a constant of a type of its group.
+PREFIXES = {
+    "Code": ("", ""),
+    "Network": ("", "Network_"),
+}
+
+
+class Interface(NamedTuple):
+    """Structs by name, calls by name, and numbers by name."""
+    structs: dict
+    calls: dict
+    numbers: dict
+
+
+class Unread(Exception):
+    """What the text of an interface has that isn't read here."""
+
+
+def swapped(names):
+    return {value: key for key, value in names.items()}
+
+
+def found(pattern, text, what):
+    match = re.search(pattern, text, re.M | re.S)
+    if not match:
+        raise Unread(what)
+    return match
+
+
+def split_at(separator, text):
+    return [part.strip() for part in re.sub(r"\s+", " ", text).split(separator) if part.strip()]
+
+
+# ---- the source
+
+
+def parameters(name, of_type):
+    """The parameters in C of one of an export: a slice is two, and the allocator none."""
+    pairs = {"Global": [], "*mut u8": [(ROOM, ROOM)], "&[u8]": [(name, "octets"), ("len", "usize")],
+             "&mut [u8]": [(name, "octets out"), ("len", "usize")], "&mut [u8; 16]": [(name, "16 octets out")]}
+    if of_type in pairs:
+        return pairs[of_type]
+    kind = found(r"^(&mut )?(\w+)$", of_type, f"the type {of_type}")
+    return [(name, kind[2] + (" out" if kind[1] and not kind[2].endswith("Handle") else ""))]
+
+
+def exports(text):
+    calls = {}
+    pattern = r'^pub (?:unsafe )?extern "C" fn (\w+)\(([^)]*)\)(?: -> (\w+))?\s*(?:\{|ensures|requires)'
+    for name, words, result in re.findall(pattern, text, re.M):
+        pairs = [part.split(": ", 1) for part in split_at(",", words)]
+        calls[name] = (result or None, sum((parameters(*pair) for pair in pairs), []))
+    if len(calls) != text.count("#[unsafe(no_mangle)]"):
+        raise Unread("an export")
+    return calls
+
+
+def structs_of_source(tree):
+    text = (tree / REPLIES).read_text(encoding="utf-8")
+    made = {}
+    for name, body in re.findall(r"^#\[repr\(C\)\]\n(?:#[^\n]*\n)*pub struct (\w+) \{\n(.*?)^\}", text, re.M | re.S):
+        fields = re.findall(r"^    pub (\w+): (\w+),$", body, re.M)
+        made[name] = [(FIELDS.get((name, field), field), kind) for field, kind in fields]
+    if len(made) != text.count("pub struct "):
+        raise Unread("a struct of replies")
+    for kind in KINDS_OF_HANDLES:
+        text = (tree / HANDLES.format(kind.lower())).read_text(encoding="utf-8")
+        found(r"^#\[repr\(C\)\]\npub struct \w+Handle \{\n    at: \*mut u8,\n    pub ghost .*\n\}", text, f"{kind}Handle")
+        made[f"{kind}Handle"] = [(ROOM, ROOM)]
+    return made
+
+
+def function(text, name):
+    return found(rf"^(?:pub(?:\(crate\))? )?fn {name}\(.*?^\}}", text, name)[0]
+
+
+def upper(variant):
+    """A variant's name as a constant's."""
+    return re.sub(r"(?<=[a-z])(?=[A-Z])", "_", variant).upper()
+
+
+def numbers_of_source(tree):
+    """The numbers by their groups and names."""
+    codes, numbers = ((tree / path).read_text(encoding="utf-8") for path in (CODES, NUMBERS))
+    to_enum = r"(\d+) => Some\(\w+::(\w+)\)"
+    return {
+        "Code": {name: int(number) for name, number in re.findall(r"^pub const (\w+): u32 = (\d+);", codes, re.M)},
+        "Network": {upper(name): int(number) for number, name in re.findall(to_enum, function(numbers, "net_of"))},
+    }
+
+
+def source(tree):
+    calls = exports((tree / CALLS).read_text(encoding="utf-8"))
+    return Interface(structs_of_source(tree), calls, numbers_of_source(tree))
+
+
+# ---- C
+
+
+def type_of_c(words):
+    """A type of the header in the source's words."""
+    plain = {"uint32_t": "u32", "uint64_t": "u64", "size_t": "usize", "void": None}
+    if words in plain:
+        return plain[words]
+    pointers = {"void *": ROOM, "const uint8_t *": "octets", "uint8_t *": "octets out"}
+    if words in pointers:
+        return pointers[words]
+    of_struct = re.fullmatch(r"struct (\w+) \*", words)
+    if of_struct and of_struct[1] in STRUCTS_OF_C.values():
+        name = swapped(STRUCTS_OF_C)[of_struct[1]]
+        return name if name.endswith("Handle") else f"{name} out"
+    of_number = re.fullmatch(r"(uint64_t|size_t) \*", words)
+    return f"{plain[of_number[1]]} out" if of_number else words
+
+
+def declared_in_c(words):
+    """A name and its type, of a field or a parameter."""
+    array = re.fullmatch(r"uint8_t \(\*(\w+)\)\[(\d+)\]", words)
+    if array:
+        return array[1], f"{array[2]} octets out"
+    parts = found(r"^(.*?)(\w+)$", words, f"{C}: {words}")
+    return parts[2], type_of_c(parts[1].strip())
+
+
+def enumerators(body):
+    """The names and values of an enum's body."""
+    value, made = -1, {}
+    for part in split_at(",", body):
+        name, _, given = part.partition(" = ")
+        value = int(given) if given else value + 1
+        made[name] = value
+    return made
+
+
+def face_of_c(tree):
+    text = re.sub(r"/\*.*?\*/", "", (tree / C).read_text(encoding="utf-8"), flags=re.S)
+    names = swapped(STRUCTS_OF_C)
+    structs = {name: [declared_in_c(part) for part in split_at(";", body)]
+               for name, body in re.findall(r"^struct (yelunnavi_\w+) \{(.*?)\}", text, re.M | re.S)}
+    calls = {}
+    for result, name, words in re.findall(r"^(\w+) (yelunnavi_\w+)\(([^;{]*)\);", text, re.M):
+        calls[name] = (type_of_c(result), [declared_in_c(part) for part in split_at(",", words) if part != "void"])
+    bodies = re.findall(r"^enum \w+ \{(.*?)\}", text, re.M | re.S)
+    numbers = {name: value for body in bodies for name, value in enumerators(body).items()}
+    return Interface({names.get(name, name): fields for name, fields in structs.items()}, calls, numbers)
+
+
+def name_in_c(group, name):
+    return f"YELUNNAVI_{PREFIXES[group][0]}{name}"
+
+
+# ---- Rust
+
+
+def block_of_rust(text, macro):
+    return found(rf"^{macro}! \{{\n(.*?)^\}}", text, f"{RUST}: {macro}!")[1]
+
+
+def type_of_rust(words, width, groups):
+    """A type of the wrapper in the source's words. All handles are one type there."""
+    names = swapped(STRUCTS_OF_RUST)
+    pointers = {"*mut c_void": ROOM, "*const u8": "octets", "*mut u8": "octets out", "*mut Handle": "Handle"}
+    array = re.fullmatch(r"\*mut \[u8; (\d+)\]", words)
+    if words in pointers or array:
+        return f"{array[1]} octets out" if array else pointers[words]
+    kind = found(r"^(\*mut )?(\w+)$", words, f"{RUST}: {words}")
+    plain = width if kind[2] in groups else names.get(kind[2], kind[2])
+    return plain + (" out" if kind[1] else "")
+
+
+def face_of_rust(tree):
+    text = re.sub(r"//.*", "", (tree / RUST).read_text(encoding="utf-8"))
+    width = found(r"#\[repr\(transparent\)\] [^;]*?pub struct \$name\(pub (\w+)\);", text, f"{RUST}: the type of a number")[1]
+    found(r"#\[repr\(C\)\] [^;]*?pub struct \$name \{", text, f"{RUST}: the form of a reply")
+    groups = dict(re.findall(r"^    (\w+) \{(.*?)^    \}", block_of_rust(text, "numbers"), re.M | re.S))
+    structs = {"Handle": re.findall(r"(\w+): ([^,]+)", found(r"#\[repr\(C\)\]\nstruct Handle \{(.*?)\}", text, "Handle")[1])}
+    structs |= {name: re.findall(r"(\w+): (\w+)", body)
+                for name, body in re.findall(r"^ +(\w+) \{ (.*?) \}$", block_of_rust(text, "replies"), re.M)}
+    calls = re.findall(r"^ +(yelunnavi_\w+)\((.*?)\)(?: -> (\w+))?;", block_of_rust(text, "calls"), re.M)
+
+    def pairs(fields):
+        return [(name, type_of_rust(words, width, groups)) for name, words in fields]
+
+    names = swapped(STRUCTS_OF_RUST)
+    return Interface({names.get(name, name): pairs(fields) for name, fields in structs.items()},
+                     {name: (type_of_rust(result, width, groups) if result else None,
+                             pairs(re.findall(r"(\w+): ([^,]+)", words))) for name, words, result in calls},
+                     {f"{group}::{name}": int(value) for group, body in groups.items()
+                      for name, value in re.findall(r"(\w+) = (\d+)", body)})
+
+
+def with_one_handle(interface):
+    """The interface where all handles are of one type."""
+    def one(pairs):
+        return [(name, "Handle" if kind.endswith("Handle") else kind) for name, kind in pairs]
+    structs = {name: fields for name, fields in interface.structs.items() if not name.endswith("Handle")}
+    return Interface({"Handle": [(ROOM, ROOM)], **structs},
+                     {name: (result, one(pairs)) for name, (result, pairs) in interface.calls.items()}, interface.numbers)
+
+
+def name_in_rust(group, name):
+    return f"{group}::{name}"
+
+
+# ---- Ada
+
+NAMES_OF_ADA = {"length": "len", "name_length": "name_len", "into": "out"}
+
+
+def name_of_ada(name):
+    return NAMES_OF_ADA.get(name.lower(), name.lower())
+
+
+def type_of_ada(words, subtypes):
+    """A type of the package in the source's words."""
+    mode, name = ("in out ", words[7:]) if words.startswith("in out ") else ("", words)
+    name = subtypes.get(name, name)
+    plain = {"Unsigned_32": "u32", "Unsigned_64": "u64", "size_t": "usize", "System.Address": ROOM}
+    if name in KINDS_OF_HANDLES:
+        return f"{name}Handle" if mode else name
+    if name.endswith(" octets"):
+        return f"{name} out" if mode else name
+    return plain.get(name, name.replace("_", "")) + (" out" if mode else "")
+
+
+def subtypes_of_ada(text):
+    """What names of the package stand for."""
+    found(r"type Octets is array \(size_t range <>\) of aliased Unsigned_8 with Convention => C;", text, f"{ADA}: Octets")
+    made = dict(re.findall(r"subtype (\w+) is (\w+);", text))
+    for name, last in re.findall(r"subtype (\w+) is Octets \(0 \.\. (\d+)\);", text):
+        made[name] = f"{int(last) + 1} octets"
+    return {**made, "Octets": " octets"}
+
+
+def pairs_of_ada(text, subtypes):
+    """The fields or parameters of a declaration: several of one type may stand together."""
+    made = []
+    for part in split_at(";", text):
+        names, _, words = part.partition(" : ")
+        made += [(name_of_ada(name), type_of_ada(words, subtypes).strip()) for name in split_at(",", names)]
+    return made
+
+
+def face_of_ada(tree):
+    text = re.sub(r"--.*", "", (tree / ADA).read_text(encoding="utf-8"))
+    subtypes = subtypes_of_ada(text)
+    structs = {}
+    for name, body in re.findall(r"type (\w+) is (?:limited )?record(.*?)end record with Convention => C;", text, re.S):
+        name = f"{name}Handle" if name in KINDS_OF_HANDLES else name.replace("_", "")
+        structs[name] = pairs_of_ada(body, subtypes)
+    pattern = (r"(?:function|procedure) \w+\s*(?:\(([^)]*)\))?\s*(?:return (\w+))?\s*"
+               r'with Import, Convention => C, External_Name => "(\w+)";')
+    calls = {name: (type_of_ada(result, subtypes) if result else None, pairs_of_ada(words, subtypes))
+             for words, result, name in re.findall(pattern, text)}
+    numbers = re.findall(r"(\w+) : constant (?:Code|Unsigned_32) := (\d+);", text)
+    return Interface(structs, calls, {name: int(value) for name, value in numbers})
+
+
+def name_in_ada(group, name):
+    return PREFIXES[group][1] + name.title()
+
+
+# ---- the faces: the file, how it is read, how a number is called there, and what the source is there
+
+FACES = (
+    (C, face_of_c, name_in_c, lambda interface: interface),
+    (RUST, face_of_rust, name_in_rust, with_one_handle),
+    (ADA, face_of_ada, name_in_ada, lambda interface: interface),
+)
