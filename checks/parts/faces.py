@@ -1,15 +1,22 @@
 """The interface of the library for C, read as text: what crates/receiver_c exports, and its faces for C, Rust and Ada.
 
-An interface has structs, with their fields in order; calls, each with its result and its parameters in order; and numbers
-by their names. Each is in the source's words, whatever the face calls it: a field or a parameter is a name and a type;
-`octets` are pointed to and read, `FrameReply out` is pointed to and written, `room` is an address.
+An interface has structs, with their fields in order; calls, each with its result and its parameters in order; numbers by
+their names, and a word for each. Each is in the source's words, whatever the face calls it: a field or a parameter is a
+name and a type; `octets` are pointed to and read, `FrameReply out` is pointed to and written, `room` is an address.
 """
 import re
 from typing import NamedTuple
 
+import parts.options  # noqa: F401  (the tools are on the path then)
+from verdict_words import FILTER_CAUSES, HEADER_CAUSES, KINDS, NETWORKS
+
 CALLS, HANDLES = "crates/receiver_c/src/lib.rt", "crates/receiver_c/src/{}_handle.rt"
 REPLIES, CODES, NUMBERS = (f"crates/receiver_slots/src/{name}.rt" for name in ("replies", "codes", "numbers"))
+FAULTS = "crates/vl_config/src/fault.rt"
+BOUNDS = ("crates/es_base/src/config.rt", "crates/es_base/src/settings.rt", "crates/es_base/src/port.rt",
+          "crates/es_base/src/name.rt", "crates/mailbox_port/src/count.rt")
 C, RUST, ADA = "examples/c/yelunnavi.h", "examples/rust/yelunnavi.rs", "examples/ada/yelunnavi.ads"
+WORDS = "examples/c/yelunnavi_words.h"
 KINDS_OF_HANDLES = ("Receiver", "Reader", "Taker")
 
 # What the faces call otherwise: the period of a sampling port, and where the room of a handle is.
@@ -30,14 +37,30 @@ STRUCTS_OF_RUST = {
 PREFIXES = {
     "Code": ("", ""),
     "Network": ("", "Network_"),
+    "Verdict": ("VERDICT_", "Verdict_"),
+    "FilterCause": ("FILTER_", "Filter_"),
+    "HeaderFault": ("BAD_", "Bad_"),
+    "ConfigFault": ("FAULT_", "Fault_"),
+    "Key": ("KEY_", "Key_"),
+    "Level": ("LEVEL_", "Level_"),
+    "Service": ("SERVICE_", "Service_"),
+    "Bound": ("", ""),
 }
+# The group of each function of C that returns words, yelunnavi_code_word and so on.
+WORDS_OF_C = {"code": "Code", "network": "Network", "verdict": "Verdict", "filter": "FilterCause", "header": "HeaderFault",
+              "fault": "ConfigFault", "key": "Key", "level": "Level", "service": "Service"}
+# A fault of a configuration that no call tells: it is the code NO_MEMORY.
+UNTOLD = "MEMORY"
+# What of the constants of these files the faces have: the greatest numbers of things, and the longest of them.
+OF_BOUNDS = ("MOST_LINKS", "MOST_PORTS", "MOST_READERS", "LONGEST_NAME", "LONGEST_SAMPLE", "LONGEST_QUEUED", "DEEPEST_QUEUE")
 
 
 class Interface(NamedTuple):
-    """Structs by name, calls by name, and numbers by name."""
+    """Structs, calls, numbers and words by their names; no words where a face has none."""
     structs: dict
     calls: dict
     numbers: dict
+    words: dict
 
 
 class Unread(Exception):
@@ -107,19 +130,66 @@ def upper(variant):
     return re.sub(r"(?<=[a-z])(?=[A-Z])", "_", variant).upper()
 
 
+def numbered(text):
+    """The numbers of a function's variants."""
+    pattern = r"\w+::(\w+)(?:\([^)]*\)| \{ \.\. \})? => (\d+)"
+    return {upper(name): int(number) for name, number in re.findall(pattern, text)}
+
+
+def of_number(text):
+    """The variants that a function has for numbers, the other way round."""
+    return {upper(name): int(number) for number, name in re.findall(r"(\d+) => Some\(\w+::(\w+)\)", text)}
+
+
+def levels(text):
+    """What level_of says of the places of a link and a port."""
+    places = ("(None, _)", "DOCUMENT"), ("(Some(_), None)", "LINK"), ("(Some(_), Some(_))", "PORT")
+    return {name: int(found(rf"{re.escape(place)} => (\d+)", text, "level_of")[1]) for place, name in places}
+
+
+def bounds(tree):
+    text = "".join((tree / path).read_text(encoding="utf-8") for path in BOUNDS)
+    return {name: int(found(rf"^pub const {name}: \w+ = ([\d_]+);", text, name)[1]) for name in OF_BOUNDS}
+
+
 def numbers_of_source(tree):
     """The numbers by their groups and names."""
-    codes, numbers = ((tree / path).read_text(encoding="utf-8") for path in (CODES, NUMBERS))
-    to_enum = r"(\d+) => Some\(\w+::(\w+)\)"
+    codes, numbers, replies = ((tree / path).read_text(encoding="utf-8") for path in (CODES, NUMBERS, REPLIES))
+    filtered = found(r"Reply::Filtered\(cause\) => FrameReply \{\s*kind: (\d+),", replies, "a filtered frame's kind")
+    no_key = found(r"ConfigFault::Memory => (\d+)", function(numbers, "fault_key"), "no key")
+    faults = numbered(function(numbers, "fault_number"))
     return {
         "Code": {name: int(number) for name, number in re.findall(r"^pub const (\w+): u32 = (\d+);", codes, re.M)},
-        "Network": {upper(name): int(number) for number, name in re.findall(to_enum, function(numbers, "net_of"))},
+        "Network": of_number(function(numbers, "net_of")),
+        "Verdict": {"FILTERED": int(filtered[1]), **of_number(function(numbers, "kind_of"))},
+        "FilterCause": of_number(function(numbers, "cause_of")),
+        "HeaderFault": numbered(function(numbers, "header_number")),
+        "ConfigFault": {name: number for name, number in faults.items() if name != UNTOLD},
+        "Key": {"NONE": int(no_key[1]), **numbered(function(numbers, "key_number"))},
+        "Level": levels(function(replies, "level_of")),
+        "Service": numbered(function(numbers, "service_number")),
+        "Bound": bounds(tree),
     }
 
 
+def words_of_source(tree, numbers):
+    """The words by their groups and names: those that the player prints, else the names. `{}` is a fault's key."""
+    text = (tree / FAULTS).read_text(encoding="utf-8")
+    keys = {upper(name): word for name, word in re.findall(r"Key::(\w+) => \"(\w+)\"", text)}
+    faults = {upper(name): word.replace("{0}", "{}")
+              for word, name in re.findall(r"#\[error\(\"(.*?)\"\)\]\n    (\w+)", text) if upper(name) != UNTOLD}
+    words = {group: {name: name.lower().replace("_", "-") for name in names} for group, names in numbers.items()}
+    printed = {"Network": NETWORKS, "Verdict": ("filtered", *KINDS), "FilterCause": FILTER_CAUSES,
+               "HeaderFault": HEADER_CAUSES}
+    for group, in_order in printed.items():
+        words[group] = dict(zip(sorted(numbers[group], key=numbers[group].get), in_order))
+    del words["Bound"]
+    return {**words, "Key": {"NONE": "", **keys}, "ConfigFault": faults}
+
+
 def source(tree):
-    calls = exports((tree / CALLS).read_text(encoding="utf-8"))
-    return Interface(structs_of_source(tree), calls, numbers_of_source(tree))
+    calls, numbers = exports((tree / CALLS).read_text(encoding="utf-8")), numbers_of_source(tree)
+    return Interface(structs_of_source(tree), calls, numbers, words_of_source(tree, numbers))
 
 
 # ---- C
@@ -160,6 +230,22 @@ def enumerators(body):
     return made
 
 
+def words_of_c(tree):
+    """The words in the header of words. Those of a fault stand in two functions, before and after its key."""
+    text = (tree / WORDS).read_text(encoding="utf-8")
+    pattern = r"^static inline const char \*yelunnavi_(\w+)_(word|before|after)\(uint32_t \w+\) \{(.*?)^\}"
+    made = {}
+    for name, part, body in re.findall(pattern, text, re.M | re.S):
+        if name not in WORDS_OF_C:
+            raise Unread(f"{WORDS}: yelunnavi_{name}_{part}")
+        group = WORDS_OF_C[name]
+        for case, word in re.findall(r'case YELUNNAVI_(\w+): return "(.*?)";', body):
+            number = f"{group}::{case.removeprefix(PREFIXES[group][0])}"
+            needs_key = part == "before" and case.endswith(("MISSING", "KIND", "RANGE"))
+            made[number] = made.get(number, "") + word + "{}" * needs_key
+    return made
+
+
 def face_of_c(tree):
     text = re.sub(r"/\*.*?\*/", "", (tree / C).read_text(encoding="utf-8"), flags=re.S)
     names = swapped(STRUCTS_OF_C)
@@ -170,7 +256,7 @@ def face_of_c(tree):
         calls[name] = (type_of_c(result), [declared_in_c(part) for part in split_at(",", words) if part != "void"])
     bodies = re.findall(r"^enum \w+ \{(.*?)\}", text, re.M | re.S)
     numbers = {name: value for body in bodies for name, value in enumerators(body).items()}
-    return Interface({names.get(name, name): fields for name, fields in structs.items()}, calls, numbers)
+    return Interface({names.get(name, name): fields for name, fields in structs.items()}, calls, numbers, words_of_c(tree))
 
 
 def name_in_c(group, name):
@@ -196,12 +282,21 @@ def type_of_rust(words, width, groups):
     return plain + (" out" if kind[1] else "")
 
 
+def numbers_of_rust(text, groups):
+    numbers = {f"{group}::{name}": int(value) for group, body in groups.items()
+               for name, value in re.findall(r"(\w+) = (\d+)", body)}
+    plain = re.findall(r"^pub const (\w+): usize = (\d+);", text, re.M)
+    return {**numbers, **{name: int(value) for name, value in plain}}
+
+
 def face_of_rust(tree):
     text = re.sub(r"//.*", "", (tree / RUST).read_text(encoding="utf-8"))
-    width = found(r"#\[repr\(transparent\)\] [^;]*?pub struct \$name\(pub (\w+)\);", text, f"{RUST}: the type of a number")[1]
+    of_number = r"#\[repr\(transparent\)\] [^;]*?pub struct \$name\(pub (\w+)\);"
+    width = found(of_number, text, f"{RUST}: the type of a number")[1]
     found(r"#\[repr\(C\)\] [^;]*?pub struct \$name \{", text, f"{RUST}: the form of a reply")
     groups = dict(re.findall(r"^    (\w+) \{(.*?)^    \}", block_of_rust(text, "numbers"), re.M | re.S))
-    structs = {"Handle": re.findall(r"(\w+): ([^,]+)", found(r"#\[repr\(C\)\]\nstruct Handle \{(.*?)\}", text, "Handle")[1])}
+    handle = found(r"#\[repr\(C\)\]\nstruct Handle \{(.*?)\}", text, f"{RUST}: Handle")[1]
+    structs = {"Handle": re.findall(r"(\w+): ([^,]+)", handle)}
     structs |= {name: re.findall(r"(\w+): (\w+)", body)
                 for name, body in re.findall(r"^ +(\w+) \{ (.*?) \}$", block_of_rust(text, "replies"), re.M)}
     calls = re.findall(r"^ +(yelunnavi_\w+)\((.*?)\)(?: -> (\w+))?;", block_of_rust(text, "calls"), re.M)
@@ -213,8 +308,9 @@ def face_of_rust(tree):
     return Interface({names.get(name, name): pairs(fields) for name, fields in structs.items()},
                      {name: (type_of_rust(result, width, groups) if result else None,
                              pairs(re.findall(r"(\w+): ([^,]+)", words))) for name, words, result in calls},
-                     {f"{group}::{name}": int(value) for group, body in groups.items()
-                      for name, value in re.findall(r"(\w+) = (\d+)", body)})
+                     numbers_of_rust(text, groups),
+                     {f"{group}::{name}": word for group, body in groups.items()
+                      for name, word in re.findall(r'(\w+) = \d+ "(.*?)"', body)})
 
 
 def with_one_handle(interface):
@@ -223,11 +319,12 @@ def with_one_handle(interface):
         return [(name, "Handle" if kind.endswith("Handle") else kind) for name, kind in pairs]
     structs = {name: fields for name, fields in interface.structs.items() if not name.endswith("Handle")}
     return Interface({"Handle": [(ROOM, ROOM)], **structs},
-                     {name: (result, one(pairs)) for name, (result, pairs) in interface.calls.items()}, interface.numbers)
+                     {name: (result, one(pairs)) for name, (result, pairs) in interface.calls.items()},
+                     interface.numbers, interface.words)
 
 
 def name_in_rust(group, name):
-    return f"{group}::{name}"
+    return name if group == "Bound" else f"{group}::{name}"
 
 
 # ---- Ada
@@ -280,8 +377,8 @@ def face_of_ada(tree):
                r'with Import, Convention => C, External_Name => "(\w+)";')
     calls = {name: (type_of_ada(result, subtypes) if result else None, pairs_of_ada(words, subtypes))
              for words, result, name in re.findall(pattern, text)}
-    numbers = re.findall(r"(\w+) : constant (?:Code|Unsigned_32) := (\d+);", text)
-    return Interface(structs, calls, {name: int(value) for name, value in numbers})
+    numbers = re.findall(r"(\w+) : constant (?:Code |Unsigned_32 )?:= (\d+);", text)
+    return Interface(structs, calls, {name: int(value) for name, value in numbers}, {})
 
 
 def name_in_ada(group, name):

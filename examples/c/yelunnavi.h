@@ -4,7 +4,7 @@
    a queuing port, the end of its queue from which messages are taken. Readers and takers are handed out of a receiver, by
    the names of their ports, into slots of their own.
 
-   Static room:   static _Alignas(8) unsigned char room[4096];
+   Static room:   static uint64_t room[64];
                   struct yelunnavi_receiver receiver = {room};
                   if (yelunnavi_receiver_room() > sizeof room) ...;
                   yelunnavi_receiver_init(room);
@@ -49,24 +49,9 @@
 extern "C" {
 #endif
 
-/* ---- handles: where the room is */
+/* ---- numbers by their names: calls pass and tell them as uint32_t. yelunnavi_words.h has a word for each */
 
-struct yelunnavi_receiver { void *room; };
-struct yelunnavi_reader { void *room; };
-struct yelunnavi_taker { void *room; };
-
-/* How many octets of room a slot takes. */
-size_t yelunnavi_receiver_room(void);
-size_t yelunnavi_reader_room(void);
-size_t yelunnavi_taker_room(void);
-
-/* Makes a slot in which nothing is open. */
-void yelunnavi_receiver_init(void *room);
-void yelunnavi_reader_init(void *room);
-void yelunnavi_taker_init(void *room);
-
-/* ---- what a call answers */
-
+/* What a call answers. */
 enum yelunnavi_code {
     YELUNNAVI_DONE = 0,         /* what was asked was done */
     YELUNNAVI_NOT_OPEN = 1,     /* nothing is open in the slot */
@@ -87,17 +72,116 @@ enum yelunnavi_code {
 /* The networks. */
 enum yelunnavi_network { YELUNNAVI_A = 0, YELUNNAVI_B = 1 };
 
+/* What became of a frame: the kind of its verdict, in the order in which it is tested. Those from TOO_LONG on name a port. */
+enum yelunnavi_verdict {
+    YELUNNAVI_VERDICT_FILTERED = 0,          /* no verdict: it came to no link */
+    YELUNNAVI_VERDICT_OUT_OF_SEQUENCE = 1,   /* its sequence number isn't among the next ones */
+    YELUNNAVI_VERDICT_REDUNDANT = 2,         /* a copy of a frame that was forwarded */
+    YELUNNAVI_VERDICT_BAD_HEADER = 3,        /* its IPv4 header has a fault */
+    YELUNNAVI_VERDICT_BAD_FRAGMENT = 4,      /* it is a piece of no datagram */
+    YELUNNAVI_VERDICT_FRAGMENT_HELD = 5,     /* it is a piece of a datagram that isn't complete */
+    YELUNNAVI_VERDICT_BAD_UDP = 6,           /* its UDP header has a fault */
+    YELUNNAVI_VERDICT_NO_PORT = 7,           /* no port takes its datagram */
+    YELUNNAVI_VERDICT_TOO_LONG = 8,          /* its message is longer than its port takes */
+    YELUNNAVI_VERDICT_FRAGMENTED_SAMPLE = 9, /* its datagram came in pieces, and its port samples */
+    YELUNNAVI_VERDICT_SAMPLED = 10,          /* its message is the newest one of its sampling port */
+    YELUNNAVI_VERDICT_QUEUED = 11,           /* its message stands in the queue of its port */
+    YELUNNAVI_VERDICT_OVERFLOW = 12,         /* the queue of its port had no room: its message is lost */
+    YELUNNAVI_VERDICT_EXHAUSTED = 13         /* its sampling port has used up its message numbers */
+};
+
+/* Why a frame was filtered, in the order in which it is tested. */
+enum yelunnavi_filter_cause {
+    YELUNNAVI_FILTER_TOO_SHORT = 1,        /* below 60 octets */
+    YELUNNAVI_FILTER_TOO_LONG = 2,         /* above 1,514 octets */
+    YELUNNAVI_FILTER_NOT_IP = 3,           /* another EtherType than that of IPv4 */
+    YELUNNAVI_FILTER_FOREIGN_CONSTANT = 4, /* another constant field than that of the configuration */
+    YELUNNAVI_FILTER_UNKNOWN_LINK = 5      /* no link of the configuration has its link number */
+};
+
+/* The fault of a bad IPv4 header, in the order in which it is tested. */
+enum yelunnavi_header_fault {
+    YELUNNAVI_BAD_VERSION = 1,
+    YELUNNAVI_BAD_HEADER_LENGTH = 2,
+    YELUNNAVI_BAD_TOTAL_LENGTH = 3,
+    YELUNNAVI_BAD_CHECKSUM = 4,
+    YELUNNAVI_BAD_PROTOCOL = 5
+};
+
+/* The fault of a configuration. */
+enum yelunnavi_config_fault {
+    YELUNNAVI_FAULT_TEXT = 1,        /* the text isn't TOML */
+    YELUNNAVI_FAULT_MISSING = 2,     /* a key is missing */
+    YELUNNAVI_FAULT_KIND = 3,        /* the value of a key has another kind, as a text in place of an integer */
+    YELUNNAVI_FAULT_RANGE = 4,       /* the value of a key is out of range */
+    YELUNNAVI_FAULT_DOUBLE_LINK = 5, /* two links have one link number */
+    YELUNNAVI_FAULT_DOUBLE_PORT = 6, /* two ports of a link have one address and UDP port */
+    YELUNNAVI_FAULT_DOUBLE_NAME = 7, /* two ports have one name */
+    YELUNNAVI_FAULT_TOO_MANY = 8     /* too many links, or too many ports at a link */
+};
+
+/* The keys of a configuration. */
+enum yelunnavi_key {
+    YELUNNAVI_KEY_NONE = 0,
+    YELUNNAVI_KEY_CONSTANT = 1,
+    YELUNNAVI_KEY_LINK = 2,
+    YELUNNAVI_KEY_VL = 3,
+    YELUNNAVI_KEY_SKEW_MAX_US = 4,
+    YELUNNAVI_KEY_REDUNDANCY = 5,
+    YELUNNAVI_KEY_REASSEMBLY_US = 6,
+    YELUNNAVI_KEY_WINDOW = 7,
+    YELUNNAVI_KEY_PORT = 8,
+    YELUNNAVI_KEY_NAME = 9,
+    YELUNNAVI_KEY_KIND = 10,
+    YELUNNAVI_KEY_ADDRESS = 11,
+    YELUNNAVI_KEY_UDP = 12,
+    YELUNNAVI_KEY_MAX = 13,
+    YELUNNAVI_KEY_REFRESH_US = 14,
+    YELUNNAVI_KEY_DEPTH = 15
+};
+
+/* What a fault of a configuration is about. */
+enum yelunnavi_level { YELUNNAVI_LEVEL_DOCUMENT = 0, YELUNNAVI_LEVEL_LINK = 1, YELUNNAVI_LEVEL_PORT = 2 };
+
+/* The services of ports. */
+enum yelunnavi_service { YELUNNAVI_SERVICE_SAMPLING = 1, YELUNNAVI_SERVICE_QUEUING = 2 };
+
+/* Bounds, for room of the program's. */
+enum yelunnavi_bound {
+    YELUNNAVI_MOST_LINKS = 64,
+    YELUNNAVI_MOST_PORTS = 32,       /* of a link */
+    YELUNNAVI_MOST_READERS = 8,      /* of a sampling port */
+    YELUNNAVI_LONGEST_NAME = 16,     /* octets of the name of a port */
+    YELUNNAVI_LONGEST_SAMPLE = 1471, /* octets of a message of a sampling port */
+    YELUNNAVI_LONGEST_QUEUED = 8192, /* octets of a message of a queuing port */
+    YELUNNAVI_DEEPEST_QUEUE = 64     /* messages that wait in a queue */
+};
+
+/* ---- handles: where the room is */
+
+struct yelunnavi_receiver { void *room; };
+struct yelunnavi_reader { void *room; };
+struct yelunnavi_taker { void *room; };
+
+/* How many octets of room a slot takes. */
+size_t yelunnavi_receiver_room(void);
+size_t yelunnavi_reader_room(void);
+size_t yelunnavi_taker_room(void);
+
+/* Makes a slot in which nothing is open. */
+void yelunnavi_receiver_init(void *room);
+void yelunnavi_reader_init(void *room);
+void yelunnavi_taker_init(void *room);
+
 /* ---- the receiver: open and close */
 
 /* The first fault of a configuration, in the order in which its keys are tested. */
 struct yelunnavi_fault {
-    uint32_t fault; /* 1: not TOML. 2: a key is missing. 3: its value has another kind. 4: it is out of range. 5: a link
-                       is given twice. 6: a port, by address and UDP port. 7: a name. 8: too many links or ports */
-    uint32_t key;   /* with 2, 3 and 4: 1 constant, 2 link, 3 vl, 4 skew_max_us, 5 redundancy, 6 reassembly_us, 7 window,
-                       8 port, 9 name, 10 kind, 11 address, 12 udp, 13 max, 14 refresh_us, 15 depth; else 0 */
-    uint32_t level; /* 0: it is about no link. 1: about a link. 2: about a port */
-    size_t link;    /* with 1 and 2: the place of the link in the document */
-    size_t port;    /* with 2: the place of the port in the link */
+    uint32_t fault; /* enum yelunnavi_config_fault */
+    uint32_t key;   /* enum yelunnavi_key, with MISSING, KIND and RANGE; else KEY_NONE */
+    uint32_t level; /* enum yelunnavi_level */
+    size_t link;    /* LEVEL_LINK and LEVEL_PORT: the place of the link in the document */
+    size_t port;    /* LEVEL_PORT: the place of the port in the link */
 };
 
 /* Opens the receiver of a configuration: a TOML text, as docs/FORMATS.md says, `len` octets without a 0 after them. It is
@@ -114,16 +198,14 @@ void yelunnavi_receiver_close(struct yelunnavi_receiver *h);
 /* ---- the receiver: frames */
 
 struct yelunnavi_frame {
-    uint32_t kind;   /* 0: filtered. Else the kind of its verdict: 1 out of sequence, 2 redundant, 3 bad header, 4 bad
-                        fragment, 5 fragment held, 6 bad UDP, 7 no port, 8 too long, 9 fragmented sample, 10 sampled,
-                        11 queued, 12 overflow, 13 exhausted */
-    uint32_t cause;  /* filtered: 1 too short, 2 too long, 3 not IPv4, 4 foreign constant field, 5 unknown link. Bad header:
-                        1 version, 2 header length, 3 total length, 4 checksum, 5 protocol. Else 0 */
+    uint32_t kind;   /* enum yelunnavi_verdict */
+    uint32_t cause;  /* with VERDICT_FILTERED enum yelunnavi_filter_cause, with VERDICT_BAD_HEADER enum
+                        yelunnavi_header_fault, else 0 */
     size_t link;     /* the place of its link in the configuration */
     uint32_t vl;     /* its link number */
-    uint32_t port;   /* kinds 8 to 13: the place of its port in the link */
+    uint32_t port;   /* VERDICT_TOO_LONG and those after it: the place of its port in the link */
     uint64_t place;  /* how many frames of the link came before it */
-    uint64_t number; /* sampled: the number of its message, from 1 */
+    uint64_t number; /* VERDICT_SAMPLED: the number of its message, from 1 */
 };
 
 /* Takes a frame that came on a network at `now`, without its check sequence; of any length and content. `reply` says what
@@ -132,11 +214,11 @@ struct yelunnavi_frame {
 uint32_t yelunnavi_receiver_receive(struct yelunnavi_receiver *h, uint32_t net, uint64_t now, const uint8_t *frame, size_t len,
                                     struct yelunnavi_frame *reply);
 
-/* Tells how many frames of the link at this place came on this network with a verdict of this kind, 1 to 13. NOT_OPEN,
-   NO_NETWORK, NO_KIND, NO_PLACE, tested in this order. */
+/* Tells how many frames of the link at this place came on this network with a verdict of this kind; VERDICT_FILTERED is none.
+   NOT_OPEN, NO_NETWORK, NO_KIND, NO_PLACE, tested in this order. */
 uint32_t yelunnavi_receiver_count(struct yelunnavi_receiver *h, size_t link, uint32_t net, uint32_t kind, uint64_t *count);
 
-/* Tells how many frames were filtered on this network for this cause, 1 to 5. NOT_OPEN, NO_NETWORK, NO_KIND. */
+/* Tells how many frames were filtered on this network for this cause. NOT_OPEN, NO_NETWORK, NO_KIND. */
 uint32_t yelunnavi_receiver_filtered(struct yelunnavi_receiver *h, uint32_t net, uint32_t cause, uint64_t *count);
 
 /* ---- the receiver: links and ports */
@@ -147,7 +229,7 @@ struct yelunnavi_link {
 };
 
 struct yelunnavi_port {
-    uint32_t service; /* 1: sampling. 2: queuing */
+    uint32_t service; /* enum yelunnavi_service */
     uint32_t address; /* the IPv4 address of its datagrams: the first octet is the most significant one */
     uint32_t udp;     /* their UDP port */
     uint32_t max;     /* the longest message: up to 1,471 of a sampling port, 8,192 of a queuing port */
