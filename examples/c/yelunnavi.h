@@ -20,34 +20,59 @@
    memmove and memset, and nothing else: no operating system, no C library's start-up. It never prints, never ends the
    process, and has no state of its own outside of the rooms and of what it asked for.
 
+   MEMORY AND THREADS. Each .._close gives memory back, on the thread that calls it. So where several threads close their handles,
+   or one opens another receiver meanwhile, the three functions are called by several threads at once. malloc and free are made
+   for that; a list of free blocks of the program's own needs a lock, or all is opened and closed by one task.
+
    TOUCHED MEMORY. The opening doesn't write to all that it asks for. An operating system may bring a page of memory in only
    when it is first touched: with such memory a receive that comes to a new page, of a queue or of a datagram in pieces, takes
    as long as that needs, many times what the rest of the call takes. So the three functions had better write to each page
    that they give, as examples/c/pool.c does. Where pages may be taken out again the program locks them too (mlockall).
 
+   AFTER A CLOSE the room holds nothing: it may be given up, or used again for a handle of the same kind, without .._init. Ends
+   live on when their receiver is closed, and a second opening doesn't reach them: an old reader finds the last message of the
+   old receiver for ever, with `valid` 0 once it is too old, and an old taker what is left in its queue. So close them too, and
+   hand out new ones. An end that is closed doesn't come back: the queue of a closed taker fills up, and then overflows for good.
+
+   STACK. An opening takes up to 20 KiB if the text is a configuration with no keys but its own, and up to 56 KiB if it isn't one
+   for a fault at its end. Other keys whose values are nested take more: 2.6 MB for 80 levels of tables, each by a key of 80 parts,
+   the most that is read. So a task with a short stack opens no text of a stranger's. Every other call takes up to 1 KiB. What
+   the program's own functions take comes on top (docs/EMBEDDING.md has each call).
+
+   REGISTERS. The library uses the vector registers of its processor (SSE2, Advanced SIMD), in a receive and in nearly every
+   other call: a task or an interrupt handler that may not use them may not call it.
+
    ANSWERS. Each call but room, init and close answers a code, YELUNNAVI_DONE or why nothing was done. After any other
-   code what the call was passed is as it was (of hand_reader and hand_taker see there).
+   code what the call was passed is as it was, but for the fault that FAULTY tells.
 
    WHAT NOTHING CHECKS, and what is undefined where it is not kept:
    - The room of a handle has as many octets as its .._room() says, is aligned to 8, and is of no other handle. Its
-     .._init was called once, before any other call. The program neither reads nor writes it, nor changes the handle.
-   - One call at a time is made on a handle.
+     .._init was called once, before any other call. The program neither reads, writes nor moves it, nor changes the handle.
+   - One call at a time is made on a handle: no interrupt handler makes another one in its midst.
    - No pointer is null, also where a length is 0; each reaches as many octets as the length after it says, or its type.
    - No two things that a call is passed overlap, nor does one reach into a room; no handle is passed twice.
    - What a frame or a text has doesn't change during a call.
    - Arrival times and the `now` of reads and holds are of one clock.
    - The three functions for memory do what is said there.
 
-   TIMES are in microseconds, lengths in octets, places from 0. A count stops at 2^64 - 1. Targets: x86-64 and aarch64. */
+   TIMES are in microseconds, lengths in octets, places from 0. A count stops at 2^64 - 1. Targets: x86-64 and aarch64, both
+   little-endian. */
 #ifndef YELUNNAVI_H
 #define YELUNNAVI_H
 #include <stdbool.h>
 #include <stddef.h>
 #include <stdint.h>
 
+#if defined(__BYTE_ORDER__) && __BYTE_ORDER__ != __ORDER_LITTLE_ENDIAN__
+#error "the library is for little-endian machines"
+#endif
+
 #ifdef __cplusplus
 extern "C" {
 #endif
+
+/* Refused by the compiler of a machine that isn't of 64 bits. */
+typedef char yelunnavi_is_of_64_bits[sizeof(size_t) == 8 && sizeof(void *) == 8 ? 1 : -1];
 
 /* ---- numbers by their names: calls pass and tell them as uint32_t. yelunnavi_words.h has a word for each */
 
@@ -192,7 +217,7 @@ struct yelunnavi_fault {
 uint32_t yelunnavi_receiver_open(struct yelunnavi_receiver *h, const uint8_t *text, size_t len, size_t readers,
                                  struct yelunnavi_fault *fault);
 
-/* Gives the receiver away, if one is open. Ends that were handed out live on: a reader finds what was published before. */
+/* Gives the receiver away, if one is open. Ends that were handed out live on: see AFTER A CLOSE. */
 void yelunnavi_receiver_close(struct yelunnavi_receiver *h);
 
 /* ---- the receiver: frames */
@@ -323,7 +348,7 @@ struct rattle_tried {
     void *at; /* never null, with false too */
 };
 
-/* So many octets, aligned to `align`, which is at most 16. */
+/* So many octets, aligned to `align`, which is at most 16. Several threads may call these at once: see MEMORY AND THREADS. */
 struct rattle_tried rattle_alloc(size_t octets, size_t align);
 /* The same octets, of which the first `kept` count, with room for so many. With false nothing has changed. */
 struct rattle_tried rattle_realloc(void *at, size_t kept, size_t octets, size_t align);

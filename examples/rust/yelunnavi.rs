@@ -1,7 +1,8 @@
 //! The receiver for C, for Rust programs: a safe wrapper of one file over examples/c/yelunnavi.h, without the standard
 //! library. Its types keep what the header can only ask for: each handle has room of its own that is large enough and
 //! aligned, and stays where it is; a call has its handle alone (`&mut`); a handle may go to another thread, and isn't
-//! shared. What is left to the program are the three functions for memory (`rattle_alloc`, ..).
+//! shared. What is left to the program are the three functions for memory (`rattle_alloc`, ..), which several
+//! threads may call at once.
 #![no_std]
 
 use core::ffi::c_void;
