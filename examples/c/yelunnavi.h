@@ -34,10 +34,10 @@
    old receiver for ever, with `valid` 0 once it is too old, and an old taker what is left in its queue. So close them too, and
    hand out new ones. An end that is closed doesn't come back: the queue of a closed taker fills up, and then overflows for good.
 
-   STACK. An opening takes up to 20 KiB if the text is a configuration with no keys but its own, and up to 56 KiB if it isn't one
-   for a fault at its end. Other keys whose values are nested take more: 2.6 MB for 80 levels of tables, each by a key of 80 parts,
-   the most that is read. So a task with a short stack opens no text of a stranger's. Every other call takes up to 1 KiB. What
-   the program's own functions take comes on top (docs/EMBEDDING.md has each call).
+   STACK. An opening takes up to 20 KiB if the text is a configuration with no keys but its own, and up to 56 KiB if it isn't
+   one for a fault at its end. Other keys whose values are nested take more: 2.6 MB for 80 levels of tables, each by a key of
+   80 parts, the most that is read. So a task with a short stack opens no text of a stranger's. Every other call takes up to
+   1 KiB. What the program's own functions take comes on top (docs/EMBEDDING.md has each call).
 
    REGISTERS. The library uses the vector registers of its processor (SSE2, Advanced SIMD), in a receive and in nearly every
    other call: a task or an interrupt handler that may not use them may not call it.
@@ -100,15 +100,15 @@ enum yelunnavi_network { YELUNNAVI_A = 0, YELUNNAVI_B = 1 };
 /* What became of a frame: the kind of its verdict, in the order in which it is tested. Those from TOO_LONG on name a port. */
 enum yelunnavi_verdict {
     YELUNNAVI_VERDICT_FILTERED = 0,          /* no verdict: it came to no link */
-    YELUNNAVI_VERDICT_OUT_OF_SEQUENCE = 1,   /* its sequence number isn't among the next ones */
-    YELUNNAVI_VERDICT_REDUNDANT = 2,         /* a copy of a frame that was forwarded */
+    YELUNNAVI_VERDICT_OUT_OF_SEQUENCE = 1,   /* integrity checking refuses its sequence number */
+    YELUNNAVI_VERDICT_REDUNDANT = 2,         /* redundancy management doesn't forward it */
     YELUNNAVI_VERDICT_BAD_HEADER = 3,        /* its IPv4 header has a fault */
-    YELUNNAVI_VERDICT_BAD_FRAGMENT = 4,      /* it is a piece of no datagram */
-    YELUNNAVI_VERDICT_FRAGMENT_HELD = 5,     /* it is a piece of a datagram that isn't complete */
+    YELUNNAVI_VERDICT_BAD_FRAGMENT = 4,      /* it is a fragment, and no piece of a datagram */
+    YELUNNAVI_VERDICT_FRAGMENT_HELD = 5,     /* it is a fragment of a datagram that isn't complete */
     YELUNNAVI_VERDICT_BAD_UDP = 6,           /* its UDP header has a fault */
     YELUNNAVI_VERDICT_NO_PORT = 7,           /* no port takes its datagram */
     YELUNNAVI_VERDICT_TOO_LONG = 8,          /* its message is longer than its port takes */
-    YELUNNAVI_VERDICT_FRAGMENTED_SAMPLE = 9, /* its datagram came in pieces, and its port samples */
+    YELUNNAVI_VERDICT_FRAGMENTED_SAMPLE = 9, /* its datagram was joined of fragments, and its port samples */
     YELUNNAVI_VERDICT_SAMPLED = 10,          /* its message is the newest one of its sampling port */
     YELUNNAVI_VERDICT_QUEUED = 11,           /* its message stands in the queue of its port */
     YELUNNAVI_VERDICT_OVERFLOW = 12,         /* the queue of its port had no room: its message is lost */
