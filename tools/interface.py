@@ -1,9 +1,9 @@
-"""What lies beside the library for C: its header, its package file, and a shared object."""
+"""What lies beside the library for C: its headers, its package file, and a shared object."""
 import os
 import shutil
 import subprocess
 
-from marks import HEADER, HEAP, HERE, TARGETS
+from marks import HEADERS, HEAP, HERE, TARGETS
 from proving import say
 
 PACKAGE = """\
@@ -22,12 +22,13 @@ def compiler_of(target):
 
 
 def add_interface(product, made):
-    """Lays the header, the package file and, if there is a C compiler for the target, the shared object into a folder."""
-    shutil.copy(HEADER, made)
+    """Lays the headers, the package file and, if there is a C compiler for the target, the shared object into a folder."""
+    for header in HEADERS:
+        shutil.copy(header, made)
     (made / "yelunnavi.pc").write_text(PACKAGE, encoding="utf-8")
     compiler = compiler_of(product.target)
     if not shutil.which(compiler[0]):
         say(f"no {compiler[0]} here, so there is no shared object for {product.target}")
         return
-    words = ["-shared", "-O2", "-fPIC", "-fvisibility=hidden", f"-I{HEADER.parent}", "-o", "libyelunnavi.so", HEAP, *WHOLE]
+    words = ["-shared", "-O2", "-fPIC", "-fvisibility=hidden", f"-I{HEADERS[0].parent}", "-o", "libyelunnavi.so", HEAP, *WHOLE]
     subprocess.run([*compiler, *words], cwd=made, check=True)

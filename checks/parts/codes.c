@@ -72,7 +72,7 @@ static void of_memory(size_t readers) {
 
 /* Numbers of readers that no port may have, told before the text is looked at. */
 static void of_no_readers(void) {
-    static const size_t wrong[] = {0, 9, 10, 256 + 1, SIZE_MAX};
+    static const size_t wrong[] = {0, YELUNNAVI_MOST_READERS + 1, YELUNNAVI_MOST_READERS + 2, 256 + 1, SIZE_MAX};
     struct yelunnavi_fault fault = {77, 77, 77, 77, 77};
     for (size_t k = 0; k < sizeof wrong / sizeof *wrong; k++) {
         WANT(OUT_OF_RANGE, yelunnavi_receiver_open(&receiver, TEXT(CONFIG), wrong[k], &fault));
@@ -90,7 +90,7 @@ static void of_readers(size_t readers) {
     for (size_t k = 0; k < readers; k++) {
         WANT(DONE, yelunnavi_receiver_hand_reader(&receiver, &reader, TEXT("pos")));
         WANT(DONE, yelunnavi_reader_limits(&reader, &limits));
-        if (limits.max != 1471 || limits.refresh != 20000) exit(16);
+        if (limits.max != YELUNNAVI_LONGEST_SAMPLE || limits.refresh != 20000) exit(16);
         yelunnavi_reader_close(&reader);
     }
     WANT(NONE_LEFT, yelunnavi_receiver_hand_reader(&receiver, &reader, TEXT("pos")));
@@ -106,17 +106,18 @@ static void of_the_receiver(void) {
     uint64_t count;
     WANT(NOT_OPEN, yelunnavi_receiver_receive(&receiver, YELUNNAVI_A, 0, FRAME, sizeof FRAME, &frame));
     WANT(FAULTY, yelunnavi_receiver_open(&receiver, TEXT("[[link]]\nvl = 1\nskew_max_us = -1"), 2, &fault));
-    if (fault.fault != 4 || fault.key != 4 || fault.level != 1 || fault.link != 0) exit(2);
+    if (fault.fault != YELUNNAVI_FAULT_RANGE || fault.key != YELUNNAVI_KEY_SKEW_MAX_US || fault.level != YELUNNAVI_LEVEL_LINK
+        || fault.link != 0) exit(2);
     WANT(DONE, yelunnavi_receiver_open(&receiver, TEXT(CONFIG), 2, &fault));
     WANT(ALREADY_OPEN, yelunnavi_receiver_open(&receiver, TEXT(CONFIG), 2, &fault));
     WANT(NO_NETWORK, yelunnavi_receiver_receive(&receiver, 2, 0, FRAME, sizeof FRAME, &frame));
     WANT(DONE, yelunnavi_receiver_receive(&receiver, YELUNNAVI_A, 1000, FRAME, sizeof FRAME, &frame));
-    if (frame.kind != 10 || frame.vl != 17 || frame.number != 1) exit(3);
+    if (frame.kind != YELUNNAVI_VERDICT_SAMPLED || frame.vl != 17 || frame.number != 1) exit(3);
     WANT(DONE, yelunnavi_receiver_receive(&receiver, YELUNNAVI_B, 1000, FRAME, sizeof FRAME, &frame));
-    if (frame.kind != 2 || frame.place != 1) exit(4);
-    WANT(DONE, yelunnavi_receiver_count(&receiver, 0, YELUNNAVI_B, 2, &count));
+    if (frame.kind != YELUNNAVI_VERDICT_REDUNDANT || frame.place != 1) exit(4);
+    WANT(DONE, yelunnavi_receiver_count(&receiver, 0, YELUNNAVI_B, YELUNNAVI_VERDICT_REDUNDANT, &count));
     if (count != 1) exit(5);
-    WANT(NO_KIND, yelunnavi_receiver_count(&receiver, 0, YELUNNAVI_A, 14, &count));
+    WANT(NO_KIND, yelunnavi_receiver_count(&receiver, 0, YELUNNAVI_A, YELUNNAVI_VERDICT_EXHAUSTED + 1, &count));
     WANT(NO_PLACE, yelunnavi_receiver_link(&receiver, 1, &link));
     WANT(NO_NAME, yelunnavi_receiver_place(&receiver, TEXT("nav2"), &place));
 }
@@ -156,7 +157,7 @@ static void of_a_hold(void) {
     for (uint8_t number = 1; number < 10; number++) {
         next[59] = next[42] = number;
         WANT(DONE, yelunnavi_receiver_receive(&receiver, YELUNNAVI_A, 1000u * number, next, sizeof next, &frame));
-        if (frame.kind != 10 || frame.number != number + 1u) exit(18);
+        if (frame.kind != YELUNNAVI_VERDICT_SAMPLED || frame.number != number + 1u) exit(18);
         WANT(DONE, yelunnavi_reader_read(&other, 1000u * number, out, sizeof out, &read));
         if (read.found != 1 || read.number != number + 1u || out[0] != number) exit(19);
         WANT(DONE, yelunnavi_reader_copy(&reader, 0, out, 17));
@@ -186,10 +187,10 @@ int main(void) {
     yelunnavi_reader_init(other.room);
     yelunnavi_taker_init(taker.room);
     of_memory(1);
-    of_memory(8);
+    of_memory(YELUNNAVI_MOST_READERS);
     of_no_readers();
     of_readers(1);
-    of_readers(8);
+    of_readers(YELUNNAVI_MOST_READERS);
     of_the_receiver();
     of_the_ends();
     of_a_hold();

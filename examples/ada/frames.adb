@@ -25,7 +25,7 @@ procedure Frames is
    Told : Frame_Reply := (0, 0, 0, 0, 0, 0, 0);
    Found : Read_Reply := (0, 0, 0, 0, 0);
    Taken : Take_Reply := (0, 0, 0);
-   Sample : Octets (0 .. 1470) := [others => 0];
+   Sample : Octets (0 .. Longest_Sample - 1) := [others => 0];
    Message : Octets (0 .. 63) := [others => 0];
 
    function As_Octets (Of_Text : String) return Octets is
@@ -51,8 +51,8 @@ begin
    Frame (0 .. 41) := Start;
    for I in Unsigned_8 range 0 .. 3 loop
       Frame (59) := I; Frame (37) := (if I < 2 then 16#88# else 16#8a#); Frame (42) := I;
-      Show (0, 1000 * Unsigned_64 (I));
-      Show (1, 1000 * Unsigned_64 (I) + 100);
+      Show (Network_A, 1000 * Unsigned_64 (I));
+      Show (Network_B, 1000 * Unsigned_64 (I) + 100);
    end loop;
    Check (Read (Pos, 4000, Sample, Sample'Length, Found));
    Put_Line ("read" & Found.Number'Image & Found.Time'Image & Found.Length'Image & Found.Valid'Image & Sample (0)'Image);

@@ -11,6 +11,95 @@ package Yelunnavi is
 
    subtype Code is Unsigned_32;
    Done : constant Code := 0;
+   Not_Open : constant Code := 1;
+   Already_Open : constant Code := 2;
+   Faulty : constant Code := 3;
+   No_Memory : constant Code := 4;
+   No_Network : constant Code := 5;
+   No_Kind : constant Code := 6;
+   No_Place : constant Code := 7;
+   No_Name : constant Code := 8;
+   None_Left : constant Code := 9;
+   Holds_One : constant Code := 10;
+   Holds_None : constant Code := 11;
+   Out_Of_Range : constant Code := 12;
+   Too_Short : constant Code := 13;
+
+   Network_A : constant Unsigned_32 := 0;
+   Network_B : constant Unsigned_32 := 1;
+
+   --  What became of a frame: the kind of its verdict. Those from Verdict_Too_Long on name a port.
+   Verdict_Filtered : constant Unsigned_32 := 0;
+   Verdict_Out_Of_Sequence : constant Unsigned_32 := 1;
+   Verdict_Redundant : constant Unsigned_32 := 2;
+   Verdict_Bad_Header : constant Unsigned_32 := 3;
+   Verdict_Bad_Fragment : constant Unsigned_32 := 4;
+   Verdict_Fragment_Held : constant Unsigned_32 := 5;
+   Verdict_Bad_Udp : constant Unsigned_32 := 6;
+   Verdict_No_Port : constant Unsigned_32 := 7;
+   Verdict_Too_Long : constant Unsigned_32 := 8;
+   Verdict_Fragmented_Sample : constant Unsigned_32 := 9;
+   Verdict_Sampled : constant Unsigned_32 := 10;
+   Verdict_Queued : constant Unsigned_32 := 11;
+   Verdict_Overflow : constant Unsigned_32 := 12;
+   Verdict_Exhausted : constant Unsigned_32 := 13;
+
+   --  Why a frame was filtered.
+   Filter_Too_Short : constant Unsigned_32 := 1;
+   Filter_Too_Long : constant Unsigned_32 := 2;
+   Filter_Not_Ip : constant Unsigned_32 := 3;
+   Filter_Foreign_Constant : constant Unsigned_32 := 4;
+   Filter_Unknown_Link : constant Unsigned_32 := 5;
+
+   --  The fault of a bad IPv4 header.
+   Bad_Version : constant Unsigned_32 := 1;
+   Bad_Header_Length : constant Unsigned_32 := 2;
+   Bad_Total_Length : constant Unsigned_32 := 3;
+   Bad_Checksum : constant Unsigned_32 := 4;
+   Bad_Protocol : constant Unsigned_32 := 5;
+
+   --  The fault of a configuration, its key, and what it is about.
+   Fault_Text : constant Unsigned_32 := 1;
+   Fault_Missing : constant Unsigned_32 := 2;
+   Fault_Kind : constant Unsigned_32 := 3;
+   Fault_Range : constant Unsigned_32 := 4;
+   Fault_Double_Link : constant Unsigned_32 := 5;
+   Fault_Double_Port : constant Unsigned_32 := 6;
+   Fault_Double_Name : constant Unsigned_32 := 7;
+   Fault_Too_Many : constant Unsigned_32 := 8;
+
+   Key_None : constant Unsigned_32 := 0;
+   Key_Constant : constant Unsigned_32 := 1;
+   Key_Link : constant Unsigned_32 := 2;
+   Key_Vl : constant Unsigned_32 := 3;
+   Key_Skew_Max_Us : constant Unsigned_32 := 4;
+   Key_Redundancy : constant Unsigned_32 := 5;
+   Key_Reassembly_Us : constant Unsigned_32 := 6;
+   Key_Window : constant Unsigned_32 := 7;
+   Key_Port : constant Unsigned_32 := 8;
+   Key_Name : constant Unsigned_32 := 9;
+   Key_Kind : constant Unsigned_32 := 10;
+   Key_Address : constant Unsigned_32 := 11;
+   Key_Udp : constant Unsigned_32 := 12;
+   Key_Max : constant Unsigned_32 := 13;
+   Key_Refresh_Us : constant Unsigned_32 := 14;
+   Key_Depth : constant Unsigned_32 := 15;
+
+   Level_Document : constant Unsigned_32 := 0;
+   Level_Link : constant Unsigned_32 := 1;
+   Level_Port : constant Unsigned_32 := 2;
+
+   Service_Sampling : constant Unsigned_32 := 1;
+   Service_Queuing : constant Unsigned_32 := 2;
+
+   --  Bounds, for room of the program's.
+   Most_Links : constant := 64;
+   Most_Ports : constant := 32;
+   Most_Readers : constant := 8;
+   Longest_Name : constant := 16;
+   Longest_Sample : constant := 1471;
+   Longest_Queued : constant := 8192;
+   Deepest_Queue : constant := 64;
 
    type Fault_Reply is record Fault, Key, Level : Unsigned_32; Link, Port : size_t; end record with Convention => C;
    type Frame_Reply is record

@@ -1,12 +1,7 @@
 /* The receiver for C on a machine with nothing on it: no operating system and no C library. It takes the frames of a table and
    writes a line for each to the machine's serial port, as afdx_play prints it. */
-#include "../c/yelunnavi.h"
+#include "../c/yelunnavi_words.h"
 #include "frames.h"
-
-static const char *const WORDS[] = {"", "out-of-sequence", "redundant", "bad-header", "bad-fragment", "fragment-held", "bad-udp",
-    "no-port", "too-long", "fragmented-sample", "sampled", "queued", "overflow", "exhausted"};
-static const char *const CAUSES[] = {"", "too-short", "too-long", "not-ip", "foreign-constant", "unknown-link"};
-static const char *const FAULTS[] = {"", "version", "header-length", "total-length", "checksum", "protocol"};
 
 static _Alignas(8) unsigned char room[512];
 static struct yelunnavi_receiver receiver = {room};
@@ -48,8 +43,8 @@ static void put_number(uint64_t number) {
 
 static void put_name(size_t link, uint32_t port) {
     struct yelunnavi_port reply;
-    uint8_t name[16];
-    char text[17] = {0};
+    uint8_t name[YELUNNAVI_LONGEST_NAME];
+    char text[YELUNNAVI_LONGEST_NAME + 1] = {0};
     if (yelunnavi_receiver_port(&receiver, link, port, &reply, &name) != YELUNNAVI_DONE) return;
     memcpy(text, name, reply.name_len);
     put(" "), put(text);
@@ -58,15 +53,13 @@ static void put_name(size_t link, uint32_t port) {
 static void show(const struct frame *frame) {
     struct yelunnavi_frame reply;
     if (yelunnavi_receiver_receive(&receiver, frame->net, frame->time, frame->octets, frame->len, &reply) != YELUNNAVI_DONE) return;
-    put_number(frame->time), put(frame->net ? " B " : " A ");
-    if (reply.kind == 0) {
-        put("filtered "), put(CAUSES[reply.cause]), put("\n");
-        return;
-    }
-    put("vl "), put_number(reply.vl), put(" "), put_number(reply.place), put(" "), put(WORDS[reply.kind]);
-    if (reply.kind == 3) put(" "), put(FAULTS[reply.cause]);
-    if (reply.kind >= 8) put_name(reply.link, reply.port);
-    if (reply.kind == 10) put(" "), put_number(reply.number);
+    put_number(frame->time), put(" "), put(yelunnavi_network_word(frame->net));
+    if (reply.kind != YELUNNAVI_VERDICT_FILTERED) put(" vl "), put_number(reply.vl), put(" "), put_number(reply.place);
+    put(" "), put(yelunnavi_verdict_word(reply.kind));
+    if (reply.kind == YELUNNAVI_VERDICT_FILTERED) put(" "), put(yelunnavi_filter_word(reply.cause));
+    if (reply.kind == YELUNNAVI_VERDICT_BAD_HEADER) put(" "), put(yelunnavi_header_word(reply.cause));
+    if (reply.kind >= YELUNNAVI_VERDICT_TOO_LONG) put_name(reply.link, reply.port);
+    if (reply.kind == YELUNNAVI_VERDICT_SAMPLED) put(" "), put_number(reply.number);
     put("\n");
 }
 

@@ -1,16 +1,9 @@
 /* play CONFIG A B [AT]: plays two traces as afdx_play does, and prints the same lines, the report's too. */
-#include "yelunnavi.h"
+#include "yelunnavi_words.h"
 #include "trace.h"
 
 #include <inttypes.h>
 #include <string.h>
-
-static const char *const WORDS[] = {"", "out-of-sequence", "redundant", "bad-header", "bad-fragment", "fragment-held", "bad-udp",
-    "no-port", "too-long", "fragmented-sample", "sampled", "queued", "overflow", "exhausted"};
-static const char *const CAUSES[] = {"", "too-short", "too-long", "not-ip", "foreign-constant", "unknown-link"};
-static const char *const FAULTS[] = {"", "version", "header-length", "total-length", "checksum", "protocol"};
-
-enum { BAD_HEADER = 3, NAMES_A_PORT = 8, SAMPLED = 10, MOST_LINKS = 64, MOST_PORTS = 32, MOST_MESSAGES = 64, READERS = 8 };
 
 /* The requests of pool.c. */
 extern unsigned long pool_requests;
@@ -22,8 +15,8 @@ static struct yelunnavi_receiver receiver = {receiver_room};
 static struct end {
     _Alignas(8) unsigned char room[128];
     struct yelunnavi_port port;
-    char name[17];
-} ends[MOST_LINKS][MOST_PORTS];
+    char name[YELUNNAVI_LONGEST_NAME + 1];
+} ends[YELUNNAVI_MOST_LINKS][YELUNNAVI_MOST_PORTS];
 
 static void check(bool is_so, const char *what) {
     if (is_so) return;
@@ -34,7 +27,7 @@ static void check(bool is_so, const char *what) {
 /* Hands the end of a port out, into room of its own. */
 static void hand_out(size_t link, uint32_t port) {
     struct end *end = &ends[link][port];
-    uint8_t name[16];
+    uint8_t name[YELUNNAVI_LONGEST_NAME];
     check(yelunnavi_receiver_port(&receiver, link, port, &end->port, &name) == YELUNNAVI_DONE, "a port");
     memcpy(end->name, name, end->port.name_len);
     struct yelunnavi_place place;
@@ -42,13 +35,22 @@ static void hand_out(size_t link, uint32_t port) {
     check(place.link == link && place.port == port, "the place of a name");
     struct yelunnavi_reader reader = {end->room};
     struct yelunnavi_taker taker = {end->room};
-    if (end->port.service == 1) {
+    if (end->port.service == YELUNNAVI_SERVICE_SAMPLING) {
         yelunnavi_reader_init(end->room);
         check(yelunnavi_receiver_hand_reader(&receiver, &reader, name, end->port.name_len) == YELUNNAVI_DONE, "a reader");
     } else {
         yelunnavi_taker_init(end->room);
         check(yelunnavi_receiver_hand_taker(&receiver, &taker, name, end->port.name_len) == YELUNNAVI_DONE, "a taker");
     }
+}
+
+/* The fault of the configuration, as afdx_play words it, and where it stands. */
+static void show_fault(const struct yelunnavi_fault *fault) {
+    const char *key = yelunnavi_key_word(fault->key);
+    fprintf(stderr, "play: %s%s%s", yelunnavi_fault_before(fault->fault), key, yelunnavi_fault_after(fault->fault));
+    if (fault->level >= YELUNNAVI_LEVEL_LINK) fprintf(stderr, ", link %zu", fault->link);
+    if (fault->level == YELUNNAVI_LEVEL_PORT) fprintf(stderr, ", port %zu", fault->port);
+    fputc('\n', stderr);
 }
 
 static size_t open_all(const char *config, struct yelunnavi_link *of_links) {
@@ -58,9 +60,10 @@ static size_t open_all(const char *config, struct yelunnavi_link *of_links) {
     check(yelunnavi_receiver_room() <= sizeof receiver_room, "room for the receiver");
     check(yelunnavi_reader_room() <= sizeof ends[0][0].room && yelunnavi_taker_room() <= sizeof ends[0][0].room, "room for ends");
     yelunnavi_receiver_init(receiver.room);
-    uint32_t code = yelunnavi_receiver_open(&receiver, text, read_file(config, text, sizeof text), READERS, &fault);
-    if (code) fprintf(stderr, "play: code %" PRIu32 ", fault %" PRIu32 " of key %" PRIu32 ", link %zu, port %zu\n", code, fault.fault, fault.key, fault.link, fault.port);
-    check(code == YELUNNAVI_DONE, "the receiver isn't open");
+    size_t len = read_file(config, text, sizeof text);
+    uint32_t code = yelunnavi_receiver_open(&receiver, text, len, YELUNNAVI_MOST_READERS, &fault);
+    if (code == YELUNNAVI_FAULTY) show_fault(&fault);
+    check(code == YELUNNAVI_DONE, yelunnavi_code_word(code));
     check(yelunnavi_receiver_links(&receiver, &links) == YELUNNAVI_DONE, "links");
     for (size_t link = 0; link < links; link++) {
         check(yelunnavi_receiver_link(&receiver, link, &of_links[link]) == YELUNNAVI_DONE, "a link");
@@ -73,15 +76,13 @@ static void show_frame(int net, const struct frame *frame) {
     struct yelunnavi_frame reply;
     uint32_t code = yelunnavi_receiver_receive(&receiver, (uint32_t)net, frame->time, frame->octets, frame->len, &reply);
     check(code == YELUNNAVI_DONE, "receive");
-    printf("%" PRIu64 " %c ", frame->time, "AB"[net]);
-    if (reply.kind == 0) {
-        printf("filtered %s\n", CAUSES[reply.cause]);
-        return;
-    }
-    printf("vl %" PRIu32 " %" PRIu64 " %s", reply.vl, reply.place, WORDS[reply.kind]);
-    if (reply.kind == BAD_HEADER) printf(" %s", FAULTS[reply.cause]);
-    if (reply.kind >= NAMES_A_PORT) printf(" %s", ends[reply.link][reply.port].name);
-    if (reply.kind == SAMPLED) printf(" %" PRIu64, reply.number);
+    printf("%" PRIu64 " %s", frame->time, yelunnavi_network_word((uint32_t)net));
+    if (reply.kind != YELUNNAVI_VERDICT_FILTERED) printf(" vl %" PRIu32 " %" PRIu64, reply.vl, reply.place);
+    printf(" %s", yelunnavi_verdict_word(reply.kind));
+    if (reply.kind == YELUNNAVI_VERDICT_FILTERED) printf(" %s", yelunnavi_filter_word(reply.cause));
+    if (reply.kind == YELUNNAVI_VERDICT_BAD_HEADER) printf(" %s", yelunnavi_header_word(reply.cause));
+    if (reply.kind >= YELUNNAVI_VERDICT_TOO_LONG) printf(" %s", ends[reply.link][reply.port].name);
+    if (reply.kind == YELUNNAVI_VERDICT_SAMPLED) printf(" %" PRIu64, reply.number);
     putchar('\n');
 }
 
@@ -94,7 +95,7 @@ static void show_octets(const uint8_t *octets, size_t len) {
 
 /* Reads a sampling port, and holds its message: both find the same. */
 static void show_sampling(struct end *end, uint64_t at) {
-    static uint8_t out[1471], held[1471];
+    static uint8_t out[YELUNNAVI_LONGEST_SAMPLE], held[YELUNNAVI_LONGEST_SAMPLE];
     struct yelunnavi_reader reader = {end->room};
     struct yelunnavi_read found, again;
     check(yelunnavi_reader_read(&reader, at, out, sizeof out, &found) == YELUNNAVI_DONE, "read");
@@ -111,11 +112,11 @@ static void show_sampling(struct end *end, uint64_t at) {
 }
 
 static void show_queue(struct end *end) {
-    static uint8_t out[MOST_MESSAGES][8192];
+    static uint8_t out[YELUNNAVI_DEEPEST_QUEUE][YELUNNAVI_LONGEST_QUEUED];
     struct yelunnavi_taker taker = {end->room};
-    struct yelunnavi_taken taken[MOST_MESSAGES];
+    struct yelunnavi_taken taken[YELUNNAVI_DEEPEST_QUEUE];
     size_t count = 0;
-    while (count < MOST_MESSAGES) {
+    while (count < YELUNNAVI_DEEPEST_QUEUE) {
         check(yelunnavi_taker_take(&taker, out[count], sizeof out[count], &taken[count]) == YELUNNAVI_DONE, "take");
         if (!taken[count].found) break;
         count++;
@@ -130,23 +131,27 @@ static void show_queue(struct end *end) {
 static void show_counts(size_t links, const struct yelunnavi_link *of_links) {
     uint64_t count = 0;
     for (size_t link = 0; link < links; link++)
-        for (uint32_t net = 0; net < 2; net++) {
-            printf("count %" PRIu32 " %c", of_links[link].vl, "AB"[net]);
-            for (uint32_t kind = 1; yelunnavi_receiver_count(&receiver, link, net, kind, &count) == YELUNNAVI_DONE; kind++)
+        for (uint32_t net = YELUNNAVI_A; net <= YELUNNAVI_B; net++) {
+            printf("count %" PRIu32 " %s", of_links[link].vl, yelunnavi_network_word(net));
+            for (uint32_t kind = YELUNNAVI_VERDICT_OUT_OF_SEQUENCE; kind <= YELUNNAVI_VERDICT_EXHAUSTED; kind++) {
+                check(yelunnavi_receiver_count(&receiver, link, net, kind, &count) == YELUNNAVI_DONE, "a count");
                 printf(" %" PRIu64, count);
+            }
             putchar('\n');
         }
-    for (uint32_t net = 0; net < 2; net++) {
-        printf("filtered %c", "AB"[net]);
-        for (uint32_t cause = 1; yelunnavi_receiver_filtered(&receiver, net, cause, &count) == YELUNNAVI_DONE; cause++)
+    for (uint32_t net = YELUNNAVI_A; net <= YELUNNAVI_B; net++) {
+        printf("filtered %s", yelunnavi_network_word(net));
+        for (uint32_t cause = YELUNNAVI_FILTER_TOO_SHORT; cause <= YELUNNAVI_FILTER_UNKNOWN_LINK; cause++) {
+            check(yelunnavi_receiver_filtered(&receiver, net, cause, &count) == YELUNNAVI_DONE, "a count of filtered frames");
             printf(" %" PRIu64, count);
+        }
         putchar('\n');
     }
 }
 
 int main(int argc, char **argv) {
     static struct traces traces;
-    struct yelunnavi_link of_links[MOST_LINKS];
+    struct yelunnavi_link of_links[YELUNNAVI_MOST_LINKS];
     if (argc < 4 || !open_traces(&traces, argv[2], argv[3])) {
         fputs("play CONFIG A B [AT]\n", stderr);
         return 2;
@@ -162,7 +167,7 @@ int main(int argc, char **argv) {
     for (size_t link = 0; link < links; link++)
         for (uint32_t port = 0; port < of_links[link].ports; port++) {
             struct end *end = &ends[link][port];
-            if (end->port.service == 1) show_sampling(end, at); else show_queue(end);
+            if (end->port.service == YELUNNAVI_SERVICE_SAMPLING) show_sampling(end, at); else show_queue(end);
         }
     show_counts(links, of_links);
     check(pool_requests == requests, "memory was asked for after the opening");

@@ -1,6 +1,7 @@
 /* Memory for yelunnavi_receiver_open from a static pool, in the place of malloc. Nothing is given back: a program opens its
-   receiver once, and keeps it. Each page that is given is written to at once: an operating system may bring a page in only
-   when it is first touched, and then that is done with at the opening, and not in the midst of a receive. */
+   receiver once, and keeps it; any thread may close, one at a time opens. Each page that is given is written to at once: an
+   operating system may bring a page in only when it is first touched, and then that is done with at the opening, and not in
+   the midst of a receive. */
 #include "yelunnavi.h"
 #include <string.h>
 

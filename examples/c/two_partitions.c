@@ -11,7 +11,7 @@
 #include <string.h>
 
 /* One partition reads. */
-enum { READERS = 1, SAMPLED = 10, QUEUED = 11 };
+enum { READERS = 1 };
 
 static _Alignas(8) unsigned char receiver_room[4096], pos_room[128], nav_room[128];
 static struct yelunnavi_receiver receiver = {receiver_room};
@@ -23,7 +23,7 @@ static uint64_t newest, taken;
 
 /* Reads the newest message at each of its turns. Its clock is that of the arrival times: here, the newest of them. */
 static void *read_pos(void *unused) {
-    uint8_t out[1471];
+    uint8_t out[YELUNNAVI_LONGEST_SAMPLE];
     struct yelunnavi_read read = {0};
     for (bool is_last = false; !is_last;) {
         is_last = atomic_load(&is_over);
@@ -36,7 +36,7 @@ static void *read_pos(void *unused) {
 
 /* Takes what waits at each of its turns. */
 static void *take_nav(void *unused) {
-    uint8_t out[8192];
+    uint8_t out[YELUNNAVI_LONGEST_QUEUED];
     struct yelunnavi_taken message = {0};
     for (bool is_last = false; !is_last;) {
         is_last = atomic_load(&is_over);
@@ -80,8 +80,8 @@ int main(int argc, char **argv) {
     for (int net; (net = next_network(&traces)) >= 0; read_frame(traces.files[net], &traces.next[net])) {
         const struct frame *frame = &traces.next[net];
         yelunnavi_receiver_receive(&receiver, (uint32_t)net, frame->time, frame->octets, frame->len, &reply);
-        sampled += is_at(&reply, SAMPLED, &pos_place);
-        queued += is_at(&reply, QUEUED, &nav_place);
+        sampled += is_at(&reply, YELUNNAVI_VERDICT_SAMPLED, &pos_place);
+        queued += is_at(&reply, YELUNNAVI_VERDICT_QUEUED, &nav_place);
     }
     atomic_store(&is_over, true);
     for (int k = 0; k < 2; k++) pthread_join(threads[k], NULL);

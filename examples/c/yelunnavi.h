@@ -4,7 +4,7 @@
    a queuing port, the end of its queue from which messages are taken. Readers and takers are handed out of a receiver, by
    the names of their ports, into slots of their own.
 
-   Static room:   static _Alignas(8) unsigned char room[4096];
+   Static room:   static uint64_t room[64];
                   struct yelunnavi_receiver receiver = {room};
                   if (yelunnavi_receiver_room() > sizeof room) ...;
                   yelunnavi_receiver_init(room);
@@ -20,54 +20,64 @@
    memmove and memset, and nothing else: no operating system, no C library's start-up. It never prints, never ends the
    process, and has no state of its own outside of the rooms and of what it asked for.
 
+   MEMORY AND THREADS. Each .._close gives memory back, on the thread that calls it. So where several threads close their handles,
+   or one opens another receiver meanwhile, the three functions are called by several threads at once. malloc and free are made
+   for that; a list of free blocks of the program's own needs a lock, or all is opened and closed by one task.
+
    TOUCHED MEMORY. The opening doesn't write to all that it asks for. An operating system may bring a page of memory in only
    when it is first touched: with such memory a receive that comes to a new page, of a queue or of a datagram in pieces, takes
    as long as that needs, many times what the rest of the call takes. So the three functions had better write to each page
    that they give, as examples/c/pool.c does. Where pages may be taken out again the program locks them too (mlockall).
 
+   AFTER A CLOSE the room holds nothing: it may be given up, or used again for a handle of the same kind, without .._init. Ends
+   live on when their receiver is closed, and a second opening doesn't reach them: an old reader finds the last message of the
+   old receiver for ever, with `valid` 0 once it is too old, and an old taker what is left in its queue. So close them too, and
+   hand out new ones. An end that is closed doesn't come back: the queue of a closed taker fills up, and then overflows for good.
+
+   STACK. An opening takes up to 20 KiB if the text is a configuration with no keys but its own, and up to 56 KiB if it isn't
+   one for a fault at its end. Other keys whose values are nested take more: 2.6 MB for 80 levels of tables, each by a key of
+   80 parts, the most that is read. So a task with a short stack opens no text of a stranger's. Every other call takes up to
+   1 KiB. What the program's own functions take comes on top (docs/EMBEDDING.md has each call).
+
+   REGISTERS. The library uses the vector registers of its processor (SSE2, Advanced SIMD), in a receive and in nearly every
+   other call: a task or an interrupt handler that may not use them may not call it.
+
    ANSWERS. Each call but room, init and close answers a code, YELUNNAVI_DONE or why nothing was done. After any other
-   code what the call was passed is as it was (of hand_reader and hand_taker see there).
+   code what the call was passed is as it was, but for the fault that FAULTY tells.
 
    WHAT NOTHING CHECKS, and what is undefined where it is not kept:
    - The room of a handle has as many octets as its .._room() says, is aligned to 8, and is of no other handle. Its
-     .._init was called once, before any other call. The program neither reads nor writes it, nor changes the handle.
-   - One call at a time is made on a handle.
+     .._init was called once, before any other call. The program neither reads, writes nor moves it, nor changes the handle.
+   - One call at a time is made on a handle: no interrupt handler makes another one in its midst.
    - No pointer is null, also where a length is 0; each reaches as many octets as the length after it says, or its type.
    - No two things that a call is passed overlap, nor does one reach into a room; no handle is passed twice.
    - What a frame or a text has doesn't change during a call.
    - Arrival times and the `now` of reads and holds are of one clock.
    - The three functions for memory do what is said there.
 
-   TIMES are in microseconds, lengths in octets, places from 0. A count stops at 2^64 - 1. Targets: x86-64 and aarch64. */
+   TIMES are in microseconds, lengths in octets, places from 0. A count stops at 2^64 - 1. Targets: x86-64 and aarch64, both
+   little-endian. */
 #ifndef YELUNNAVI_H
 #define YELUNNAVI_H
 #include <stdbool.h>
 #include <stddef.h>
 #include <stdint.h>
 
+#if defined(__BYTE_ORDER__) && __BYTE_ORDER__ != __ORDER_LITTLE_ENDIAN__
+#error "the library is for little-endian machines"
+#endif
+
 #ifdef __cplusplus
 extern "C" {
 #endif
 
-/* ---- handles: where the room is */
+/* Refused by the compiler of a machine that isn't of 64 bits. */
+typedef char yelunnavi_is_of_64_bits[sizeof(size_t) == 8 && sizeof(void *) == 8 ? 1 : -1];
 
-struct yelunnavi_receiver { void *room; };
-struct yelunnavi_reader { void *room; };
-struct yelunnavi_taker { void *room; };
+/* ---- numbers by their names: calls pass and tell them as uint32_t. yelunnavi_words.h has a word for each */
 
-/* How many octets of room a slot takes. */
-size_t yelunnavi_receiver_room(void);
-size_t yelunnavi_reader_room(void);
-size_t yelunnavi_taker_room(void);
-
-/* Makes a slot in which nothing is open. */
-void yelunnavi_receiver_init(void *room);
-void yelunnavi_reader_init(void *room);
-void yelunnavi_taker_init(void *room);
-
-/* ---- what a call answers */
-
-enum {
+/* What a call answers. */
+enum yelunnavi_code {
     YELUNNAVI_DONE = 0,         /* what was asked was done */
     YELUNNAVI_NOT_OPEN = 1,     /* nothing is open in the slot */
     YELUNNAVI_ALREADY_OPEN = 2, /* something is open already in the slot that is to be opened, or to get an end */
@@ -85,19 +95,118 @@ enum {
 };
 
 /* The networks. */
-enum { YELUNNAVI_A = 0, YELUNNAVI_B = 1 };
+enum yelunnavi_network { YELUNNAVI_A = 0, YELUNNAVI_B = 1 };
+
+/* What became of a frame: the kind of its verdict, in the order in which it is tested. Those from TOO_LONG on name a port. */
+enum yelunnavi_verdict {
+    YELUNNAVI_VERDICT_FILTERED = 0,          /* no verdict: it came to no link */
+    YELUNNAVI_VERDICT_OUT_OF_SEQUENCE = 1,   /* integrity checking refuses its sequence number */
+    YELUNNAVI_VERDICT_REDUNDANT = 2,         /* redundancy management doesn't forward it */
+    YELUNNAVI_VERDICT_BAD_HEADER = 3,        /* its IPv4 header has a fault */
+    YELUNNAVI_VERDICT_BAD_FRAGMENT = 4,      /* it is a fragment, and no piece of a datagram */
+    YELUNNAVI_VERDICT_FRAGMENT_HELD = 5,     /* it is a fragment of a datagram that isn't complete */
+    YELUNNAVI_VERDICT_BAD_UDP = 6,           /* its UDP header has a fault */
+    YELUNNAVI_VERDICT_NO_PORT = 7,           /* no port takes its datagram */
+    YELUNNAVI_VERDICT_TOO_LONG = 8,          /* its message is longer than its port takes */
+    YELUNNAVI_VERDICT_FRAGMENTED_SAMPLE = 9, /* its datagram was joined of fragments, and its port samples */
+    YELUNNAVI_VERDICT_SAMPLED = 10,          /* its message is the newest one of its sampling port */
+    YELUNNAVI_VERDICT_QUEUED = 11,           /* its message stands in the queue of its port */
+    YELUNNAVI_VERDICT_OVERFLOW = 12,         /* the queue of its port had no room: its message is lost */
+    YELUNNAVI_VERDICT_EXHAUSTED = 13         /* its sampling port has used up its message numbers */
+};
+
+/* Why a frame was filtered, in the order in which it is tested. */
+enum yelunnavi_filter_cause {
+    YELUNNAVI_FILTER_TOO_SHORT = 1,        /* below 60 octets */
+    YELUNNAVI_FILTER_TOO_LONG = 2,         /* above 1,514 octets */
+    YELUNNAVI_FILTER_NOT_IP = 3,           /* another EtherType than that of IPv4 */
+    YELUNNAVI_FILTER_FOREIGN_CONSTANT = 4, /* another constant field than that of the configuration */
+    YELUNNAVI_FILTER_UNKNOWN_LINK = 5      /* no link of the configuration has its link number */
+};
+
+/* The fault of a bad IPv4 header, in the order in which it is tested. */
+enum yelunnavi_header_fault {
+    YELUNNAVI_BAD_VERSION = 1,
+    YELUNNAVI_BAD_HEADER_LENGTH = 2,
+    YELUNNAVI_BAD_TOTAL_LENGTH = 3,
+    YELUNNAVI_BAD_CHECKSUM = 4,
+    YELUNNAVI_BAD_PROTOCOL = 5
+};
+
+/* The fault of a configuration. */
+enum yelunnavi_config_fault {
+    YELUNNAVI_FAULT_TEXT = 1,        /* the text isn't TOML */
+    YELUNNAVI_FAULT_MISSING = 2,     /* a key is missing */
+    YELUNNAVI_FAULT_KIND = 3,        /* the value of a key has another kind, as a text in place of an integer */
+    YELUNNAVI_FAULT_RANGE = 4,       /* the value of a key is out of range */
+    YELUNNAVI_FAULT_DOUBLE_LINK = 5, /* two links have one link number */
+    YELUNNAVI_FAULT_DOUBLE_PORT = 6, /* two ports of a link have one address and UDP port */
+    YELUNNAVI_FAULT_DOUBLE_NAME = 7, /* two ports have one name */
+    YELUNNAVI_FAULT_TOO_MANY = 8     /* too many links, or too many ports at a link */
+};
+
+/* The keys of a configuration. */
+enum yelunnavi_key {
+    YELUNNAVI_KEY_NONE = 0,
+    YELUNNAVI_KEY_CONSTANT = 1,
+    YELUNNAVI_KEY_LINK = 2,
+    YELUNNAVI_KEY_VL = 3,
+    YELUNNAVI_KEY_SKEW_MAX_US = 4,
+    YELUNNAVI_KEY_REDUNDANCY = 5,
+    YELUNNAVI_KEY_REASSEMBLY_US = 6,
+    YELUNNAVI_KEY_WINDOW = 7,
+    YELUNNAVI_KEY_PORT = 8,
+    YELUNNAVI_KEY_NAME = 9,
+    YELUNNAVI_KEY_KIND = 10,
+    YELUNNAVI_KEY_ADDRESS = 11,
+    YELUNNAVI_KEY_UDP = 12,
+    YELUNNAVI_KEY_MAX = 13,
+    YELUNNAVI_KEY_REFRESH_US = 14,
+    YELUNNAVI_KEY_DEPTH = 15
+};
+
+/* What a fault of a configuration is about. */
+enum yelunnavi_level { YELUNNAVI_LEVEL_DOCUMENT = 0, YELUNNAVI_LEVEL_LINK = 1, YELUNNAVI_LEVEL_PORT = 2 };
+
+/* The services of ports. */
+enum yelunnavi_service { YELUNNAVI_SERVICE_SAMPLING = 1, YELUNNAVI_SERVICE_QUEUING = 2 };
+
+/* Bounds, for room of the program's. */
+enum yelunnavi_bound {
+    YELUNNAVI_MOST_LINKS = 64,
+    YELUNNAVI_MOST_PORTS = 32,       /* of a link */
+    YELUNNAVI_MOST_READERS = 8,      /* of a sampling port */
+    YELUNNAVI_LONGEST_NAME = 16,     /* octets of the name of a port */
+    YELUNNAVI_LONGEST_SAMPLE = 1471, /* octets of a message of a sampling port */
+    YELUNNAVI_LONGEST_QUEUED = 8192, /* octets of a message of a queuing port */
+    YELUNNAVI_DEEPEST_QUEUE = 64     /* messages that wait in a queue */
+};
+
+/* ---- handles: where the room is */
+
+struct yelunnavi_receiver { void *room; };
+struct yelunnavi_reader { void *room; };
+struct yelunnavi_taker { void *room; };
+
+/* How many octets of room a slot takes. */
+size_t yelunnavi_receiver_room(void);
+size_t yelunnavi_reader_room(void);
+size_t yelunnavi_taker_room(void);
+
+/* Makes a slot in which nothing is open. */
+void yelunnavi_receiver_init(void *room);
+void yelunnavi_reader_init(void *room);
+void yelunnavi_taker_init(void *room);
 
 /* ---- the receiver: open and close */
 
 /* The first fault of a configuration, in the order in which its keys are tested. */
 struct yelunnavi_fault {
-    uint32_t fault; /* 1: not TOML. 2: a key is missing. 3: its value has another kind. 4: it is out of range. 5: a link
-                       is given twice. 6: a port, by address and UDP port. 7: a name. 8: too many links or ports */
-    uint32_t key;   /* with 2, 3 and 4: 1 constant, 2 link, 3 vl, 4 skew_max_us, 5 redundancy, 6 reassembly_us, 7 window,
-                       8 port, 9 name, 10 kind, 11 address, 12 udp, 13 max, 14 refresh_us, 15 depth; else 0 */
-    uint32_t level; /* 0: it is about no link. 1: about a link. 2: about a port */
-    size_t link;    /* with 1 and 2: the place of the link in the document */
-    size_t port;    /* with 2: the place of the port in the link */
+    uint32_t fault; /* enum yelunnavi_config_fault */
+    uint32_t key;   /* enum yelunnavi_key, with MISSING, KIND and RANGE; else KEY_NONE */
+    uint32_t level; /* enum yelunnavi_level */
+    size_t link;    /* LEVEL_LINK and LEVEL_PORT: the place of the link in the document */
+    size_t port;    /* LEVEL_PORT: the place of the port in the link */
 };
 
 /* Opens the receiver of a configuration: a TOML text, as docs/FORMATS.md says, `len` octets without a 0 after them. It is
@@ -108,22 +217,20 @@ struct yelunnavi_fault {
 uint32_t yelunnavi_receiver_open(struct yelunnavi_receiver *h, const uint8_t *text, size_t len, size_t readers,
                                  struct yelunnavi_fault *fault);
 
-/* Gives the receiver away, if one is open. Ends that were handed out live on: a reader finds what was published before. */
+/* Gives the receiver away, if one is open. Ends that were handed out live on: see AFTER A CLOSE. */
 void yelunnavi_receiver_close(struct yelunnavi_receiver *h);
 
 /* ---- the receiver: frames */
 
 struct yelunnavi_frame {
-    uint32_t kind;   /* 0: filtered. Else the kind of its verdict: 1 out of sequence, 2 redundant, 3 bad header, 4 bad
-                        fragment, 5 fragment held, 6 bad UDP, 7 no port, 8 too long, 9 fragmented sample, 10 sampled,
-                        11 queued, 12 overflow, 13 exhausted */
-    uint32_t cause;  /* filtered: 1 too short, 2 too long, 3 not IPv4, 4 foreign constant field, 5 unknown link. Bad header:
-                        1 version, 2 header length, 3 total length, 4 checksum, 5 protocol. Else 0 */
+    uint32_t kind;   /* enum yelunnavi_verdict */
+    uint32_t cause;  /* with VERDICT_FILTERED enum yelunnavi_filter_cause, with VERDICT_BAD_HEADER enum
+                        yelunnavi_header_fault, else 0 */
     size_t link;     /* the place of its link in the configuration */
     uint32_t vl;     /* its link number */
-    uint32_t port;   /* kinds 8 to 13: the place of its port in the link */
+    uint32_t port;   /* VERDICT_TOO_LONG and those after it: the place of its port in the link */
     uint64_t place;  /* how many frames of the link came before it */
-    uint64_t number; /* sampled: the number of its message, from 1 */
+    uint64_t number; /* VERDICT_SAMPLED: the number of its message, from 1 */
 };
 
 /* Takes a frame that came on a network at `now`, without its check sequence; of any length and content. `reply` says what
@@ -132,11 +239,11 @@ struct yelunnavi_frame {
 uint32_t yelunnavi_receiver_receive(struct yelunnavi_receiver *h, uint32_t net, uint64_t now, const uint8_t *frame, size_t len,
                                     struct yelunnavi_frame *reply);
 
-/* Tells how many frames of the link at this place came on this network with a verdict of this kind, 1 to 13. NOT_OPEN,
-   NO_NETWORK, NO_KIND, NO_PLACE, tested in this order. */
+/* Tells how many frames of the link at this place came on this network with a verdict of this kind; VERDICT_FILTERED is none.
+   NOT_OPEN, NO_NETWORK, NO_KIND, NO_PLACE, tested in this order. */
 uint32_t yelunnavi_receiver_count(struct yelunnavi_receiver *h, size_t link, uint32_t net, uint32_t kind, uint64_t *count);
 
-/* Tells how many frames were filtered on this network for this cause, 1 to 5. NOT_OPEN, NO_NETWORK, NO_KIND. */
+/* Tells how many frames were filtered on this network for this cause. NOT_OPEN, NO_NETWORK, NO_KIND. */
 uint32_t yelunnavi_receiver_filtered(struct yelunnavi_receiver *h, uint32_t net, uint32_t cause, uint64_t *count);
 
 /* ---- the receiver: links and ports */
@@ -147,7 +254,7 @@ struct yelunnavi_link {
 };
 
 struct yelunnavi_port {
-    uint32_t service; /* 1: sampling. 2: queuing */
+    uint32_t service; /* enum yelunnavi_service */
     uint32_t address; /* the IPv4 address of its datagrams: the first octet is the most significant one */
     uint32_t udp;     /* their UDP port */
     uint32_t max;     /* the longest message: up to 1,471 of a sampling port, 8,192 of a queuing port */
@@ -241,7 +348,7 @@ struct rattle_tried {
     void *at; /* never null, with false too */
 };
 
-/* So many octets, aligned to `align`, which is at most 16. */
+/* So many octets, aligned to `align`, which is at most 16. Several threads may call these at once: see MEMORY AND THREADS. */
 struct rattle_tried rattle_alloc(size_t octets, size_t align);
 /* The same octets, of which the first `kept` count, with room for so many. With false nothing has changed. */
 struct rattle_tried rattle_realloc(void *at, size_t kept, size_t octets, size_t align);

@@ -2,20 +2,15 @@
 //! the ports. Memory is the standard library's.
 use std::alloc::{Layout, alloc, dealloc, realloc};
 use std::ffi::c_void;
-use yelunnavi::{Frame, Reader, ReaderRoom, Receiver, ReceiverRoom, Taker, TakerRoom};
+use yelunnavi::{
+    Frame, LONGEST_SAMPLE, Network, Reader, ReaderRoom, Receiver, ReceiverRoom, Service, Taker, TakerRoom, Verdict,
+};
 
 #[repr(C)]
 pub struct Tried {
     ok: bool,
     at: *mut c_void,
 }
-
-const WORDS: [&str; 14] = [
-    "", "out-of-sequence", "redundant", "bad-header", "bad-fragment", "fragment-held", "bad-udp", "no-port", "too-long",
-    "fragmented-sample", "sampled", "queued", "overflow", "exhausted",
-];
-const CAUSES: [&str; 6] = ["", "too-short", "too-long", "not-ip", "foreign-constant", "unknown-link"];
-const FAULTS: [&str; 6] = ["", "version", "header-length", "total-length", "checksum", "protocol"];
 
 /// Each sampling port is read by one reader.
 const READERS: usize = 1;
@@ -55,13 +50,13 @@ pub unsafe extern "C" fn rattle_dealloc(at: *mut c_void) {
 }
 
 /// The frames of a trace of this network.
-fn frames(net: u32, path: &str) -> Vec<(u64, u32, Vec<u8>)> {
+fn frames(net: Network, path: &str) -> Vec<(u64, Network, Vec<u8>)> {
     let text = std::fs::read_to_string(path).unwrap();
     let lines = text.lines().filter(|line| !line.is_empty() && !line.starts_with('#'));
     lines.map(|line| frame(net, line)).collect()
 }
 
-fn frame(net: u32, line: &str) -> (u64, u32, Vec<u8>) {
+fn frame(net: Network, line: &str) -> (u64, Network, Vec<u8>) {
     let (time, digits) = line.split_once(' ').unwrap();
     let octet = |at: usize| u8::from_str_radix(&digits[at..at + 2], 16).unwrap();
     (time.parse().unwrap(), net, (0..digits.len()).step_by(2).map(octet).collect())
@@ -72,22 +67,26 @@ fn show_octets(octets: &[u8]) {
     println!("{}{digits}", if octets.is_empty() { "" } else { " " });
 }
 
-fn show_frame(time: u64, net: u32, reply: &Frame, name: &str) {
-    print!("{time} {} ", ["A", "B"][net as usize]);
-    if reply.kind == 0 {
-        return println!("filtered {}", CAUSES[reply.cause as usize]);
+fn show_frame(time: u64, net: Network, reply: &Frame, name: &str) {
+    print!("{time} {}", net.word());
+    if reply.kind != Verdict::FILTERED {
+        print!(" vl {} {}", reply.vl, reply.place);
     }
-    print!("vl {} {} {}", reply.vl, reply.place, WORDS[reply.kind as usize]);
-    match reply.kind {
-        3 => println!(" {}", FAULTS[reply.cause as usize]),
-        10 => println!(" {name} {}", reply.number),
-        8.. => println!(" {name}"),
-        _ => println!(),
+    print!(" {}", reply.kind.word());
+    if let Some(cause) = reply.cause_word() {
+        print!(" {cause}");
     }
+    if reply.kind.names_port() {
+        print!(" {name}");
+    }
+    if reply.kind == Verdict::SAMPLED {
+        print!(" {}", reply.number);
+    }
+    println!();
 }
 
 fn show_sampling(reader: &mut Reader, name: &str, now: u64) {
-    let mut out = [0; 1471];
+    let mut out = [0; LONGEST_SAMPLE];
     let read = reader.read(now, &mut out).unwrap();
     if read.found != 1 {
         return println!("port {name} sampling empty");
@@ -111,7 +110,7 @@ fn show_queue(taker: &mut Taker, name: &str) {
 }
 
 /// The names and services of all ports of a link.
-fn ports(receiver: &mut Receiver, link: usize) -> Vec<(String, u32)> {
+fn ports(receiver: &mut Receiver, link: usize) -> Vec<(String, Service)> {
     let count = receiver.link(link).unwrap().ports;
     let port = |at| receiver.port(link, at).unwrap();
     let named = |(port, name): (yelunnavi::Port, [u8; 16])| (String::from_utf8_lossy(&name[..port.name_len]).into(), port.service);
@@ -122,10 +121,12 @@ fn main() {
     let words: Vec<String> = std::env::args().collect();
     let mut room = ReceiverRoom::new();
     let mut receiver = Receiver::new(&mut room).expect("room");
-    receiver.open(&std::fs::read(&words[1]).unwrap(), READERS).expect("a configuration");
+    if let Err((code, fault)) = receiver.open(&std::fs::read(&words[1]).unwrap(), READERS) {
+        panic!("{}: {fault}, link {}, port {}", code.word(), fault.link, fault.port);
+    }
     let links: Vec<_> = (0..receiver.links().unwrap()).map(|link| ports(&mut receiver, link)).collect();
-    let mut all = [frames(0, &words[2]), frames(1, &words[3])].concat();
-    all.sort_by_key(|(time, net, _)| (*time, *net));
+    let mut all = [frames(Network::A, &words[2]), frames(Network::B, &words[3])].concat();
+    all.sort_by_key(|(time, net, _)| (*time, net.0));
     for (time, net, octets) in &all {
         let reply = receiver.receive(*net, *time, octets).unwrap();
         let name = links[reply.link].get(reply.port as usize).map_or("", |(name, _)| name);
@@ -133,7 +134,7 @@ fn main() {
     }
     let now = all.last().map_or(0, |(time, _, _)| *time);
     for (name, service) in links.iter().flatten() {
-        if *service == 1 {
+        if *service == Service::SAMPLING {
             let mut room = ReaderRoom::new();
             let mut reader = Reader::new(&mut room).expect("room");
             receiver.hand_reader(&mut reader, name.as_bytes()).unwrap();

@@ -1,19 +1,107 @@
 //! The receiver for C, for Rust programs: a safe wrapper of one file over examples/c/yelunnavi.h, without the standard
 //! library. Its types keep what the header can only ask for: each handle has room of its own that is large enough and
 //! aligned, and stays where it is; a call has its handle alone (`&mut`); a handle may go to another thread, and isn't
-//! shared. What is left to the program are the three functions for memory (`rattle_alloc`, ..).
+//! shared. What is left to the program are the three functions for memory (`rattle_alloc`, ..), which several
+//! threads may call at once.
 #![no_std]
 
 use core::ffi::c_void;
+use core::fmt;
 
-pub const DONE: u32 = 0;
+macro_rules! numbers {
+    ($($(#[$doc:meta])* $name:ident { $($number:ident = $value:literal $word:literal),* $(,)? })*) => {
+        $($(#[$doc])* #[repr(transparent)] #[derive(Clone, Copy, Debug, Default, PartialEq, Eq)]
+        pub struct $name(pub u32);
 
-/// Why a call did nothing: one of the header's YELUNNAVI codes, from 1 on.
-#[derive(Clone, Copy, Debug, PartialEq, Eq)]
-pub struct Code(pub u32);
+        impl $name {
+            $(pub const $number: $name = $name($value);)*
 
-fn answer(code: u32) -> Result<(), Code> {
-    if code == DONE { Ok(()) } else { Err(Code(code)) }
+            /// The word that the player prints, or the number's name.
+            pub const fn word(self) -> &'static str {
+                match self.0 {
+                    $($value => $word,)*
+                    _ => "?",
+                }
+            }
+        })*
+    };
+}
+
+numbers! {
+    /// Why a call did nothing, or that it did what was asked: the header says when each comes.
+    Code {
+        DONE = 0 "done", NOT_OPEN = 1 "not-open", ALREADY_OPEN = 2 "already-open", FAULTY = 3 "faulty",
+        NO_MEMORY = 4 "no-memory", NO_NETWORK = 5 "no-network", NO_KIND = 6 "no-kind", NO_PLACE = 7 "no-place",
+        NO_NAME = 8 "no-name", NONE_LEFT = 9 "none-left", HOLDS_ONE = 10 "holds-one", HOLDS_NONE = 11 "holds-none",
+        OUT_OF_RANGE = 12 "out-of-range", TOO_SHORT = 13 "too-short",
+    }
+    /// A network.
+    Network {
+        A = 0 "A", B = 1 "B",
+    }
+    /// What became of a frame: the kind of its verdict. Those from TOO_LONG on name a port.
+    Verdict {
+        FILTERED = 0 "filtered", OUT_OF_SEQUENCE = 1 "out-of-sequence", REDUNDANT = 2 "redundant",
+        BAD_HEADER = 3 "bad-header", BAD_FRAGMENT = 4 "bad-fragment", FRAGMENT_HELD = 5 "fragment-held",
+        BAD_UDP = 6 "bad-udp", NO_PORT = 7 "no-port", TOO_LONG = 8 "too-long", FRAGMENTED_SAMPLE = 9 "fragmented-sample",
+        SAMPLED = 10 "sampled", QUEUED = 11 "queued", OVERFLOW = 12 "overflow", EXHAUSTED = 13 "exhausted",
+    }
+    /// Why a frame was filtered.
+    FilterCause {
+        TOO_SHORT = 1 "too-short", TOO_LONG = 2 "too-long", NOT_IP = 3 "not-ip", FOREIGN_CONSTANT = 4 "foreign-constant",
+        UNKNOWN_LINK = 5 "unknown-link",
+    }
+    /// The fault of a bad IPv4 header.
+    HeaderFault {
+        VERSION = 1 "version", HEADER_LENGTH = 2 "header-length", TOTAL_LENGTH = 3 "total-length", CHECKSUM = 4 "checksum",
+        PROTOCOL = 5 "protocol",
+    }
+    /// The fault of a configuration. `{}` in its words is its key.
+    ConfigFault {
+        TEXT = 1 "not TOML", MISSING = 2 "missing {}", KIND = 3 "wrong kind of {}", RANGE = 4 "{} out of range",
+        DOUBLE_LINK = 5 "link given twice", DOUBLE_PORT = 6 "port given twice", DOUBLE_NAME = 7 "name given twice",
+        TOO_MANY = 8 "too many links or ports",
+    }
+    /// A key of a configuration.
+    Key {
+        NONE = 0 "", CONSTANT = 1 "constant", LINK = 2 "link", VL = 3 "vl", SKEW_MAX_US = 4 "skew_max_us",
+        REDUNDANCY = 5 "redundancy", REASSEMBLY_US = 6 "reassembly_us", WINDOW = 7 "window", PORT = 8 "port",
+        NAME = 9 "name", KIND = 10 "kind", ADDRESS = 11 "address", UDP = 12 "udp", MAX = 13 "max",
+        REFRESH_US = 14 "refresh_us", DEPTH = 15 "depth",
+    }
+    /// What a fault of a configuration is about.
+    Level {
+        DOCUMENT = 0 "document", LINK = 1 "link", PORT = 2 "port",
+    }
+    /// The service of a port.
+    Service {
+        SAMPLING = 1 "sampling", QUEUING = 2 "queuing",
+    }
+}
+
+impl Verdict {
+    /// Whether the reply has the place of a port.
+    pub const fn names_port(self) -> bool {
+        self.0 >= Verdict::TOO_LONG.0
+    }
+}
+
+pub const MOST_LINKS: usize = 64;
+/// Of a link.
+pub const MOST_PORTS: usize = 32;
+/// Of a sampling port.
+pub const MOST_READERS: usize = 8;
+/// Octets of the name of a port.
+pub const LONGEST_NAME: usize = 16;
+/// Octets of a message of a sampling port.
+pub const LONGEST_SAMPLE: usize = 1471;
+/// Octets of a message of a queuing port.
+pub const LONGEST_QUEUED: usize = 8192;
+/// Messages that wait in a queue.
+pub const DEEPEST_QUEUE: usize = 64;
+
+fn answer(code: Code) -> Result<(), Code> {
+    if code == Code::DONE { Ok(()) } else { Err(code) }
 }
 
 macro_rules! replies {
@@ -25,9 +113,9 @@ macro_rules! replies {
 
 replies! {
     /// The first fault of a configuration.
-    Fault { fault: u32, key: u32, level: u32, link: usize, port: usize }
-    /// What became of a frame.
-    Frame { kind: u32, cause: u32, link: usize, vl: u32, port: u32, place: u64, number: u64 }
+    Fault { fault: ConfigFault, key: Key, level: Level, link: usize, port: usize }
+    /// What became of a frame. `cause` is a FilterCause of a filtered one, and a HeaderFault of one with a bad header.
+    Frame { kind: Verdict, cause: u32, link: usize, vl: u32, port: u32, place: u64, number: u64 }
     /// What a read or a hold found.
     Read { found: u32, valid: u32, number: u64, time: u64, len: usize }
     /// What was taken of a queue.
@@ -35,11 +123,31 @@ replies! {
     /// A link.
     Link { vl: u32, ports: usize }
     /// A port.
-    Port { service: u32, address: u32, udp: u32, max: u32, limit: u64, name_len: usize }
+    Port { service: Service, address: u32, udp: u32, max: u32, limit: u64, name_len: usize }
     /// Where a port is.
     Place { link: usize, port: u32 }
     /// What a partition has to know of its port.
     Limits { max: usize, refresh: u64 }
+}
+
+impl Frame {
+    /// The word of its cause, if it has one.
+    pub const fn cause_word(&self) -> Option<&'static str> {
+        match self.kind {
+            Verdict::FILTERED => Some(FilterCause(self.cause).word()),
+            Verdict::BAD_HEADER => Some(HeaderFault(self.cause).word()),
+            _ => None,
+        }
+    }
+}
+
+impl fmt::Display for Fault {
+    fn fmt(&self, f: &mut fmt::Formatter) -> fmt::Result {
+        match self.fault.word().split_once("{}") {
+            Some((before, after)) => write!(f, "{before}{}{after}", self.key.word()),
+            None => f.write_str(self.fault.word()),
+        }
+    }
 }
 
 /// Where the room is.
@@ -61,25 +169,25 @@ calls! {
     yelunnavi_receiver_init(room: *mut c_void);
     yelunnavi_reader_init(room: *mut c_void);
     yelunnavi_taker_init(room: *mut c_void);
-    yelunnavi_receiver_open(h: *mut Handle, text: *const u8, len: usize, readers: usize, fault: *mut Fault) -> u32;
+    yelunnavi_receiver_open(h: *mut Handle, text: *const u8, len: usize, readers: usize, fault: *mut Fault) -> Code;
     yelunnavi_receiver_close(h: *mut Handle);
-    yelunnavi_receiver_receive(h: *mut Handle, net: u32, now: u64, frame: *const u8, len: usize, reply: *mut Frame) -> u32;
-    yelunnavi_receiver_count(h: *mut Handle, link: usize, net: u32, kind: u32, count: *mut u64) -> u32;
-    yelunnavi_receiver_filtered(h: *mut Handle, net: u32, cause: u32, count: *mut u64) -> u32;
-    yelunnavi_receiver_links(h: *mut Handle, links: *mut usize) -> u32;
-    yelunnavi_receiver_link(h: *mut Handle, link: usize, reply: *mut Link) -> u32;
-    yelunnavi_receiver_port(h: *mut Handle, link: usize, port: usize, reply: *mut Port, name: *mut [u8; 16]) -> u32;
-    yelunnavi_receiver_place(h: *mut Handle, name: *const u8, len: usize, reply: *mut Place) -> u32;
-    yelunnavi_receiver_hand_reader(h: *mut Handle, to: *mut Handle, name: *const u8, len: usize) -> u32;
-    yelunnavi_receiver_hand_taker(h: *mut Handle, to: *mut Handle, name: *const u8, len: usize) -> u32;
-    yelunnavi_reader_read(h: *mut Handle, now: u64, out: *mut u8, len: usize, reply: *mut Read) -> u32;
-    yelunnavi_reader_hold(h: *mut Handle, now: u64, reply: *mut Read) -> u32;
-    yelunnavi_reader_copy(h: *mut Handle, first: usize, out: *mut u8, len: usize) -> u32;
-    yelunnavi_reader_release(h: *mut Handle) -> u32;
-    yelunnavi_reader_limits(h: *mut Handle, reply: *mut Limits) -> u32;
+    yelunnavi_receiver_receive(h: *mut Handle, net: Network, now: u64, frame: *const u8, len: usize, reply: *mut Frame) -> Code;
+    yelunnavi_receiver_count(h: *mut Handle, link: usize, net: Network, kind: Verdict, count: *mut u64) -> Code;
+    yelunnavi_receiver_filtered(h: *mut Handle, net: Network, cause: FilterCause, count: *mut u64) -> Code;
+    yelunnavi_receiver_links(h: *mut Handle, links: *mut usize) -> Code;
+    yelunnavi_receiver_link(h: *mut Handle, link: usize, reply: *mut Link) -> Code;
+    yelunnavi_receiver_port(h: *mut Handle, link: usize, port: usize, reply: *mut Port, name: *mut [u8; 16]) -> Code;
+    yelunnavi_receiver_place(h: *mut Handle, name: *const u8, len: usize, reply: *mut Place) -> Code;
+    yelunnavi_receiver_hand_reader(h: *mut Handle, to: *mut Handle, name: *const u8, len: usize) -> Code;
+    yelunnavi_receiver_hand_taker(h: *mut Handle, to: *mut Handle, name: *const u8, len: usize) -> Code;
+    yelunnavi_reader_read(h: *mut Handle, now: u64, out: *mut u8, len: usize, reply: *mut Read) -> Code;
+    yelunnavi_reader_hold(h: *mut Handle, now: u64, reply: *mut Read) -> Code;
+    yelunnavi_reader_copy(h: *mut Handle, first: usize, out: *mut u8, len: usize) -> Code;
+    yelunnavi_reader_release(h: *mut Handle) -> Code;
+    yelunnavi_reader_limits(h: *mut Handle, reply: *mut Limits) -> Code;
     yelunnavi_reader_close(h: *mut Handle);
-    yelunnavi_taker_take(h: *mut Handle, out: *mut u8, len: usize, reply: *mut Taken) -> u32;
-    yelunnavi_taker_longest(h: *mut Handle, max: *mut usize) -> u32;
+    yelunnavi_taker_take(h: *mut Handle, out: *mut u8, len: usize, reply: *mut Taken) -> Code;
+    yelunnavi_taker_longest(h: *mut Handle, max: *mut usize) -> Code;
     yelunnavi_taker_close(h: *mut Handle);
 }
 
@@ -141,7 +249,7 @@ slots! {
 }
 
 /// A reply, if the call did what was asked.
-fn told<T: Default>(call: impl FnOnce(*mut T) -> u32) -> Result<T, Code> {
+fn told<T: Default>(call: impl FnOnce(*mut T) -> Code) -> Result<T, Code> {
     let mut reply = T::default();
     answer(call(&mut reply)).map(|()| reply)
 }
@@ -154,16 +262,16 @@ impl Receiver<'_> {
             .map_err(|code| (code, fault))
     }
 
-    /// Takes a frame that came at `now`, in microseconds, on network 0, which is A, or 1, which is B.
-    pub fn receive(&mut self, net: u32, now: u64, frame: &[u8]) -> Result<Frame, Code> {
+    /// Takes a frame that came on a network at `now`, in microseconds.
+    pub fn receive(&mut self, net: Network, now: u64, frame: &[u8]) -> Result<Frame, Code> {
         told(|reply| unsafe { yelunnavi_receiver_receive(&mut self.handle, net, now, frame.as_ptr(), frame.len(), reply) })
     }
 
-    pub fn count(&mut self, link: usize, net: u32, kind: u32) -> Result<u64, Code> {
+    pub fn count(&mut self, link: usize, net: Network, kind: Verdict) -> Result<u64, Code> {
         told(|count| unsafe { yelunnavi_receiver_count(&mut self.handle, link, net, kind, count) })
     }
 
-    pub fn filtered(&mut self, net: u32, cause: u32) -> Result<u64, Code> {
+    pub fn filtered(&mut self, net: Network, cause: FilterCause) -> Result<u64, Code> {
         told(|count| unsafe { yelunnavi_receiver_filtered(&mut self.handle, net, cause, count) })
     }
 

@@ -1,0 +1,151 @@
+"""The faces of the library for C: checks/interface finds one difference that is planted in a copy."""
+import shutil
+import subprocess
+
+import pytest
+from conftest import ROOT
+
+from parts import faces
+
+C, WORDS, RUST, ADA = faces.C, faces.WORDS, faces.RUST, faces.ADA
+HANDLES = [faces.HANDLES.format(kind.lower()) for kind in faces.KINDS_OF_HANDLES]
+SOURCES = [faces.CALLS, *HANDLES, faces.REPLIES, faces.CODES, faces.NUMBERS, faces.FAULTS, *faces.BOUNDS]
+READ = [*SOURCES, C, WORDS, RUST, ADA]
+
+# A file, what stands there once, what is planted in its place, and what is told of it.
+PLANTED = [
+    # swapped fields
+    (C, "uint32_t address; /* the IPv4 address of its datagrams: the first octet is the most significant one */\n"
+        "    uint32_t udp; ",
+     "uint32_t udp; uint32_t address; ", "struct PortReply"),
+    (C, "size_t max;       /* the longest message of the port: an `out` of this length is always long enough */\n"
+        "    uint64_t refresh; /* its refresh period */", "uint64_t refresh; size_t max;", "struct LimitReply"),
+    (RUST, "address: u32, udp: u32", "udp: u32, address: u32", "struct PortReply"),
+    (ADA, "Service, Address, Udp, Max", "Service, Udp, Address, Max", "struct PortReply"),
+    (faces.REPLIES, "    pub number: u64,\n    /// When it came, in microseconds.\n    pub time: u64,",
+     "    pub time: u64,\n    pub number: u64,", "struct ReadReply"),
+    # wrong widths, of a field, of a parameter and of a result
+    (C, "uint32_t level;", "uint64_t level;", "struct FaultReply"),
+    (C, "uint32_t net, uint64_t now, const uint8_t *frame", "uint32_t net, uint32_t now, const uint8_t *frame",
+     "call yelunnavi_receiver_receive"),
+    (C, "uint32_t yelunnavi_reader_release(", "uint64_t yelunnavi_reader_release(", "call yelunnavi_reader_release"),
+    (RUST, "Taken { found: u32,", "Taken { found: u64,", "struct TakeReply"),
+    (RUST, "name: *mut [u8; 16]", "name: *mut [u8; 15]", "call yelunnavi_receiver_port"),
+    (RUST, "pub struct $name(pub u32);", "pub struct $name(pub u64);", "call yelunnavi_receiver_receive"),
+    (ADA, "Number, Time : Unsigned_64; Length", "Number, Time : Unsigned_32; Length", "struct ReadReply"),
+    (ADA, "is Octets (0 .. 15)", "is Octets (0 .. 16)", "call yelunnavi_receiver_port"),
+    (faces.REPLIES, "pub vl: u32,\n    /// How many ports", "pub vl: u64,\n    /// How many ports", "struct LinkReply"),
+    # missing, swapped and wrong parameters
+    (C, "size_t len, size_t readers,", "size_t len,", "call yelunnavi_receiver_open"),
+    (C, "size_t link, size_t port, struct yelunnavi_port *reply",
+     "size_t port, size_t link, struct yelunnavi_port *reply", "call yelunnavi_receiver_port"),
+    (C, "struct yelunnavi_reader *h, size_t first, uint8_t *out",
+     "struct yelunnavi_reader *h, size_t first, const uint8_t *out", "call yelunnavi_reader_copy"),
+    (C, "struct yelunnavi_taker *to", "struct yelunnavi_reader *to", "call yelunnavi_receiver_hand_taker"),
+    (RUST, "len: usize, readers: usize, fault", "len: usize, fault", "call yelunnavi_receiver_open"),
+    (RUST, "first: usize, out: *mut u8, len: usize)", "len: usize, out: *mut u8, first: usize)",
+     "call yelunnavi_reader_copy"),
+    (ADA, "Length, Readers : size_t", "Readers, Length : size_t", "call yelunnavi_receiver_open"),
+    (ADA, "(H : in out Reader; Now : Unsigned_64; Reply : in out Read_Reply)",
+     "(H : in out Reader; Reply : in out Read_Reply)", "call yelunnavi_reader_hold"),
+    (faces.CALLS, "first: usize, out: &mut [u8]) -> u32", "out: &mut [u8]) -> u32", "call yelunnavi_reader_copy"),
+    # calls that aren't there
+    (C, "void yelunnavi_taker_close(struct yelunnavi_taker *h);", "", "no call yelunnavi_taker_close"),
+    (RUST, "    yelunnavi_taker_close(h: *mut Handle);\n", "", "no call yelunnavi_taker_close"),
+    (ADA, 'External_Name => "yelunnavi_reader_hold"', 'External_Name => "yelunnavi_reader_held"',
+     "no call yelunnavi_reader_hold"),
+    (faces.CALLS, "fn yelunnavi_taker_longest", "fn yelunnavi_taker_most", "no call yelunnavi_taker_most"),
+    # changed, missing and other numbers
+    (C, "YELUNNAVI_NO_NAME = 8", "YELUNNAVI_NO_NAME = 9", "number YELUNNAVI_NO_NAME: 9; in the source: 8"),
+    (C, "YELUNNAVI_A = 0, YELUNNAVI_B = 1", "YELUNNAVI_B = 0, YELUNNAVI_A = 1", "number YELUNNAVI_A: 1"),
+    (C, "YELUNNAVI_TOO_SHORT = 13 ", "YELUNNAVI_TOO_SHORT_ = 13 ", "no number YELUNNAVI_TOO_SHORT"),
+    (C, "YELUNNAVI_VERDICT_SAMPLED = 10, ", "YELUNNAVI_VERDICT_SAMPLED = 11, ", "number YELUNNAVI_VERDICT_SAMPLED: 11"),
+    (C, "    YELUNNAVI_VERDICT_BAD_UDP = 6, ", "    YELUNNAVI_VERDICT_BAD_UDP = 6, YELUNNAVI_VERDICT_LOST = 14, ",
+     "number YELUNNAVI_VERDICT_LOST: the source has none"),
+    (C, "YELUNNAVI_BAD_VERSION = 1,", "YELUNNAVI_BAD_VERSION,", "number YELUNNAVI_BAD_VERSION: 0; in the source: 1"),
+    (C, "    YELUNNAVI_KEY_MAX = 13,\n", "", "no number YELUNNAVI_KEY_MAX"),
+    (C, "YELUNNAVI_LEVEL_LINK = 1, YELUNNAVI_LEVEL_PORT = 2", "YELUNNAVI_LEVEL_LINK = 2, YELUNNAVI_LEVEL_PORT = 1",
+     "number YELUNNAVI_LEVEL_LINK: 2"),
+    (C, "YELUNNAVI_LONGEST_SAMPLE = 1471,", "YELUNNAVI_LONGEST_SAMPLE = 1472,", "number YELUNNAVI_LONGEST_SAMPLE"),
+    (RUST, "FAULTY = 3", "FAULTY = 4", "number Code::FAULTY: 4"),
+    (RUST, ' HOLDS_NONE = 11 "holds-none",', "", "no number Code::HOLDS_NONE"),
+    (RUST, "SAMPLING = 1 ", "SAMPLING = 0 ", "number Service::SAMPLING: 0"),
+    (RUST, "DEEPEST_QUEUE: usize = 64", "DEEPEST_QUEUE: usize = 65", "number DEEPEST_QUEUE: 65"),
+    (RUST, "pub const MOST_LINKS: usize = 64;", "", "no number MOST_LINKS"),
+    (ADA, "Network_B : constant Unsigned_32 := 1;", "Network_B : constant Unsigned_32 := 2;", "number Network_B: 2"),
+    (ADA, "   Out_Of_Range : constant Code := 12;\n", "", "no number Out_Of_Range"),
+    (ADA, "Fault_Range : constant Unsigned_32 := 4;", "Fault_Range : constant Unsigned_32 := 3;", "number Fault_Range: 3"),
+    (ADA, "   Most_Readers : constant := 8;\n", "", "no number Most_Readers"),
+    (ADA, "   Bad_Checksum : constant Unsigned_32 := 4;\n", "", "no number Bad_Checksum"),
+    (faces.CODES, "TOO_SHORT: u32 = 13", "TOO_SHORT: u32 = 14", "number YELUNNAVI_TOO_SHORT: 13; in the source: 14"),
+    (faces.NUMBERS, "0 => Some(Net::A),\n        1 => Some(Net::B)", "1 => Some(Net::A),\n        0 => Some(Net::B)",
+     "number YELUNNAVI_A: 0; in the source: 1"),
+    (faces.NUMBERS, "Key::Address => 11,\n        Key::Udp => 12,", "Key::Address => 12,\n        Key::Udp => 11,",
+     "number Key_Udp: 12; in the source: 11"),
+    (faces.NUMBERS, "PacketFault::Protocol => 5", "PacketFault::Protocol => 6",
+     "number HeaderFault::PROTOCOL: 5; in the source: 6"),
+    (faces.NUMBERS, "PortKind::Queuing { .. } => 2", "PortKind::Queuing { .. } => 0",
+     "number Service_Queuing: 2; in the source: 0"),
+    (faces.NUMBERS, "        4 => Some(FilterCause::ForeignConstant),\n", "",
+     "number YELUNNAVI_FILTER_FOREIGN_CONSTANT: the source has none"),
+    (faces.NUMBERS, "ConfigFault::TooMany => 8,", "ConfigFault::TooMany => 10,",
+     "number Fault_Too_Many: 8; in the source: 10"),
+    (faces.REPLIES, "(Some(_), None) => 1", "(Some(_), None) => 3", "number Level::LINK: 1; in the source: 3"),
+    (faces.BOUNDS[0], "MOST_LINKS: usize = 64", "MOST_LINKS: usize = 65", "number Most_Links: 64; in the source: 65"),
+    # words
+    (WORDS, 'return "checksum"', 'return "sum"', "word of HeaderFault::CHECKSUM: 'sum'; in the source: 'checksum'"),
+    (WORDS, "    case YELUNNAVI_VERDICT_QUEUED: return \"queued\";\n", "", "no word of Verdict::QUEUED"),
+    (WORDS, "case YELUNNAVI_BAD_VERSION: ", "case YELUNNAVI_FILTER_TOO_SHORT: ", "no word of HeaderFault::VERSION"),
+    (WORDS, "*yelunnavi_level_word(", "*yelunnavi_service_word(", "no word of Level::LINK"),
+    (WORDS, 'return "missing "', 'return "missing"', "word of ConfigFault::MISSING"),
+    (WORDS, 'return " out of range"', 'return " is out of range"', "word of ConfigFault::RANGE"),
+    (WORDS, 'return "refresh_us"', 'return "refresh-us"', "word of Key::REFRESH_US"),
+    (RUST, '"fragment-held"', '"held"', "word of Verdict::FRAGMENT_HELD: 'held'; in the source: 'fragment-held'"),
+    (RUST, '"{} out of range"', '"out of range"', "word of ConfigFault::RANGE"),
+    (faces.FAULTS, '"not TOML"', '"no TOML"', "word of ConfigFault::TEXT: 'not TOML'; in the source: 'no TOML'"),
+    (faces.FAULTS, 'Key::Udp => "udp"', 'Key::Udp => "port"',
+     "word of Key::UDP: 'udp'; in the source: 'port'"),
+]
+
+
+def checked(tree):
+    return subprocess.run([ROOT / "checks" / "interface", "--tree", tree], capture_output=True, text=True, timeout=60)
+
+
+@pytest.fixture
+def copy(tmp_path):
+    for name in READ:
+        (tmp_path / name).parent.mkdir(parents=True, exist_ok=True)
+        shutil.copy(ROOT / name, tmp_path / name)
+    return tmp_path
+
+
+def test_the_faces_are_those_of_the_source(copy):
+    done = checked(copy)
+    assert (done.returncode, done.stderr) == (0, "") and done.stdout.endswith(", 0 problems\n")
+
+
+@pytest.mark.parametrize("name, old, new, told", PLANTED)
+def test_a_difference_is_found(copy, name, old, new, told):
+    text = (copy / name).read_text()
+    assert text.count(old) == 1
+    (copy / name).write_text(text.replace(old, new))
+    done = checked(copy)
+    assert done.returncode == 1 and done.stderr == ""
+    assert any(told in line for line in done.stdout.splitlines()[:-1]), done.stdout
+
+
+@pytest.mark.parametrize("name, old, new", [
+    (faces.CALLS, "    fault: &mut FaultReply,\n", "    fault: *mut FaultReply,\n"),
+    (faces.CALLS, "fn yelunnavi_receiver_room() -> usize", "fn yelunnavi_receiver_room() -> (usize)"),
+    (faces.HANDLES.format("taker"), "    at: *mut u8,", "    at: *mut u8,\n    octets: usize,"),
+    (faces.REPLIES, "#[repr(C)]\n#[derive(Clone, Copy, Debug, Drop, PartialEq, Eq)]\npub struct TakeReply",
+     "#[derive(Clone, Copy, Debug, Drop, PartialEq, Eq)]\npub struct TakeReply"),
+    (RUST, "#[repr(transparent)] ", ""),
+])
+def test_what_is_not_of_the_form_is_not_passed_over(copy, name, old, new):
+    text = (copy / name).read_text()
+    assert text.count(old) == 1
+    (copy / name).write_text(text.replace(old, new))
+    done = checked(copy)
+    assert done.returncode == 2 and done.stdout == "" and done.stderr.startswith("checks/interface: not read: ")
