@@ -1,0 +1,331 @@
+-- From the opening of a system to its end.
+use Rattle.std.proofs.Common.{◌≡◌, ◌∙◌, ap, sym, subst, refl, ℕ, zero, suc, ◌+◌, ◌==◌, Bool, true, false, List, [], ◌∷◌, ◌++◌, length, map, if◌then◌else◌, append-nil, Option, Some, position}
+use Rattle.std.specs.List.{position_or_len, slice_get, slice_set}
+use Rattle.std.proofs.lemmas.List.{length-map, map-append, reverse-reverse}
+use Rattle.std.proofs.lemmas.Option.{same_Some, slice_get_within}
+use Rattle.es_base.specs.declared.place.LinkNo.{LinkNo}
+use Rattle.es_base.specs.declared.place.Net.{Net}
+use Rattle.es_base.specs.declared.place.Net.TheVariants.{A, B}
+use Rattle.es_base.specs.declared.event.Arrival.{Arrival}
+use Rattle.es_base.specs.Config.{has_link_number, link_of}
+use Rattle.es_base.specs.FilterTally.{HasFiltered}
+use Rattle.es_base.specs.Integrity.{is_same_net}
+use Rattle.es_base.specs.Limits.{verdict_kinds}
+use Rattle.es_base.specs.Past.{arrived}
+use Rattle.es_base.specs.Settings.{Settings}
+use Rattle.es_base.specs.Tally.{IsKind, count_of}
+use Rattle.es_base.specs.Verdict.{kind_of}
+use Rattle.es_base.proofs.Addressed.{link_at}
+use Rattle.es_base.proofs.Counted.{one_frame_more}
+use Rattle.es_base.proofs.Elements.{slice_get-set_other, slice_get-set_same}
+use Rattle.es_base.proofs.Firsts.{found_at}
+use Rattle.link_core.specs.Counted.{shown}
+use Rattle.link_lock.specs.Pass.{LockId}
+use Rattle.link_lock.specs.declared.user.User.TheVariants.{First, Second}
+use Rattle.receiver.specs.declared.ends.LinkEnds.{LinkEnds}
+use Rattle.receiver.specs.declared.partition.PartitionEnd.{PartitionEnd}
+use Rattle.receiver.specs.Ends.{AreOpened as AreOpenedPorts}
+use Rattle.receiver.specs.Port.{ReadsPort, ShowsPort}
+use Rattle.receiver.specs.Receiver.{AreNewLinks}
+use Rattle.network_calls.specs.declared.call.Call.{Call}
+use Rattle.network_calls.specs.declared.reply.Reply.TheVariants as replies
+use Rattle.network_calls.specs.Calls.{call, calls_from, count_calls}
+use Rattle.network_calls.proofs.Filtered.{not_filtered}
+use Rattle.network_calls.proofs.Named.{named_at, other_place, this_place}
+use Rattle.network_calls.proofs.Standing.{stand}
+use Rattle.live_system.specs.Calls.{LiveLink, as_opened, events_of, new_outlet}
+use Rattle.live_system.specs.LookUps.{IsCounted, calls_of, calls_on, has_number, pass_on}
+use Rattle.live_system.specs.Pass.{IsSettled, KnownLink}
+use Rattle.live_system.specs.System.{ArePasses, AreSettled, AreWithoutCalls, CallsAt, IsNewPassOf, IsPassOf, KnowLinks, KnownCounts, KnownNet, System}
+use Rattle.live_system.specs.Run.{AreOpened, CountsCalls, CountsFiltered, Does, EndsInOneRun, HasEnded, HasSettled, Makes, Passes, Ran, Step, call_in, came, calls_in, frame_in, frames_in, met, shown_call}
+use Rattle.live_system.proofs.Opens.{as_many}
+use Rattle.live_system.proofs.Rows.{at_place}
+
+-- ---- calls as replies show them
+
+abbrev shown_calls : List Call → List Call
+shown_calls calls = map shown_call calls
+
+-- they are counted as the calls are
+count_shown : (kind : ℕ) (calls : List Call) → count_calls kind (shown_calls calls) ≡ count_calls kind calls
+count_shown kind [] = refl
+count_shown kind (c ∷ calls) = ap (λ (n : ℕ). if kind_of c.verdict == kind then n + 1 else n) (count_shown kind calls)
+
+-- ---- what a pass says of a link after some calls
+
+record AtLink (first : KnownNet) (place : ℕ) (calls : List Call) (now : KnownNet) : Type 0 where
+  pub pass : KnownLink
+  pub there : slice_get now.links place ≡ Some pass
+  pub has_calls : shown_calls pass.calls ≡ calls
+  pub opened : KnownLink
+  pub was_there : slice_get first.links place ≡ Some opened
+  pub link : pass.link ≡ opened.link
+
+module _ (first : KnownNet) (place : ℕ) (calls : List Call) (old new : KnownNet) (was : AtLink first place calls old) where
+  stays : slice_get new.links place ≡ slice_get old.links place → AtLink first place (calls ++ []) new
+  stays same =
+      let here : AtLink first place calls new = record {
+        pass = was.pass;
+        there = same ∙ was.there;
+        has_calls = was.has_calls;
+        opened = was.opened;
+        was_there = was.was_there;
+        link = was.link;
+      } in
+      rw (append-nil calls) here
+
+  stays_all : new.links ≡ old.links → AtLink first place (calls ++ []) new
+  stays_all same = stays (ap (λ (links : List KnownLink). slice_get links place) same)
+
+  -- a call at another place
+  stays_other : (at : ℕ) (after : KnownLink) → new.links ≡ slice_set old.links at after → (place ≡ at → ⊥) → AtLink first place (calls ++ []) new
+  stays_other at after is other = stays (ap (λ (links : List KnownLink). slice_get links place) is ∙ slice_get-set_other old.links at place after other)
+
+  set_here : (at : ℕ) (before after : KnownLink) → slice_get old.links at ≡ Some before → new.links ≡ slice_set old.links at after → at ≡ place → (slice_get new.links place ≡ Some after) × (before ≡ was.pass)
+  set_here at before after there is same =
+      let here : slice_get old.links place ≡ Some before = rw same at there in (
+        ap (λ (links : List KnownLink). slice_get links place) is
+            ∙ (ap (λ (k : ℕ). slice_get (slice_set old.links k after) place) same ∙ slice_get-set_same old.links place after (slice_get_within old.links place before here)),
+        same_Some before was.pass (sym here ∙ was.there),
+      )
+
+  calls_one : (at : ℕ) (c : Call) → CallsAt old.links at c new.links → at ≡ place → AtLink first place (calls ++ shown_call c ∷ []) new
+  calls_one at c does same =
+      let here = set_here at does.before does.after does.there does.only same in
+      record {
+        pass = does.after;
+        there = here.0;
+        has_calls = ap shown_calls (does.calls.calls ∙ ap (λ (k : KnownLink). k.calls ++ c ∷ []) here.1)
+            ∙ (map-append shown_call was.pass.calls (c ∷ []) ∙ ap (λ (cs : List Call). cs ++ shown_call c ∷ []) was.has_calls);
+        opened = was.opened;
+        was_there = was.was_there;
+        link = does.calls.link ∙ (ap (λ (k : KnownLink). k.link) here.1 ∙ was.link);
+      }
+
+  came_to : (links : List Settings) (vl : LinkNo) → link_of links vl ≡ Some place → (number : LinkNo) (at : ℕ) (c : Call) (b : Bool) → link_of links number ≡ Some at → (number.0 == vl.0) ≡ b
+      → CallsAt old.links at c new.links
+      → AtLink first place (calls ++ (if b then shown_call c ∷ [] else [])) new
+  came_to links vl named number at c true first_at same does = calls_one at c does (this_place links vl place named number at first_at same)
+  came_to links vl named number at c false first_at apart does = stays_other at does.after does.only (other_place links vl place named number at first_at apart)
+
+does_one : (system : System) (first : KnownNet) (vl : LinkNo) (place : ℕ) (calls : List Call) (step : Step) (old new : KnownNet) → link_of system.config.links vl ≡ Some place → Does system step old new
+    → AtLink first place calls old → AtLink first place (calls ++ call_in vl step) new
+does_one system first vl place calls (came time octets (replies.Filtered cause)) old new named does was = stays_all first place calls old new was does.1
+does_one system first vl place calls (came time octets (replies.Link number shows verdict)) old new named does was =
+    let at : link_of system.config.links number ≡ Some does.0 = ap (link_of system.config.links) does.2 ∙ does.1.first in
+    rw does.5 (came_to first place calls old new was system.config.links vl named number does.0 (call does.4 time octets verdict) (number.0 == vl.0) at refl does.6)
+does_one system first vl place calls met old new named does was = stays_all first place calls old new was (ap (λ (n : KnownNet). n.links) does)
+
+-- ---- filtered frames
+
+filters_one : (system : System) (net : Net) (earlier : List Arrival) (step : Step) (old new : KnownNet) → old.net ≡ net → Does system step old new → HasFiltered old.filtered system.config earlier
+    → HasFiltered new.filtered system.config (frame_in net step ++ earlier)
+filters_one system net earlier (came time octets (replies.Filtered cause)) old new is does has =
+    let adds = rw is at does.2 in
+    one_frame_more old.filtered new.filtered system.config earlier (arrived net time octets) cause has does.0 adds
+filters_one system net earlier (came time octets (replies.Link number shows verdict)) old new is does has =
+    let link = link_at system.config octets does.0 does.1 in
+    let kept : HasFiltered new.filtered system.config earlier = rw does.3 has in
+    not_filtered new.filtered system.config earlier (arrived net time octets) link.0 kept link.1.comes
+filters_one system net earlier met old new is does has = rw does has
+
+-- ---- all calls of one network
+
+record Knows (system : System) (first : KnownNet) (net : Net) (steps : List (Net × Step)) (now : KnownNet) : Type 0 where
+  pub own : IsPassOf system now
+  pub of_net : now.net ≡ net
+  pub filtered : HasFiltered now.filtered system.config (frames_in net steps)
+  pub each : (vl : LinkNo) (place : ℕ) → link_of system.config.links vl ≡ Some place → AtLink first place (calls_in net vl steps) now
+
+knows_more : (system : System) (first : KnownNet) (net : Net) (one : Net × Step) (steps : List (Net × Step)) (old new : KnownNet) → is_same_net one.0 net ≡ true
+    → IsPassOf system new → new.net ≡ old.net → Does system one.1 old new → Knows system first net steps old
+    → Knows system first net (one ∷ steps) new
+knows_more system first net one steps old new same own stays does knows = record {
+  own = own;
+  of_net = stays ∙ knows.of_net;
+  filtered = rw same (filters_one system net (frames_in net steps) one.1 old new knows.of_net does knows.filtered);
+  each = λ vl place named. rw same (does_one system first vl place (calls_in net vl steps) one.1 old new named does (knows.each vl place named));
+}
+
+knows_same : (system : System) (first : KnownNet) (net : Net) (one : Net × Step) (steps : List (Net × Step)) (old new : KnownNet) → is_same_net one.0 net ≡ false → new ≡ old → Knows system first net steps old
+    → Knows system first net (one ∷ steps) new
+knows_same system first net one steps old new apart same knows =
+    let here : Knows system first net (one ∷ steps) old = record {
+      own = knows.own;
+      of_net = knows.of_net;
+      filtered = rw apart knows.filtered;
+      each = λ vl place named. rw apart (knows.each vl place named);
+    } in
+    subst (Knows system first net (one ∷ steps)) (sym same) here
+
+without_calls : (links : List KnownLink) (place : ℕ) (pass : KnownLink) → AreWithoutCalls links → slice_get links place ≡ Some pass → pass.calls ≡ []
+without_calls [] place pass are there = cc
+without_calls (k ∷ links) zero pass are there = rw (← same_Some k pass there) are.0
+without_calls (k ∷ links) (suc place) pass are there = without_calls links place pass are.1 there
+
+knows_none : (system : System) (first : KnownNet) (net : Net) → IsPassOf system first → IsNewPassOf net first → Knows system first net [] first
+knows_none system first net own new = record {
+  own = own;
+  of_net = new.of_net;
+  filtered = new.none_filtered;
+  each = λ vl place named.
+      let link = named_at system.config.links vl place named in
+      let at = at_place first.net system.locks system.config.links first.links place link.settings own link.there in
+      record {
+        pass = at.pass;
+        there = at.pass_there;
+        has_calls = ap shown_calls (without_calls first.links place at.pass new.no_calls at.pass_there);
+        opened = at.pass;
+        was_there = at.pass_there;
+        link = refl;
+      };
+}
+
+-- ---- of both
+
+record BothKnow (system : System) (first : Passes) (steps : List (Net × Step)) (now : Passes) : Type 0 where
+  pub a : Knows system first.a A steps now.a
+  pub b : Knows system first.b B steps now.b
+
+both_know_more : (system : System) (first : Passes) (net : Net) (step : Step) (steps : List (Net × Step)) (old new : Passes) → Makes system net step old new
+    → BothKnow system first steps old
+    → BothKnow system first ((net, step) ∷ steps) new
+both_know_more system first A step steps old new makes know = record {
+  a = knows_more system first.a A (A, step) steps old.a new.a refl makes.own makes.of_net makes.does know.a;
+  b = knows_same system first.b B (A, step) steps old.b new.b refl makes.other know.b;
+}
+both_know_more system first B step steps old new makes know = record {
+  a = knows_same system first.a A (B, step) steps old.a new.a refl makes.other know.a;
+  b = knows_more system first.b B (B, step) steps old.b new.b refl makes.own makes.of_net makes.does know.b;
+}
+
+both_know : (readers : ℕ) (system : System) (first last : Passes) (ends : List (LinkEnds PartitionEnd)) (steps : List (Net × Step))
+    → AreOpened readers system first ends → Ran system first steps last → BothKnow system first steps last
+both_know readers system first last ends [] opened ran = rw ran (record {
+  a = knows_none system first.a A opened.own_a opened.new_a;
+  b = knows_none system first.b B opened.own_b opened.new_b;
+})
+both_know readers system first last ends (one ∷ steps) opened ran =
+    both_know_more system first one.0 one.1 steps ran.0 last ran.2 (both_know readers system first ran.0 ends steps opened ran.1)
+
+-- ---- the end
+
+record SettledAt (settings : Settings) (place : ℕ) (one other : KnownLink) (links : List LiveLink) : Type 0 where
+  pub link : LiveLink
+  pub there : slice_get links place ≡ Some link
+  pub with_settings : link.core.settings ≡ settings
+  pub settled : IsSettled one.link one.calls other.calls link
+
+settled_at : (links : List Settings) (a b : List KnownLink) (settled : List LiveLink) (place : ℕ) (settings : Settings) (one other : KnownLink) → AreSettled links a b settled → slice_get links place ≡ Some settings
+    → slice_get a place ≡ Some one → slice_get b place ≡ Some other → SettledAt settings place one other settled
+settled_at [] a b settled place settings one other are there in_a in_b = cc
+settled_at (s ∷ links) [] b settled place settings one other are there in_a in_b = cc
+settled_at (s ∷ links) (k ∷ a) [] settled place settings one other are there in_a in_b = cc
+settled_at (s ∷ links) (k ∷ a) (l ∷ b) [] place settings one other are there in_a in_b = absurd are
+settled_at (s ∷ links) (k ∷ a) (l ∷ b) (link ∷ settled) zero settings one other are there in_a in_b =
+    rw (← same_Some s settings there, ← same_Some k one in_a, ← same_Some l other in_b) (record { link = link; there = refl; with_settings = are.0; settled = are.1 })
+settled_at (s ∷ links) (k ∷ a) (l ∷ b) (link ∷ settled) (suc place) settings one other are there in_a in_b =
+    let later = settled_at links a b settled place settings one other are.2 there in_a in_b in
+    record { link = later.link; there = later.there; with_settings = later.with_settings; settled = later.settled }
+
+record EndsAt (readers : ℕ) (settings : Settings) (place : ℕ) (pass : KnownLink) (ends : List (LinkEnds PartitionEnd)) : Type 0 where
+  pub link : LiveLink
+  pub known : pass.link ≡ Some link
+  pub its_ends : LinkEnds PartitionEnd
+  pub there : slice_get ends place ≡ Some its_ends
+  pub ports : AreOpenedPorts ShowsPort (ReadsPort readers) 0 settings.ports link.outlets its_ends.ports.items
+
+ends_at : (readers : ℕ) (settings : List Settings) (links : List LiveLink) (passes : List KnownLink) (ends : List (LinkEnds PartitionEnd)) (place : ℕ) (one : Settings) (pass : KnownLink)
+    → AreNewLinks ShowsPort (ReadsPort readers) settings links ends → KnowLinks passes links → slice_get settings place ≡ Some one → slice_get passes place ≡ Some pass → EndsAt readers one place pass ends
+ends_at readers [] links passes ends place one pass are know there in_passes = cc
+ends_at readers (s ∷ settings) [] passes ends place one pass are know there in_passes = absurd are
+ends_at readers (s ∷ settings) (l ∷ links) [] ends place one pass are know there in_passes = absurd know
+ends_at readers (s ∷ settings) (l ∷ links) (k ∷ passes) [] place one pass are know there in_passes = absurd are
+ends_at readers (s ∷ settings) (l ∷ links) (k ∷ passes) (e ∷ ends) zero one pass are know there in_passes =
+    rw (← same_Some s one there, ← same_Some k pass in_passes) (record { link = l; known = know.0; its_ends = e; there = refl; ports = are.0.0.opened })
+ends_at readers (s ∷ settings) (l ∷ links) (k ∷ passes) (e ∷ ends) (suc place) one pass are know there in_passes =
+    let later = ends_at readers settings links passes ends place one pass are.1 know.1 there in_passes in
+    record { link = later.link; known = later.known; its_ends = later.its_ends; there = later.there; ports = later.ports }
+
+ends_in_one_run : (readers : ℕ) (steps : List (Net × Step)) (settings : Settings) (ends : List (LinkEnds PartitionEnd)) (place : ℕ) (first : Passes) (last : Passes) (links : List LiveLink)
+    → (a : AtLink first.a place (calls_in A settings.vl steps) last.a) → (b : AtLink first.b place (calls_in B settings.vl steps) last.b)
+    → EndsAt readers settings place a.opened ends → (at : SettledAt settings place a.pass b.pass links) → EndsInOneRun readers steps settings ends place at.link
+ends_in_one_run readers steps settings ends place first last links a b its at =
+    let agrees = at.settled.agrees in
+    let link = at.link in
+    let opened : as_opened link ≡ its.link = same_Some (as_opened link) its.link (at.settled.opened ∙ (a.link ∙ its.known)) in
+    let outlets : its.link.outlets ≡ map new_outlet link.outlets = ap (λ (l : LiveLink). l.outlets) (sym opened) in
+    record {
+      with_settings = at.with_settings;
+      ported = agrees.ported;
+      replied = its_calls;
+      stand = stand (λ net. calls_from 0 net (events_of link)) settings (events_of link) (rw (reverse-reverse link.core.past) (rw at.with_settings at agrees.ported.run)) (λ net. refl);
+      counted = counted_of;
+      its_ends = its.its_ends;
+      there = its.there;
+      of_its_ports = rw outlets at its.ports;
+    }
+  where
+    its_calls : (net : Net) → calls_in net settings.vl steps ≡ shown_calls (calls_from 0 net (events_of at.link))
+    its_calls A = sym a.has_calls ∙ ap shown_calls (at.settled.agrees.calls First)
+    its_calls B = sym b.has_calls ∙ ap shown_calls (at.settled.agrees.calls Second)
+
+    counted_of : (net : Net) (kind : ℕ) → IsKind verdict_kinds kind → count_of at.link.core.past net kind ≡ count_calls kind (calls_in net settings.vl steps)
+    counted_of A kind is = at.settled.counted A kind is ∙ (sym (count_shown kind a.pass.calls) ∙ ap (count_calls kind) a.has_calls)
+    counted_of B kind is = at.settled.counted B kind is ∙ (sym (count_shown kind b.pass.calls) ∙ ap (count_calls kind) b.has_calls)
+
+-- ---- what a pass counted
+
+same_first : (net : Net) (vl : LinkNo) (locks : List LockId) (links : List Settings) (passes : List KnownLink) → ArePasses net locks links passes
+    → position_or_len (λ (pass : KnownLink). has_number vl pass.counts) passes ≡ position_or_len (has_link_number vl.0) links
+same_first net vl [] [] [] are = refl
+same_first net vl (lock ∷ locks) (settings ∷ links) (pass ∷ passes) are =
+    let numbers : pass.counts.vl.0 ≡ settings.vl.0 = ap (λ (n : LinkNo). n.0) are.0.with_number in
+    rw (numbers, same_first net vl locks links passes are.1) refl
+same_first net vl (lock ∷ locks) (settings ∷ links) [] are = absurd are
+same_first net vl (lock ∷ locks) [] passes are = absurd are
+same_first net vl [] (settings ∷ links) passes are = absurd are
+same_first net vl [] [] (pass ∷ passes) are = absurd are
+
+found_pass : (net : Net) (vl : LinkNo) (locks : List LockId) (links : List Settings) (passes : List KnownLink) (place : ℕ) (pass : KnownLink) → ArePasses net locks links passes → link_of links vl ≡ Some place
+    → slice_get passes place ≡ Some pass → pass_on vl passes ≡ Some pass
+found_pass net vl locks links passes place pass are first at =
+    let here : position (λ (k : KnownLink). has_number vl k.counts) passes ≡ Some place = rw (same_first net vl locks links passes are, as_many net locks links passes are) first in
+    found_at (λ (k : KnownLink). has_number vl k.counts) passes place here ∙ at
+
+counts_calls : (system : System) (first : KnownNet) (net : Net) (steps : List (Net × Step)) (last : KnownNet) (counts : KnownCounts) → Knows system first net steps last → IsCounted last counts → CountsCalls system steps net counts
+counts_calls system first net steps last counts knows counted vl place named =
+    let at = knows.each vl place named in
+    let found = found_pass last.net vl system.locks system.config.links last.links place at.pass knows.own named at.there in
+    let calls : shown_calls (calls_on vl last.links) ≡ calls_in net vl steps = ap (λ (pass : Option KnownLink). shown_calls (calls_of pass)) found ∙ at.has_calls in
+    let many : length (calls_on vl last.links) ≡ length (calls_in net vl steps) = sym (length-map (calls_on vl last.links) shown_call) ∙ ap (λ (cs : List Call). length cs) calls in (
+      counted.calls vl ∙ ap shown many,
+      λ kind is. counted.kinds vl kind is ∙ ap shown (sym (count_shown kind (calls_on vl last.links)) ∙ ap (count_calls kind) calls),
+    )
+
+counts_filtered : (system : System) (first : KnownNet) (net : Net) (steps : List (Net × Step)) (last : KnownNet) (counts : KnownCounts) → Knows system first net steps last → IsCounted last counts
+    → CountsFiltered system steps net counts
+counts_filtered system first net steps last counts knows counted kind is = rw (counted.filtered, counted.net, knows.of_net) (knows.filtered net kind is)
+
+-- ---- altogether
+
+pub ended : (readers : ℕ) (system : System) (first last : Passes) (ends : List (LinkEnds PartitionEnd)) (steps : List (Net × Step)) (links : List LiveLink) (a b : KnownCounts) → AreOpened readers system first ends
+    → Ran system first steps last → HasSettled system last links a b → HasEnded readers system steps ends links a b
+ended readers system first last ends steps links a b opened ran has_settled =
+    let know = both_know readers system first last ends steps opened ran in
+    record {
+      each = λ vl place named.
+          let link = named_at system.config.links vl place named in
+          let named_so : link_of system.config.links link.settings.vl ≡ Some place = ap (link_of system.config.links) link.numbered ∙ named in
+          let of_a = know.a.each link.settings.vl place named_so in
+          let of_b = know.b.each link.settings.vl place named_so in
+          let at = settled_at system.config.links last.a.links last.b.links links place link.settings of_a.pass of_b.pass has_settled.links link.there of_a.there of_b.there in
+          let new = opened.links.new in
+          let in_config : AreNewLinks ShowsPort (ReadsPort readers) system.config.links opened.links.opened.links ends = new.links in
+          let its = ends_at readers system.config.links opened.links.opened.links first.a.links ends place link.settings of_a.opened in_config opened.links.known_a link.there of_a.was_there in
+          (link.settings, at.link, link.there, link.numbered, at.there, ends_in_one_run readers steps link.settings ends place first last links of_a of_b its at);
+      calls_a = counts_calls system first.a A steps last.a a know.a has_settled.counted_a;
+      calls_b = counts_calls system first.b B steps last.b b know.b has_settled.counted_b;
+      filtered_a = counts_filtered system first.a A steps last.a a know.a has_settled.counted_a;
+      filtered_b = counts_filtered system first.b B steps last.b b know.b has_settled.counted_b;
+    }

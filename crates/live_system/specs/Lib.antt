@@ -1,0 +1,5 @@
+pub mod Calls
+pub mod LookUps
+pub mod Pass
+pub mod Run
+pub mod System

@@ -1,0 +1,91 @@
+-- What a clause sees of a network's pass on one link.
+use Rattle.std.specs.Prelude.{◌≡◌, ℕ, List, [], ◌∷◌, ◌++◌, Option, Some, length}
+use Rattle.es_base.specs.declared.event.Arrival.{Arrival}
+use Rattle.es_base.specs.declared.place.LinkNo.{LinkNo}
+use Rattle.es_base.specs.declared.place.Net.{Net}
+use Rattle.es_base.specs.declared.verdict.Verdict.{Verdict}
+use Rattle.es_base.specs.Limits.{verdict_kinds}
+use Rattle.es_base.specs.Past.{arrived}
+use Rattle.es_base.specs.Settings.{Settings}
+use Rattle.es_base.specs.Tally.{IsKind, count_in, count_of}
+use Rattle.link_core.specs.Counted.{shown}
+use Rattle.link_lock.specs.declared.user.User.{User}
+use Rattle.link_lock.specs.Lists.{both_lists}
+use Rattle.link_lock.specs.Pass.{Known, LockId}
+use Rattle.receiver.specs.Link.{Takes}
+use Rattle.receiver.specs.Port.{AnswersPort, GivesPort, ShowsPort}
+use Rattle.network_calls.specs.declared.call.Call.{Call}
+use Rattle.network_calls.specs.Calls.{count_calls, user_of}
+use Rattle.live_system.specs.declared.counts.LinkCounts.{LinkCounts}
+use Rattle.live_system.specs.Calls.{Agrees, LiveLink, as_opened}
+
+-- under which lock its link stands, its network, the link as it was opened, its calls, and their counts
+pub record KnownLink : Type 0 where
+  pub lock : LockId
+  pub net : Net
+  pub link : Option LiveLink
+  pub calls : List Call
+  pub counts : LinkCounts
+
+abbrev pub known_link : Net → Known LiveLink (List Call) → LinkCounts → KnownLink
+known_link net pass counts = record { lock = pass.lock; net = net; link = pass.fixed; calls = pass.list; counts = counts }
+
+-- the counts are those of the calls; each stops at the greatest number of 64 bits
+pub record AreCountsOf (net : Net) (calls : List Call) (counts : LinkCounts) : Type 0 where
+  pub all : counts.number ≡ shown (length calls)
+  pub kinds : (kind : ℕ) → IsKind verdict_kinds kind → count_in counts.tally net kind ≡ shown (count_calls kind calls)
+
+-- One visit of its link by a pass: the link that it found, which is the one that was opened, with what both networks
+-- had done by then, and what became of the link.
+pub record Visits (pass : KnownLink) (did : LiveLink → LiveLink → Type 0) : Type 0 where
+  pub lists : User → List Call
+  pub found : LiveLink
+  pub left : LiveLink
+  pub opened : Some (as_opened found) ≡ pass.link
+  pub own : lists (user_of pass.net) ≡ pass.calls
+  pub agrees : Agrees lists found
+  pub does : did found left
+
+-- ---- a frame
+
+-- what one call did to a link: the place that it shows, and its verdict
+abbrev pub Did : Arrival → LiveLink → LiveLink → ℕ × Verdict → Type 0
+Did a old new answer = Takes ShowsPort GivesPort AnswersPort old new a answer.0 answer.1
+
+-- One call more, which is what its visit came to, at its place, and it is counted; nothing else of the pass changes.
+pub record Calls (old : KnownLink) (c : Call) (new : KnownLink) : Type 0 where
+  pub lock : new.lock ≡ old.lock
+  pub net : new.net ≡ old.net
+  pub link : new.link ≡ old.link
+  pub vl : new.counts.vl ≡ old.counts.vl
+  pub calls : new.calls ≡ old.calls ++ c ∷ []
+  pub visits : Visits old (λ found left. (c.place ≡ length found.core.past) × Did (arrived old.net c.time c.frame) found left (shown c.place, c.verdict))
+
+-- ---- the opening
+
+-- a pass of that network that did nothing, at the lock of this user's pass
+pub record IsNoCall (pass : KnownLink) (net : Net) (vl : LinkNo) (user : Known LiveLink (List Call)) : Type 0 where
+  pub same_lock : pass.lock ≡ user.lock
+  pub same_net : pass.net ≡ net
+  pub same_link : pass.link ≡ user.fixed
+  pub no_calls : pass.calls ≡ []
+  pub same_vl : pass.counts.vl ≡ vl
+
+-- a pass of that network on this new link, with these settings: it did nothing
+pub record IsNewPass (settings : Settings) (link : LiveLink) (lock : LockId) (net : Net) (pass : KnownLink) : Type 0 where
+  pub of_lock : pass.lock ≡ lock
+  pub of_net : pass.net ≡ net
+  pub known : pass.link ≡ Some link
+  pub calls : pass.calls ≡ []
+  pub vl : pass.counts.vl ≡ settings.vl
+
+-- ---- the end
+
+-- What a link is once both networks have let go of it, which made these calls: it is the one that was opened; its past is
+-- a run, its ports were given what that delivers, and its events are the calls of both; and all are counted as the calls
+-- are.
+pub record IsSettled (link : Option LiveLink) (a b : List Call) (settled : LiveLink) : Type 0 where
+  pub opened : Some (as_opened settled) ≡ link
+  pub agrees : Agrees (both_lists a b) settled
+  pub counted : (net : Net) (kind : ℕ) → IsKind verdict_kinds kind
+      → count_of settled.core.past net kind ≡ count_calls kind (both_lists a b (user_of net))

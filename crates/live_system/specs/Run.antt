@@ -1,0 +1,152 @@
+-- What the threads of both networks did with a system, from its opening to its end. It exists in contracts alone.
+-- The latest call stands first.
+use Rattle.std.specs.Prelude.{◌≡◌, ℕ, ◌==◌, List, [], ◌∷◌, ◌++◌, length, map, slice_get, Some, if◌then◌else◌}
+use Rattle.es_base.specs.declared.place.LinkNo.{LinkNo}
+use Rattle.es_base.specs.declared.place.Net.{Net}
+use Rattle.es_base.specs.declared.place.Net.TheVariants.{A, B}
+use Rattle.es_base.specs.declared.event.Arrival.{Arrival}
+use Rattle.es_base.specs.Config.{link_of}
+use Rattle.es_base.specs.FilterTally.{filtered_count}
+use Rattle.es_base.specs.Integrity.{is_same_net}
+use Rattle.es_base.specs.Limits.{filter_causes, verdict_kinds}
+use Rattle.es_base.specs.Past.{arrived}
+use Rattle.es_base.specs.Settings.{Settings}
+use Rattle.es_base.specs.Tally.{IsKind, count_in, count_of}
+use Rattle.link_core.specs.Counted.{shown}
+use Rattle.receiver.specs.declared.ends.LinkEnds.{LinkEnds}
+use Rattle.receiver.specs.declared.partition.PartitionEnd.{PartitionEnd}
+use Rattle.receiver.specs.Ends.{AreOpened as AreOpenedPorts}
+use Rattle.receiver.specs.Link.{IsPorted}
+use Rattle.receiver.specs.Port.{ReadsPort, ShowsPort}
+use Rattle.network_calls.specs.declared.call.Call.{Call}
+use Rattle.network_calls.specs.declared.reply.Reply.{Reply}
+use Rattle.network_calls.specs.declared.reply.Reply.TheVariants as replies
+use Rattle.network_calls.specs.Calls.{call, calls_from, count_calls}
+use Rattle.network_calls.specs.Places.{StandInTheRun}
+use Rattle.live_system.specs.Calls.{LiveLink, events_of, new_outlet}
+use Rattle.live_system.specs.LookUps.{IsCounted, count_on, number_on}
+use Rattle.live_system.specs.System.{AreOfNewLinks, AreSettled, IsNewPassOf, IsPassOf, KnownCounts, KnownNet, Replies, System}
+
+-- ---- calls
+
+pub data Step : Type 0 where
+  -- a frame of these octets came at this time, and this was replied
+  came : ℕ → List ℕ → Reply → Step
+  -- an end of a port met it, which changes no pass
+  met : Step
+
+-- one call of a network's pass, as its contract has it
+abbrev pub Does : System → Step → KnownNet → KnownNet → Type 0
+Does system (came time octets reply) old new = Replies system.config old time octets reply new
+Does system met old new = new ≡ old
+
+pub record Passes : Type 0 where
+  pub a : KnownNet
+  pub b : KnownNet
+
+abbrev pub pass_of : Net → Passes → KnownNet
+pass_of A passes = passes.a
+pass_of B passes = passes.b
+
+abbrev pub other_of : Net → Passes → KnownNet
+other_of A passes = passes.b
+other_of B passes = passes.a
+
+-- this network made this call, and the other network's pass stayed as it was
+pub record Makes (system : System) (net : Net) (step : Step) (old new : Passes) : Type 0 where
+  pub own : IsPassOf system (pass_of net new)
+  pub of_net : (pass_of net new).net ≡ (pass_of net old).net
+  pub does : Does system step (pass_of net old) (pass_of net new)
+  pub other : other_of net new ≡ other_of net old
+
+-- these calls of both networks, one after another, made the one passes of the other
+abbrev pub Ran : System → Passes → List (Net × Step) → Passes → Type 0
+Ran system first [] last = last ≡ first
+Ran system first (one ∷ earlier) last = (before : Passes) × Ran system first earlier before × Makes system one.0 one.1 before last
+
+-- those of one network
+abbrev pub steps_of : Net → List (Net × Step) → List Step
+steps_of net [] = []
+steps_of net (one ∷ earlier) = if is_same_net one.0 net then one.1 ∷ steps_of net earlier else steps_of net earlier
+
+-- these calls of one thread, one after another, made the one pass of the other, whatever the other thread did
+abbrev pub RanAlone : System → KnownNet → List Step → KnownNet → Type 0
+RanAlone system first [] last = last ≡ first
+RanAlone system first (step ∷ earlier) last =
+    (before : KnownNet) × RanAlone system first earlier before × IsPassOf system last × (last.net ≡ before.net) × Does system step before last
+
+-- as `LiveSystem::open` hands them out; each sampling port has so many readers
+pub record AreOpened (readers : ℕ) (system : System) (passes : Passes) (ends : List (LinkEnds PartitionEnd)) : Type 0 where
+  pub own_a : IsPassOf system passes.a
+  pub own_b : IsPassOf system passes.b
+  pub new_a : IsNewPassOf A passes.a
+  pub new_b : IsNewPassOf B passes.b
+  pub links : AreOfNewLinks readers system.config passes.a passes.b ends
+
+-- as `LiveSystem::settle` hands them out
+pub record HasSettled (system : System) (passes : Passes) (settled : List LiveLink) (a b : KnownCounts) : Type 0 where
+  pub links : AreSettled system.config.links passes.a.links passes.b.links settled
+  pub counted_a : IsCounted passes.a a
+  pub counted_b : IsCounted passes.b b
+
+-- ---- what they came to
+
+abbrev pub call_in : LinkNo → Step → List Call
+call_in vl (came time octets (replies.Filtered cause)) = []
+call_in vl (came time octets (replies.Link number place verdict)) = if number.0 == vl.0 then call place time octets verdict ∷ [] else []
+call_in vl met = []
+
+-- what this network's frames came to on the link with this number, as it was replied, the first frame first
+abbrev pub calls_in : Net → LinkNo → List (Net × Step) → List Call
+calls_in net vl [] = []
+calls_in net vl (one ∷ earlier) = if is_same_net one.0 net then calls_in net vl earlier ++ call_in vl one.1 else calls_in net vl earlier
+
+abbrev pub frame_in : Net → Step → List Arrival
+frame_in net (came time octets reply) = arrived net time octets ∷ []
+frame_in net met = []
+
+-- the frames that came on this network, the latest first
+abbrev pub frames_in : Net → List (Net × Step) → List Arrival
+frames_in net [] = []
+frames_in net (one ∷ earlier) = if is_same_net one.0 net then frame_in net one.1 ++ frames_in net earlier else frames_in net earlier
+
+-- a call as a reply shows it: its place stops at the greatest number of 64 bits
+abbrev pub shown_call : Call → Call
+shown_call c = call (shown c.place) c.time c.frame c.verdict
+
+-- ---- one record
+
+-- A link with these settings after these calls. Its past is one run, and each of its ports was given what that delivers; what
+-- each network's frames came to, as it was replied, are the events of that network in this run, each at its place; each kind
+-- of verdict is counted; and the ends that were handed out at the opening are those of its ports.
+pub record EndsInOneRun (readers : ℕ) (steps : List (Net × Step)) (settings : Settings) (ends : List (LinkEnds PartitionEnd)) (place : ℕ) (link : LiveLink) : Type 0 where
+  pub with_settings : link.core.settings ≡ settings
+  pub ported : IsPorted ShowsPort link
+  pub replied : (net : Net) → calls_in net settings.vl steps ≡ map shown_call (calls_from 0 net (events_of link))
+  pub stand : StandInTheRun (λ net. calls_from 0 net (events_of link)) settings (events_of link)
+  pub counted : (net : Net) (kind : ℕ) → IsKind verdict_kinds kind → count_of link.core.past net kind ≡ count_calls kind (calls_in net settings.vl steps)
+  pub its_ends : LinkEnds PartitionEnd
+  pub there : slice_get ends place ≡ Some its_ends
+  pub of_its_ports : AreOpenedPorts ShowsPort (ReadsPort readers) 0 settings.ports (map new_outlet link.outlets) its_ends.ports.items
+
+-- a network's filtered frames are counted
+abbrev pub CountsFiltered : System → List (Net × Step) → Net → KnownCounts → Type 0
+CountsFiltered system steps net counts =
+    (kind : ℕ) → IsKind filter_causes kind → count_in counts.filtered counts.net kind ≡ filtered_count system.config (frames_in net steps) net kind
+
+-- and the calls on each link, and their verdicts
+abbrev pub CountsCalls : System → List (Net × Step) → Net → KnownCounts → Type 0
+CountsCalls system steps net counts =
+    (vl : LinkNo) (place : ℕ) → link_of system.config.links vl ≡ Some place
+    → (number_on vl counts.links ≡ shown (length (calls_in net vl steps)))
+    × ((kind : ℕ) → IsKind verdict_kinds kind → count_on vl kind counts.net counts.links ≡ shown (count_calls kind (calls_in net vl steps)))
+
+-- each link of the configuration ends in one run
+pub record HasEnded (readers : ℕ) (system : System) (steps : List (Net × Step)) (ends : List (LinkEnds PartitionEnd)) (links : List LiveLink) (a b : KnownCounts) : Type 0 where
+  pub each : (vl : LinkNo) (place : ℕ) → link_of system.config.links vl ≡ Some place
+      → (settings : Settings) × (link : LiveLink) × (slice_get system.config.links place ≡ Some settings) × (settings.vl ≡ vl) × (slice_get links place ≡ Some link)
+      × EndsInOneRun readers steps settings ends place link
+  pub calls_a : CountsCalls system steps A a
+  pub calls_b : CountsCalls system steps B b
+  pub filtered_a : CountsFiltered system steps A a
+  pub filtered_b : CountsFiltered system steps B b

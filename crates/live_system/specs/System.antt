@@ -1,0 +1,129 @@
+-- What a clause sees of the system, and of a network's pass on all of its links.
+use Rattle.std.specs.Prelude.{◌≡◌, ℕ, List, [], ◌∷◌, slice_get, slice_set, Some, Err}
+use Rattle.es_base.specs.declared.place.Net.{Net}
+use Rattle.es_base.specs.Settings.{Settings}
+use Rattle.es_base.specs.Config.{Configuration}
+use Rattle.es_base.specs.Addressing.{ComesToPlace, addressed_link, addressee_of}
+use Rattle.es_base.specs.FilterTally.{cause_kind}
+use Rattle.es_base.specs.Limits.{filter_causes}
+use Rattle.es_base.specs.Tally.{AddsOne, Counts, IsZero}
+use Rattle.link_core.specs.Counted.{shown}
+use Rattle.link_lock.specs.Pass.{LockId}
+use Rattle.receiver.specs.declared.ends.LinkEnds.{LinkEnds}
+use Rattle.receiver.specs.declared.partition.PartitionEnd.{PartitionEnd}
+use Rattle.receiver.specs.declared.port.PortOutlet.{PortOutlet}
+use Rattle.receiver.specs.Port.{ReadsPort, ShowsPort}
+use Rattle.receiver.specs.Receiver.{IsNew, Links}
+use Rattle.network_calls.specs.declared.call.Call.{Call}
+use Rattle.network_calls.specs.declared.reply.Reply.{Reply}
+use Rattle.network_calls.specs.declared.reply.Reply.TheVariants as replies
+use Rattle.network_calls.specs.Calls.{call}
+use Rattle.live_system.specs.Calls.{LiveLink}
+use Rattle.live_system.specs.declared.counts.LinkCounts.{LinkCounts}
+use Rattle.live_system.specs.Pass.{AreCountsOf, Calls, IsSettled, KnownLink}
+
+-- the configuration, and the lock of each link, in the order of the links
+pub record System : Type 0 where
+  pub config : Configuration
+  pub locks : List LockId
+
+-- its network, its passes in the order of the links, and the counts of filtered frames
+pub record KnownNet : Type 0 where
+  pub net : Net
+  pub links : List KnownLink
+  pub filtered : Counts
+
+-- ---- a pass of the system
+
+-- a pass of this network on a link with these settings, under this lock
+pub record IsPassAt (lock : LockId) (settings : Settings) (net : Net) (pass : KnownLink) : Type 0 where
+  pub at_lock : pass.lock ≡ lock
+  pub of_net : pass.net ≡ net
+  pub link : LiveLink
+  pub known : pass.link ≡ Some link
+  pub with_settings : link.core.settings ≡ settings
+  pub with_number : pass.counts.vl ≡ settings.vl
+
+-- passes of this network, one on each of these links, under these locks
+abbrev pub ArePasses : Net → List LockId → List Settings → List KnownLink → Type 0
+ArePasses net [] [] [] = Unit {0}
+ArePasses net (lock ∷ locks) (settings ∷ links) (pass ∷ passes) = IsPassAt lock settings net pass × ArePasses net locks links passes
+ArePasses net (lock ∷ locks) (settings ∷ links) [] = ⊥
+ArePasses net (lock ∷ locks) [] passes = ⊥
+ArePasses net [] (settings ∷ links) passes = ⊥
+ArePasses net [] [] (pass ∷ passes) = ⊥
+
+-- the pass comes from the opening of this system
+abbrev pub IsPassOf : System → KnownNet → Type 0
+IsPassOf system pass = ArePasses pass.net system.locks system.config.links pass.links
+
+-- nothing was done by these
+abbrev pub AreWithoutCalls : List KnownLink → Type 0
+AreWithoutCalls [] = Unit {0}
+AreWithoutCalls (pass ∷ passes) = (pass.calls ≡ []) × AreWithoutCalls passes
+
+-- a pass of that network that made no call and filtered nothing
+pub record IsNewPassOf (net : Net) (pass : KnownNet) : Type 0 where
+  pub of_net : pass.net ≡ net
+  pub no_calls : AreWithoutCalls pass.links
+  pub none_filtered : IsZero filter_causes pass.filtered
+
+-- these passes know these links, as they were opened
+abbrev pub KnowLinks : List KnownLink → List LiveLink → Type 0
+KnowLinks [] [] = Unit {0}
+KnowLinks (pass ∷ passes) (link ∷ links) = (pass.link ≡ Some link) × KnowLinks passes links
+KnowLinks (pass ∷ passes) [] = ⊥
+KnowLinks [] (link ∷ links) = ⊥
+
+-- The passes of both networks know the links of a receiver of this configuration to which nothing came, and these are the
+-- ends of its ports. Each sampling port has so many readers.
+pub record AreOfNewLinks (readers : ℕ) (config : Configuration) (a b : KnownNet) (ends : List (LinkEnds PartitionEnd)) : Type 0 where
+  pub opened : Links PortOutlet
+  pub new : IsNew ShowsPort (ReadsPort readers) config opened ends
+  pub known_a : KnowLinks a.links opened.links
+  pub known_b : KnowLinks b.links opened.links
+
+-- ---- a frame
+
+-- one call more, on the link at this place; no other pass changes
+pub record CallsAt (old : List KnownLink) (place : ℕ) (c : Call) (new : List KnownLink) : Type 0 where
+  pub before : KnownLink
+  pub after : KnownLink
+  pub there : slice_get old place ≡ Some before
+  pub calls : Calls before c after
+  pub only : new ≡ slice_set old place after
+
+-- what a reply says, and what the frame did to the pass; a place that is replied stops at the greatest number of 64 bits
+abbrev pub Replies : Configuration → KnownNet → ℕ → List ℕ → Reply → KnownNet → Type 0
+Replies c old now octets (replies.Filtered cause) new =
+    (addressed_link c octets ≡ Err cause) × (new.links ≡ old.links) × AddsOne filter_causes old.filtered new.filtered old.net (cause_kind cause)
+Replies c old now octets (replies.Link vl shows verdict) new =
+    (at : ℕ) × ComesToPlace c octets at × (vl ≡ addressee_of octets) × (new.filtered ≡ old.filtered)
+    × (place : ℕ) × (shows ≡ shown place) × CallsAt old.links at (call place now octets verdict) new.links
+
+-- ---- the end
+
+-- each link: with its settings, and with the calls of both passes on it
+abbrev pub AreSettled : List Settings → List KnownLink → List KnownLink → List LiveLink → Type 0
+AreSettled [] [] [] [] = Unit {0}
+AreSettled (settings ∷ links) (a ∷ ones) (b ∷ others) (link ∷ settled) =
+    (link.core.settings ≡ settings) × IsSettled a.link a.calls b.calls link × AreSettled links ones others settled
+AreSettled (settings ∷ links) (a ∷ ones) (b ∷ others) [] = ⊥
+AreSettled (settings ∷ links) (a ∷ ones) [] settled = ⊥
+AreSettled (settings ∷ links) [] others settled = ⊥
+AreSettled [] (a ∷ ones) others settled = ⊥
+AreSettled [] [] (b ∷ others) settled = ⊥
+AreSettled [] [] [] (link ∷ settled) = ⊥
+
+-- what a pass counted: its network, the counts on each link, and those of filtered frames
+pub record KnownCounts : Type 0 where
+  pub net : Net
+  pub links : List LinkCounts
+  pub filtered : Counts
+
+-- the counts of each pass on a link
+abbrev pub AreCounted : Net → List KnownLink → List LinkCounts → Type 0
+AreCounted net [] [] = Unit {0}
+AreCounted net (pass ∷ passes) (counts ∷ more) = (counts ≡ pass.counts) × AreCountsOf net pass.calls counts × AreCounted net passes more
+AreCounted net (pass ∷ passes) [] = ⊥
+AreCounted net [] (counts ∷ more) = ⊥

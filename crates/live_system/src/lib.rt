@@ -1,0 +1,30 @@
+//! The receiving half of an end system for two threads, one a network, which keeps no frame: each link stands under a
+//! lock of its own, with its ports, and its past is a value that proofs alone read. After the opening no call takes memory
+//! or fails, and a call waits for the lock of its link and for nothing else.
+//!
+//! ```text
+//! let mut opened = LiveSystem::open(alloc, &config, ReaderCount::most())?;
+//! let Opened { system, mut a, mut b, ends } = opened;
+//! system.receive(&rt, &mut a, 1000, octets)       // on the thread of network A: Reply::Link { place: 0, .. }
+//! system.receive(&rt, &mut b, 1004, octets)       // on that of network B: Reply::Link { place: 1, .. }
+//! let settled = system.settle(a, b);              // the links, and what each pass counted
+//! ```
+#![tactic(auto)]
+
+mod counts;
+mod crossing;
+pub mod laws;
+mod link_pass;
+mod locked;
+mod net_pass;
+mod opened;
+mod settled;
+mod system;
+
+pub use crossing::may_cross;
+pub use net_pass::NetPass;
+pub use network_calls::{Call, Reply};
+pub use opened::Opened;
+pub use receiver::{LinkEnds, OpenLink, PartitionEnd, PortOutlet, ReaderCount};
+pub use settled::{PassCounts, Settled};
+pub use system::LiveSystem;

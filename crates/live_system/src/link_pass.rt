@@ -1,0 +1,181 @@
+//! One network's pass on one link.
+ghost use Rattle.std.specs.Prelude.{◌≡◌, ℕ, Some, IfOk, length};
+ghost use Rattle.es_base.specs.Frame.{IsFrame, link_number_of};
+ghost use Rattle.es_base.specs.declared.place.Net.TheVariants.{A, B};
+ghost use Rattle.es_base.specs.Limits.{verdict_kinds};
+ghost use Rattle.es_base.specs.Past.{arrived};
+ghost use Rattle.es_base.specs.Tally.{IsKind};
+ghost use Rattle.link_core.specs.Counted.{shown};
+ghost use Rattle.receiver.specs.Link.{IsNewLink};
+ghost use Rattle.receiver.specs.Port.{ReadsPort, ShowsPort};
+ghost use Rattle.network_calls.specs.Calls.{call, count_calls, user_of};
+ghost use Rattle.live_system.specs.Calls.{LiveLink, no_calls};
+ghost use Rattle.live_system.specs.Pass.{AreCountsOf, Calls, Did, IsNewPass, IsNoCall, IsSettled};
+
+use crate::counts::LinkCounts;
+use crate::locked::Locked;
+use es_base::{LinkNo, LinkSettings, Memory, Net, Verdict};
+use frame_reader::{Frame, frame_in};
+use link_lock::{Lock, Opened, PassOf};
+use receiver::{OpenLink, PartitionEnd, PortEnd, PortOutlet, ReaderCount};
+use std::alloc::Global;
+use std::marker::Model;
+use std::sync::Wait;
+
+/// One network's pass on one link, by which a thread gives the link its frames. To a contract it is the lock under
+/// which the link stands, the network, the link as it was opened, the calls that were made, and their counts.
+#[derive(Drop)]
+pub(crate) struct LinkPass {
+    net: Net,
+    pass: PassOf<Locked>,
+    counts: LinkCounts,
+}
+
+impl Model for LinkPass {
+    ghost use Rattle.std.specs.Prelude.{◌≡◌};
+    ghost use Rattle.network_calls.specs.Calls.{user_of};
+    ghost use Rattle.live_system.specs.Pass.{AreCountsOf, KnownLink, known_link};
+
+    ghost Value = { KnownLink };
+
+    ghost view = { λ p. known_link p.net p.pass p.counts };
+
+    ghost invariant = { λ p. (p.pass.user ≡ user_of p.net) × AreCountsOf p.net p.pass.list p.counts };
+}
+
+impl LinkPass {
+    /// A pass that did nothing.
+    fn new(net: Net, vl: LinkNo, pass: PassOf<Locked>) -> LinkPass
+        requires user { pass.user ≡ user_of net }
+        requires list { pass.list ≡ no_calls }
+        ensures { IsNoCall result net vl pass }
+    {
+        LinkPass {
+            net,
+            pass,
+            counts: LinkCounts::opening(vl),
+        }
+    }
+
+    /// Gives the link a frame that came on the pass's network at `now`, in microseconds: waits until the link is free,
+    /// and lets the link take the frame. Returns the place of its event, which stops at the greatest number of 64 bits,
+    /// and its verdict. Takes no memory, and can't fail.
+    pub(crate) fn receive<R: Wait>(
+        &mut self,
+        rt: &R,
+        lock: &Lock<Locked>,
+        now: u64,
+        frame: &Frame<'_>,
+    ) -> (u64, Verdict)
+        requires lock { self.old.lock ≡ lock.now }
+        requires link { (link : LiveLink) × (self.old.link ≡ Some link) × (link_number_of frame.now.whole.now ≡ link.core.settings.vl.0) }
+        ensures { (place : ℕ) × (result.0 ≡ shown place) × Calls self.old (call place now frame.now.whole.now result.1) self.new }
+    {
+        let net = self.net;
+        let octets = frame.whole;
+        let answer = lock.visit(
+            rt,
+            &mut self.pass,
+            move |locked: &mut Locked| -> (u64, Verdict)
+                requires frame { IsFrame octets.now }
+                requires link { link_number_of octets.now ≡ locked.old.core.settings.vl.0 }
+                ensures { Did (arrived net now octets.entry.now) locked.old locked.new result }
+            { take(locked, net, now, octets) },
+        );
+        self.counts.add(net, answer.1);
+        answer
+    }
+
+    /// The link's number.
+    pub(crate) fn vl(&self) -> LinkNo
+        ensures { result ≡ self.now.counts.vl }
+    {
+        self.counts.vl
+    }
+
+    /// How many calls were made. The number stops at the greatest number of 64 bits.
+    pub(crate) fn calls(&self) -> u64
+        ensures { result ≡ shown (length self.now.calls) }
+    {
+        self.counts.number
+    }
+
+    /// How many calls had a verdict of this kind, 1 to 13. The number stops at the greatest number of 64 bits.
+    pub(crate) fn count(&self, kind: usize) -> u64
+        requires { IsKind verdict_kinds kind }
+        ensures { result ≡ shown (count_calls kind self.now.calls) }
+    {
+        self.counts.tally.count(self.net, kind)
+    }
+}
+
+/// A link under its lock, the passes of both networks on it, and the ends of its ports.
+#[derive(Drop)]
+pub(crate) struct OpenedLink {
+    pub lock: Lock<Locked>,
+    pub a: LinkPass,
+    pub b: LinkPass,
+    pub ends: Vec<PortEnd<PartitionEnd>>,
+}
+
+/// Opens a link with these settings. Each of its sampling ports has so many readers.
+pub(crate) fn open_link(
+    alloc: Global,
+    settings: &LinkSettings,
+    readers: ReaderCount,
+) -> Result<OpenedLink, Memory>
+    ensures { IfOk result (λ o. (link : LiveLink) × IsNewLink ShowsPort (ReadsPort readers) settings.now link o.ends.items
+        × IsNewPass settings.now link o.lock A o.a × IsNewPass settings.now link o.lock B o.b) }
+{
+    let (link, ends) = OpenLink::<PortOutlet>::open(alloc, settings, readers)?;
+    let Opened {
+        lock,
+        first,
+        second,
+    } = Lock::open(alloc, Locked { link })?;
+    Ok(OpenedLink {
+        lock,
+        a: LinkPass::new(Net::A, settings.vl(), first),
+        b: LinkPass::new(Net::B, settings.vl(), second),
+        ends,
+    })
+}
+
+/// A link whose lock has ended, and the counts of both passes.
+#[derive(Drop)]
+pub(crate) struct SettledLink {
+    pub link: OpenLink<PortOutlet>,
+    pub a: LinkCounts,
+    pub b: LinkCounts,
+}
+
+/// Ends the lock of a link. The calls of its past are those of both passes. Takes no memory, and waits for nobody.
+pub(crate) fn settle_link(lock: Lock<Locked>, a: LinkPass, b: LinkPass) -> SettledLink
+    requires lock { (a.lock ≡ lock) × (b.lock ≡ lock) }
+    requires nets { (a.net ≡ A) × (b.net ≡ B) }
+    ensures link { IsSettled a.link a.calls b.calls result.link }
+    ensures a { (result.a ≡ a.counts) × AreCountsOf A a.calls result.a }
+    ensures b { (result.b ≡ b.counts) × AreCountsOf B b.calls result.b }
+{
+    let LinkPass {
+        net: _,
+        pass: first,
+        counts: a,
+    } = a;
+    let LinkPass {
+        net: _,
+        pass: second,
+        counts: b,
+    } = b;
+    let Locked { link } = lock.settle(first, second);
+    SettledLink { link, a, b }
+}
+
+/// Lets a link that is locked take a frame. Returns the place of its event and its verdict.
+fn take(locked: &mut Locked, net: Net, now: u64, octets: &[u8]) -> (u64, Verdict)
+    requires link { link_number_of octets.now ≡ locked.old.core.settings.vl.0 }
+    requires frame { IsFrame octets.now }
+    ensures { Did (arrived net now octets.now) locked.old locked.new result }
+{
+    locked.link.receive(net, now, &frame_in(octets))
+}

@@ -1,0 +1,34 @@
+//! A link as its lock keeps it: how the calls of both networks stand in its past.
+use link_lock::Recorded;
+use network_calls::Call;
+use receiver::{OpenLink, PortOutlet};
+use std::collections::LinkedList;
+use std::marker::Model;
+
+/// A link under its lock. To a contract it is the link itself.
+#[derive(Drop)]
+pub(crate) struct Locked {
+    pub(crate) link: OpenLink<PortOutlet>,
+}
+
+impl Model for Locked {
+    ghost use Rattle.live_system.specs.Calls.{LiveLink};
+
+    ghost Value = { LiveLink };
+
+    ghost view = { λ l. l.link };
+}
+
+impl Recorded for Locked {
+    type List = LinkedList<Call>;
+
+    ghost use Rattle.live_system.specs.Calls.{Agrees, as_opened, goes_on, no_calls};
+
+    ghost fixed = { as_opened };
+
+    ghost agree = { Agrees };
+
+    ghost goes_on = { goes_on };
+
+    ghost nothing = { no_calls };
+}

@@ -1,0 +1,104 @@
+//! A system as it is opened: its two passes, and the ends of all ports.
+ghost use Rattle.std.specs.Prelude.{◌≡◌, List, IfOk, length};
+ghost use Rattle.es_base.specs.declared.place.Net.TheVariants.{A, B};
+ghost use Rattle.receiver.specs.Port.{ReadsPort, ShowsPort};
+ghost use Rattle.receiver.specs.Receiver.{AreNewLinks};
+ghost use Rattle.live_system.specs.Calls.{LiveLink};
+ghost use Rattle.live_system.specs.System.{AreOfNewLinks, ArePasses, AreWithoutCalls, IsNewPassOf, IsPassOf, KnowLinks};
+
+use crate::link_pass::{LinkPass, OpenedLink, open_link};
+use crate::locked::Locked;
+use crate::net_pass::NetPass;
+use crate::system::LiveSystem;
+use es_base::{Config, FilterTally, LinkSettings, Memory, Net};
+use link_lock::Lock;
+use receiver::{LinkEnds, PartitionEnd, ReaderCount};
+use std::alloc::Global;
+
+/// A new system, the passes of its two networks, and the ends of all ports, in the order of the links.
+#[derive(Drop)]
+pub struct Opened {
+    /// Shared by the threads of both networks.
+    pub system: LiveSystem,
+    /// The pass of network A.
+    pub a: NetPass,
+    /// The pass of network B.
+    pub b: NetPass,
+    pub ends: Vec<LinkEnds<PartitionEnd>>,
+}
+
+/// The links of a system, each under its lock, with the passes of both networks and the ends of its ports.
+#[derive(Drop)]
+struct Links {
+    locks: Vec<Lock<Locked>>,
+    a: Vec<LinkPass>,
+    b: Vec<LinkPass>,
+    ends: Vec<LinkEnds<PartitionEnd>>,
+}
+
+/// Opens links with these settings. Each sampling port has so many readers.
+fn open_links(alloc: Global, links: &[LinkSettings], readers: ReaderCount) -> Result<Links, Memory>
+    ensures a { IfOk result (λ o. ArePasses A o.locks.items links.now o.a.items × AreWithoutCalls o.a.items) }
+    ensures b { IfOk result (λ o. ArePasses B o.locks.items links.now o.b.items × AreWithoutCalls o.b.items) }
+    ensures links { IfOk result (λ o. (opened : List LiveLink) × AreNewLinks ShowsPort (ReadsPort readers) links.now opened o.ends.items
+        × KnowLinks o.a.items opened × KnowLinks o.b.items opened) }
+    ensures many { IfOk result (λ o. (length o.a.items ≡ length links.now) × (length o.b.items ≡ length links.now)) }
+{
+    let mut opened = Links {
+        locks: Vec::new(alloc),
+        a: Vec::new(alloc),
+        b: Vec::new(alloc),
+        ends: Vec::new(alloc),
+    };
+    'links: for link in links {
+        let OpenedLink {
+            lock,
+            a,
+            b,
+            ends: ports,
+        } = open_link(alloc, link, readers)?;
+        opened.locks.push(lock)?;
+        opened.a.push(a)?;
+        opened.b.push(b)?;
+        let vl = link.vl();
+        opened.ends.push(LinkEnds { vl, ports })?;
+    }
+    Ok(opened)
+}
+
+impl LiveSystem {
+    /// Opens the links of a configuration, with the passes of both networks, which know the same links, and the ends of
+    /// all ports; each sampling port has so many readers. All memory is taken here: no later call takes any.
+    pub fn open(alloc: Global, config: &Config, readers: ReaderCount) -> Result<Opened, Memory>
+        ensures config { IfOk result (λ o. o.system.config ≡ config.now) }
+        ensures a { IfOk result (λ o. IsPassOf o.system o.a × IsNewPassOf A o.a) }
+        ensures b { IfOk result (λ o. IsPassOf o.system o.b × IsNewPassOf B o.b) }
+        ensures links { IfOk result (λ o. AreOfNewLinks readers config.now o.a o.b o.ends.items) }
+    {
+        let links = config.links();
+        let many = links.len();
+        let config = config.copy(alloc)?;
+        let settled = Vec::with_capacity(alloc, many)?;
+        let counts_a = Vec::with_capacity(alloc, many)?;
+        let counts_b = Vec::with_capacity(alloc, many)?;
+        let Links { locks, a, b, ends } = open_links(alloc, links, readers)?;
+        Ok(Opened {
+            system: LiveSystem { config, locks },
+            a: NetPass {
+                net: Net::A,
+                links: a,
+                filtered: FilterTally::opening(),
+                settled,
+                counts: counts_a,
+            },
+            b: NetPass {
+                net: Net::B,
+                links: b,
+                filtered: FilterTally::opening(),
+                settled: Vec::new(alloc),
+                counts: counts_b,
+            },
+            ends,
+        })
+    }
+}

@@ -1,0 +1,68 @@
+//! All links, each under a lock of its own.
+ghost use Rattle.std.specs.Prelude.{◌≡◌};
+ghost use Rattle.es_base.specs.Addressing.{ComesToPlace};
+ghost use Rattle.live_system.specs.System.{IsPassOf, Replies};
+
+use crate::locked::Locked;
+use crate::net_pass::NetPass;
+use es_base::Config;
+use frame_reader::{Frame, read_addressed};
+use link_lock::Lock;
+use network_calls::Reply;
+use std::marker::Model;
+use std::sync::Wait;
+
+/// All links of a configuration, each under a lock of its own. Threads share it.
+#[derive(Drop)]
+pub struct LiveSystem {
+    pub(crate) config: Config,
+    pub(crate) locks: Vec<Lock<Locked>>,
+}
+
+impl Model for LiveSystem {
+    ghost use Rattle.live_system.specs.System.{System};
+
+    ghost Value = { System };
+
+    ghost view = { λ s. record { config = s.config; locks = s.locks.items } };
+}
+
+impl LiveSystem {
+    /// Gives a frame that came on the pass's network at `now`, in microseconds, to its link, or filters it. Waits for the
+    /// link's lock and for nothing else; a filtered frame takes no lock. Takes no memory, and can't fail.
+    pub fn receive<R: Wait>(&self, rt: &R, pass: &mut NetPass, now: u64, bytes: &[u8]) -> Reply
+        requires { IsPassOf self.now pass.old }
+        ensures own { IsPassOf self.now pass.new }
+        ensures net { pass.new.net ≡ pass.old.net }
+        ensures replies { Replies self.now.config pass.old now bytes.now result pass.new }
+    {
+        match read_addressed(&self.config, bytes) {
+            Ok((at, frame)) => self.receive_at(rt, pass, at, now, &frame),
+            Err(cause) => pass.filter(cause),
+        }
+    }
+
+    /// Gives a frame to the link that it comes to, which has this place.
+    fn receive_at<R: Wait>(
+        &self,
+        rt: &R,
+        pass: &mut NetPass,
+        at: usize,
+        now: u64,
+        frame: &Frame<'_>,
+    ) -> Reply
+        requires own { IsPassOf self.now pass.old }
+        requires place { ComesToPlace self.now.config frame.now.whole.now at }
+        ensures own { IsPassOf self.now pass.new }
+        ensures net { pass.new.net ≡ pass.old.net }
+        ensures replies { Replies self.now.config pass.old now frame.now.whole.now result pass.new }
+    {
+        let lock = &self.locks[at];
+        let (place, verdict) = pass.links[at].receive(rt, lock, now, frame);
+        Reply::Link {
+            vl: frame.vl,
+            place,
+            verdict,
+        }
+    }
+}

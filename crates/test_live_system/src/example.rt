@@ -1,0 +1,29 @@
+//! The program of which the law of all calls is proved: run on a frame and its copy.
+use crate::running::{LINK_17, built_in, octets_of};
+use es_base::Net::{A, B};
+use es_base::Verdict::Sampled;
+use live_system_example::run;
+use std::alloc::Global;
+use std::process::Abort;
+use std::sync::Wait;
+use std::thread::Threads;
+use test_inputs::rows::{POS, smallest_row};
+
+/// Whichever came first was sampled, and the other one is redundant.
+fn check_example<R: Abort + Threads + Wait + Sync>(rt: &R, alloc: Global) {
+    let config = built_in(rt, alloc);
+    let frame = octets_of(rt, alloc, smallest_row((A, 1000, 1, Sampled(POS, 1))));
+    let settled = run(rt, alloc, &config, &frame, &frame).expect(rt, "memory");
+    assert!(rt; settled.a.calls(LINK_17) == 1 && settled.b.calls(LINK_17) == 1);
+    for link in &settled.links {
+        let tally = link.tally();
+        let sampled = tally.count(A, 10).wrapping_add(tally.count(B, 10));
+        let redundant = tally.count(A, 2).wrapping_add(tally.count(B, 2));
+        assert!(rt; link.came() == 2 && sampled == 1 && redundant == 1);
+    }
+}
+
+#[test]
+fn the_example_takes_a_frame_and_its_copy(rt: HostRuntime) {
+    check_example(&rt, rt.alloc());
+}

@@ -1,0 +1,12 @@
+//! The end system that keeps no frame: worked frames with each reply, the counts of both passes, and two threads that end
+//! as one does.
+#![tactic(auto)]
+
+#[cfg(test)]
+mod example;
+#[cfg(test)]
+mod frames;
+#[cfg(test)]
+mod running;
+#[cfg(test)]
+mod threads;

@@ -1,0 +1,173 @@
+//! Both networks give the same frames, each on a thread of its own: it ends as on one thread.
+ghost use Rattle.std.specs.Prelude.{◌≡◌};
+ghost use Rattle.es_base.specs.declared.place.Net.TheVariants.{A, B};
+ghost use Rattle.live_system.specs.System.{IsPassOf};
+
+use crate::running::{LINK_17, Running};
+use es_base::Net;
+use live_system::{LiveSystem, NetPass, Opened, Reply, Settled};
+use receiver::{MailboxReader, Reading};
+use std::alloc::Global;
+use std::process::Abort;
+use std::sync::Wait;
+use std::thread::{Threads, join};
+use test_inputs::smallest;
+
+/// How many frames each network gives. So few that no sequence number is ahead of a later one, however far one thread is
+/// before the other: then the first copy of each is forwarded.
+const MANY: u8 = 100;
+
+/// The place of the event of a frame that came to link 17.
+fn place_of(rt: &impl Abort, reply: Reply) -> u64 {
+    match reply {
+        Reply::Link { vl, place, .. } => {
+            assert!(rt; vl == LINK_17);
+            place
+        }
+        Reply::Filtered(_) => panic!(rt; "a frame of link 17"),
+    }
+}
+
+/// Gives the smallest frames with the sequence numbers from 1 on, one each 10 microseconds. Returns their places.
+fn give<R: Abort + Wait>(
+    rt: &R,
+    alloc: Global,
+    system: &LiveSystem,
+    mut pass: NetPass,
+) -> (NetPass, Vec<u64>)
+    requires { IsPassOf system.now pass }
+    ensures { IsPassOf system.now result.0 × (result.0.net ≡ pass.net) }
+{
+    let mut places = Vec::new(alloc);
+    for number in 1..=MANY {
+        let frame = smallest(alloc, number).expect(rt, "octets");
+        let reply = system.receive(rt, &mut pass, u64::from(number) * 10, &frame);
+        places.push(place_of(rt, reply)).expect(rt, "memory");
+    }
+    (pass, places)
+}
+
+/// What a run came to.
+#[derive(Drop)]
+struct Ended {
+    settled: Settled,
+    reader: MailboxReader,
+    a: Vec<u64>,
+    b: Vec<u64>,
+}
+
+/// A reader of the link's sampling port, the first of its ports.
+fn reader_of(rt: &impl Abort, opened: &mut Opened) -> MailboxReader {
+    let link = opened.ends.first_mut().expect(rt, "a link");
+    let port = link.ports.first_mut().expect(rt, "a port");
+    port.reads.take_reader().expect(rt, "a reader")
+}
+
+/// Both networks give their frames, each on a thread of its own.
+fn on_two_threads<R: Abort + Threads + Wait + Sync>(rt: &R, alloc: Global) -> Ended {
+    let mut opened = Running::open(rt, alloc).apart();
+    let reader = reader_of(rt, &mut opened);
+    let Opened {
+        system,
+        a,
+        b,
+        ends: _,
+    } = opened;
+    let shared = &system;
+    let ((a, first), (b, second)) = join(
+        rt,
+        move ||
+            requires { IsPassOf shared.now a × (a.net ≡ A) }
+            ensures { IsPassOf shared.entry.now result.0 × (result.0.net ≡ A) }
+        { give(rt, alloc, shared, a) },
+        move ||
+            requires { IsPassOf shared.now b × (b.net ≡ B) }
+            ensures { IsPassOf shared.entry.now result.0 × (result.0.net ≡ B) }
+        { give(rt, alloc, shared, b) },
+    );
+    let settled = system.settle(a, b);
+    Ended {
+        settled,
+        reader,
+        a: first,
+        b: second,
+    }
+}
+
+/// Both networks give their frames on one thread, that of A first.
+fn on_one_thread<R: Abort + Wait>(rt: &R, alloc: Global) -> Ended {
+    let mut opened = Running::open(rt, alloc).apart();
+    let reader = reader_of(rt, &mut opened);
+    let Opened {
+        system,
+        a,
+        b,
+        ends: _,
+    } = opened;
+    let (a, first) = give(rt, alloc, &system, a);
+    let (b, second) = give(rt, alloc, &system, b);
+    let settled = system.settle(a, b);
+    Ended {
+        settled,
+        reader,
+        a: first,
+        b: second,
+    }
+}
+
+/// The places are those from 0 on, each once; those of one network are in order.
+fn check_places(rt: &impl Abort, a: &[u64], b: &[u64]) {
+    let mut found = [false; 2 * MANY as usize];
+    for places in [a, b] {
+        let mut least = 0u64;
+        for place in places {
+            assert!(rt; *place >= least, "{place} after {least}");
+            least = place.wrapping_add(1);
+            let seen = found.get_mut(*place as usize).expect(rt, "a place");
+            assert!(rt; !*seen, "{place} twice");
+            *seen = true;
+        }
+    }
+    assert!(rt; a.len() == usize::from(MANY) && b.len() == usize::from(MANY));
+}
+
+/// Each frame was sampled once and was redundant once; and the newest message is the last one.
+fn check_ended(rt: &impl Abort, mut ended: Ended) {
+    check_places(rt, &ended.a, &ended.b);
+    let (a, b) = (&ended.settled.a, &ended.settled.b);
+    let sampled = a.count(LINK_17, 10).wrapping_add(b.count(LINK_17, 10));
+    let redundant = a.count(LINK_17, 2).wrapping_add(b.count(LINK_17, 2));
+    assert!(rt;
+        sampled == u64::from(MANY) && redundant == u64::from(MANY),
+        "{sampled} {redundant}"
+    );
+    for link in &ended.settled.links {
+        assert!(rt; link.came() == 2 * u64::from(MANY));
+        assert!(rt; link.tally().count(Net::A, 10) == a.count(LINK_17, 10));
+        assert!(rt; link.tally().count(Net::B, 10) == b.count(LINK_17, 10));
+    }
+    match ended.reader.read(1000, &mut [0; 64]) {
+        Reading::Message {
+            number,
+            time,
+            len,
+            ..
+        } => {
+            assert!(rt;
+                number == u64::from(MANY) && time == 1000 && len == 17,
+                "{number} {time} {len}"
+            );
+        }
+        Reading::Empty => panic!(rt; "a message"),
+    }
+}
+
+#[test]
+fn one_thread_samples_each_frame_once(rt: HostRuntime) {
+    check_ended(&rt, on_one_thread(&rt, rt.alloc()));
+}
+
+#[test]
+fn two_threads_end_as_one_does(rt: HostRuntime) {
+    check_ended(&rt, on_two_threads(&rt, rt.alloc()));
+}
