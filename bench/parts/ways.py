@@ -4,6 +4,7 @@ import os
 import subprocess
 import sys
 import tempfile
+from typing import NamedTuple
 
 from parts.peer import PROFILES, compiled, generated
 
@@ -152,6 +153,59 @@ def port(program):
     return done.returncode
 
 
+# ---- a system that keeps no frame, by one thread and by two
+
+# Of so many links, how often all frames are given.
+LIVE = {64: 30, 1: 120}
+LIVE_WAYS = ["task", "one", "two"]
+
+
+class Ran(NamedTuple):
+    """Nanoseconds of a run by the clock of its program and of the processors, its frames, and its memory in KiB."""
+    wall: int
+    processors: float
+    frames: int
+    published: int
+    memory: int
+
+
+def ran(program, *words):
+    with subprocess.Popen([program], stdin=subprocess.PIPE, stdout=subprocess.PIPE, text=True) as child:
+        child.stdin.write(" ".join(map(str, words)))
+        child.stdin.close()
+        told = child.stdout.read()
+        _, status, used = os.wait4(child.pid, 0)
+        child.returncode = os.waitstatus_to_exitcode(status)
+    if child.returncode:
+        sys.exit(f"bench/run: live ended with status {child.returncode}")
+    wall, frames, published = map(int, told.split())
+    return Ran(wall, 1e9 * (used.ru_utime + used.ru_stime), frames, published, used.ru_maxrss)
+
+
+def least_of(program, links, turns):
+    """By its way the least of so many turns: wall and processor time of a frame, and its share of published ones."""
+    found = {}
+    idle = min(ran(program, "one", links, 0).processors for _ in range(turns))
+    for _ in range(turns):
+        for way in LIVE_WAYS:
+            run = ran(program, way, links, LIVE[links])
+            times = run.wall / run.frames, (run.processors - idle) / run.frames
+            found[way] = *map(min, times, found.get(way, times)), run.published / run.frames, run.memory / 1024
+    return found
+
+
+def live(program, turns):
+    print_load()
+    for links in LIVE:
+        found = least_of(program, links, turns)
+        wall, used = found["one"][:2]
+        print(f"{links} links: ns a frame, of the processors; over one thread; published; MiB")
+        for way, (each, by, published, memory) in found.items():
+            print(f"{way:12} {each:7.1f} {by:7.1f}  {each / wall:.2f} {by / used:.2f}  {published:.3f}  {memory:.0f}", flush=True)
+    print_load()
+    return 0
+
+
 # How the words of each program are read, and how it is run with what they say.
 WAYS = {
     "queue": (ask_nothing, queue),
@@ -165,6 +219,7 @@ WAYS = {
     "three_roofs": (functools.partial(ask_number, otherwise=100), three_roofs),
     "receives": (ask_receives, receives),
     "stress": (functools.partial(ask_number, otherwise=60), stress),
+    "live": (functools.partial(ask_number, otherwise=5), live),
 }
 
 
