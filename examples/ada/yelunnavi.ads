@@ -107,7 +107,9 @@ package Yelunnavi is
    end record with Convention => C;
    type Read_Reply is record Found, Valid : Unsigned_32; Number, Time : Unsigned_64; Length : size_t; end record with Convention => C;
    type Take_Reply is record Found : Unsigned_32; Time : Unsigned_64; Length : size_t; end record with Convention => C;
-   type Link_Reply is record Vl : Unsigned_32; Ports : size_t; end record with Convention => C;
+   type Link_Reply is record
+      Vl, Redundancy : Unsigned_32; Skew_Max, Reassembly : Unsigned_64; Window : Unsigned_32; Ports : size_t;
+   end record with Convention => C;
    type Port_Reply is record
       Service, Address, Udp, Max : Unsigned_32; Limit : Unsigned_64; Name_Length : size_t;
    end record with Convention => C;

@@ -249,8 +249,12 @@ uint32_t yelunnavi_receiver_filtered(struct yelunnavi_receiver *h, uint32_t net,
 /* ---- the receiver: links and ports */
 
 struct yelunnavi_link {
-    uint32_t vl;  /* its link number */
-    size_t ports; /* how many ports it has, up to 32 */
+    uint32_t vl;         /* its link number */
+    uint32_t redundancy; /* 1: redundancy management is on. 0: it is off */
+    uint64_t skew_max;   /* SkewMax, up to 1,000,000 */
+    uint64_t reassembly; /* the limit of reassembly, up to 10,000,000 */
+    uint32_t window;     /* of integrity checking: how many sequence numbers after another pass, 1 to 4 */
+    size_t ports;        /* how many ports it has, up to 32 */
 };
 
 struct yelunnavi_port {
@@ -270,7 +274,7 @@ struct yelunnavi_place {
 /* Tells how many links there are, 1 to 64. NOT_OPEN. */
 uint32_t yelunnavi_receiver_links(struct yelunnavi_receiver *h, size_t *links);
 
-/* Tells of the link at this place. NOT_OPEN, NO_PLACE. */
+/* Tells the settings of the link at this place. NOT_OPEN, NO_PLACE. */
 uint32_t yelunnavi_receiver_link(struct yelunnavi_receiver *h, size_t link, struct yelunnavi_link *reply);
 
 /* Tells of a port, and writes its name over the beginning of `name`, without a 0 after it. NOT_OPEN, NO_PLACE. */

@@ -120,8 +120,8 @@ replies! {
     Read { found: u32, valid: u32, number: u64, time: u64, len: usize }
     /// What was taken of a queue.
     Taken { found: u32, time: u64, len: usize }
-    /// A link.
-    Link { vl: u32, ports: usize }
+    /// The settings of a link, its times in microseconds. `redundancy` is 1 if redundancy management is on, else 0.
+    Link { vl: u32, redundancy: u32, skew_max: u64, reassembly: u64, window: u32, ports: usize }
     /// A port.
     Port { service: Service, address: u32, udp: u32, max: u32, limit: u64, name_len: usize }
     /// Where a port is.

@@ -192,7 +192,7 @@ pub extern "C" fn yelunnavi_receiver_links(h: &mut ReceiverHandle, links: &mut u
     h.lend().links(links)
 }
 
-/// Tells the link number and the number of ports of the link at this place of the configuration.
+/// Tells the settings of the link at this place of the configuration, and how many ports it has.
 #[unsafe(no_mangle)]
 pub extern "C" fn yelunnavi_receiver_link(
     h: &mut ReceiverHandle,
