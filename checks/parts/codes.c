@@ -181,6 +181,7 @@ static void of_a_closed_receiver(void) {
 }
 
 int main(void) {
+    if (yelunnavi_abi() != YELUNNAVI_ABI) return 21;
     if (yelunnavi_receiver_room() > 512 || yelunnavi_reader_room() > 512 || yelunnavi_taker_room() > 512) return 9;
     yelunnavi_receiver_init(receiver.room);
     yelunnavi_reader_init(reader.room);

@@ -94,6 +94,10 @@ PLANTED = [
      "number Fault_Too_Many: 8; in the source: 10"),
     (faces.REPLIES, "(Some(_), None) => 1", "(Some(_), None) => 3", "number Level::LINK: 1; in the source: 3"),
     (faces.BOUNDS[0], "MOST_LINKS: usize = 64", "MOST_LINKS: usize = 65", "number Most_Links: 64; in the source: 65"),
+    (C, "#define YELUNNAVI_ABI 1", "#define YELUNNAVI_ABI 2", "number YELUNNAVI_ABI: 2; in the source: 1"),
+    (RUST, "pub const ABI: u32 = 1;", "pub const ABI: u32 = 2;", "number ABI: 2; in the source: 1"),
+    (ADA, "   Abi : constant Unsigned_32 := 1;\n", "", "no number Abi"),
+    (faces.CALLS, "pub const ABI: u32 = 1;", "pub const ABI: u32 = 2;", "number YELUNNAVI_ABI: 1; in the source: 2"),
     # words
     (WORDS, 'return "checksum"', 'return "sum"', "word of HeaderFault::CHECKSUM: 'sum'; in the source: 'checksum'"),
     (WORDS, "    case YELUNNAVI_VERDICT_QUEUED: return \"queued\";\n", "", "no word of Verdict::QUEUED"),

@@ -6,7 +6,7 @@
 
    Static room:   static uint64_t room[64];
                   struct yelunnavi_receiver receiver = {room};
-                  if (yelunnavi_receiver_room() > sizeof room) ...;
+                  if (yelunnavi_abi() != YELUNNAVI_ABI || yelunnavi_receiver_room() > sizeof room) ...;
                   yelunnavi_receiver_init(room);
 
    WHO MAY CALL. Each handle may be used by any one thread at a time, and handed on to another. Different handles may be
@@ -42,7 +42,7 @@
    REGISTERS. The library uses the vector registers of its processor (SSE2, Advanced SIMD), in a receive and in nearly every
    other call: a task or an interrupt handler that may not use them may not call it.
 
-   ANSWERS. Each call but room, init and close answers a code, YELUNNAVI_DONE or why nothing was done. After any other
+   ANSWERS. Each call but abi, room, init and close answers a code, YELUNNAVI_DONE or why nothing was done. After any other
    code what the call was passed is as it was, but for the fault that FAULTY tells.
 
    WHAT NOTHING CHECKS, and what is undefined where it is not kept:
@@ -73,6 +73,13 @@ extern "C" {
 
 /* Refused by the compiler of a machine that isn't of 64 bits. */
 typedef char yelunnavi_is_of_64_bits[sizeof(size_t) == 8 && sizeof(void *) == 8 ? 1 : -1];
+
+/* The number of this interface: raised with each change of a struct, a call or a number. */
+#define YELUNNAVI_ABI 1
+
+/* The number of the library's interface. A program compares both before its first opening: if they differ, the header that
+   it was compiled with is of another library. */
+uint32_t yelunnavi_abi(void);
 
 /* ---- numbers by their names: calls pass and tell them as uint32_t. yelunnavi_words.h has a word for each */
 

@@ -86,6 +86,8 @@ impl Verdict {
     }
 }
 
+/// The number of this interface: raised with each change of a struct, a call or a number.
+pub const ABI: u32 = 1;
 pub const MOST_LINKS: usize = 64;
 /// Of a link.
 pub const MOST_PORTS: usize = 32;
@@ -163,6 +165,7 @@ macro_rules! calls {
 }
 
 calls! {
+    yelunnavi_abi() -> u32;
     yelunnavi_receiver_room() -> usize;
     yelunnavi_reader_room() -> usize;
     yelunnavi_taker_room() -> usize;
@@ -214,9 +217,9 @@ macro_rules! slots {
             unsafe impl Send for $name<'_> {}
 
             impl<'a> $name<'a> {
-                /// A slot in which nothing is open. None if this library needs more room.
+                /// A slot in which nothing is open. None if this library has another interface, or needs more room.
                 pub fn new(room: &'a mut $room) -> Option<$name<'a>> {
-                    if unsafe { $size() } > $octets {
+                    if unsafe { yelunnavi_abi() != ABI || $size() > $octets } {
                         return None;
                     }
                     let handle = Handle { room: (room as *mut $room).cast() };
