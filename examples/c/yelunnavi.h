@@ -45,11 +45,13 @@
    ANSWERS. Each call but abi, room, init and close answers a code, YELUNNAVI_DONE or why nothing was done. After any other
    code what the call was passed is as it was, but for the fault that FAULTY tells.
 
+   NULL. A pointer may be null where the length after it is 0.
+
    WHAT NOTHING CHECKS, and what is undefined where it is not kept:
    - The room of a handle has as many octets as its .._room() says, is aligned to 8, and is of no other handle. Its
      .._init was called once, before any other call. The program neither reads, writes nor moves it, nor changes the handle.
    - One call at a time is made on a handle: no interrupt handler makes another one in its midst.
-   - No pointer is null, also where a length is 0; each reaches as many octets as the length after it says, or its type.
+   - No other pointer is null; each reaches as many octets as the length after it says, or its type.
    - No two things that a call is passed overlap, nor does one reach into a room; no handle is passed twice.
    - What a frame or a text has doesn't change during a call.
    - Arrival times and the `now` of reads and holds are of one clock.
