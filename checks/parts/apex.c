@@ -108,6 +108,7 @@ static void of_status(void) {
 
 int main(void) {
     struct yelunnavi_fault fault;
+    if (yelunnavi_abi() != YELUNNAVI_ABI) return 16;
     if (yelunnavi_receiver_room() > sizeof room) return 13;
     yelunnavi_receiver_init(room);
     if (yelunnavi_receiver_open(&receiver, (const uint8_t *)CONFIG, sizeof CONFIG - 1, 1, &fault) != YELUNNAVI_DONE) return 14;

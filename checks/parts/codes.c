@@ -1,7 +1,7 @@
 /* Each answer of examples/c/yelunnavi.h comes from the library where the header says so; an opening with its Nth request for
    memory refused answers NO_MEMORY, for each N, and gives everything back; a port has as many readers as the opening was told,
-   and one that holds a message holds nobody up. Fails with the line of the first call that answers something else, or with a
-   status. */
+   and one that holds a message holds nobody up; a null pointer with a length of 0 does what another one does. Fails with the line
+   of the first call that answers something else, or with a status. */
 #include "yelunnavi.h"
 #include <stdio.h>
 #include <stdlib.h>
@@ -17,13 +17,21 @@
     } while (0)
 #define TEXT(text) (const uint8_t *)(text), sizeof(text) - 1
 
-static const char CONFIG[] =
-    "[[link]]\nvl = 17\nskew_max_us = 1000\nreassembly_us = 50000\n"
-    "[[link.port]]\nname = \"pos\"\nkind = \"sampling\"\naddress = \"224.224.0.17\"\nudp = 5000\nrefresh_us = 20000\n"
-    "[[link.port]]\nname = \"nav\"\nkind = \"queuing\"\naddress = \"224.224.0.17\"\nudp = 5002\nmax = 64\ndepth = 2\n";
+#define LINK_17 \
+    "[[link]]\nvl = 17\nskew_max_us = 1000\nreassembly_us = 50000\n" \
+    "[[link.port]]\nname = \"pos\"\nkind = \"sampling\"\naddress = \"224.224.0.17\"\nudp = 5000\nrefresh_us = 20000\n" \
+    "[[link.port]]\nname = \"nav\"\nkind = \"queuing\"\naddress = \"224.224.0.17\"\nudp = 5002\nmax = 64\ndepth = 2\n"
+static const char CONFIG[] = LINK_17;
+/* With a port for messages of no octets. */
+static const char WITH_ACK[] = LINK_17
+    "[[link.port]]\nname = \"ack\"\nkind = \"queuing\"\naddress = \"224.224.0.17\"\nudp = 5003\nmax = 0\ndepth = 2\n";
 /* A sample of 17 octets for `pos`. */
 static const uint8_t FRAME[60] = {3, 0, 0, 0, 0, 17, 2, 0, 0, 0, 1, 32, 8, 0, 69, 0, 0, 45, 0, 1, 0, 0, 1, 17, 205, 204, 10, 1, 1, 1,
     224, 224, 0, 17, 19, 137, 19, 136, 0, 25, 0, 0, 1, 2, 3};
+
+/* A message of no octets for `ack`, the next frame of the link. */
+static const uint8_t NO_OCTETS[60] = {3, 0, 0, 0, 0, 17, 2, 0, 0, 0, 1, 32, 8, 0, 69, 0, 0, 28, 0, 2, 0, 0, 1, 17, 205, 220, 10, 1, 1, 1,
+    224, 224, 0, 17, 19, 137, 19, 139, 0, 8, 0, 0, [59] = 1};
 
 static _Alignas(8) unsigned char rooms[4][512];
 static struct yelunnavi_receiver receiver = {rooms[0]};
@@ -96,6 +104,71 @@ static void of_readers(size_t readers) {
     WANT(NONE_LEFT, yelunnavi_receiver_hand_reader(&receiver, &reader, TEXT("pos")));
     yelunnavi_receiver_close(&receiver);
     if (blocks) exit(17);
+}
+
+/* What calls of the receiver do that are passed no octets. */
+static void of_no_octets_in(const uint8_t *in) {
+    struct yelunnavi_fault fault = {0};
+    struct yelunnavi_frame frame;
+    struct yelunnavi_place place;
+    WANT(FAULTY, yelunnavi_receiver_open(&receiver, in, 0, 1, &fault));
+    if (fault.fault != YELUNNAVI_FAULT_MISSING || fault.key != YELUNNAVI_KEY_LINK || fault.level != YELUNNAVI_LEVEL_DOCUMENT) exit(22);
+    WANT(NOT_OPEN, yelunnavi_receiver_receive(&receiver, YELUNNAVI_A, 0, in, 0, &frame));
+    WANT(DONE, yelunnavi_receiver_open(&receiver, TEXT(WITH_ACK), 1, &fault));
+    WANT(ALREADY_OPEN, yelunnavi_receiver_open(&receiver, in, 0, 1, &fault));
+    WANT(DONE, yelunnavi_receiver_receive(&receiver, YELUNNAVI_A, 0, in, 0, &frame));
+    if (frame.kind != YELUNNAVI_VERDICT_FILTERED || frame.cause != YELUNNAVI_FILTER_TOO_SHORT) exit(23);
+    WANT(NO_NAME, yelunnavi_receiver_place(&receiver, in, 0, &place));
+    WANT(NO_NAME, yelunnavi_receiver_hand_reader(&receiver, &reader, in, 0));
+    WANT(NO_NAME, yelunnavi_receiver_hand_taker(&receiver, &taker, in, 0));
+}
+
+/* What calls of a reader do that have no room for octets: of a message of 17 of them. */
+static void of_no_room_to_read(uint8_t *out) {
+    struct yelunnavi_frame frame;
+    struct yelunnavi_read read;
+    WANT(NOT_OPEN, yelunnavi_reader_read(&reader, 0, out, 0, &read));
+    WANT(HOLDS_NONE, yelunnavi_reader_copy(&reader, 0, out, 0));
+    WANT(DONE, yelunnavi_receiver_hand_reader(&receiver, &reader, TEXT("pos")));
+    WANT(DONE, yelunnavi_reader_read(&reader, 0, out, 0, &read));
+    if (read.found != 0) exit(24);
+    WANT(DONE, yelunnavi_receiver_receive(&receiver, YELUNNAVI_A, 1000, FRAME, sizeof FRAME, &frame));
+    WANT(DONE, yelunnavi_reader_read(&reader, 1000, out, 0, &read));
+    if (read.found != 1 || read.valid != 1 || read.number != 1 || read.time != 1000 || read.len != 17) exit(25);
+    WANT(HOLDS_NONE, yelunnavi_reader_copy(&reader, 0, out, 0));
+    WANT(DONE, yelunnavi_reader_hold(&reader, 1000, &read));
+    WANT(DONE, yelunnavi_reader_copy(&reader, 0, out, 0));
+    WANT(DONE, yelunnavi_reader_copy(&reader, 17, out, 0));
+    WANT(OUT_OF_RANGE, yelunnavi_reader_copy(&reader, 18, out, 0));
+    WANT(HOLDS_ONE, yelunnavi_reader_read(&reader, 1000, out, 0, &read));
+    yelunnavi_reader_close(&reader);
+}
+
+/* What a take does that has no room for octets: at a port whose messages have none, and at one whose messages have. */
+static void of_no_room_to_take(uint8_t *out) {
+    struct yelunnavi_frame frame;
+    struct yelunnavi_taken taken;
+    WANT(NOT_OPEN, yelunnavi_taker_take(&taker, out, 0, &taken));
+    WANT(DONE, yelunnavi_receiver_hand_taker(&receiver, &taker, TEXT("ack")));
+    WANT(DONE, yelunnavi_taker_take(&taker, out, 0, &taken));
+    if (taken.found != 0) exit(26);
+    WANT(DONE, yelunnavi_receiver_receive(&receiver, YELUNNAVI_A, 2000, NO_OCTETS, sizeof NO_OCTETS, &frame));
+    if (frame.kind != YELUNNAVI_VERDICT_QUEUED || frame.port != 2) exit(27);
+    WANT(DONE, yelunnavi_taker_take(&taker, out, 0, &taken));
+    if (taken.found != 1 || taken.time != 2000 || taken.len != 0) exit(28);
+    yelunnavi_taker_close(&taker);
+    WANT(DONE, yelunnavi_receiver_hand_taker(&receiver, &taker, TEXT("nav")));
+    WANT(TOO_SHORT, yelunnavi_taker_take(&taker, out, 0, &taken));
+    yelunnavi_taker_close(&taker);
+}
+
+/* With a length of 0 a null pointer does what another one does. */
+static void of_no_octets(const uint8_t *in, uint8_t *out) {
+    of_no_octets_in(in);
+    of_no_room_to_read(out);
+    of_no_room_to_take(out);
+    yelunnavi_receiver_close(&receiver);
+    if (blocks) exit(29);
 }
 
 static void of_the_receiver(void) {
@@ -181,6 +254,8 @@ static void of_a_closed_receiver(void) {
 }
 
 int main(void) {
+    uint8_t some[1] = {0};
+    if (yelunnavi_abi() != YELUNNAVI_ABI) return 21;
     if (yelunnavi_receiver_room() > 512 || yelunnavi_reader_room() > 512 || yelunnavi_taker_room() > 512) return 9;
     yelunnavi_receiver_init(receiver.room);
     yelunnavi_reader_init(reader.room);
@@ -191,6 +266,8 @@ int main(void) {
     of_no_readers();
     of_readers(1);
     of_readers(YELUNNAVI_MOST_READERS);
+    of_no_octets(some, some);
+    of_no_octets(NULL, NULL);
     of_the_receiver();
     of_the_ends();
     of_a_hold();

@@ -45,7 +45,10 @@ PREFIXES = {
     "Level": ("LEVEL_", "Level_"),
     "Service": ("SERVICE_", "Service_"),
     "Bound": ("", ""),
+    "Interface": ("", ""),
 }
+# The groups whose numbers are plain constants in Rust, and have no words.
+PLAIN = ("Bound", "Interface")
 # The group of each function of C that returns words, yelunnavi_code_word and so on.
 WORDS_OF_C = {"code": "Code", "network": "Network", "verdict": "Verdict", "filter": "FilterCause", "header": "HeaderFault",
               "fault": "ConfigFault", "key": "Key", "level": "Level", "service": "Service"}
@@ -154,7 +157,8 @@ def bounds(tree):
 
 def numbers_of_source(tree):
     """The numbers by their groups and names."""
-    codes, numbers, replies = ((tree / path).read_text(encoding="utf-8") for path in (CODES, NUMBERS, REPLIES))
+    read = ((tree / path).read_text(encoding="utf-8") for path in (CALLS, CODES, NUMBERS, REPLIES))
+    calls, codes, numbers, replies = read
     filtered = found(r"Reply::Filtered\(cause\) => FrameReply \{\s*kind: (\d+),", replies, "a filtered frame's kind")
     no_key = found(r"ConfigFault::Memory => (\d+)", function(numbers, "fault_key"), "no key")
     faults = numbered(function(numbers, "fault_number"))
@@ -169,6 +173,7 @@ def numbers_of_source(tree):
         "Level": levels(function(replies, "level_of")),
         "Service": numbered(function(numbers, "service_number")),
         "Bound": bounds(tree),
+        "Interface": {"ABI": int(found(r"^pub const ABI: u32 = (\d+);", calls, "ABI")[1])},
     }
 
 
@@ -178,12 +183,12 @@ def words_of_source(tree, numbers):
     keys = {upper(name): word for name, word in re.findall(r"Key::(\w+) => \"(\w+)\"", text)}
     faults = {upper(name): word.replace("{0}", "{}")
               for word, name in re.findall(r"#\[error\(\"(.*?)\"\)\]\n    (\w+)", text) if upper(name) != UNTOLD}
-    words = {group: {name: name.lower().replace("_", "-") for name in names} for group, names in numbers.items()}
+    words = {group: {name: name.lower().replace("_", "-") for name in names}
+             for group, names in numbers.items() if group not in PLAIN}
     printed = {"Network": NETWORKS, "Verdict": ("filtered", *KINDS), "FilterCause": FILTER_CAUSES,
                "HeaderFault": HEADER_CAUSES}
     for group, in_order in printed.items():
         words[group] = dict(zip(sorted(numbers[group], key=numbers[group].get), in_order))
-    del words["Bound"]
     return {**words, "Key": {"NONE": "", **keys}, "ConfigFault": faults}
 
 
@@ -256,6 +261,7 @@ def face_of_c(tree):
         calls[name] = (type_of_c(result), [declared_in_c(part) for part in split_at(",", words) if part != "void"])
     bodies = re.findall(r"^enum \w+ \{(.*?)\}", text, re.M | re.S)
     numbers = {name: value for body in bodies for name, value in enumerators(body).items()}
+    numbers |= {name: int(value) for name, value in re.findall(r"^#define (YELUNNAVI_\w+) (\d+)$", text, re.M)}
     return Interface({names.get(name, name): fields for name, fields in structs.items()}, calls, numbers, words_of_c(tree))
 
 
@@ -285,7 +291,7 @@ def type_of_rust(words, width, groups):
 def numbers_of_rust(text, groups):
     numbers = {f"{group}::{name}": int(value) for group, body in groups.items()
                for name, value in re.findall(r"(\w+) = (\d+)", body)}
-    plain = re.findall(r"^pub const (\w+): usize = (\d+);", text, re.M)
+    plain = re.findall(r"^pub const (\w+): (?:usize|u32) = (\d+);", text, re.M)
     return {**numbers, **{name: int(value) for name, value in plain}}
 
 
@@ -324,7 +330,7 @@ def with_one_handle(interface):
 
 
 def name_in_rust(group, name):
-    return name if group == "Bound" else f"{group}::{name}"
+    return name if group in PLAIN else f"{group}::{name}"
 
 
 # ---- Ada

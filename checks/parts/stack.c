@@ -191,6 +191,7 @@ static void of_ends(void) {
 
 int main(int argc, char **argv) {
     if (argc != 4) return 2;
+    if (yelunnavi_abi() != YELUNNAVI_ABI) return 10;
     if (yelunnavi_receiver_room() > sizeof rooms[0] || yelunnavi_reader_room() > sizeof end_rooms[0]
         || yelunnavi_taker_room() > sizeof end_rooms[0]) return 9;
     yelunnavi_receiver_init(receiver.room);

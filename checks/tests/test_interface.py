@@ -21,6 +21,8 @@ PLANTED = [
     (C, "size_t max;       /* the longest message of the port: an `out` of this length is always long enough */\n"
         "    uint64_t refresh; /* its refresh period */", "uint64_t refresh; size_t max;", "struct LimitReply"),
     (RUST, "address: u32, udp: u32", "udp: u32, address: u32", "struct PortReply"),
+    (RUST, "skew_max: u64, reassembly: u64", "reassembly: u64, skew_max: u64", "struct LinkReply"),
+    (ADA, "Skew_Max, Reassembly", "Reassembly, Skew_Max", "struct LinkReply"),
     (ADA, "Service, Address, Udp, Max", "Service, Udp, Address, Max", "struct PortReply"),
     (faces.REPLIES, "    pub number: u64,\n    /// When it came, in microseconds.\n    pub time: u64,",
      "    pub time: u64,\n    pub number: u64,", "struct ReadReply"),
@@ -34,7 +36,7 @@ PLANTED = [
     (RUST, "pub struct $name(pub u32);", "pub struct $name(pub u64);", "call yelunnavi_receiver_receive"),
     (ADA, "Number, Time : Unsigned_64; Length", "Number, Time : Unsigned_32; Length", "struct ReadReply"),
     (ADA, "is Octets (0 .. 15)", "is Octets (0 .. 16)", "call yelunnavi_receiver_port"),
-    (faces.REPLIES, "pub vl: u32,\n    /// How many ports", "pub vl: u64,\n    /// How many ports", "struct LinkReply"),
+    (faces.REPLIES, "pub vl: u32,\n    /// 1 if", "pub vl: u64,\n    /// 1 if", "struct LinkReply"),
     # missing, swapped and wrong parameters
     (C, "size_t len, size_t readers,", "size_t len,", "call yelunnavi_receiver_open"),
     (C, "size_t link, size_t port, struct yelunnavi_port *reply",
@@ -92,6 +94,10 @@ PLANTED = [
      "number Fault_Too_Many: 8; in the source: 10"),
     (faces.REPLIES, "(Some(_), None) => 1", "(Some(_), None) => 3", "number Level::LINK: 1; in the source: 3"),
     (faces.BOUNDS[0], "MOST_LINKS: usize = 64", "MOST_LINKS: usize = 65", "number Most_Links: 64; in the source: 65"),
+    (C, "#define YELUNNAVI_ABI 1", "#define YELUNNAVI_ABI 2", "number YELUNNAVI_ABI: 2; in the source: 1"),
+    (RUST, "pub const ABI: u32 = 1;", "pub const ABI: u32 = 2;", "number ABI: 2; in the source: 1"),
+    (ADA, "   Abi : constant Unsigned_32 := 1;\n", "", "no number Abi"),
+    (faces.CALLS, "pub const ABI: u32 = 1;", "pub const ABI: u32 = 2;", "number YELUNNAVI_ABI: 1; in the source: 2"),
     # words
     (WORDS, 'return "checksum"', 'return "sum"', "word of HeaderFault::CHECKSUM: 'sum'; in the source: 'checksum'"),
     (WORDS, "    case YELUNNAVI_VERDICT_QUEUED: return \"queued\";\n", "", "no word of Verdict::QUEUED"),

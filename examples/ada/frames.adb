@@ -42,7 +42,7 @@ procedure Frames is
       Put_Line ("frame" & Told.Kind'Image & Told.Vl'Image & Told.Port'Image & Told.Place'Image & Told.Number'Image);
    end Show;
 begin
-   if Receiver_Room > 512 or Reader_Room > 512 or Taker_Room > 512 then raise Program_Error; end if;
+   if Library_Abi /= Abi or Receiver_Room > 512 or Reader_Room > 512 or Taker_Room > 512 then raise Program_Error; end if;
    Link_17.Room := Receiver_Space'Address; Pos.Room := Reader_Space'Address; Nav.Room := Taker_Space'Address;
    Receiver_Init (Link_17.Room); Reader_Init (Pos.Room); Taker_Init (Nav.Room);
    Check (Open (Link_17, As_Octets (Text), Text'Length, 1, Fault));

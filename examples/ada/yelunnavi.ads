@@ -9,6 +9,9 @@ package Yelunnavi is
    type Reader is limited record Room : System.Address; end record with Convention => C;
    type Taker is limited record Room : System.Address; end record with Convention => C;
 
+   --  The number of this interface: raised with each change of a struct, a call or a number. Library_Abi has the library's.
+   Abi : constant Unsigned_32 := 1;
+
    subtype Code is Unsigned_32;
    Done : constant Code := 0;
    Not_Open : constant Code := 1;
@@ -107,7 +110,9 @@ package Yelunnavi is
    end record with Convention => C;
    type Read_Reply is record Found, Valid : Unsigned_32; Number, Time : Unsigned_64; Length : size_t; end record with Convention => C;
    type Take_Reply is record Found : Unsigned_32; Time : Unsigned_64; Length : size_t; end record with Convention => C;
-   type Link_Reply is record Vl : Unsigned_32; Ports : size_t; end record with Convention => C;
+   type Link_Reply is record
+      Vl, Redundancy : Unsigned_32; Skew_Max, Reassembly : Unsigned_64; Window : Unsigned_32; Ports : size_t;
+   end record with Convention => C;
    type Port_Reply is record
       Service, Address, Udp, Max : Unsigned_32; Limit : Unsigned_64; Name_Length : size_t;
    end record with Convention => C;
@@ -117,6 +122,7 @@ package Yelunnavi is
    type Octets is array (size_t range <>) of aliased Unsigned_8 with Convention => C;
    subtype Name_Octets is Octets (0 .. 15);
 
+   function Library_Abi return Unsigned_32 with Import, Convention => C, External_Name => "yelunnavi_abi";
    function Receiver_Room return size_t with Import, Convention => C, External_Name => "yelunnavi_receiver_room";
    function Reader_Room return size_t with Import, Convention => C, External_Name => "yelunnavi_reader_room";
    function Taker_Room return size_t with Import, Convention => C, External_Name => "yelunnavi_taker_room";

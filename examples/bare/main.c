@@ -65,7 +65,7 @@ static void show(const struct frame *frame) {
 
 void main(void) {
     struct yelunnavi_fault fault;
-    if (yelunnavi_receiver_room() > sizeof room) return;
+    if (yelunnavi_abi() != YELUNNAVI_ABI || yelunnavi_receiver_room() > sizeof room) return;
     yelunnavi_receiver_init(receiver.room);
     if (yelunnavi_receiver_open(&receiver, (const uint8_t *)CONFIG, sizeof CONFIG - 1, READERS, &fault) != YELUNNAVI_DONE) return;
     for (size_t k = 0; k < sizeof FRAMES / sizeof FRAMES[0]; k++) show(&FRAMES[k]);

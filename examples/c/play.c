@@ -57,6 +57,7 @@ static size_t open_all(const char *config, struct yelunnavi_link *of_links) {
     static uint8_t text[1 << 20];
     struct yelunnavi_fault fault = {0};
     size_t links = 0;
+    check(yelunnavi_abi() == YELUNNAVI_ABI, "the header of this library");
     check(yelunnavi_receiver_room() <= sizeof receiver_room, "room for the receiver");
     check(yelunnavi_reader_room() <= sizeof ends[0][0].room && yelunnavi_taker_room() <= sizeof ends[0][0].room, "room for ends");
     yelunnavi_receiver_init(receiver.room);

@@ -51,6 +51,7 @@ static void *take_nav(void *unused) {
 static bool open_all(const char *config) {
     static uint8_t text[1 << 20];
     struct yelunnavi_fault fault;
+    if (yelunnavi_abi() != YELUNNAVI_ABI) return false;
     if (yelunnavi_receiver_room() > sizeof receiver_room || yelunnavi_reader_room() > sizeof pos_room
         || yelunnavi_taker_room() > sizeof nav_room) return false;
     yelunnavi_receiver_init(receiver.room);

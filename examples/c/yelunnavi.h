@@ -6,7 +6,7 @@
 
    Static room:   static uint64_t room[64];
                   struct yelunnavi_receiver receiver = {room};
-                  if (yelunnavi_receiver_room() > sizeof room) ...;
+                  if (yelunnavi_abi() != YELUNNAVI_ABI || yelunnavi_receiver_room() > sizeof room) ...;
                   yelunnavi_receiver_init(room);
 
    WHO MAY CALL. Each handle may be used by any one thread at a time, and handed on to another. Different handles may be
@@ -42,14 +42,16 @@
    REGISTERS. The library uses the vector registers of its processor (SSE2, Advanced SIMD), in a receive and in nearly every
    other call: a task or an interrupt handler that may not use them may not call it.
 
-   ANSWERS. Each call but room, init and close answers a code, YELUNNAVI_DONE or why nothing was done. After any other
+   ANSWERS. Each call but abi, room, init and close answers a code, YELUNNAVI_DONE or why nothing was done. After any other
    code what the call was passed is as it was, but for the fault that FAULTY tells.
+
+   NULL. A pointer may be null where the length after it is 0.
 
    WHAT NOTHING CHECKS, and what is undefined where it is not kept:
    - The room of a handle has as many octets as its .._room() says, is aligned to 8, and is of no other handle. Its
      .._init was called once, before any other call. The program neither reads, writes nor moves it, nor changes the handle.
    - One call at a time is made on a handle: no interrupt handler makes another one in its midst.
-   - No pointer is null, also where a length is 0; each reaches as many octets as the length after it says, or its type.
+   - No other pointer is null; each reaches as many octets as the length after it says, or its type.
    - No two things that a call is passed overlap, nor does one reach into a room; no handle is passed twice.
    - What a frame or a text has doesn't change during a call.
    - Arrival times and the `now` of reads and holds are of one clock.
@@ -73,6 +75,13 @@ extern "C" {
 
 /* Refused by the compiler of a machine that isn't of 64 bits. */
 typedef char yelunnavi_is_of_64_bits[sizeof(size_t) == 8 && sizeof(void *) == 8 ? 1 : -1];
+
+/* The number of this interface: raised with each change of a struct, a call or a number. */
+#define YELUNNAVI_ABI 1
+
+/* The number of the library's interface. A program compares both before its first opening: if they differ, the header that
+   it was compiled with is of another library. */
+uint32_t yelunnavi_abi(void);
 
 /* ---- numbers by their names: calls pass and tell them as uint32_t. yelunnavi_words.h has a word for each */
 
@@ -249,8 +258,12 @@ uint32_t yelunnavi_receiver_filtered(struct yelunnavi_receiver *h, uint32_t net,
 /* ---- the receiver: links and ports */
 
 struct yelunnavi_link {
-    uint32_t vl;  /* its link number */
-    size_t ports; /* how many ports it has, up to 32 */
+    uint32_t vl;         /* its link number */
+    uint32_t redundancy; /* 1: redundancy management is on. 0: it is off */
+    uint64_t skew_max;   /* SkewMax, up to 1,000,000 */
+    uint64_t reassembly; /* the limit of reassembly, up to 10,000,000 */
+    uint32_t window;     /* of integrity checking: how many sequence numbers after another pass, 1 to 4 */
+    size_t ports;        /* how many ports it has, up to 32 */
 };
 
 struct yelunnavi_port {
@@ -270,7 +283,7 @@ struct yelunnavi_place {
 /* Tells how many links there are, 1 to 64. NOT_OPEN. */
 uint32_t yelunnavi_receiver_links(struct yelunnavi_receiver *h, size_t *links);
 
-/* Tells of the link at this place. NOT_OPEN, NO_PLACE. */
+/* Tells the settings of the link at this place. NOT_OPEN, NO_PLACE. */
 uint32_t yelunnavi_receiver_link(struct yelunnavi_receiver *h, size_t link, struct yelunnavi_link *reply);
 
 /* Tells of a port, and writes its name over the beginning of `name`, without a 0 after it. NOT_OPEN, NO_PLACE. */

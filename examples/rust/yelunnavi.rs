@@ -86,6 +86,8 @@ impl Verdict {
     }
 }
 
+/// The number of this interface: raised with each change of a struct, a call or a number.
+pub const ABI: u32 = 1;
 pub const MOST_LINKS: usize = 64;
 /// Of a link.
 pub const MOST_PORTS: usize = 32;
@@ -120,8 +122,8 @@ replies! {
     Read { found: u32, valid: u32, number: u64, time: u64, len: usize }
     /// What was taken of a queue.
     Taken { found: u32, time: u64, len: usize }
-    /// A link.
-    Link { vl: u32, ports: usize }
+    /// The settings of a link, its times in microseconds. `redundancy` is 1 if redundancy management is on, else 0.
+    Link { vl: u32, redundancy: u32, skew_max: u64, reassembly: u64, window: u32, ports: usize }
     /// A port.
     Port { service: Service, address: u32, udp: u32, max: u32, limit: u64, name_len: usize }
     /// Where a port is.
@@ -163,6 +165,7 @@ macro_rules! calls {
 }
 
 calls! {
+    yelunnavi_abi() -> u32;
     yelunnavi_receiver_room() -> usize;
     yelunnavi_reader_room() -> usize;
     yelunnavi_taker_room() -> usize;
@@ -214,9 +217,9 @@ macro_rules! slots {
             unsafe impl Send for $name<'_> {}
 
             impl<'a> $name<'a> {
-                /// A slot in which nothing is open. None if this library needs more room.
+                /// A slot in which nothing is open. None if this library has another interface, or needs more room.
                 pub fn new(room: &'a mut $room) -> Option<$name<'a>> {
-                    if unsafe { $size() } > $octets {
+                    if unsafe { yelunnavi_abi() != ABI || $size() > $octets } {
                         return None;
                     }
                     let handle = Handle { room: (room as *mut $room).cast() };

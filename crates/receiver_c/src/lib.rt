@@ -13,6 +13,7 @@ ghost use Rattle.message_ring.specs.Queue.{Known};
 ghost use Rattle.mailbox_reader.specs.Reads.{PortReader};
 ghost use Rattle.receiver.specs.Taking.{HandsReader, HandsTaker};
 ghost use Rattle.mailbox_port.specs.Port.{is_reader_count};
+ghost use Rattle.receiver_c.specs.Abi.{abi};
 ghost use Rattle.receiver_slots.specs.Codes.{already_open, done, faulty, no_memory, none_left, not_open, out_of_range};
 ghost use Rattle.receiver_slots.specs.Handing.{HandsOut, hand_reader_code, hand_taker_code};
 ghost use Rattle.receiver_slots.specs.Naming.{CountsLinks, TellsLink, TellsPlace, TellsPort, link_code, links_code, place_code, port_code};
@@ -37,6 +38,17 @@ pub mod taker_handle;
 use reader_handle::ReaderHandle;
 use receiver_handle::ReceiverHandle;
 use taker_handle::TakerHandle;
+
+/// The number of the interface: raised with each change of a struct, a call or a number.
+pub const ABI: u32 = 1;
+
+/// The number of the interface of this library. A program compares it with that of the header that it was compiled with.
+#[unsafe(no_mangle)]
+pub extern "C" fn yelunnavi_abi() -> u32
+    ensures { result ≡ abi }
+{
+    ABI
+}
 
 // ---- the slot of a receiver
 
@@ -192,7 +204,7 @@ pub extern "C" fn yelunnavi_receiver_links(h: &mut ReceiverHandle, links: &mut u
     h.lend().links(links)
 }
 
-/// Tells the link number and the number of ports of the link at this place of the configuration.
+/// Tells the settings of the link at this place of the configuration, and how many ports it has.
 #[unsafe(no_mangle)]
 pub extern "C" fn yelunnavi_receiver_link(
     h: &mut ReceiverHandle,

@@ -1,6 +1,6 @@
 //! A receiver of the built-in configuration and a second link in a slot, and frames for it.
 use receiver_slots::codes::DONE;
-use receiver_slots::{FaultReply, FrameReply, ReadReply, ReceiverSlot, TakeReply};
+use receiver_slots::{FaultReply, FrameReply, LinkReply, ReadReply, ReceiverSlot, TakeReply};
 use std::alloc::Global;
 use std::process::Abort;
 use test_inputs::rows::NAV_UDP;
@@ -37,6 +37,16 @@ pub(crate) const NOTHING_TAKEN: TakeReply = TakeReply {
     found: 0,
     time: 0,
     len: 0,
+};
+
+/// What no call tells of a link.
+pub(crate) const NO_LINK: LinkReply = LinkReply {
+    vl: 99_999,
+    redundancy: 9,
+    skew_max: 99,
+    reassembly: 99,
+    window: 9,
+    ports: 99,
 };
 
 /// The built-in configuration, and link 18.

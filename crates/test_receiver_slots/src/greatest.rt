@@ -1,9 +1,9 @@
 //! The greatest configuration: 64 links, the last of which has 32 ports.
 use crate::ends::{read, take};
-use crate::given::{opened_with, reply};
+use crate::given::{NO_LINK, opened_with, reply};
 use receiver_slots::codes::DONE;
 use receiver_slots::{
-    FrameReply, LinkReply, PlaceReply, ReadReply, ReaderSlot, ReceiverSlot, TakeReply, TakerSlot,
+    FrameReply, PlaceReply, ReadReply, ReaderSlot, ReceiverSlot, TakeReply, TakerSlot,
 };
 use std::alloc::Global;
 use std::process::Abort;
@@ -31,7 +31,7 @@ fn without_a_port(place: u16) -> FrameReply {
 /// The link at this place is told with its number, and so is a frame of it.
 fn check_link(rt: &impl Abort, alloc: Global, slot: &mut ReceiverSlot, place: u16) {
     let vl = greatest_number_at(place);
-    let mut link = LinkReply { vl: 9, ports: 9 };
+    let mut link = NO_LINK;
     assert!(rt; slot.link(usize::from(place), &mut link) == DONE);
     assert!(rt; link.vl == u32::from(vl) && link.ports == 0, "{link:?}");
     let octets = greatest_frame(alloc, vl, 0, 7).expect(rt, "octets");

@@ -1,11 +1,9 @@
 //! Links and ports by their places, and ports by their names.
-use crate::given::opened;
+use crate::given::{NO_LINK, opened, opened_with};
 use receiver_slots::codes::{DONE, NO_NAME, NO_PLACE, NOT_OPEN};
 use receiver_slots::{LinkReply, PlaceReply, PortReply, ReceiverSlot};
 use std::alloc::Global;
 use std::process::Abort;
-
-const NO_LINK: LinkReply = LinkReply { vl: 0, ports: 0 };
 
 const NO_PORT: PortReply = PortReply {
     service: 0,
@@ -26,12 +24,67 @@ const NAV: PortReply = PortReply {
     name_len: 3,
 };
 
+/// The link of the built-in configuration: what its table doesn't say is as FORMATS says.
+const BUILT_IN_LINK: LinkReply = LinkReply {
+    vl: 17,
+    redundancy: 1,
+    skew_max: 1000,
+    reassembly: 50_000,
+    window: 2,
+    ports: 2,
+};
+
+/// Two links whose settings are the greatest, and others.
+const OTHER_LINKS: &str = r#"[[link]]
+vl = 65535
+skew_max_us = 1000000
+redundancy = false
+reassembly_us = 10000000
+window = 4
+
+[[link]]
+vl = 0
+skew_max_us = 7
+redundancy = true
+reassembly_us = 0
+window = 1
+"#;
+
 fn check_links(rt: &impl Abort, slot: &ReceiverSlot) {
     let (mut links, mut reply) = (0, NO_LINK);
     assert!(rt; slot.links(&mut links) == DONE && links == 2);
-    assert!(rt; slot.link(0, &mut reply) == DONE && reply == LinkReply { vl: 17, ports: 2 });
-    assert!(rt; slot.link(1, &mut reply) == DONE && reply == LinkReply { vl: 18, ports: 1 });
+    assert!(rt; slot.link(0, &mut reply) == DONE && reply == BUILT_IN_LINK);
+    assert!(rt; slot.link(1, &mut reply) == DONE && reply.vl == 18 && reply.ports == 1);
     assert!(rt; slot.link(2, &mut reply) == NO_PLACE && reply.vl == 18);
+}
+
+fn told_link(rt: &impl Abort, slot: &ReceiverSlot, link: usize) -> LinkReply {
+    let mut reply = NO_LINK;
+    assert!(rt; slot.link(link, &mut reply) == DONE);
+    reply
+}
+
+/// Each setting of a link has its own value.
+fn check_settings(rt: &impl Abort, alloc: Global) {
+    let slot = opened_with(rt, alloc, OTHER_LINKS);
+    let greatest = LinkReply {
+        vl: 65_535,
+        redundancy: 0,
+        skew_max: 1_000_000,
+        reassembly: 10_000_000,
+        window: 4,
+        ports: 0,
+    };
+    assert!(rt; told_link(rt, &slot, 0) == greatest);
+    let other = LinkReply {
+        vl: 0,
+        redundancy: 1,
+        skew_max: 7,
+        reassembly: 0,
+        window: 1,
+        ports: 0,
+    };
+    assert!(rt; told_link(rt, &slot, 1) == other);
 }
 
 fn check_ports(rt: &impl Abort, slot: &ReceiverSlot) {
@@ -74,4 +127,9 @@ fn check_places(rt: &impl Abort, alloc: Global) {
 #[test]
 fn links_and_ports_are_told_by_their_places_and_names(rt: HostRuntime) {
     check_places(&rt, rt.alloc());
+}
+
+#[test]
+fn all_settings_of_a_link_are_told(rt: HostRuntime) {
+    check_settings(&rt, rt.alloc());
 }

@@ -4,3 +4,4 @@ pub mod Address
 pub mod Ports
 pub mod Links
 pub mod PortNames
+pub mod Places

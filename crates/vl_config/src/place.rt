@@ -56,7 +56,6 @@ pub fn place_of_fault(alloc: Global, text: &str) -> Result<FaultPlace, Memory>
 }
 
 /// The place of the first link with a fault among these tables, after these links, whose ports have these names.
-#[tactic(auto, using(crate::proofs::Links::names_push, crate::proofs::PortNames::of_one_more_link))]
 fn link_place(
     alloc: Global,
     tables: &[&Table],
@@ -67,22 +66,21 @@ fn link_place(
     requires names { AreNamesOf names (ports_in links) }
     ensures { IfOk result (λ place. place ≡ link_place links (map (λ table. table_view table.now) tables.now)) }
 {
-    let Some((table, rest)) = tables.split_first() else {
-        return Ok(NOWHERE);
-    };
+    let mut links = links;
     let mut names = names;
-    match link_from(alloc, table, links.as_slice(), &mut names) {
-        Ok(link) => {
-            let mut links = links;
-            links.push(link)?;
-            link_place(alloc, rest, links, names)
+    for table in tables {
+        match link_from(alloc, table, links.as_slice(), &mut names) {
+            Ok(link) => links.push(link)?,
+            Err(ConfigFault::Memory) => return Err(AllocError),
+            Err(_) => {
+                return Ok(FaultPlace {
+                    link: Some(links.as_slice().len()),
+                    port: port_place_in(alloc, table, links.as_slice())?,
+                });
+            }
         }
-        Err(ConfigFault::Memory) => Err(AllocError),
-        Err(_) => Ok(FaultPlace {
-            link: Some(links.as_slice().len()),
-            port: port_place_in(alloc, table, links.as_slice())?,
-        }),
     }
+    Ok(NOWHERE)
 }
 
 /// The place of the first port with a fault at the link of this table. None if the fault is about none of them. The
@@ -129,17 +127,14 @@ fn port_place(
     ensures { (earlier : List Port) → AreNamesOf names (earlier ++ ports.items)
         → IfOk result (λ place. place ≡ port_place earlier ports.items (map (λ table. table_view table.now) tables.now)) }
 {
-    let Some((table, rest)) = tables.split_first() else {
-        return Ok(None);
-    };
-    match port_from(table, &names, &ports) {
-        Ok(port) => {
-            let mut names = names;
-            names.add(&port)?;
-            let mut ports = ports;
-            ports.push(port)?;
-            port_place(alloc, rest, names, ports)
-        }
-        Err(_) => Ok(Some(ports.len())),
+    let mut names = names;
+    let mut ports = ports;
+    for table in tables {
+        let Ok(port) = port_from(table, &names, &ports) else {
+            return Ok(Some(ports.len()));
+        };
+        names.add(&port)?;
+        ports.push(port)?;
     }
+    Ok(None)
 }
