@@ -34,8 +34,8 @@
    old receiver for ever, with `valid` 0 once it is too old, and an old taker what is left in its queue. So close them too, and
    hand out new ones. An end that is closed doesn't come back: the queue of a closed taker fills up, and then overflows for good.
 
-   STACK. An opening takes up to 20 KiB if the text is a configuration with no keys but its own, and up to 56 KiB if it isn't
-   one for a fault at its end. Other keys whose values are nested take more: 2.6 MB for 80 levels of tables, each by a key of
+   STACK. An opening takes up to 20 KiB if the text is a configuration with no keys but its own, or is none for a fault that
+   stands in one of its ports. Other keys whose values are nested take more: 2.6 MB for 80 levels of tables, each by a key of
    80 parts, the most that is read. So a task with a short stack opens no text of a stranger's. Every other call takes up to
    1 KiB. What the program's own functions take comes on top (docs/EMBEDDING.md has each call).
 

@@ -25,4 +25,4 @@ returns-in_default c = λ earlier known.
     let len : c.len.result ≡ length done = search rules in
     let place = at_port (λ table. table_view table.now) earlier done c.args.tables.now c.loop-table.table-index c.table-item.result c.in_default.field-0
     (search rules) c.table-item.is (rw (← lent) (sym (c.in_default.ensures.value earlier (rw lent kept.names)))) in
-    rw len (sym place ∙ kept.value)
+    search (rules, len, place, kept)
