@@ -18,6 +18,12 @@ pub(crate) fn open<const READERS: usize>(rt: &impl Abort, alloc: Global) -> Ends
     open_port::<READERS>(alloc).expect(rt, "memory")
 }
 
+/// The reader of a port with one.
+pub(crate) fn alone(readers: [Reader<1>; 1]) -> Reader<1> {
+    let [reader] = readers;
+    reader
+}
+
 /// Four readers, each by itself.
 pub(crate) type Four<const READERS: usize> = (
     Reader<READERS>,

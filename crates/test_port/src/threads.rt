@@ -1,5 +1,5 @@
 //! A thread that publishes and threads that read, each of which ends by itself.
-use crate::messages::{Four, apart, apart_eight, check_words, open, publish};
+use crate::messages::{Four, alone, apart, apart_eight, check_words, open, publish};
 use sampling_port::{Held, MOST_TRIES, NotHeld, Read, Reader, Writer};
 use std::alloc::Global;
 use std::process::Abort;
@@ -224,4 +224,43 @@ fn four_threads_hold_whole_messages_in_order(rt: HostRuntime) {
 #[test]
 fn eight_threads_hold_whole_messages_in_order(rt: HostRuntime) {
     check_eight(&rt, rt.alloc(), Look::Holds);
+}
+
+// ---- short messages
+
+/// How many messages of no octets are published, and how often a reader looks for one.
+const MANY_SHORT: u64 = 50_000;
+
+/// Each message is its number alone, as its time: a publication takes few steps, and a slot is soon written again.
+fn publish_short(rt: &impl Abort, mut writer: Writer<1>) -> Writer<1> {
+    for number in 1..MANY_SHORT + 1 {
+        publish(rt, &mut writer, number, &[], number);
+    }
+    writer
+}
+
+/// What is read at the number of a message is its own time.
+fn read_short(rt: &impl Abort, mut reader: Reader<1>) -> Reader<1> {
+    let mut out = [0; 1471];
+    for _ in 0..MANY_SHORT {
+        if let Read::Message { number, time, .. } = reader.read(MOST_TRIES, &mut out) {
+            assert!(rt; time == number, "{number}, {time}");
+        }
+    }
+    reader
+}
+
+fn check_short<R: Abort + Threads + Sync>(rt: &R, alloc: Global) {
+    let (writer, readers) = open::<1>(rt, alloc);
+    let reader = alone(readers);
+    let _ends = join(
+        rt,
+        move || publish_short(rt, writer),
+        move || read_short(rt, reader),
+    );
+}
+
+#[test]
+fn a_short_message_is_read_with_its_own_time(rt: HostRuntime) {
+    check_short(&rt, rt.alloc());
 }

@@ -1,9 +1,10 @@
 //! Ends by the names of their ports.
-use crate::opened::{config, open_with, readers_of};
+use crate::opened::{config, config_of, open_with, readers_of};
 use receiver::{MOST_READERS, Opened, PortNo, PortOutlet, ReaderCount};
 use std::alloc::Global;
 use std::process::Abort;
 use test_inputs::rows::{NAV, POS};
+use vl_config::BUILT_IN;
 
 fn check_places(rt: &impl Abort, opened: &Opened<PortOutlet>) {
     assert!(rt; opened.place_of("pos") == Some((0, POS)));
@@ -50,4 +51,22 @@ fn check_counts(rt: &impl Abort, alloc: Global) {
 #[test]
 fn a_sampling_port_has_as_many_readers_as_the_opening_was_told(rt: HostRuntime) {
     check_counts(&rt, rt.alloc());
+}
+
+/// `pos` takes messages of up to 40 octets, and `alt` of up to 1471.
+fn check_longest(rt: &impl Abort, alloc: Global) {
+    let short = "udp = 5000\nmax = 40\n";
+    let text = BUILT_IN
+        .replace(alloc, "udp = 5000\n", short)
+        .expect(rt, "memory");
+    let config = config_of(rt, alloc, text.as_str());
+    let mut opened = open_with(rt, alloc, &config, 1);
+    let pos = opened.take_reader("pos").expect(rt, "a reader");
+    let alt = opened.take_reader("alt").expect(rt, "a reader");
+    assert!(rt; pos.max() == 40 && alt.max() == 1471);
+}
+
+#[test]
+fn each_reader_has_the_longest_message_of_its_own_port(rt: HostRuntime) {
+    check_longest(&rt, rt.alloc());
 }

@@ -11,8 +11,13 @@ use vl_config::{BUILT_IN, read_config};
 
 /// The built-in configuration, and link 18.
 pub(crate) fn config(rt: &impl Abort, alloc: Global) -> Config {
+    config_of(rt, alloc, BUILT_IN)
+}
+
+/// The configuration of this text, and link 18.
+pub(crate) fn config_of(rt: &impl Abort, alloc: Global, first: &str) -> Config {
     let mut text = String::new(alloc);
-    text.push_str(BUILT_IN).expect(rt, "memory");
+    text.push_str(first).expect(rt, "memory");
     text.push_str(SECOND_LINK).expect(rt, "memory");
     read_config(alloc, text.as_str())
         .ok()

@@ -59,7 +59,7 @@ fn every_reader_of_a_port_reads_the_newest_message(rt: HostRuntime) {
 }
 
 /// The taker takes the message of this time.
-fn take(rt: &impl Abort, taker: &mut RingTaker, time: u64) {
+pub(crate) fn take(rt: &impl Abort, taker: &mut RingTaker, time: u64) {
     let mut out = [0; 8192];
     assert!(rt; taker.max() <= out.len());
     let got = taker.take(&mut out).expect(rt, "a message");

@@ -104,6 +104,7 @@ fn message_is_held(
 ) -> bool {
     let mut part = [0; 3];
     let before = pos.copy(0, &mut part) == HOLDS_NONE && pos.release() == HOLDS_NONE;
+    let stale = hold(pos, 22_001) == (DONE, message(2, 0)) && pos.release() == DONE;
     let held = hold(pos, 22_000) == (DONE, message(2, 1));
     let mut came = 0;
     for number in 3..23u8 {
@@ -115,7 +116,8 @@ fn message_is_held(
         && pos.copy(usize::MAX, &mut part) == OUT_OF_RANGE;
     let released = pos.release() == DONE && pos.release() == HOLDS_NONE;
     let newest = read(pos, 22_000, &mut part) == (DONE, message(22, 1));
-    before && held && came == SAMPLED && again && copied && too_far && released && newest
+    let is_told = before && stale && held && again && released && newest;
+    is_told && came == SAMPLED && copied && too_far
 }
 
 /// The limits of `pos`; a reader that holds a message is closed.

@@ -81,7 +81,8 @@ fn check_counts(rt: &impl Abort, slot: &ReceiverSlot) {
     assert!(rt; count(slot, 0, 2, 10) == (NO_NETWORK, 99));
     assert!(rt; count(slot, 0, A, 0) == (NO_KIND, 99) && count(slot, 0, A, 14) == (NO_KIND, 99));
     assert!(rt; filtered(slot, A, 5) == (DONE, 1) && filtered(slot, B, 1) == (DONE, 1));
-    assert!(rt; filtered(slot, B, 5) == (DONE, 0) && filtered(slot, 2, 5) == (NO_NETWORK, 99));
+    assert!(rt; filtered(slot, A, 4) == (DONE, 0) && filtered(slot, B, 5) == (DONE, 0));
+    assert!(rt; filtered(slot, 2, 5) == (NO_NETWORK, 99));
     assert!(rt; filtered(slot, A, 0) == (NO_KIND, 99) && filtered(slot, A, 6) == (NO_KIND, 99));
 }
 
