@@ -8,3 +8,5 @@ pub mod Settling
 pub mod Looking
 pub mod Running
 pub mod Threads
+pub mod Meets
+pub mod Knowing

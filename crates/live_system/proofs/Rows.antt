@@ -7,6 +7,7 @@ use Rattle.es_base.specs.declared.place.LinkNo.{LinkNo}
 use Rattle.es_base.specs.Addressing.{addressee_of}
 use Rattle.es_base.specs.Frame.{link_number_of}
 use Rattle.es_base.specs.declared.place.Net.{Net}
+use Rattle.es_base.proofs.Elements.{set_same}
 use Rattle.es_base.specs.Settings.{Settings}
 use Rattle.link_lock.specs.Pass.{LockId}
 use Rattle.network_calls.specs.declared.call.Call.{Call}
@@ -103,3 +104,18 @@ numbered lock settings net pass octets is vl =
 -- a call leaves a pass that of its link
 pub same_after : (old new : KnownLink) (c : Call) → Calls old c new → IsSame old new
 same_after old new c is = (is.lock, is.net, is.link, is.vl)
+
+-- there is a link where there is a pass
+pub beside : (net : Net) (locks : List LockId) (links : List Settings) (passes : List KnownLink) (place : ℕ) (pass : KnownLink) → ArePasses net locks links passes → slice_get passes place ≡ Some pass
+    → (settings : Settings) × (slice_get links place ≡ Some settings)
+beside net [] [] [] place pass are there = cc
+beside net (lock ∷ locks) (link ∷ links) (k ∷ passes) zero pass are there = (link, refl)
+beside net (lock ∷ locks) (link ∷ links) (k ∷ passes) (suc place) pass are there = beside net locks links passes place pass are.1 there
+beside net (lock ∷ locks) (link ∷ links) [] place pass are there = absurd are
+beside net (lock ∷ locks) [] passes place pass are there = absurd are
+beside net [] (link ∷ links) passes place pass are there = absurd are
+beside net [] [] (k ∷ passes) place pass are there = absurd are
+
+-- a pass that stayed as it was stands in its own place
+pub unchanged : (passes : List KnownLink) (place : ℕ) (old new : KnownLink) → slice_get passes place ≡ Some old → new ≡ old → set passes place new ≡ passes
+unchanged passes place old new there same = set_same passes place old new there same

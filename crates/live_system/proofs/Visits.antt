@@ -33,13 +33,13 @@ module _ (pass : LinkUser) (lists : User → List Call) (found : LiveLink) (find
       let here : first ≡ 0 + length (events_of found) = omega (arith, length-reverse found.core.past) in
       ap (λ (place : ℕ). calls_from 0 n (events_of found) ++ calls_from place n added) here ∙ sym (calls_append 0 n (events_of found) added)
 
-  module _ (a : Arrival) (answer : ℕ × Verdict) (left : LiveLink) (takes : Did a found left answer) where
+  module _ (a : Arrival) (answer : ℕ × Verdict) (left : LiveLink) (did : Did a found left answer) where
     abbrev event : Event
-    event = event_of a takes.room answer.1
+    event = event_of a did.0.room answer.1
 
     -- the events are those that were, and this one
     grown : events_of left ≡ events_of found ++ event ∷ []
-    grown = ap (λ (core : Core). reverse core.past) takes.core ∙ reverse-append (event ∷ []) found.core.past
+    grown = ap (λ (core : Core). reverse core.past) did.0.core ∙ reverse-append (event ∷ []) found.core.past
 
     gone_on : (user : User) (list : List Call) → goes_on user found left list ≡ list ++ calls_from first (net_of user) (event ∷ [])
     gone_on user list =
@@ -49,16 +49,16 @@ module _ (pass : LinkUser) (lists : User → List Call) (found : LiveLink) (find
     -- the same link with the same ports
     same_link : as_opened left ≡ as_opened found
     same_link =
-        let settings : left.core.settings ≡ found.core.settings = ap (λ (core : Core). core.settings) takes.core in
+        let settings : left.core.settings ≡ found.core.settings = ap (λ (core : Core). core.settings) did.0.core in
         let outlets : map new_outlet left.outlets ≡ map new_outlet found.outlets =
-        same_outlets found.outlets left.outlets (λ at. delivered_after found.core.settings found.core.past a takes.room (port_no at)) takes.given in
+        same_outlets found.outlets left.outlets (λ at. delivered_after found.core.settings found.core.past a did.0.room (port_no at)) did.0.given in
         (λ i. record { core = record { settings = settings i; past = [] }; outlets = outlets i; came = 0 })
 
     pub leaves : a.net ≡ net_of pass.user → MayLeave as_opened Agrees goes_on pass lists found left
     leaves net = record {
       fixed = same_link;
       agrees = record {
-        ported = takes.after;
+        ported = did.0.after;
         calls = λ n.
             after_visit first lists pass.user n (event ∷ []) (of_one event (net_of pass.user) net) (goes_on pass.user found left pass.list)
             (gone_on pass.user pass.list ∙ ap (λ (list : List Call). list ++ calls_from first (net_of pass.user) (event ∷ [])) (sym finds.own))
@@ -83,9 +83,9 @@ module _ (pass : LinkUser) (lists : User → List Call) (found : LiveLink) (find
     is_call net counts mine user new knows new_counts vl of_net =
         let same : a ≡ arrived net a.time a.frame = (λ i. record a { net = of_net i }) in
         let after : new ≡ with_list_of pass (pass.list ++ call first a.time a.frame answer.1 ∷ []) = knows ∙ ap (λ (list : List Call). with_list_of pass list) (one_call (of_net ∙ sym mine)) in
-        let shows : answer ≡ (shown first, answer.1) = ap (λ (place : ℕ). (place, answer.1)) takes.placed in
+        let shows : answer ≡ (shown first, answer.1) = ap (λ (place : ℕ). (place, answer.1)) did.0.placed in
         let does : Did (arrived net a.time a.frame) found left (shown first, answer.1) = subst (λ (b : Arrival). Did b found left (shown first, answer.1)) same
-        (subst (λ (r : ℕ × Verdict). Did a found left r) shows takes) in
+        (subst (λ (r : ℕ × Verdict). Did a found left r) shows did) in
         subst (λ (u : LinkUser). Calls (known_link net pass counts) (call first a.time a.frame answer.1) (known_link net u new_counts)) (sym after) (record {
           lock = refl;
           net = refl;

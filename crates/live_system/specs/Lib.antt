@@ -1,5 +1,6 @@
 pub mod Calls
 pub mod LookUps
+pub mod Meetings
 pub mod Pass
 pub mod Run
 pub mod System

@@ -12,8 +12,8 @@ use Rattle.link_core.specs.Counted.{shown}
 use Rattle.link_lock.specs.declared.user.User.{User}
 use Rattle.link_lock.specs.Lists.{both_lists}
 use Rattle.link_lock.specs.Pass.{Known, LockId}
-use Rattle.receiver.specs.Link.{Takes}
-use Rattle.receiver.specs.Port.{AnswersPort, GivesPort, ShowsPort}
+use Rattle.receiver.specs.Link.{Takes, TakesIfKnown}
+use Rattle.receiver.specs.Port.{AnswersPort, GivesPort, HasSpacePort, ShowsPort}
 use Rattle.network_calls.specs.declared.call.Call.{Call}
 use Rattle.network_calls.specs.Calls.{count_calls, user_of}
 use Rattle.live_system.specs.declared.counts.LinkCounts.{LinkCounts}
@@ -48,9 +48,10 @@ pub record Visits (pass : KnownLink) (did : LiveLink → LiveLink → Type 0) : 
 
 -- ---- a frame
 
--- what one call did to a link: the place that it shows, and its verdict
+-- What one call did to a link: the place that it shows, and its verdict. Where the queue of the frame's port is known to
+-- have room, the verdict is that with room.
 abbrev pub Did : Arrival → LiveLink → LiveLink → ℕ × Verdict → Type 0
-Did a old new answer = Takes ShowsPort GivesPort AnswersPort old new a answer.0 answer.1
+Did a old new answer = Takes ShowsPort GivesPort AnswersPort old new a answer.0 answer.1 × TakesIfKnown HasSpacePort old a answer.1
 
 -- One call more, which is what its visit came to, at its place, and it is counted; nothing else of the pass changes.
 pub record Calls (old : KnownLink) (c : Call) (new : KnownLink) : Type 0 where

@@ -1,17 +1,27 @@
 //! What holds of all calls of both networks.
 ghost use Rattle.std.specs.Prelude.{ℕ, List, Option};
+ghost use Rattle.es_base.specs.Config.{Configuration};
 ghost use Rattle.es_base.specs.declared.place.Net.{Net};
 ghost use Rattle.es_base.specs.declared.place.Net.TheVariants.{A, B};
+ghost use Rattle.es_base.specs.declared.place.PortNo.{PortNo};
 ghost use Rattle.link_lock.specs.Lists.{both_lists};
+ghost use Rattle.mailbox_reader.specs.Reads.{PortReader};
+ghost use Rattle.message_ring.specs.Queue.{Known};
 ghost use Rattle.receiver.specs.declared.ends.LinkEnds.{LinkEnds};
 ghost use Rattle.receiver.specs.declared.partition.PartitionEnd.{PartitionEnd};
+ghost use Rattle.receiver.specs.declared.port.PortOutlet.{PortOutlet};
+ghost use Rattle.receiver.specs.Meetings.{HasOutlet};
+ghost use Rattle.receiver.specs.Port.{IsPortOf, IsQueueOf};
+ghost use Rattle.receiver.specs.Receiver.{Links};
 ghost use Rattle.network_calls.specs.declared.call.Call.{Call};
+ghost use Rattle.network_calls.specs.declared.reply.Reply.{Reply};
 ghost use Rattle.network_calls.specs.Calls.{user_of};
 ghost use Rattle.network_calls.specs.Places.{StandInTheRun};
 ghost use Rattle.live_system.specs.Calls.{LiveLink, events_of};
-ghost use Rattle.live_system.specs.Pass.{IsSettled};
+ghost use Rattle.live_system.specs.Meetings.{KnowsOutlet};
+ghost use Rattle.live_system.specs.Pass.{IsSettled, KnownLink};
 ghost use Rattle.live_system.specs.Run.{AreOpened, HasEnded, HasSettled, Passes, Ran, RanAlone, Step, steps_of};
-ghost use Rattle.live_system.specs.System.{KnownCounts, System};
+ghost use Rattle.live_system.specs.System.{KnowLinks, KnownCounts, KnownNet, Replies, System};
 
 /// Each call of either network that a settled link's passes know stands at its place among the link's events: with its
 /// network, its time, its frame and its verdict, which is what becomes of the frame after the events before it. A network's
@@ -19,6 +29,20 @@ ghost use Rattle.live_system.specs.System.{KnownCounts, System};
 pub fn each_reply_stands_at_its_place()
     ensures { (link : Option LiveLink) (a b : List Call) (settled : LiveLink) → IsSettled link a b settled →
         StandInTheRun (λ net. both_lists a b (user_of net)) settled.core.settings (events_of settled) }
+{}
+
+/// An end of an outlet of the links as they were opened may meet it, by a pass that knows these links.
+pub fn an_end_of_the_opening_may_meet_its_port()
+    ensures readers { (passes : List KnownLink) (opened : Links PortOutlet) (place : ℕ) (port : PortNo) (reader : PortReader) → KnowLinks passes opened.links →
+        HasOutlet opened place port (λ outlet. IsPortOf outlet reader) → KnowsOutlet passes place port (λ outlet. IsPortOf outlet reader) }
+    ensures takers { (passes : List KnownLink) (opened : Links PortOutlet) (place : ℕ) (port : PortNo) (taker : Known) → KnowLinks passes opened.links →
+        HasOutlet opened place port (λ outlet. IsQueueOf outlet taker) → KnowsOutlet passes place port (λ outlet. IsQueueOf outlet taker) }
+{}
+
+/// And a pass knows its links still, whatever frame it gave.
+pub fn a_pass_knows_its_links_after_each_frame()
+    ensures { (config : Configuration) (old new : KnownNet) (now : ℕ) (octets : List ℕ) (reply : Reply) (links : List LiveLink) → Replies config old now octets reply new →
+        KnowLinks old.links links → KnowLinks new.links links }
 {}
 
 /// What the two threads did, each with its own pass, is what both did together, in whatever order their calls came.

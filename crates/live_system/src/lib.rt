@@ -16,6 +16,7 @@ mod crossing;
 pub mod laws;
 mod link_pass;
 mod locked;
+mod meetings;
 mod net_pass;
 mod opened;
 mod settled;
@@ -25,6 +26,8 @@ pub use crossing::may_cross;
 pub use net_pass::NetPass;
 pub use network_calls::{Call, Reply};
 pub use opened::Opened;
-pub use receiver::{LinkEnds, OpenLink, PartitionEnd, PortOutlet, ReaderCount};
+pub use receiver::{
+    LinkEnds, MailboxReader, OpenLink, PartitionEnd, PortOutlet, ReaderCount, RingTaker,
+};
 pub use settled::{PassCounts, Settled};
 pub use system::LiveSystem;

@@ -7,17 +7,22 @@ ghost use Rattle.es_base.specs.Past.{arrived};
 ghost use Rattle.es_base.specs.Tally.{IsKind};
 ghost use Rattle.link_core.specs.Counted.{shown};
 ghost use Rattle.receiver.specs.Link.{IsNewLink};
-ghost use Rattle.receiver.specs.Port.{ReadsPort, ShowsPort};
+ghost use Rattle.receiver.specs.Meetings.{HasOutletAt};
+ghost use Rattle.receiver.specs.Port.{IsPortOf, IsQueueOf, ReadsPort, ShowsPort};
 ghost use Rattle.network_calls.specs.Calls.{call, count_calls, user_of};
 ghost use Rattle.live_system.specs.Calls.{LiveLink, no_calls};
-ghost use Rattle.live_system.specs.Pass.{AreCountsOf, Calls, Did, IsNewPass, IsNoCall, IsSettled};
+ghost use Rattle.live_system.specs.Meetings.{MeetsReader, MeetsTaker};
+ghost use Rattle.live_system.specs.Pass.{AreCountsOf, Calls, Did, IsNewPass, IsNoCall, IsSettled, Visits};
 
 use crate::counts::LinkCounts;
 use crate::locked::Locked;
-use es_base::{LinkNo, LinkSettings, Memory, Net, Verdict};
+use crate::meetings::{meet_reader, meet_taker};
+use es_base::{LinkNo, LinkSettings, Memory, Net, PortNo, Verdict};
 use frame_reader::{Frame, frame_in};
 use link_lock::{Lock, Opened, PassOf};
-use receiver::{OpenLink, PartitionEnd, PortEnd, PortOutlet, ReaderCount};
+use receiver::{
+    MailboxReader, OpenLink, PartitionEnd, PortEnd, PortOutlet, ReaderCount, RingTaker,
+};
 use std::alloc::Global;
 use std::marker::Model;
 use std::sync::Wait;
@@ -84,6 +89,54 @@ impl LinkPass {
         );
         self.counts.add(net, answer.1);
         answer
+    }
+
+    /// A sampling port of the link and a reader of it meet, under the link's lock, for which this waits: the reader then
+    /// knows all messages that were delivered to the port. Nothing else changes.
+    pub(crate) fn meet_reader<R: Wait>(
+        &mut self,
+        rt: &R,
+        lock: &Lock<Locked>,
+        port: PortNo,
+        reader: MailboxReader,
+    ) -> MailboxReader
+        requires lock { self.old.lock ≡ lock.now }
+        requires outlet { (link : LiveLink) × (self.old.link ≡ Some link) × HasOutletAt link port (λ outlet. IsPortOf outlet reader) }
+        ensures pass { self.new ≡ self.old }
+        ensures meets { Visits self.old (λ found left. MeetsReader port reader result found left) }
+    {
+        lock.visit(
+            rt,
+            &mut self.pass,
+            move |locked: &mut Locked| -> MailboxReader
+                requires { HasOutletAt locked.old port (λ outlet. IsPortOf outlet reader) }
+                ensures { MeetsReader port reader result locked.old locked.new }
+            { meet_reader(locked, port, reader) },
+        )
+    }
+
+    /// A queuing port of the link and the end that takes of it meet, under the link's lock, for which this waits: the taker
+    /// then knows all messages that were delivered to the port, and the queue all that the taker took. Nothing else changes.
+    pub(crate) fn meet_taker<R: Wait>(
+        &mut self,
+        rt: &R,
+        lock: &Lock<Locked>,
+        port: PortNo,
+        taker: RingTaker,
+    ) -> RingTaker
+        requires lock { self.old.lock ≡ lock.now }
+        requires outlet { (link : LiveLink) × (self.old.link ≡ Some link) × HasOutletAt link port (λ outlet. IsQueueOf outlet taker) }
+        ensures pass { self.new ≡ self.old }
+        ensures meets { Visits self.old (λ found left. MeetsTaker port taker result found left) }
+    {
+        lock.visit(
+            rt,
+            &mut self.pass,
+            move |locked: &mut Locked| -> RingTaker
+                requires { HasOutletAt locked.old port (λ outlet. IsQueueOf outlet taker) }
+                ensures { MeetsTaker port taker result locked.old locked.new }
+            { meet_taker(locked, port, taker) },
+        )
     }
 
     /// The link's number.

@@ -1,8 +1,10 @@
 //! A system as it is opened: its two passes, and the ends of all ports.
 ghost use Rattle.std.specs.Prelude.{◌≡◌, List, IfOk, length};
 ghost use Rattle.es_base.specs.declared.place.Net.TheVariants.{A, B};
+ghost use Rattle.receiver.specs.Named.{port_named};
 ghost use Rattle.receiver.specs.Port.{ReadsPort, ShowsPort};
 ghost use Rattle.receiver.specs.Receiver.{AreNewLinks};
+ghost use Rattle.receiver.specs.Taking.{HandsNamed, HandsReader, HandsTaker};
 ghost use Rattle.live_system.specs.Calls.{LiveLink};
 ghost use Rattle.live_system.specs.System.{AreOfNewLinks, ArePasses, AreWithoutCalls, IsNewPassOf, IsPassOf, KnowLinks};
 
@@ -10,9 +12,9 @@ use crate::link_pass::{LinkPass, OpenedLink, open_link};
 use crate::locked::Locked;
 use crate::net_pass::NetPass;
 use crate::system::LiveSystem;
-use es_base::{Config, FilterTally, LinkSettings, Memory, Net};
+use es_base::{Config, FilterTally, LinkSettings, Memory, Net, PortNo};
 use link_lock::Lock;
-use receiver::{LinkEnds, PartitionEnd, ReaderCount};
+use receiver::{LinkEnds, MailboxReader, PartitionEnd, ReaderCount, RingTaker, place_named};
 use std::alloc::Global;
 
 /// A new system, the passes of its two networks, and the ends of all ports, in the order of the links.
@@ -64,6 +66,39 @@ fn open_links(alloc: Global, links: &[LinkSettings], readers: ReaderCount) -> Re
         opened.ends.push(LinkEnds { vl, ports })?;
     }
     Ok(opened)
+}
+
+impl Opened {
+    /// Moves out a reader of the sampling port with this name, for a partition: as often as the opening was told. None if no
+    /// sampling port has the name, or its readers were all taken.
+    pub fn take_reader(&mut self, name: &str) -> Option<MailboxReader>
+        ensures reader { HandsNamed HandsReader name.now self.old.ends.items self.new.ends.items result }
+        ensures system { self.new.system ≡ self.old.system }
+        ensures passes { (self.new.a ≡ self.old.a) × (self.new.b ≡ self.old.b) }
+    {
+        let (place, at) = place_named(&self.ends, name)?;
+        self.ends[place].ports[at].reads.take_reader()
+    }
+
+    /// Moves out the end of the queue of the queuing port with this name, for a partition: once. None if no queuing port has
+    /// the name, or it was taken before.
+    pub fn take_taker(&mut self, name: &str) -> Option<RingTaker>
+        ensures taker { HandsNamed HandsTaker name.now self.old.ends.items self.new.ends.items result }
+        ensures system { self.new.system ≡ self.old.system }
+        ensures passes { (self.new.a ≡ self.old.a) × (self.new.b ≡ self.old.b) }
+    {
+        let (place, at) = place_named(&self.ends, name)?;
+        self.ends[place].ports[at].reads.take_taker()
+    }
+
+    /// The place in the configuration of the link that has the port with this name, and the port's place in the link. None
+    /// if no port has it.
+    pub fn place_of(&self, name: &str) -> Option<(usize, PortNo)>
+        ensures { result ≡ port_named name.now self.now.ends.items }
+    {
+        let (place, at) = place_named(&self.ends, name)?;
+        Some((place, self.ends[place].ports[at].port))
+    }
 }
 
 impl LiveSystem {

@@ -7,6 +7,8 @@ mod example;
 #[cfg(test)]
 mod frames;
 #[cfg(test)]
+mod meetings;
+#[cfg(test)]
 mod running;
 #[cfg(test)]
 mod threads;

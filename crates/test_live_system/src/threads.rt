@@ -5,7 +5,7 @@ ghost use Rattle.live_system.specs.System.{IsPassOf};
 
 use crate::running::{LINK_17, Running};
 use es_base::Net;
-use live_system::{LiveSystem, NetPass, Opened, Reply, Settled};
+use live_system::{LinkEnds, LiveSystem, NetPass, Opened, PartitionEnd, Reply, Settled};
 use receiver::{MailboxReader, Reading};
 use std::alloc::Global;
 use std::process::Abort;
@@ -57,22 +57,21 @@ struct Ended {
 }
 
 /// A reader of the link's sampling port, the first of its ports.
-fn reader_of(rt: &impl Abort, opened: &mut Opened) -> MailboxReader {
-    let link = opened.ends.first_mut().expect(rt, "a link");
+fn reader_of(rt: &impl Abort, ends: &mut [LinkEnds<PartitionEnd>]) -> MailboxReader {
+    let link = ends.first_mut().expect(rt, "a link");
     let port = link.ports.first_mut().expect(rt, "a port");
     port.reads.take_reader().expect(rt, "a reader")
 }
 
 /// Both networks give their frames, each on a thread of its own.
 fn on_two_threads<R: Abort + Threads + Wait + Sync>(rt: &R, alloc: Global) -> Ended {
-    let mut opened = Running::open(rt, alloc).apart();
-    let reader = reader_of(rt, &mut opened);
     let Opened {
         system,
         a,
         b,
-        ends: _,
-    } = opened;
+        mut ends,
+    } = Running::open(rt, alloc).apart();
+    let reader = reader_of(rt, &mut ends);
     let shared = &system;
     let ((a, first), (b, second)) = join(
         rt,
@@ -96,14 +95,13 @@ fn on_two_threads<R: Abort + Threads + Wait + Sync>(rt: &R, alloc: Global) -> En
 
 /// Both networks give their frames on one thread, that of A first.
 fn on_one_thread<R: Abort + Wait>(rt: &R, alloc: Global) -> Ended {
-    let mut opened = Running::open(rt, alloc).apart();
-    let reader = reader_of(rt, &mut opened);
     let Opened {
         system,
         a,
         b,
-        ends: _,
-    } = opened;
+        mut ends,
+    } = Running::open(rt, alloc).apart();
+    let reader = reader_of(rt, &mut ends);
     let (a, first) = give(rt, alloc, &system, a);
     let (b, second) = give(rt, alloc, &system, b);
     let settled = system.settle(a, b);

@@ -36,6 +36,6 @@ returns g c =
     let mine : net_of s.pass.user ≡ s.net = ap net_of c.self.invariant.0 ∙ back s.net in
     rw (← c.self.view_is) (
       length visit.found.core.past,
-      did.placed,
+      did.0.placed,
       is_call s.pass visit.lists visit.found visit.finds a c.visit-answer.result visit.left did s.net s.counts mine (sym c.self.invariant.0) _ visit.knows c.add.new.self c.add.ensures.vl (λ i. s.net),
     )

@@ -1,0 +1,19 @@
+use Rattle.std.proofs.Common.{refl, rules, subst}
+use Rattle.std.specs.List.{slice_get}
+use Rattle.receiver.specs.Outlet.{GivesAt}
+use Rattle.receiver.specs.Port.{GivesPort}
+use Rattle.live_system.specs.Calls.{LiveLink}
+use Rattle.live_system.specs.Meetings.{MeetsReader}
+use Rattle.live_system.proofs.Meets.{finds_port, leaves_reader}
+use Rattle.live_system.proofs.link_pass.LinkPass.meet_reader.Goals as goal
+
+pub visit-requires-clause-keeps : goal.visit-requires-clause-keeps
+visit-requires-clause-keeps g c lists found left answer finds did =
+    let met : MeetsReader c.args.port c.args.reader answer found left = search rules in
+    leaves_reader found left met.link _ lists finds
+
+pub visit-requires-clause-callable : goal.visit-requires-clause-callable
+visit-requires-clause-callable g c = λ lists found finds p is.
+    let known = c.requires.outlet in
+    let has = finds_port c.args.reader found known.0 c.self.inside.pass.fixed c.args.port finds.fixed (rw (← c.self.view_is) at known.1) known.2 in
+    rw is has

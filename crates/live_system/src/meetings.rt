@@ -1,0 +1,78 @@
+//! Ends of ports meet them, under the locks of their links.
+ghost use Rattle.std.specs.Prelude.{◌≡◌};
+ghost use Rattle.receiver.specs.Meetings.{HasOutletAt};
+ghost use Rattle.receiver.specs.Port.{IsPortOf, IsQueueOf};
+ghost use Rattle.live_system.specs.Meetings.{KnowsOutlet, MeetsReader, MeetsTaker, VisitsAt};
+ghost use Rattle.live_system.specs.System.{IsPassOf};
+
+use crate::locked::Locked;
+use crate::net_pass::NetPass;
+use crate::system::LiveSystem;
+use es_base::PortNo;
+use receiver::{MailboxReader, RingTaker};
+use std::sync::Wait;
+
+impl LiveSystem {
+    /// A sampling port of the link at this place of the configuration and a reader of it meet, under the link's lock, for
+    /// which this waits: the reader then knows all messages that were delivered to the port. Nothing else changes. The
+    /// reader is given and given back, since the lock's contract doesn't say what a visit changes behind a `&mut` that it
+    /// is lent.
+    pub fn meet_reader<R: Wait>(
+        &self,
+        rt: &R,
+        pass: &mut NetPass,
+        place: usize,
+        port: PortNo,
+        reader: MailboxReader,
+    ) -> MailboxReader
+        requires own { IsPassOf self.now pass.old }
+        requires outlet { KnowsOutlet pass.old.links place port (λ outlet. IsPortOf outlet reader) }
+        ensures pass { pass.new ≡ pass.old }
+        ensures meets { VisitsAt pass.old.links place (λ found left. MeetsReader port reader result found left) }
+    {
+        let lock = &self.locks[place];
+        pass.links[place].meet_reader(rt, lock, port, reader)
+    }
+
+    /// A queuing port of the link at this place of the configuration and the end that takes of it meet, under the link's
+    /// lock, for which this waits: the taker then knows all messages that were delivered to the port, and the queue all that
+    /// the taker took, for which it then has room. Nothing else changes. The taker is given and given back, as a reader is.
+    pub fn meet_taker<R: Wait>(
+        &self,
+        rt: &R,
+        pass: &mut NetPass,
+        place: usize,
+        port: PortNo,
+        taker: RingTaker,
+    ) -> RingTaker
+        requires own { IsPassOf self.now pass.old }
+        requires outlet { KnowsOutlet pass.old.links place port (λ outlet. IsQueueOf outlet taker) }
+        ensures pass { pass.new ≡ pass.old }
+        ensures meets { VisitsAt pass.old.links place (λ found left. MeetsTaker port taker result found left) }
+    {
+        let lock = &self.locks[place];
+        pass.links[place].meet_taker(rt, lock, port, taker)
+    }
+}
+
+/// Lets a reader meet its port, of a link that is locked.
+pub(crate) fn meet_reader(
+    locked: &mut Locked,
+    port: PortNo,
+    mut reader: MailboxReader,
+) -> MailboxReader
+    requires { HasOutletAt locked.old port (λ outlet. IsPortOf outlet reader) }
+    ensures { MeetsReader port reader result locked.old locked.new }
+{
+    locked.link.meet_reader(port, &mut reader);
+    reader
+}
+
+/// Lets a taker meet its queue, of a link that is locked.
+pub(crate) fn meet_taker(locked: &mut Locked, port: PortNo, mut taker: RingTaker) -> RingTaker
+    requires { HasOutletAt locked.old port (λ outlet. IsQueueOf outlet taker) }
+    ensures { MeetsTaker port taker result locked.old locked.new }
+{
+    locked.link.meet_taker(port, &mut taker);
+    taker
+}

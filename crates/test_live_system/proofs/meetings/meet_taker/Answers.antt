@@ -1,0 +1,24 @@
+use Rattle.std.proofs.Common.{◌∙◌, sym}
+use Rattle.receiver.specs.declared.port.PortOutlet.{PortOutlet}
+use Rattle.receiver.specs.Meetings.{HasOutlet}
+use Rattle.receiver.specs.Port.{IsQueueOf}
+use Rattle.receiver.specs.Taking.{HandsTaker}
+use Rattle.receiver.proofs.HandedOut.{handed_out}
+use Rattle.receiver.proofs.Handed.{of_their_outlets, taker_of_its_queue}
+use Rattle.live_system.specs.System.{KnowLinks}
+use Rattle.live_system.proofs.Knowing.{knows_outlet, knows_still}
+use Rattle.test_live_system.proofs.meetings.meet_taker.Goals as goal
+
+pub meet_taker-taker-requires-clause-outlet : goal.meet_taker-taker-requires-clause-outlet
+meet_taker-taker-requires-clause-outlet g c =
+    let start = c.opened-opened.result in
+    let links = c.opened-opened.ensures.links in
+    let opened = links.1.opened in
+    let place = c.expect-place.result in
+    let are = handed_out links.0 start.system.config opened start.ends.items links.1.new in
+    let of_it = of_their_outlets HandsTaker IsQueueOf taker_of_its_queue _ opened start.ends.items c.take_taker.new.self.ends.items c.take_taker.result c.take_taker.ensures.taker are in
+    let found = sym c.place_of.ensures ∙ c.expect-place.ensures in
+    let was : HasOutlet opened place.0 place.1 (λ outlet. IsQueueOf outlet c.expect-taker.result) = rw (found, c.expect-taker.ensures) at of_it.1 in
+    let know : KnowLinks c.take_taker.new.self.a.links opened.links = rw c.take_taker.ensures.passes.0 links.1.known_a in
+    let later = knows_still _ c.take_taker.new.self.a c.receive-reply.new.pass 1000 _ c.receive-reply.result opened.links c.receive-reply.ensures.replies know in
+    knows_outlet (λ (outlet : PortOutlet). IsQueueOf outlet c.expect-taker.result) c.receive-reply.new.pass.links opened place.0 place.1 later was
