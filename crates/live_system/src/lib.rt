@@ -3,8 +3,7 @@
 //! or fails, and a call waits for the lock of its link and for nothing else.
 //!
 //! ```text
-//! let mut opened = LiveSystem::open(alloc, &config, ReaderCount::most())?;
-//! let Opened { system, mut a, mut b, ends } = opened;
+//! let Opened { system, mut a, mut b, ends } = LiveSystem::open(alloc, &config, ReaderCount::most())?;
 //! system.receive(&rt, &mut a, 1000, octets)       // on the thread of network A: Reply::Link { place: 0, .. }
 //! system.receive(&rt, &mut b, 1004, octets)       // on that of network B: Reply::Link { place: 1, .. }
 //! let settled = system.settle(a, b);              // the links, and what each pass counted

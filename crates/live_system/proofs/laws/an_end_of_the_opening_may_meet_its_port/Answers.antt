@@ -1,5 +1,3 @@
-use Rattle.message_ring.specs.Queue.{Known}
-use Rattle.mailbox_reader.specs.Reads.{PortReader}
 use Rattle.receiver.specs.declared.port.PortOutlet.{PortOutlet}
 use Rattle.receiver.specs.Port.{IsPortOf, IsQueueOf}
 use Rattle.live_system.proofs.Knowing.{knows_outlet}

@@ -1,5 +1,4 @@
 use Rattle.std.proofs.Common.{◌∙◌, sym}
-use Rattle.mailbox_reader.specs.Reads.{PortReader}
 use Rattle.receiver.specs.declared.port.PortOutlet.{PortOutlet}
 use Rattle.receiver.specs.Meetings.{HasOutlet}
 use Rattle.receiver.specs.Port.{IsPortOf}

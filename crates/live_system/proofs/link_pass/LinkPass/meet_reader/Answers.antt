@@ -1,8 +1,4 @@
-use Rattle.std.proofs.Common.{refl, rules, subst}
-use Rattle.std.specs.List.{slice_get}
-use Rattle.receiver.specs.Outlet.{GivesAt}
-use Rattle.receiver.specs.Port.{GivesPort}
-use Rattle.live_system.specs.Calls.{LiveLink}
+use Rattle.std.proofs.Common.{rules}
 use Rattle.live_system.specs.Meetings.{MeetsReader}
 use Rattle.live_system.proofs.Meets.{finds_port, leaves_reader}
 use Rattle.live_system.proofs.link_pass.LinkPass.meet_reader.Goals as goal
