@@ -156,7 +156,7 @@ def port(program):
 # ---- a system that keeps no frame, by one thread and by two
 
 # Of so many links, how often all frames are given.
-LIVE = {64: 30, 1: 120}
+LIVE = {64: 30}
 LIVE_WAYS = ["task", "one", "two"]
 
 
