@@ -142,12 +142,13 @@ impl RingPutter {
     }
 
     /// Whether there is room for one message more, which then stays, whatever the other end does. False: as many messages
-    /// as the queue holds were put that this end doesn't know to be taken. True wherever it knows of room before the call.
+    /// as the queue holds were put that this end doesn't know to be taken, also after it looked. True wherever it knows of
+    /// room before the call.
     pub fn has_room(&mut self) -> bool
         ensures end { self.new ≡ record self.old { taken = self.new.taken } }
         ensures told { BeginsWith self.new.taken self.old.taken }
         ensures room { IsTrue result → length self.new.put < length self.new.taken + self.new.depth }
-        ensures full { IsFalse result → MayBeFull self.old }
+        ensures full { IsFalse result → MayBeFull self.new }
         ensures room_is_known { length self.old.put < length self.old.taken + self.old.depth → IsTrue result }
     {
         has_room(&mut self.ring, self.needed)

@@ -1,7 +1,7 @@
 use Rattle.std.proofs.Common.{◌≡◌, true, false, ⊎_elim, arith}
 use Rattle.std.proofs.lemmas.Bool.{cases_Bool}
 use Rattle.message_ring.specs.Queue.{MayBeFull}
-use Rattle.message_ring.proofs.Puts.{look_keeps, look_told, full_put, room_all}
+use Rattle.message_ring.proofs.Puts.{look_keeps, look_told, full_all, full_put, room_all}
 use Rattle.message_ring.proofs.RingPutter.has_room.Goals as goal
 
 pub invariant_of-self : goal.invariant_of-self
@@ -16,7 +16,8 @@ returns-clause-room c = λ is.
 
 pub returns-clause-full : goal.returns-clause-full
 returns-clause-full c = λ is.
-    rw (← c.self.view_is) (full_put c.self.inside.max c.self.inside.depth c.self.inside.needed c.self.inside.latest c.self.inside.ring c.has_room.new.ring c.self.invariant.0 c.has_room.ensures.looked (c.has_room.ensures.full is))
+    let keeps = look_keeps _ _ _ _ c.self.inside.ring c.has_room.new.ring c.self.invariant.0 c.has_room.ensures.looked in
+    full_all c.self.inside.max c.self.inside.depth c.self.inside.needed c.self.inside.latest c.has_room.new.ring keeps (c.has_room.ensures.full is)
 
 pub returns-clause-room_is_known : goal.returns-clause-room_is_known
 returns-clause-room_is_known c = λ less.
