@@ -23,8 +23,8 @@ static struct {
 } ports[MOST_ENDS];
 static size_t ports_n;
 
-static _Alignas(8) unsigned char room[4096];
-struct yelunnavi_receiver library = {room};
+static u64 room[64];
+struct yelunnavi_receiver library;
 Receiver peer;
 
 _Noreturn void stop(const char *why)
@@ -56,15 +56,15 @@ Side side_of(const char *word)
 
 static void init_rooms(void)
 {
-    check(yelunnavi_receiver_room() <= sizeof room, "room for the receiver");
-    check(yelunnavi_reader_room() <= END_ROOM && yelunnavi_taker_room() <= END_ROOM, "room for the ends");
-    yelunnavi_receiver_init(room);
+    struct yelunnavi_reader sampled;
+    struct yelunnavi_taker queued;
+    check(yelunnavi_receiver_init(&library, room, sizeof room) == YELUNNAVI_DONE, "room for the receiver");
     for (size_t i = 0; i < ports_n; i++)
         for (unsigned reader = 0; reader < MOST_READERS; reader++)
             if (ports[i].sampling)
-                yelunnavi_reader_init(ports[i].rooms[reader]);
+                check(yelunnavi_reader_init(&sampled, ports[i].rooms[reader], END_ROOM) == YELUNNAVI_DONE, "room for a reader");
             else
-                yelunnavi_taker_init(ports[i].rooms[reader]);
+                check(yelunnavi_taker_init(&queued, ports[i].rooms[reader], END_ROOM) == YELUNNAVI_DONE, "room for a taker");
 }
 
 void read_config(const char *name)

@@ -25,7 +25,7 @@ enum { OF_PORT = 37, OF_NAV = 138 };
 
 static uint64_t now;
 static uint64_t room[64];
-static struct yelunnavi_receiver receiver = {room};
+static struct yelunnavi_receiver receiver;
 static uint8_t out[YELUNNAVI_LONGEST_QUEUED];
 static SAMPLING_PORT_NAME_TYPE pos_name = "pos";
 static QUEUING_PORT_NAME_TYPE nav_name = "nav";
@@ -109,8 +109,7 @@ static void of_status(void) {
 int main(void) {
     struct yelunnavi_fault fault;
     if (yelunnavi_abi() != YELUNNAVI_ABI) return 16;
-    if (yelunnavi_receiver_room() > sizeof room) return 13;
-    yelunnavi_receiver_init(room);
+    if (yelunnavi_receiver_init(&receiver, room, sizeof room) != YELUNNAVI_DONE) return 13;
     if (yelunnavi_receiver_open(&receiver, (const uint8_t *)CONFIG, sizeof CONFIG - 1, 1, &fault) != YELUNNAVI_DONE) return 14;
     apex_receiver = &receiver;
     of_creating();

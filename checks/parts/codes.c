@@ -33,10 +33,10 @@ static const uint8_t FRAME[60] = {3, 0, 0, 0, 0, 17, 2, 0, 0, 0, 1, 32, 8, 0, 69
 static const uint8_t NO_OCTETS[60] = {3, 0, 0, 0, 0, 17, 2, 0, 0, 0, 1, 32, 8, 0, 69, 0, 0, 28, 0, 2, 0, 0, 1, 17, 205, 220, 10, 1, 1, 1,
     224, 224, 0, 17, 19, 137, 19, 139, 0, 8, 0, 0, [59] = 1};
 
-static _Alignas(8) unsigned char rooms[4][512];
-static struct yelunnavi_receiver receiver = {rooms[0]};
-static struct yelunnavi_reader reader = {rooms[1]}, other = {rooms[2]};
-static struct yelunnavi_taker taker = {rooms[3]};
+static uint64_t rooms[4][64];
+static struct yelunnavi_receiver receiver;
+static struct yelunnavi_reader reader, other;
+static struct yelunnavi_taker taker;
 
 /* ---- memory: the request with this number is refused, and blocks that weren't given back are counted */
 
@@ -64,7 +64,7 @@ void rattle_dealloc(void *at) {
 
 /* Opens for so many readers with each request refused in turn, and then with none. */
 static void of_memory(size_t readers) {
-    struct yelunnavi_fault fault = {77, 77, 77, 77, 77};
+    struct yelunnavi_fault fault = {77, 77, 77, 77, 77, 77};
     uint32_t code = YELUNNAVI_NO_MEMORY;
     for (refused = 1; code == YELUNNAVI_NO_MEMORY; refused++) {
         requests = 0;
@@ -81,7 +81,7 @@ static void of_memory(size_t readers) {
 /* Numbers of readers that no port may have, told before the text is looked at. */
 static void of_no_readers(void) {
     static const size_t wrong[] = {0, YELUNNAVI_MOST_READERS + 1, YELUNNAVI_MOST_READERS + 2, 256 + 1, SIZE_MAX};
-    struct yelunnavi_fault fault = {77, 77, 77, 77, 77};
+    struct yelunnavi_fault fault = {77, 77, 77, 77, 77, 77};
     for (size_t k = 0; k < sizeof wrong / sizeof *wrong; k++) {
         WANT(OUT_OF_RANGE, yelunnavi_receiver_open(&receiver, TEXT(CONFIG), wrong[k], &fault));
         WANT(OUT_OF_RANGE, yelunnavi_receiver_open(&receiver, TEXT("no TOML"), wrong[k], &fault));
@@ -253,14 +253,128 @@ static void of_a_closed_receiver(void) {
     yelunnavi_taker_close(&taker);
 }
 
+/* ---- rooms */
+
+/* Each call on a receiver's handle answers NOT_MADE. */
+static void want_no_receiver(struct yelunnavi_receiver *h) {
+    struct yelunnavi_fault fault;
+    struct yelunnavi_frame frame;
+    struct yelunnavi_link link;
+    struct yelunnavi_port port;
+    struct yelunnavi_place place;
+    uint8_t name[YELUNNAVI_LONGEST_NAME];
+    uint64_t count;
+    size_t links;
+    WANT(NOT_MADE, yelunnavi_receiver_open(h, TEXT(CONFIG), 1, &fault));
+    WANT(NOT_MADE, yelunnavi_receiver_receive(h, YELUNNAVI_A, 0, FRAME, sizeof FRAME, &frame));
+    WANT(NOT_MADE, yelunnavi_receiver_count(h, 0, YELUNNAVI_A, YELUNNAVI_VERDICT_SAMPLED, &count));
+    WANT(NOT_MADE, yelunnavi_receiver_filtered(h, YELUNNAVI_A, YELUNNAVI_FILTER_TOO_SHORT, &count));
+    WANT(NOT_MADE, yelunnavi_receiver_links(h, &links));
+    WANT(NOT_MADE, yelunnavi_receiver_link(h, 0, &link));
+    WANT(NOT_MADE, yelunnavi_receiver_port(h, 0, 0, &port, &name));
+    WANT(NOT_MADE, yelunnavi_receiver_place(h, TEXT("pos"), &place));
+    WANT(NOT_MADE, yelunnavi_receiver_hand_reader(h, &reader, TEXT("pos")));
+    WANT(NOT_MADE, yelunnavi_receiver_hand_taker(h, &taker, TEXT("nav")));
+    yelunnavi_receiver_close(h);
+}
+
+static void want_no_reader(struct yelunnavi_reader *h) {
+    struct yelunnavi_read read;
+    struct yelunnavi_limits limits;
+    uint8_t out[8];
+    WANT(NOT_MADE, yelunnavi_reader_read(h, 0, out, sizeof out, &read));
+    WANT(NOT_MADE, yelunnavi_reader_hold(h, 0, &read));
+    WANT(NOT_MADE, yelunnavi_reader_copy(h, 0, out, sizeof out));
+    WANT(NOT_MADE, yelunnavi_reader_release(h));
+    WANT(NOT_MADE, yelunnavi_reader_limits(h, &limits));
+    yelunnavi_reader_close(h);
+}
+
+static void want_no_taker(struct yelunnavi_taker *h) {
+    struct yelunnavi_taken taken;
+    size_t max;
+    uint8_t out[8];
+    WANT(NOT_MADE, yelunnavi_taker_take(h, out, sizeof out, &taken));
+    WANT(NOT_MADE, yelunnavi_taker_longest(h, &max));
+    yelunnavi_taker_close(h);
+}
+
+/* A room that is none, or isn't aligned, or is too short: no slot is made there, and each further call says so. */
+static void of_rooms(void) {
+    size_t sizes[3] = {yelunnavi_receiver_room(), yelunnavi_reader_room(), yelunnavi_taker_room()};
+    unsigned char *odd = (unsigned char *)rooms[0] + 4;
+    for (int k = 0; k < 3; k++) if (sizes[k] > sizeof rooms[0]) exit(9);
+    WANT(NO_ROOM, yelunnavi_receiver_init(&receiver, NULL, 512)); want_no_receiver(&receiver);
+    WANT(NO_ROOM, yelunnavi_receiver_init(&receiver, odd, 400)); want_no_receiver(&receiver);
+    WANT(TOO_SHORT, yelunnavi_receiver_init(&receiver, rooms[0], sizes[0] - 1)); want_no_receiver(&receiver);
+    WANT(NO_ROOM, yelunnavi_reader_init(&reader, NULL, 512)); want_no_reader(&reader);
+    WANT(NO_ROOM, yelunnavi_reader_init(&reader, odd, 400)); want_no_reader(&reader);
+    WANT(TOO_SHORT, yelunnavi_reader_init(&reader, rooms[0], sizes[1] - 1)); want_no_reader(&reader);
+    WANT(NO_ROOM, yelunnavi_taker_init(&taker, NULL, 512)); want_no_taker(&taker);
+    WANT(NO_ROOM, yelunnavi_taker_init(&taker, odd, 400)); want_no_taker(&taker);
+    WANT(TOO_SHORT, yelunnavi_taker_init(&taker, rooms[0], sizes[2] - 1)); want_no_taker(&taker);
+    for (size_t k = 0; k < 64; k++) if (rooms[0][k]) exit(22);
+}
+
+/* The room of a handle of another kind, and one in which no slot was made, whatever it has: it isn't written. */
+static void of_other_rooms(void) {
+    static const unsigned char fills[] = {0, 1, 0x7f, 0x80, 0xff};
+    uint64_t room[64], before[64];
+    struct yelunnavi_receiver of_reader = {reader.room}, of_taker = {taker.room}, receiver_of_none = {room};
+    struct yelunnavi_reader of_receiver = {receiver.room}, from_taker = {taker.room}, reader_of_none = {room};
+    struct yelunnavi_taker from_receiver = {receiver.room}, from_reader = {reader.room}, taker_of_none = {room};
+    memcpy(before, rooms[0], sizeof before);
+    want_no_receiver(&of_reader), want_no_receiver(&of_taker), want_no_reader(&of_receiver), want_no_reader(&from_taker);
+    want_no_taker(&from_receiver), want_no_taker(&from_reader);
+    if (memcmp(before, rooms[0], sizeof before)) exit(23);
+    for (size_t k = 0; k < sizeof fills; k++) {
+        memset(room, fills[k], sizeof room), memset(before, fills[k], sizeof before);
+        want_no_receiver(&receiver_of_none), want_no_reader(&reader_of_none), want_no_taker(&taker_of_none);
+        WANT(NOT_MADE, yelunnavi_receiver_hand_reader(&receiver, &reader_of_none, TEXT("pos")));
+        WANT(NOT_MADE, yelunnavi_receiver_hand_taker(&receiver, &taker_of_none, TEXT("nav")));
+        if (memcmp(before, room, sizeof room)) exit(24);
+    }
+}
+
+/* ---- the lines of faults */
+
+#define WANT_LINE(number, what, text)                                                            \
+    do {                                                                                         \
+        struct yelunnavi_fault told = {0};                                                      \
+        WANT(FAULTY, yelunnavi_receiver_open(&receiver, TEXT(text), 1, &told));                 \
+        if (told.fault != YELUNNAVI_FAULT_##what || told.line != (number)) {                   \
+            fprintf(stderr, "line %d: %u at line %u\n", __LINE__, (unsigned)told.fault, (unsigned)told.line); \
+            exit(1);                                                                             \
+        }                                                                                        \
+    } while (0)
+#define LINK(vl) "[[link]]\nvl = " vl "\nskew_max_us = 1\nreassembly_us = 1\n"
+#define PORT(name, kind) "  [[link.port]]\n\tname = \"" name "\"\n  kind= \"" kind "\"\naddress = \"1.2.3.4\"\n"
+
+static void of_lines(void) {
+    WANT_LINE(1, MISSING, "");
+    WANT_LINE(2, TEXT, "constant = \"03000000\"\nlink = = 3\n");
+    WANT_LINE(3, TEXT, "\n\n# \xff\n");
+    WANT_LINE(2, RANGE, "# first\nconstant = \"03\"\n" LINK("17"));
+    WANT_LINE(2, RANGE, "[[link]]\nvl = 65536\n");
+    WANT_LINE(1, MISSING, "[[link]]\nvl = 1\n");
+    WANT_LINE(6, DOUBLE_LINK, LINK("17") "[[link]]\nvl = 17\nskew_max_us = 1\nreassembly_us = 1\n");
+    WANT_LINE(6, KIND, LINK("17") "[[link]]\nvl = \"8\"\n");
+    WANT_LINE(7, RANGE, LINK("17") PORT("pos", "samplin"));
+    WANT_LINE(5, MISSING, LINK("17") PORT("pos", "sampling"));
+    WANT_LINE(9, RANGE, LINK("17") PORT("pos", "queuing") "udp = 70000\n[other]\nudp = 2\n");
+    WANT_LINE(0, RANGE, "link = [{vl = 65536}]\n");
+}
+
 int main(void) {
     uint8_t some[1] = {0};
     if (yelunnavi_abi() != YELUNNAVI_ABI) return 21;
-    if (yelunnavi_receiver_room() > 512 || yelunnavi_reader_room() > 512 || yelunnavi_taker_room() > 512) return 9;
-    yelunnavi_receiver_init(receiver.room);
-    yelunnavi_reader_init(reader.room);
-    yelunnavi_reader_init(other.room);
-    yelunnavi_taker_init(taker.room);
+    of_rooms();
+    WANT(DONE, yelunnavi_receiver_init(&receiver, rooms[0], sizeof rooms[0]));
+    WANT(DONE, yelunnavi_reader_init(&reader, rooms[1], sizeof rooms[1]));
+    WANT(DONE, yelunnavi_reader_init(&other, rooms[2], sizeof rooms[2]));
+    WANT(DONE, yelunnavi_taker_init(&taker, rooms[3], sizeof rooms[3]));
+    of_other_rooms();
+    of_lines();
     of_memory(1);
     of_memory(YELUNNAVI_MOST_READERS);
     of_no_readers();

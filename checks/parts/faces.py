@@ -8,7 +8,7 @@ import re
 from typing import NamedTuple
 
 import parts.options  # noqa: F401  (the tools are on the path then)
-from verdict_words import FILTER_CAUSES, HEADER_CAUSES, KINDS, NETWORKS
+from verdict_words import ALLOWED, FILTER_CAUSES, HEADER_CAUSES, KINDS, NETWORKS
 
 CALLS, HANDLES = "crates/receiver_c/src/lib.rt", "crates/receiver_c/src/{}_handle.rt"
 REPLIES, CODES, NUMBERS = (f"crates/receiver_slots/src/{name}.rt" for name in ("replies", "codes", "numbers"))
@@ -249,6 +249,19 @@ def words_of_c(tree):
             needs_key = part == "before" and case.endswith(("MISSING", "KIND", "RANGE"))
             made[number] = made.get(number, "") + word + "{}" * needs_key
     return made
+
+
+def allowed_of_c(tree):
+    """What the header of words says that each key may have, by the key."""
+    text = (tree / WORDS).read_text(encoding="utf-8")
+    body = found(r"yelunnavi_key_allowed\(uint32_t key\) \{(.*?)^\}", text, f"{WORDS}: yelunnavi_key_allowed")[1]
+    cases = re.findall(r'case YELUNNAVI_KEY_(\w+): return "((?:[^"\\]|\\.)*)";', body)
+    return {name: word.replace('\\"', '"') for name, word in cases}
+
+
+def allowed_of_source(words):
+    """What each key may have, by the words of the tools."""
+    return {name: ALLOWED.get(word, "") for name, word in words["Key"].items()}
 
 
 def face_of_c(tree):

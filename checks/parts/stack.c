@@ -48,8 +48,8 @@ static void call(const char *name, void (*it)(void)) { note(name, written_by(it,
 
 /* ---- the calls, and what they are passed */
 
-static _Alignas(8) unsigned char rooms[2][512], end_rooms[YELUNNAVI_MOST_PORTS][512];
-static struct yelunnavi_receiver receiver = {rooms[0]};
+static uint64_t room[64], end_rooms[YELUNNAVI_MOST_PORTS][64];
+static struct yelunnavi_receiver receiver;
 static struct yelunnavi_reader reader;
 static struct yelunnavi_taker taker;
 static uint8_t text[TEXT], out[YELUNNAVI_LONGEST_QUEUED], name[YELUNNAVI_LONGEST_NAME];
@@ -163,14 +163,14 @@ static void of_frames(char **files) {
 }
 
 static void of_a_reader(void) {
-    yelunnavi_reader_init(reader.room);
+    if (yelunnavi_reader_init(&reader, end_rooms[at_port], sizeof end_rooms[0]) != YELUNNAVI_DONE) exit(9);
     call("hand_reader", hand_reader), call("limits", tell_limits), call("read", read_it), call("hold", hold);
     if (found.found) call("copy", copy), call("release", release);
     call("hold", hold), call("close", close_reader);
 }
 
 static void of_a_taker(void) {
-    yelunnavi_taker_init(taker.room);
+    if (yelunnavi_taker_init(&taker, end_rooms[at_port], sizeof end_rooms[0]) != YELUNNAVI_DONE) exit(9);
     call("hand_taker", hand_taker), call("longest", tell_longest);
     do call("take", take); while (taken.found);
     call("close", close_taker);
@@ -181,7 +181,6 @@ static void of_ends(void) {
     for (at_link = 0; at_link < links; at_link++) {
         call("links, link, port, place", tell_link);
         for (at_port = 0; at_port < link_reply.ports; at_port++) {
-            reader.room = taker.room = end_rooms[at_port];
             call("links, link, port, place", tell_port), call("links, link, port, place", tell_place);
             if (port_reply.service == YELUNNAVI_SERVICE_SAMPLING) of_a_reader(); else of_a_taker();
         }
@@ -192,9 +191,7 @@ static void of_ends(void) {
 int main(int argc, char **argv) {
     if (argc != 4) return 2;
     if (yelunnavi_abi() != YELUNNAVI_ABI) return 10;
-    if (yelunnavi_receiver_room() > sizeof rooms[0] || yelunnavi_reader_room() > sizeof end_rooms[0]
-        || yelunnavi_taker_room() > sizeof end_rooms[0]) return 9;
-    yelunnavi_receiver_init(receiver.room);
+    if (yelunnavi_receiver_init(&receiver, room, sizeof room) != YELUNNAVI_DONE) return 9;
     least = written_by(nothing, SHORT);
     of_frames(argv + 1);
     of_ends();

@@ -33,19 +33,19 @@ def test_nothing_is_found_where_nothing_is_wrong(written, tmp_path):
 
 
 @pytest.mark.parametrize("old, new, told", [
-    ("vl = 17", "vl = 70000", "4: link 70000: refused: vl out of range"),
-    ("vl = 17", "vl = true", "4: link at place 1: refused: wrong kind of vl"),
+    ("vl = 17", "vl = 70000", "4: link 70000: refused: vl out of range (allowed: an integer from 0 to 65535)"),
+    ("vl = 17", "vl = true", "4: link at place 1: refused: wrong kind of vl (allowed: an integer from 0 to 65535)"),
     ("vl = 18", "vl = 17", "23: link 17: refused: link given twice"),
-    ('kind = "queuing"', 'kind = "queueing"', "17: link 17 port nav: refused: kind out of range"),
+    ('kind = "queuing"', 'kind = "queueing"', "17: link 17 port nav: refused: kind out of range (allowed: \"sampling\" or \"queuing\")"),
     ('name = "nav"', 'name = "pos"', "16: link 17 port pos: refused: name given twice"),
     ('name = "alt"', 'name = "pos"', "28: link 18 port pos: refused: name given twice"),
     ("udp = 5002", "udp = 5000", "19: link 17 port nav: refused: port given twice"),
-    ("depth = 4", "depth = 4.0", "20: link 17 port nav: refused: wrong kind of depth"),
-    ("depth = 4\n", "", "15: link 17 port nav: refused: missing depth"),
-    ("skew_max_us = 1000\n", "", "3: link 17: refused: missing skew_max_us"),
-    ("224.224.0.18", "224.224.0.018", "30: link 18 port alt: refused: address out of range"),
-    ("[[link]]\nvl = 17", "constant = 3\n[[link]]\nvl = 17", "3: refused: wrong kind of constant"),
-    ("vl = 18\nskew_max_us = 1000", "vl = 18\nport = 1\nskew_max_us = true", "25: link 18: refused: wrong kind of skew_max_us"),
+    ("depth = 4", "depth = 4.0", "20: link 17 port nav: refused: wrong kind of depth (allowed: an integer from 1 to 64)"),
+    ("depth = 4\n", "", "15: link 17 port nav: refused: missing depth (allowed: an integer from 1 to 64)"),
+    ("skew_max_us = 1000\n", "", "3: link 17: refused: missing skew_max_us (allowed: an integer from 0 to 1000000)"),
+    ("224.224.0.18", "224.224.0.018", "30: link 18 port alt: refused: address out of range (allowed: a string of four numbers from 0 to 255 with dots between them)"),
+    ("[[link]]\nvl = 17", "constant = 3\n[[link]]\nvl = 17", "3: refused: wrong kind of constant (allowed: a string of 8 hexadecimal digits)"),
+    ("vl = 18\nskew_max_us = 1000", "vl = 18\nport = 1\nskew_max_us = true", "25: link 18: refused: wrong kind of skew_max_us (allowed: an integer from 0 to 1000000)"),
     ("depth = 4", "dept = 4\ndepth = 4", "20: link 17 port nav: unknown key dept is ignored (depth of a port?)"),
     ("vl = 17", "vl = 17\nredundncy = false", "5: link 17: unknown key redundncy is ignored (redundancy of a link?)"),
     ("vl = 17", "vl = 17\nudp = 1", "5: link 17: unknown key udp is ignored (udp of a port?)"),
@@ -73,7 +73,7 @@ def test_many_links_and_ports(written):
     ports = "".join(port.format(number, number) for number in range(40))
     assert slips_of(written, link.format(5) + ports) == ["197: link 5 port p32: refused: too many links or ports"]
     assert slips_of(written, link.format(5) + ports.replace("udp = 31", "udp = 70000").split("[[link.port]]\nname = \"p32")[0]) \
-        == ["195: link 5 port p31: refused: udp out of range"]
+        == ["195: link 5 port p31: refused: udp out of range (allowed: an integer from 0 to 65535)"]
 
 
 def test_what_captures_show(written):
@@ -129,7 +129,7 @@ def test_traces_that_are_none(written):
 def test_files_that_are_no_configuration(written, tmp_path):
     assert slips_of(written, b"a = 1\nb = '\xff'\n")[0].startswith("2: refused: not TOML: 'utf-8' codec")
     assert slips_of(written, "a = " + "[" * 5000)[0].startswith("1: refused: not TOML: ")
-    assert slips_of(written, "") == ["1: refused: missing link"]
+    assert slips_of(written, "") == ["1: refused: missing link (allowed: 1 to 64 tables)"]
     assert run("check", tmp_path).returncode == run("check", "/nowhere").returncode == 3
     assert "control?character" in slips_of(written, GOOD + '"control\\u001bcharacter" = 1\n')[0]
     assert "needs" not in fault(3, "check", CONFIG, "--program", "/nowhere")
@@ -137,7 +137,7 @@ def test_files_that_are_no_configuration(written, tmp_path):
 
 def test_names_of_any_letters(written):
     text = GOOD.replace("depth = 4", "depth = 400\n\"\\U0001F600 \\u007f\" = '\\u1F600'")
-    assert slips_of(written, text)[0] == "20: link 17 port nav: refused: depth out of range"
+    assert slips_of(written, text)[0] == "20: link 17 port nav: refused: depth out of range (allowed: an integer from 1 to 64)"
 
 
 def test_places_of_odd_forms():

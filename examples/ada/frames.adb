@@ -21,7 +21,7 @@ procedure Frames is
      [3, 0, 0, 0, 0, 16#11#, 2, 0, 0, 0, 1, 16#20#, 8, 0,
       16#45#, 0, 0, 16#2d#, 0, 1, 0, 0, 1, 16#11#, 16#cd#, 16#cc#, 16#0a#, 1, 1, 1, 16#e0#, 16#e0#, 0, 16#11#,
       16#13#, 16#89#, 16#13#, 16#88#, 0, 16#19#, 0, 0];
-   Fault : Fault_Reply := (0, 0, 0, 0, 0);
+   Fault : Fault_Reply := (0, 0, 0, 0, 0, 0);
    Told : Frame_Reply := (0, 0, 0, 0, 0, 0, 0);
    Found : Read_Reply := (0, 0, 0, 0, 0);
    Taken : Take_Reply := (0, 0, 0);
@@ -42,9 +42,10 @@ procedure Frames is
       Put_Line ("frame" & Told.Kind'Image & Told.Vl'Image & Told.Port'Image & Told.Place'Image & Told.Number'Image);
    end Show;
 begin
-   if Library_Abi /= Abi or Receiver_Room > 512 or Reader_Room > 512 or Taker_Room > 512 then raise Program_Error; end if;
-   Link_17.Room := Receiver_Space'Address; Pos.Room := Reader_Space'Address; Nav.Room := Taker_Space'Address;
-   Receiver_Init (Link_17.Room); Reader_Init (Pos.Room); Taker_Init (Nav.Room);
+   if Library_Abi /= Abi then raise Program_Error; end if;
+   Check (Init (Link_17, Receiver_Space'Address, Receiver_Space'Length));
+   Check (Init (Pos, Reader_Space'Address, Reader_Space'Length));
+   Check (Init (Nav, Taker_Space'Address, Taker_Space'Length));
    Check (Open (Link_17, As_Octets (Text), Text'Length, 1, Fault));
    Check (Hand_Reader (Link_17, Pos, As_Octets ("pos"), 3));
    Check (Hand_Taker (Link_17, Nav, As_Octets ("nav"), 3));

@@ -10,7 +10,7 @@ package Yelunnavi is
    type Taker is limited record Room : System.Address; end record with Convention => C;
 
    --  The number of this interface: raised with each change of a struct, a call or a number. Library_Abi has the library's.
-   Abi : constant Unsigned_32 := 1;
+   Abi : constant Unsigned_32 := 2;
 
    subtype Code is Unsigned_32;
    Done : constant Code := 0;
@@ -27,6 +27,8 @@ package Yelunnavi is
    Holds_None : constant Code := 11;
    Out_Of_Range : constant Code := 12;
    Too_Short : constant Code := 13;
+   Not_Made : constant Code := 14;
+   No_Room : constant Code := 15;
 
    Network_A : constant Unsigned_32 := 0;
    Network_B : constant Unsigned_32 := 1;
@@ -104,7 +106,9 @@ package Yelunnavi is
    Longest_Queued : constant := 8192;
    Deepest_Queue : constant := 64;
 
-   type Fault_Reply is record Fault, Key, Level : Unsigned_32; Link, Port : size_t; end record with Convention => C;
+   type Fault_Reply is record
+      Fault, Key, Level : Unsigned_32; Link, Port : size_t; Line : Unsigned_64;
+   end record with Convention => C;
    type Frame_Reply is record
       Kind, Cause : Unsigned_32; Link : size_t; Vl, Port : Unsigned_32; Place, Number : Unsigned_64;
    end record with Convention => C;
@@ -126,9 +130,15 @@ package Yelunnavi is
    function Receiver_Room return size_t with Import, Convention => C, External_Name => "yelunnavi_receiver_room";
    function Reader_Room return size_t with Import, Convention => C, External_Name => "yelunnavi_reader_room";
    function Taker_Room return size_t with Import, Convention => C, External_Name => "yelunnavi_taker_room";
-   procedure Receiver_Init (Room : System.Address) with Import, Convention => C, External_Name => "yelunnavi_receiver_init";
-   procedure Reader_Init (Room : System.Address) with Import, Convention => C, External_Name => "yelunnavi_reader_init";
-   procedure Taker_Init (Room : System.Address) with Import, Convention => C, External_Name => "yelunnavi_taker_init";
+   procedure Receiver_Make (Room : System.Address) with Import, Convention => C, External_Name => "yelunnavi_receiver_make";
+   procedure Reader_Make (Room : System.Address) with Import, Convention => C, External_Name => "yelunnavi_reader_make";
+   procedure Taker_Make (Room : System.Address) with Import, Convention => C, External_Name => "yelunnavi_taker_make";
+
+   --  Makes a slot in which nothing is open in a room of so many octets, and the handle to it. No_Room if the room is null or
+   --  isn't aligned to 8, Too_Short if a slot needs more octets; then each further call on the handle answers Not_Made.
+   function Init (H : out Receiver; Room : System.Address; Length : size_t) return Code;
+   function Init (H : out Reader; Room : System.Address; Length : size_t) return Code;
+   function Init (H : out Taker; Room : System.Address; Length : size_t) return Code;
 
    function Open
      (H : in out Receiver; Text : Octets; Length, Readers : size_t; Fault : in out Fault_Reply) return Code

@@ -3,8 +3,8 @@
 #include "../c/yelunnavi_words.h"
 #include "frames.h"
 
-static _Alignas(8) unsigned char room[512];
-static struct yelunnavi_receiver receiver = {room};
+static uint64_t room[64];
+static struct yelunnavi_receiver receiver;
 
 /* How many readers each sampling port has. */
 enum { READERS = 1 };
@@ -65,8 +65,7 @@ static void show(const struct frame *frame) {
 
 void main(void) {
     struct yelunnavi_fault fault;
-    if (yelunnavi_abi() != YELUNNAVI_ABI || yelunnavi_receiver_room() > sizeof room) return;
-    yelunnavi_receiver_init(receiver.room);
+    if (yelunnavi_abi() != YELUNNAVI_ABI || yelunnavi_receiver_init(&receiver, room, sizeof room) != YELUNNAVI_DONE) return;
     if (yelunnavi_receiver_open(&receiver, (const uint8_t *)CONFIG, sizeof CONFIG - 1, READERS, &fault) != YELUNNAVI_DONE) return;
     for (size_t k = 0; k < sizeof FRAMES / sizeof FRAMES[0]; k++) show(&FRAMES[k]);
 }

@@ -27,8 +27,14 @@ typedef struct {
 } QUEUING_PORT_STATUS_TYPE;
 
 enum { APEX_PORTS = 8 };
-/* The room of an end, the settings of its port, and the validity of the message that was read last. */
-static struct apex_port { uint64_t room[16]; struct yelunnavi_port port; VALIDITY_TYPE validity; } apex_ports[APEX_PORTS];
+/* An end and its room, the settings of its port, and the validity of the message that was read last. */
+static struct apex_port {
+    uint64_t room[16];
+    struct yelunnavi_reader reader;
+    struct yelunnavi_taker taker;
+    struct yelunnavi_port port;
+    VALIDITY_TYPE validity;
+} apex_ports[APEX_PORTS];
 static APEX_INTEGER apex_created;
 static struct yelunnavi_receiver *apex_receiver; /* whose ports these are: set once it is open */
 uint64_t apex_now(void);                         /* the program's: microseconds, on the clock of the arrival times */
@@ -43,19 +49,16 @@ static inline void apex_create(const char *text, uint32_t service, MESSAGE_SIZE_
     *answer = INVALID_CONFIG;
     if (apex_created == APEX_PORTS || direction != DESTINATION) return;
     struct apex_port *to = &apex_ports[apex_created];
-    if (yelunnavi_reader_room() > sizeof to->room || yelunnavi_taker_room() > sizeof to->room) return;
     if (yelunnavi_receiver_place(apex_receiver, (const uint8_t *)text, len, &place) != YELUNNAVI_DONE
         || yelunnavi_receiver_port(apex_receiver, place.link, place.port, &to->port, &name) != YELUNNAVI_DONE) return;
     if (to->port.service != service || (MESSAGE_SIZE_TYPE)to->port.max != max || (SYSTEM_TIME_TYPE)to->port.limit != limit) return;
-    struct yelunnavi_reader reader = {to->room};
-    struct yelunnavi_taker taker = {to->room};
     uint32_t code;
     if (service == YELUNNAVI_SERVICE_SAMPLING) {
-        yelunnavi_reader_init(reader.room);
-        code = yelunnavi_receiver_hand_reader(apex_receiver, &reader, name, len);
+        if (yelunnavi_reader_init(&to->reader, to->room, sizeof to->room) != YELUNNAVI_DONE) return;
+        code = yelunnavi_receiver_hand_reader(apex_receiver, &to->reader, name, len);
     } else {
-        yelunnavi_taker_init(taker.room);
-        code = yelunnavi_receiver_hand_taker(apex_receiver, &taker, name, len);
+        if (yelunnavi_taker_init(&to->taker, to->room, sizeof to->room) != YELUNNAVI_DONE) return;
+        code = yelunnavi_receiver_hand_taker(apex_receiver, &to->taker, name, len);
     }
     *answer = code == YELUNNAVI_DONE ? NO_ERROR : NO_ACTION;
     if (code == YELUNNAVI_DONE) *id = ++apex_created;
@@ -83,8 +86,7 @@ static inline void READ_SAMPLING_MESSAGE(SAMPLING_PORT_ID_TYPE id, MESSAGE_ADDR_
     struct yelunnavi_read found;
     *answer = INVALID_PARAM;
     if (!port) return;
-    struct yelunnavi_reader reader = {port->room};
-    if (yelunnavi_reader_read(&reader, apex_now(), message, port->port.max, &found) != YELUNNAVI_DONE) return;
+    if (yelunnavi_reader_read(&port->reader, apex_now(), message, port->port.max, &found) != YELUNNAVI_DONE) return;
     *answer = found.found ? NO_ERROR : NO_ACTION;
     *len = (MESSAGE_SIZE_TYPE)found.len;
     *validity = port->validity = found.valid ? VALID : INVALID;
@@ -97,8 +99,7 @@ static inline void RECEIVE_QUEUING_MESSAGE(QUEUING_PORT_ID_TYPE id, SYSTEM_TIME_
     (void)time_out;
     *answer = INVALID_PARAM;
     if (!port) return;
-    struct yelunnavi_taker taker = {port->room};
-    if (yelunnavi_taker_take(&taker, message, port->port.max, &taken) != YELUNNAVI_DONE) return;
+    if (yelunnavi_taker_take(&port->taker, message, port->port.max, &taken) != YELUNNAVI_DONE) return;
     *answer = taken.found ? NO_ERROR : NOT_AVAILABLE;
     *len = (MESSAGE_SIZE_TYPE)taken.len;
 }

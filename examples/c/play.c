@@ -8,12 +8,14 @@
 /* The requests of pool.c. */
 extern unsigned long pool_requests;
 
-static _Alignas(8) unsigned char receiver_room[4096];
-static struct yelunnavi_receiver receiver = {receiver_room};
+static uint64_t receiver_room[64];
+static struct yelunnavi_receiver receiver;
 
 /* An end of each port. */
 static struct end {
-    _Alignas(8) unsigned char room[128];
+    uint64_t room[16];
+    struct yelunnavi_reader reader;
+    struct yelunnavi_taker taker;
     struct yelunnavi_port port;
     char name[YELUNNAVI_LONGEST_NAME + 1];
 } ends[YELUNNAVI_MOST_LINKS][YELUNNAVI_MOST_PORTS];
@@ -33,23 +35,23 @@ static void hand_out(size_t link, uint32_t port) {
     struct yelunnavi_place place;
     check(yelunnavi_receiver_place(&receiver, name, end->port.name_len, &place) == YELUNNAVI_DONE, "a name");
     check(place.link == link && place.port == port, "the place of a name");
-    struct yelunnavi_reader reader = {end->room};
-    struct yelunnavi_taker taker = {end->room};
     if (end->port.service == YELUNNAVI_SERVICE_SAMPLING) {
-        yelunnavi_reader_init(end->room);
-        check(yelunnavi_receiver_hand_reader(&receiver, &reader, name, end->port.name_len) == YELUNNAVI_DONE, "a reader");
+        check(yelunnavi_reader_init(&end->reader, end->room, sizeof end->room) == YELUNNAVI_DONE, "room for a reader");
+        check(yelunnavi_receiver_hand_reader(&receiver, &end->reader, name, end->port.name_len) == YELUNNAVI_DONE, "a reader");
     } else {
-        yelunnavi_taker_init(end->room);
-        check(yelunnavi_receiver_hand_taker(&receiver, &taker, name, end->port.name_len) == YELUNNAVI_DONE, "a taker");
+        check(yelunnavi_taker_init(&end->taker, end->room, sizeof end->room) == YELUNNAVI_DONE, "room for a taker");
+        check(yelunnavi_receiver_hand_taker(&receiver, &end->taker, name, end->port.name_len) == YELUNNAVI_DONE, "a taker");
     }
 }
 
-/* The fault of the configuration, as afdx_play words it, and where it stands. */
+/* The fault of the configuration, as afdx_play words it, where it stands, and what is allowed. */
 static void show_fault(const struct yelunnavi_fault *fault) {
     const char *key = yelunnavi_key_word(fault->key);
     fprintf(stderr, "play: %s%s%s", yelunnavi_fault_before(fault->fault), key, yelunnavi_fault_after(fault->fault));
     if (fault->level >= YELUNNAVI_LEVEL_LINK) fprintf(stderr, ", link %zu", fault->link);
     if (fault->level == YELUNNAVI_LEVEL_PORT) fprintf(stderr, ", port %zu", fault->port);
+    if (fault->line) fprintf(stderr, ", line %" PRIu64, fault->line);
+    if (fault->key) fprintf(stderr, " (%s: %s)", key, yelunnavi_key_allowed(fault->key));
     fputc('\n', stderr);
 }
 
@@ -58,9 +60,7 @@ static size_t open_all(const char *config, struct yelunnavi_link *of_links) {
     struct yelunnavi_fault fault = {0};
     size_t links = 0;
     check(yelunnavi_abi() == YELUNNAVI_ABI, "the header of this library");
-    check(yelunnavi_receiver_room() <= sizeof receiver_room, "room for the receiver");
-    check(yelunnavi_reader_room() <= sizeof ends[0][0].room && yelunnavi_taker_room() <= sizeof ends[0][0].room, "room for ends");
-    yelunnavi_receiver_init(receiver.room);
+    check(yelunnavi_receiver_init(&receiver, receiver_room, sizeof receiver_room) == YELUNNAVI_DONE, "room for the receiver");
     size_t len = read_file(config, text, sizeof text);
     uint32_t code = yelunnavi_receiver_open(&receiver, text, len, YELUNNAVI_MOST_READERS, &fault);
     if (code == YELUNNAVI_FAULTY) show_fault(&fault);
@@ -97,28 +97,27 @@ static void show_octets(const uint8_t *octets, size_t len) {
 /* Reads a sampling port, and holds its message: both find the same. */
 static void show_sampling(struct end *end, uint64_t at) {
     static uint8_t out[YELUNNAVI_LONGEST_SAMPLE], held[YELUNNAVI_LONGEST_SAMPLE];
-    struct yelunnavi_reader reader = {end->room};
+    struct yelunnavi_reader *reader = &end->reader;
     struct yelunnavi_read found, again;
-    check(yelunnavi_reader_read(&reader, at, out, sizeof out, &found) == YELUNNAVI_DONE, "read");
-    check(yelunnavi_reader_hold(&reader, at, &again) == YELUNNAVI_DONE && !memcmp(&found.number, &again.number, 24), "hold");
+    check(yelunnavi_reader_read(reader, at, out, sizeof out, &found) == YELUNNAVI_DONE, "read");
+    check(yelunnavi_reader_hold(reader, at, &again) == YELUNNAVI_DONE && !memcmp(&found.number, &again.number, 24), "hold");
     printf("port %s sampling", end->name);
     if (found.found != 1) {
         puts(" empty");
         return;
     }
-    check(yelunnavi_reader_copy(&reader, 0, held, found.len) == YELUNNAVI_DONE && !memcmp(out, held, found.len), "copy");
-    check(yelunnavi_reader_release(&reader) == YELUNNAVI_DONE, "release");
+    check(yelunnavi_reader_copy(reader, 0, held, found.len) == YELUNNAVI_DONE && !memcmp(out, held, found.len), "copy");
+    check(yelunnavi_reader_release(reader) == YELUNNAVI_DONE, "release");
     printf(" %" PRIu64 " %" PRIu64 " %zu %s", found.number, found.time, found.len, found.valid ? "fresh" : "stale");
     show_octets(out, found.len);
 }
 
 static void show_queue(struct end *end) {
     static uint8_t out[YELUNNAVI_DEEPEST_QUEUE][YELUNNAVI_LONGEST_QUEUED];
-    struct yelunnavi_taker taker = {end->room};
     struct yelunnavi_taken taken[YELUNNAVI_DEEPEST_QUEUE];
     size_t count = 0;
     while (count < YELUNNAVI_DEEPEST_QUEUE) {
-        check(yelunnavi_taker_take(&taker, out[count], sizeof out[count], &taken[count]) == YELUNNAVI_DONE, "take");
+        check(yelunnavi_taker_take(&end->taker, out[count], sizeof out[count], &taken[count]) == YELUNNAVI_DONE, "take");
         if (!taken[count].found) break;
         count++;
     }

@@ -13,10 +13,10 @@
 /* One partition reads. */
 enum { READERS = 1 };
 
-static _Alignas(8) unsigned char receiver_room[4096], pos_room[128], nav_room[128];
-static struct yelunnavi_receiver receiver = {receiver_room};
-static struct yelunnavi_reader pos = {pos_room};
-static struct yelunnavi_taker nav = {nav_room};
+static uint64_t receiver_room[64], pos_room[16], nav_room[16];
+static struct yelunnavi_receiver receiver;
+static struct yelunnavi_reader pos;
+static struct yelunnavi_taker nav;
 static atomic_bool is_over;
 static const char *pos_name = "pos", *nav_name = "nav";
 static uint64_t newest, taken;
@@ -52,12 +52,10 @@ static bool open_all(const char *config) {
     static uint8_t text[1 << 20];
     struct yelunnavi_fault fault;
     if (yelunnavi_abi() != YELUNNAVI_ABI) return false;
-    if (yelunnavi_receiver_room() > sizeof receiver_room || yelunnavi_reader_room() > sizeof pos_room
-        || yelunnavi_taker_room() > sizeof nav_room) return false;
-    yelunnavi_receiver_init(receiver.room);
-    yelunnavi_reader_init(pos.room);
-    yelunnavi_taker_init(nav.room);
-    return yelunnavi_receiver_open(&receiver, text, read_file(config, text, sizeof text), READERS, &fault) == YELUNNAVI_DONE
+    return yelunnavi_receiver_init(&receiver, receiver_room, sizeof receiver_room) == YELUNNAVI_DONE
+        && yelunnavi_reader_init(&pos, pos_room, sizeof pos_room) == YELUNNAVI_DONE
+        && yelunnavi_taker_init(&nav, nav_room, sizeof nav_room) == YELUNNAVI_DONE
+        && yelunnavi_receiver_open(&receiver, text, read_file(config, text, sizeof text), READERS, &fault) == YELUNNAVI_DONE
         && yelunnavi_receiver_hand_reader(&receiver, &pos, (const uint8_t *)pos_name, strlen(pos_name)) == YELUNNAVI_DONE
         && yelunnavi_receiver_hand_taker(&receiver, &nav, (const uint8_t *)nav_name, strlen(nav_name)) == YELUNNAVI_DONE;
 }

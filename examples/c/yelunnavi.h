@@ -5,9 +5,12 @@
    the names of their ports, into slots of their own.
 
    Static room:   static uint64_t room[64];
-                  struct yelunnavi_receiver receiver = {room};
-                  if (yelunnavi_abi() != YELUNNAVI_ABI || yelunnavi_receiver_room() > sizeof room) ...;
-                  yelunnavi_receiver_init(room);
+                  static struct yelunnavi_receiver receiver;
+                  if (yelunnavi_abi() != YELUNNAVI_ABI) ...;
+                  if (yelunnavi_receiver_init(&receiver, room, sizeof room) != YELUNNAVI_DONE) ...;
+
+   A room begins with a mark of the kind of its slot. A call looks at it first: where .._init made no slot of its kind it answers
+   NOT_MADE, or does nothing if it answers no code, and neither reads nor writes the rest of the room.
 
    WHO MAY CALL. Each handle may be used by any one thread at a time, and handed on to another. Different handles may be
    used by different threads at once, those of one receiver too. No call waits for another thread, none blocks, and none
@@ -42,14 +45,15 @@
    REGISTERS. The library uses the vector registers of its processor (SSE2, Advanced SIMD), in a receive and in nearly every
    other call: a task or an interrupt handler that may not use them may not call it.
 
-   ANSWERS. Each call but abi, room, init and close answers a code, YELUNNAVI_DONE or why nothing was done. After any other
-   code what the call was passed is as it was, but for the fault that FAULTY tells.
+   ANSWERS. Each call but abi, room, make and close answers a code, YELUNNAVI_DONE or why nothing was done. After any other
+   code what the call was passed is as it was, but for the fault that FAULTY tells and the handle of an .._init that is refused.
+   NOT_MADE is tested first, and comes of each call but .._init; the calls below don't say so again.
 
    NULL. A pointer may be null where the length after it is 0.
 
    WHAT NOTHING CHECKS, and what is undefined where it is not kept:
-   - The room of a handle has as many octets as its .._room() says, is aligned to 8, and is of no other handle. Its
-     .._init was called once, before any other call. The program neither reads, writes nor moves it, nor changes the handle.
+   - A handle went through .._init, once, before any other call; its room has as many octets as .._init was told, and is of
+     no other handle. The program neither reads, writes nor moves it, nor changes the handle.
    - One call at a time is made on a handle: no interrupt handler makes another one in its midst.
    - No other pointer is null; each reaches as many octets as the length after it says, or its type.
    - No two things that a call is passed overlap, nor does one reach into a room; no handle is passed twice.
@@ -77,7 +81,7 @@ extern "C" {
 typedef char yelunnavi_is_of_64_bits[sizeof(size_t) == 8 && sizeof(void *) == 8 ? 1 : -1];
 
 /* The number of this interface: raised with each change of a struct, a call or a number. */
-#define YELUNNAVI_ABI 1
+#define YELUNNAVI_ABI 2
 
 /* The number of the library's interface. A program compares both before its first opening: if they differ, the header that
    it was compiled with is of another library. */
@@ -100,7 +104,9 @@ enum yelunnavi_code {
     YELUNNAVI_HOLDS_ONE = 10,   /* the reader holds a message */
     YELUNNAVI_HOLDS_NONE = 11,  /* it holds none */
     YELUNNAVI_OUT_OF_RANGE = 12, /* the message has no such octets, or a sampling port can't have so many readers */
-    YELUNNAVI_TOO_SHORT = 13    /* there may be messages for which there is no room */
+    YELUNNAVI_TOO_SHORT = 13,   /* there may be messages for which there is no room; or the room of a slot is too short */
+    YELUNNAVI_NOT_MADE = 14,    /* the room holds no slot of this kind: none was made there, or one of another kind */
+    YELUNNAVI_NO_ROOM = 15      /* the room can't hold a slot: it is null, or isn't aligned to 8 */
 };
 
 /* The networks. */
@@ -202,10 +208,45 @@ size_t yelunnavi_receiver_room(void);
 size_t yelunnavi_reader_room(void);
 size_t yelunnavi_taker_room(void);
 
-/* Makes a slot in which nothing is open. */
-void yelunnavi_receiver_init(void *room);
-void yelunnavi_reader_init(void *room);
-void yelunnavi_taker_init(void *room);
+/* Makes a slot in a room as large as .._room() says, aligned to 8: for .._init. */
+void yelunnavi_receiver_make(void *room);
+void yelunnavi_reader_make(void *room);
+void yelunnavi_taker_make(void *room);
+
+/* The room of a handle that has none: no slot is made there, so each call answers NOT_MADE. */
+static inline void *yelunnavi_nowhere(void) {
+    static uint64_t none[64];
+    return none;
+}
+
+/* Why a room of so many octets can't hold a slot that needs as many, if it can't. */
+static inline uint32_t yelunnavi_room_code(const void *room, size_t octets, size_t needed) {
+    if (room == NULL || (uintptr_t)room % 8 != 0) return YELUNNAVI_NO_ROOM;
+    return octets < needed ? YELUNNAVI_TOO_SHORT : YELUNNAVI_DONE;
+}
+
+/* Makes a slot in which nothing is open in a room of so many octets, and the handle to it. NO_ROOM if the room is null or
+   isn't aligned to 8; TOO_SHORT if a slot needs more octets. Then each further call on the handle answers NOT_MADE. */
+static inline uint32_t yelunnavi_receiver_init(struct yelunnavi_receiver *h, void *room, size_t octets) {
+    uint32_t code = yelunnavi_room_code(room, octets, yelunnavi_receiver_room());
+    h->room = code == YELUNNAVI_DONE ? room : yelunnavi_nowhere();
+    if (code == YELUNNAVI_DONE) yelunnavi_receiver_make(room);
+    return code;
+}
+
+static inline uint32_t yelunnavi_reader_init(struct yelunnavi_reader *h, void *room, size_t octets) {
+    uint32_t code = yelunnavi_room_code(room, octets, yelunnavi_reader_room());
+    h->room = code == YELUNNAVI_DONE ? room : yelunnavi_nowhere();
+    if (code == YELUNNAVI_DONE) yelunnavi_reader_make(room);
+    return code;
+}
+
+static inline uint32_t yelunnavi_taker_init(struct yelunnavi_taker *h, void *room, size_t octets) {
+    uint32_t code = yelunnavi_room_code(room, octets, yelunnavi_taker_room());
+    h->room = code == YELUNNAVI_DONE ? room : yelunnavi_nowhere();
+    if (code == YELUNNAVI_DONE) yelunnavi_taker_make(room);
+    return code;
+}
 
 /* ---- the receiver: open and close */
 
@@ -216,6 +257,9 @@ struct yelunnavi_fault {
     uint32_t level; /* enum yelunnavi_level */
     size_t link;    /* LEVEL_LINK and LEVEL_PORT: the place of the link in the document */
     size_t port;    /* LEVEL_PORT: the place of the port in the link */
+    uint64_t line;  /* the line of the text, from 1: of FAULT_TEXT where TOML's reading stops, or of the first octet that is no
+                       UTF-8; else of the key, or of the heading of its table. 0 if none is found: headings are known as
+                       [[link]] and [[link.port]] alone, and keys where they begin a line. What else looks like one counts */
 };
 
 /* Opens the receiver of a configuration: a TOML text, as docs/FORMATS.md says, `len` octets without a 0 after them. It is

@@ -20,6 +20,8 @@ static inline const char *yelunnavi_code_word(uint32_t code) {
     case YELUNNAVI_HOLDS_NONE: return "holds-none";
     case YELUNNAVI_OUT_OF_RANGE: return "out-of-range";
     case YELUNNAVI_TOO_SHORT: return "too-short";
+    case YELUNNAVI_NOT_MADE: return "not-made";
+    case YELUNNAVI_NO_ROOM: return "no-room";
     default: return "?";
     }
 }
@@ -116,6 +118,29 @@ static inline const char *yelunnavi_key_word(uint32_t key) {
     case YELUNNAVI_KEY_MAX: return "max";
     case YELUNNAVI_KEY_REFRESH_US: return "refresh_us";
     case YELUNNAVI_KEY_DEPTH: return "depth";
+    default: return "?";
+    }
+}
+
+/* What a key may have (docs/FORMATS.md, configuration), and nothing if it is none. */
+static inline const char *yelunnavi_key_allowed(uint32_t key) {
+    switch (key) {
+    case YELUNNAVI_KEY_NONE: return "";
+    case YELUNNAVI_KEY_CONSTANT: return "a string of 8 hexadecimal digits";
+    case YELUNNAVI_KEY_LINK: return "1 to 64 tables";
+    case YELUNNAVI_KEY_VL: return "an integer from 0 to 65535";
+    case YELUNNAVI_KEY_SKEW_MAX_US: return "an integer from 0 to 1000000";
+    case YELUNNAVI_KEY_REDUNDANCY: return "true or false";
+    case YELUNNAVI_KEY_REASSEMBLY_US: return "an integer from 0 to 10000000";
+    case YELUNNAVI_KEY_WINDOW: return "an integer from 1 to 4";
+    case YELUNNAVI_KEY_PORT: return "0 to 32 tables";
+    case YELUNNAVI_KEY_NAME: return "a string of 1 to 16 of a-z 0-9 _ -";
+    case YELUNNAVI_KEY_KIND: return "\"sampling\" or \"queuing\"";
+    case YELUNNAVI_KEY_ADDRESS: return "a string of four numbers from 0 to 255 with dots between them";
+    case YELUNNAVI_KEY_UDP: return "an integer from 0 to 65535";
+    case YELUNNAVI_KEY_MAX: return "an integer from 0 to 1471 of a sampling port, 8192 of a queuing port";
+    case YELUNNAVI_KEY_REFRESH_US: return "an integer from 0 to 1000000000";
+    case YELUNNAVI_KEY_DEPTH: return "an integer from 1 to 64";
     default: return "?";
     }
 }

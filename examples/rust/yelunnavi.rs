@@ -33,7 +33,7 @@ numbers! {
         DONE = 0 "done", NOT_OPEN = 1 "not-open", ALREADY_OPEN = 2 "already-open", FAULTY = 3 "faulty",
         NO_MEMORY = 4 "no-memory", NO_NETWORK = 5 "no-network", NO_KIND = 6 "no-kind", NO_PLACE = 7 "no-place",
         NO_NAME = 8 "no-name", NONE_LEFT = 9 "none-left", HOLDS_ONE = 10 "holds-one", HOLDS_NONE = 11 "holds-none",
-        OUT_OF_RANGE = 12 "out-of-range", TOO_SHORT = 13 "too-short",
+        OUT_OF_RANGE = 12 "out-of-range", TOO_SHORT = 13 "too-short", NOT_MADE = 14 "not-made", NO_ROOM = 15 "no-room",
     }
     /// A network.
     Network {
@@ -87,7 +87,7 @@ impl Verdict {
 }
 
 /// The number of this interface: raised with each change of a struct, a call or a number.
-pub const ABI: u32 = 1;
+pub const ABI: u32 = 2;
 pub const MOST_LINKS: usize = 64;
 /// Of a link.
 pub const MOST_PORTS: usize = 32;
@@ -114,8 +114,8 @@ macro_rules! replies {
 }
 
 replies! {
-    /// The first fault of a configuration.
-    Fault { fault: ConfigFault, key: Key, level: Level, link: usize, port: usize }
+    /// The first fault of a configuration, and the line of the text, 0 if it isn't known.
+    Fault { fault: ConfigFault, key: Key, level: Level, link: usize, port: usize, line: u64 }
     /// What became of a frame. `cause` is a FilterCause of a filtered one, and a HeaderFault of one with a bad header.
     Frame { kind: Verdict, cause: u32, link: usize, vl: u32, port: u32, place: u64, number: u64 }
     /// What a read or a hold found.
@@ -169,9 +169,9 @@ calls! {
     yelunnavi_receiver_room() -> usize;
     yelunnavi_reader_room() -> usize;
     yelunnavi_taker_room() -> usize;
-    yelunnavi_receiver_init(room: *mut c_void);
-    yelunnavi_reader_init(room: *mut c_void);
-    yelunnavi_taker_init(room: *mut c_void);
+    yelunnavi_receiver_make(room: *mut c_void);
+    yelunnavi_reader_make(room: *mut c_void);
+    yelunnavi_taker_make(room: *mut c_void);
     yelunnavi_receiver_open(h: *mut Handle, text: *const u8, len: usize, readers: usize, fault: *mut Fault) -> Code;
     yelunnavi_receiver_close(h: *mut Handle);
     yelunnavi_receiver_receive(h: *mut Handle, net: Network, now: u64, frame: *const u8, len: usize, reply: *mut Frame) -> Code;
@@ -195,7 +195,7 @@ calls! {
 }
 
 macro_rules! slots {
-    ($($(#[$doc:meta])* $name:ident, $room:ident, $octets:literal, $size:ident, $init:ident, $close:ident;)*) => {
+    ($($(#[$doc:meta])* $name:ident, $room:ident, $octets:literal, $size:ident, $make:ident, $close:ident;)*) => {
         $(
             /// Room for a slot: the program's, often a `static mut` or a local that outlives the handle.
             #[repr(C, align(16))]
@@ -223,7 +223,7 @@ macro_rules! slots {
                         return None;
                     }
                     let handle = Handle { room: (room as *mut $room).cast() };
-                    unsafe { $init(handle.room) };
+                    unsafe { $make(handle.room) };
                     Some($name { handle, room: core::marker::PhantomData })
                 }
 
@@ -244,11 +244,11 @@ macro_rules! slots {
 
 slots! {
     /// The receiver, for one task.
-    Receiver, ReceiverRoom, 512, yelunnavi_receiver_room, yelunnavi_receiver_init, yelunnavi_receiver_close;
+    Receiver, ReceiverRoom, 512, yelunnavi_receiver_room, yelunnavi_receiver_make, yelunnavi_receiver_close;
     /// A reader of a sampling port, for a partition.
-    Reader, ReaderRoom, 128, yelunnavi_reader_room, yelunnavi_reader_init, yelunnavi_reader_close;
+    Reader, ReaderRoom, 128, yelunnavi_reader_room, yelunnavi_reader_make, yelunnavi_reader_close;
     /// The end of a queue, for a partition.
-    Taker, TakerRoom, 128, yelunnavi_taker_room, yelunnavi_taker_init, yelunnavi_taker_close;
+    Taker, TakerRoom, 128, yelunnavi_taker_room, yelunnavi_taker_make, yelunnavi_taker_close;
 }
 
 /// A reply, if the call did what was asked.

@@ -13,7 +13,7 @@ import subprocess
 import tempfile
 import tomllib
 
-from verdict_words import NETWORKS
+from verdict_words import ALLOWED, NETWORKS
 from workbench import files, frames, program, traces
 from workbench.faults import Fault, plain
 
@@ -54,7 +54,7 @@ def slips_of(given):
     places = places_of(text, config)
     if refusal:
         path = path_of(given.program, config, refusal)
-        yield f"{given.config}:{line_at(places, path)}: {where(config, path)}refused: {refusal}"
+        yield f"{given.config}:{line_at(places, path)}: {where(config, path)}refused: {refusal}{allowed(refusal)}"
     for path, told in silences(config):
         yield f"{given.config}:{line_at(places, path)}: {where(config, path)}{told}"
     if given.files and refusal:
@@ -173,6 +173,12 @@ def key_of(refusal):
     """The key that the program names."""
     first, *_, last = refusal.split()
     return GIVEN_TWICE[first] if refusal.endswith("given twice") else first if refusal.endswith("out of range") else last
+
+
+def allowed(refusal):
+    """What the key may have that the program names, in words."""
+    names_key = refusal.startswith(("missing ", "wrong kind of ")) or refusal.endswith(" out of range")
+    return f" (allowed: {ALLOWED[key_of(refusal)]})" if names_key else ""
 
 
 def written(value, is_document=True):

@@ -1,12 +1,12 @@
--- What the handle of a reader is once its slot was lent.
-use Rattle.receiver_slots.specs.declared.reader_slot.ReaderState.{ReaderState}
+-- What the handle of a reader is once what stands in its room was lent.
 use Rattle.std.specs.Borrow.{Lends, MutBor, Fml}
-use Rattle.receiver_slots.specs.contracts.reader_slot.ReaderSlot.{the_row as slot_row}
+use Rattle.receiver_c.specs.declared.marked.MarkedReader.{MarkedReader}
+use Rattle.receiver_c.specs.contracts.marked.MarkedReader.{the_row as room_row}
 use Rattle.receiver_c.specs.declared.reader_handle.ReaderHandle.{ReaderHandle as Handle}
 use Rattle.receiver_c.specs.contracts.reader_handle.ReaderHandle.{the_row}
 
-abbrev pub with_now : Handle → ReaderState → Handle
-with_now h w = record h { now = w }
+abbrev pub with_room : Handle → MarkedReader → Handle
+with_room h w = record h { room = w }
 
-abbrev pub LendsSlot : MutBor Handle → MutBor ReaderState → Fml
-LendsSlot h r = Lends the_row slot_row h r (with_now h.now)
+abbrev pub LendsRoom : MutBor Handle → MutBor MarkedReader → Fml
+LendsRoom h r = Lends the_row room_row h r (with_room h.now)

@@ -1,13 +1,12 @@
--- What the handle of a receiver is once its slot was lent.
-use Rattle.std.specs.Prelude.{Option}
-use Rattle.receiver_slots.specs.Receiving.{Receiving}
+-- What the handle of a receiver is once what stands in its room was lent.
 use Rattle.std.specs.Borrow.{Lends, MutBor, Fml}
-use Rattle.receiver_slots.specs.contracts.receiver_slot.ReceiverSlot.{the_row as slot_row}
+use Rattle.receiver_c.specs.declared.marked.MarkedReceiver.{MarkedReceiver}
+use Rattle.receiver_c.specs.contracts.marked.MarkedReceiver.{the_row as room_row}
 use Rattle.receiver_c.specs.declared.receiver_handle.ReceiverHandle.{ReceiverHandle as Handle}
 use Rattle.receiver_c.specs.contracts.receiver_handle.ReceiverHandle.{the_row}
 
-abbrev pub with_now : Handle → Option Receiving → Handle
-with_now h w = record h { now = w }
+abbrev pub with_room : Handle → MarkedReceiver → Handle
+with_room h w = record h { room = w }
 
-abbrev pub LendsSlot : MutBor Handle → MutBor (Option Receiving) → Fml
-LendsSlot h r = Lends the_row slot_row h r (with_now h.now)
+abbrev pub LendsRoom : MutBor Handle → MutBor MarkedReceiver → Fml
+LendsRoom h r = Lends the_row room_row h r (with_room h.now)

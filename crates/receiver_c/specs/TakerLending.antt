@@ -1,13 +1,12 @@
--- What the handle of a taker is once its slot was lent.
-use Rattle.std.specs.Prelude.{Option}
-use Rattle.message_ring.specs.Queue.{Known}
+-- What the handle of a taker is once what stands in its room was lent.
 use Rattle.std.specs.Borrow.{Lends, MutBor, Fml}
-use Rattle.receiver_slots.specs.contracts.taker_slot.TakerSlot.{the_row as slot_row}
+use Rattle.receiver_c.specs.declared.marked.MarkedTaker.{MarkedTaker}
+use Rattle.receiver_c.specs.contracts.marked.MarkedTaker.{the_row as room_row}
 use Rattle.receiver_c.specs.declared.taker_handle.TakerHandle.{TakerHandle as Handle}
 use Rattle.receiver_c.specs.contracts.taker_handle.TakerHandle.{the_row}
 
-abbrev pub with_now : Handle → Option Known → Handle
-with_now h w = record h { now = w }
+abbrev pub with_room : Handle → MarkedTaker → Handle
+with_room h w = record h { room = w }
 
-abbrev pub LendsSlot : MutBor Handle → MutBor (Option Known) → Fml
-LendsSlot h r = Lends the_row slot_row h r (with_now h.now)
+abbrev pub LendsRoom : MutBor Handle → MutBor MarkedTaker → Fml
+LendsRoom h r = Lends the_row room_row h r (with_room h.now)

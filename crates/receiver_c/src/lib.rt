@@ -5,7 +5,7 @@
 //! made on a handle; what a call is passed doesn't overlap.
 #![tactic(auto)]
 
-ghost use Rattle.std.specs.Prelude.{◌≡◌, ◌≢◌, ◌<◌, ◌≤◌, ◌↔◌, ◌⊎◌, IsSome, length, None, Some, false};
+ghost use Rattle.std.specs.Prelude.{◌≡◌, ◌≢◌, ◌<◌, ◌≤◌, ◌↔◌, ◌⊎◌, IsSome, length, None, Some, false, true};
 ghost use Rattle.std.specs.Borrow.{sem};
 ghost use Rattle.std.specs.Mem.{type_size};
 ghost use Rattle.std.specs.Ptr.{points_to, uninit_at};
@@ -14,33 +14,37 @@ ghost use Rattle.mailbox_reader.specs.Reads.{PortReader};
 ghost use Rattle.receiver.specs.Taking.{HandsReader, HandsTaker};
 ghost use Rattle.mailbox_port.specs.Port.{is_reader_count};
 ghost use Rattle.receiver_c.specs.Abi.{abi};
-ghost use Rattle.receiver_slots.specs.Codes.{already_open, done, faulty, no_memory, none_left, not_open, out_of_range};
+ghost use Rattle.receiver_c.specs.Made.{made_reader, made_receiver, made_taker};
+ghost use Rattle.receiver_c.specs.Marks.{after_close, if_made, is_made, reader_mark, receiver_mark, taker_mark};
+ghost use Rattle.receiver_slots.specs.Codes.{already_open, done, faulty, no_memory, none_left, not_made, not_open, out_of_range};
 ghost use Rattle.receiver_slots.specs.Handing.{HandsOut, hand_reader_code, hand_taker_code};
 ghost use Rattle.receiver_slots.specs.Naming.{CountsLinks, TellsLink, TellsPlace, TellsPort, link_code, links_code, place_code, port_code};
 ghost use Rattle.receiver_slots.specs.Reading.{Copies, DidHold, DidRead, TellsReader, copy_code, read_code, release_code, released};
 ghost use Rattle.receiver_slots.specs.Receiving.{CountsFrames, CountsFiltered, HasFault, Opens, Receives, count_code, filtered_code, receive_code};
 ghost use Rattle.receiver_slots.specs.Taking.{DidTake, TellsTaker, take_code, taker_code};
 ghost use Rattle.receiver_slots.specs.declared.reader_slot.ReaderState.TheVariants.{Closed, Reads};
-ghost use Rattle.receiver_slots.specs.contracts.receiver_slot.ReceiverSlot.{the_row as receiver_row};
-ghost use Rattle.receiver_slots.specs.contracts.reader_slot.ReaderSlot.{the_row as reader_row};
-ghost use Rattle.receiver_slots.specs.contracts.taker_slot.TakerSlot.{the_row as taker_row};
+ghost use Rattle.receiver_c.specs.contracts.marked.MarkedReceiver.{the_row as receiver_row};
+ghost use Rattle.receiver_c.specs.contracts.marked.MarkedReader.{the_row as reader_row};
+ghost use Rattle.receiver_c.specs.contracts.marked.MarkedTaker.{the_row as taker_row};
 
+use receiver_slots::codes::NOT_MADE;
 use receiver_slots::{
-    FaultReply, FrameReply, LimitReply, LinkReply, PlaceReply, PortReply, ReadReply, ReaderSlot,
-    ReceiverSlot, TakeReply, TakerSlot,
+    FaultReply, FrameReply, LimitReply, LinkReply, PlaceReply, PortReply, ReadReply, TakeReply,
 };
 use std::alloc::Global;
 
+pub mod marked;
 pub mod reader_handle;
 pub mod receiver_handle;
 pub mod taker_handle;
 
+use marked::{MarkedReader, MarkedReceiver, MarkedTaker, READER, RECEIVER, TAKER};
 use reader_handle::ReaderHandle;
 use receiver_handle::ReceiverHandle;
 use taker_handle::TakerHandle;
 
 /// The number of the interface: raised with each change of a struct, a call or a number.
-pub const ABI: u32 = 1;
+pub const ABI: u32 = 2;
 
 /// The number of the interface of this library. A program compares it with that of the header that it was compiled with.
 #[unsafe(no_mangle)]
@@ -57,16 +61,16 @@ pub extern "C" fn yelunnavi_abi() -> u32
 pub extern "C" fn yelunnavi_receiver_room() -> usize
     ensures { result ≡ type_size receiver_row }
 {
-    std::mem::size_of::<ReceiverSlot>()
+    std::mem::size_of::<MarkedReceiver>()
 }
 
 /// Makes a slot in the caller's room in which nothing is open.
 #[unsafe(no_mangle)]
-pub unsafe extern "C" fn yelunnavi_receiver_init(at: *mut u8)
+pub unsafe extern "C" fn yelunnavi_receiver_make(at: *mut u8)
     requires* { sem 𝓛 (uninit_at receiver_row at) }
-    ensures* { sem 𝓛 (points_to receiver_row at None) }
+    ensures* { sem 𝓛 (points_to receiver_row at made_receiver) }
 {
-    std::ptr::write(at as *mut ReceiverSlot, ReceiverSlot::empty())
+    std::ptr::write(at as *mut MarkedReceiver, MarkedReceiver::empty())
 }
 
 /// Opens the receiver of the configuration in these octets, a TOML document. Each sampling port has so many readers, 1 to
@@ -79,26 +83,34 @@ pub extern "C" fn yelunnavi_receiver_open(
     readers: usize,
     fault: &mut FaultReply,
 ) -> u32
-    ensures place { h.new.at ≡ h.old.at }
-    ensures opened { result ≡ done → Opens readers text.now h.new.now }
+    ensures place { (h.new.at ≡ h.old.at) × (h.new.room.mark ≡ h.old.room.mark) }
+    ensures opened { result ≡ done → Opens readers text.now h.new.room.slot }
     ensures fault { result ≡ faulty → HasFault text.now fault.new }
-    ensures already { (result ≡ already_open) ↔ IsSome h.old.now }
-    ensures range { h.old.now ≡ None → (result ≡ out_of_range) ↔ (is_reader_count readers ≡ false) }
-    ensures same { 0 < result → h.new.now ≡ h.old.now }
+    ensures made { (result ≡ not_made) ↔ (is_made receiver_mark h.old.room.mark ≡ false) }
+    ensures already { is_made receiver_mark h.old.room.mark ≡ true → (result ≡ already_open) ↔ IsSome h.old.room.slot }
+    ensures range { is_made receiver_mark h.old.room.mark ≡ true → h.old.room.slot ≡ None → (result ≡ out_of_range) ↔ (is_reader_count readers ≡ false) }
+    ensures same { 0 < result → h.new.room.slot ≡ h.old.room.slot }
     ensures others { result ≢ faulty → fault.new ≡ fault.old }
-    ensures codes { (result ≤ no_memory) ⊎ (result ≡ out_of_range) }
+    ensures codes { (result ≤ no_memory) ⊎ ((result ≡ out_of_range) ⊎ (result ≡ not_made)) }
     ensures tried { result ≢ not_open }
 {
-    h.lend().open_text(alloc, text, readers, fault)
+    let made = h.lend();
+    if made.mark != RECEIVER {
+        return NOT_MADE;
+    }
+    made.slot.open_text(alloc, text, readers, fault)
 }
 
 /// Gives the receiver away, and the ends of its ports that weren't handed out.
 #[unsafe(no_mangle)]
 pub extern "C" fn yelunnavi_receiver_close(h: &mut ReceiverHandle)
-    ensures place { h.new.at ≡ h.old.at }
-    ensures value { h.new.now ≡ None }
+    ensures place { (h.new.at ≡ h.old.at) × (h.new.room.mark ≡ h.old.room.mark) }
+    ensures value { h.new.room.slot ≡ after_close receiver_mark h.old.room.mark None h.old.room.slot }
 {
-    h.lend().close();
+    let made = h.lend();
+    if made.mark == RECEIVER {
+        made.slot.close();
+    }
 }
 
 /// Takes the octets of a frame that came on a network, 0 for A and 1 for B, at `now` microseconds, and tells what
@@ -111,12 +123,16 @@ pub extern "C" fn yelunnavi_receiver_receive(
     frame: &[u8],
     reply: &mut FrameReply,
 ) -> u32
-    ensures place { h.new.at ≡ h.old.at }
-    ensures code { result ≡ receive_code h.old.now net }
-    ensures received { result ≡ done → Receives h.old.now h.new.now net now frame.now reply.new }
-    ensures same { 0 < result → (h.new.now ≡ h.old.now) × (reply.new ≡ reply.old) }
+    ensures place { (h.new.at ≡ h.old.at) × (h.new.room.mark ≡ h.old.room.mark) }
+    ensures code { result ≡ if_made receiver_mark h.old.room.mark (receive_code h.old.room.slot net) }
+    ensures received { result ≡ done → Receives h.old.room.slot h.new.room.slot net now frame.now reply.new }
+    ensures same { 0 < result → (h.new.room.slot ≡ h.old.room.slot) × (reply.new ≡ reply.old) }
 {
-    h.lend().receive(net, now, frame, reply)
+    let made = h.lend();
+    if made.mark != RECEIVER {
+        return NOT_MADE;
+    }
+    made.slot.receive(net, now, frame, reply)
 }
 
 /// Hands a reader of the sampling port with this name to a slot that has none: as often as the opening was told.
@@ -127,14 +143,20 @@ pub extern "C" fn yelunnavi_receiver_hand_reader(
     to: &mut ReaderHandle,
     name: &[u8],
 ) -> u32
-    ensures place { (h.new.at ≡ h.old.at) × (to.new.at ≡ to.old.at) }
-    ensures code { result ≡ hand_reader_code h.old.now to.old.now name.now }
-    ensures handed { result ≡ done → (reader : PortReader) × (to.new.now ≡ Reads reader) × HandsOut HandsReader name.now h.old.now h.new.now (Some reader) }
-    ensures left { result ≡ none_left → HandsOut HandsReader name.now h.old.now h.new.now None }
-    ensures same { 0 < result → result ≢ none_left → h.new.now ≡ h.old.now }
-    ensures to { 0 < result → to.new.now ≡ to.old.now }
+    ensures place { (h.new.at ≡ h.old.at) × (h.new.room.mark ≡ h.old.room.mark) }
+    ensures to_place { (to.new.at ≡ to.old.at) × (to.new.room.mark ≡ to.old.room.mark) }
+    ensures code { result ≡ if_made receiver_mark h.old.room.mark (if_made reader_mark to.old.room.mark (hand_reader_code h.old.room.slot to.old.room.slot name.now)) }
+    ensures handed { result ≡ done → (reader : PortReader) × (to.new.room.slot ≡ Reads reader) × HandsOut HandsReader name.now h.old.room.slot h.new.room.slot (Some reader) }
+    ensures left { result ≡ none_left → HandsOut HandsReader name.now h.old.room.slot h.new.room.slot None }
+    ensures same { 0 < result → result ≢ none_left → h.new.room.slot ≡ h.old.room.slot }
+    ensures to { 0 < result → to.new.room.slot ≡ to.old.room.slot }
 {
-    h.lend().hand_reader(to.lend(), name)
+    let made = h.lend();
+    let room = to.lend();
+    if made.mark != RECEIVER || room.mark != READER {
+        return NOT_MADE;
+    }
+    made.slot.hand_reader(&mut room.slot, name)
 }
 
 /// Hands the end of the queue of the queuing port with this name to a slot that has none: once. NONE_LEFT if the port
@@ -145,14 +167,20 @@ pub extern "C" fn yelunnavi_receiver_hand_taker(
     to: &mut TakerHandle,
     name: &[u8],
 ) -> u32
-    ensures place { (h.new.at ≡ h.old.at) × (to.new.at ≡ to.old.at) }
-    ensures code { result ≡ hand_taker_code h.old.now to.old.now name.now }
-    ensures handed { result ≡ done → (taker : Known) × (to.new.now ≡ Some taker) × HandsOut HandsTaker name.now h.old.now h.new.now (Some taker) }
-    ensures left { result ≡ none_left → HandsOut HandsTaker name.now h.old.now h.new.now None }
-    ensures same { 0 < result → result ≢ none_left → h.new.now ≡ h.old.now }
-    ensures to { 0 < result → to.new.now ≡ to.old.now }
+    ensures place { (h.new.at ≡ h.old.at) × (h.new.room.mark ≡ h.old.room.mark) }
+    ensures to_place { (to.new.at ≡ to.old.at) × (to.new.room.mark ≡ to.old.room.mark) }
+    ensures code { result ≡ if_made receiver_mark h.old.room.mark (if_made taker_mark to.old.room.mark (hand_taker_code h.old.room.slot to.old.room.slot name.now)) }
+    ensures handed { result ≡ done → (taker : Known) × (to.new.room.slot ≡ Some taker) × HandsOut HandsTaker name.now h.old.room.slot h.new.room.slot (Some taker) }
+    ensures left { result ≡ none_left → HandsOut HandsTaker name.now h.old.room.slot h.new.room.slot None }
+    ensures same { 0 < result → result ≢ none_left → h.new.room.slot ≡ h.old.room.slot }
+    ensures to { 0 < result → to.new.room.slot ≡ to.old.room.slot }
 {
-    h.lend().hand_taker(to.lend(), name)
+    let made = h.lend();
+    let room = to.lend();
+    if made.mark != RECEIVER || room.mark != TAKER {
+        return NOT_MADE;
+    }
+    made.slot.hand_taker(&mut room.slot, name)
 }
 
 /// Tells how many frames of the link at this place came on this network with a verdict of this kind, 1 to 13. A count
@@ -165,13 +193,17 @@ pub extern "C" fn yelunnavi_receiver_count(
     kind: u32,
     count: &mut u64,
 ) -> u32
-    ensures place { h.new.at ≡ h.old.at }
-    ensures code { result ≡ count_code h.old.now link net kind }
-    ensures counted { result ≡ done → CountsFrames h.old.now link net kind count.new }
+    ensures place { (h.new.at ≡ h.old.at) × (h.new.room.mark ≡ h.old.room.mark) }
+    ensures code { result ≡ if_made receiver_mark h.old.room.mark (count_code h.old.room.slot link net kind) }
+    ensures counted { result ≡ done → CountsFrames h.old.room.slot link net kind count.new }
     ensures same { 0 < result → count.new ≡ count.old }
-    ensures kept { h.new.now ≡ h.old.now }
+    ensures kept { h.new.room.slot ≡ h.old.room.slot }
 {
-    h.lend().count(link, net, kind, count)
+    let made = h.lend();
+    if made.mark != RECEIVER {
+        return NOT_MADE;
+    }
+    made.slot.count(link, net, kind, count)
 }
 
 /// Tells how many frames were filtered on this network for this cause, 1 to 5. A count stops at the greatest number of
@@ -183,25 +215,33 @@ pub extern "C" fn yelunnavi_receiver_filtered(
     cause: u32,
     count: &mut u64,
 ) -> u32
-    ensures place { h.new.at ≡ h.old.at }
-    ensures code { result ≡ filtered_code h.old.now net cause }
-    ensures counted { result ≡ done → CountsFiltered h.old.now net cause count.new }
+    ensures place { (h.new.at ≡ h.old.at) × (h.new.room.mark ≡ h.old.room.mark) }
+    ensures code { result ≡ if_made receiver_mark h.old.room.mark (filtered_code h.old.room.slot net cause) }
+    ensures counted { result ≡ done → CountsFiltered h.old.room.slot net cause count.new }
     ensures same { 0 < result → count.new ≡ count.old }
-    ensures kept { h.new.now ≡ h.old.now }
+    ensures kept { h.new.room.slot ≡ h.old.room.slot }
 {
-    h.lend().filtered(net, cause, count)
+    let made = h.lend();
+    if made.mark != RECEIVER {
+        return NOT_MADE;
+    }
+    made.slot.filtered(net, cause, count)
 }
 
 /// Tells how many links the configuration has.
 #[unsafe(no_mangle)]
 pub extern "C" fn yelunnavi_receiver_links(h: &mut ReceiverHandle, links: &mut usize) -> u32
-    ensures place { h.new.at ≡ h.old.at }
-    ensures code { result ≡ links_code h.old.now }
-    ensures told { result ≡ done → CountsLinks h.old.now links.new }
+    ensures place { (h.new.at ≡ h.old.at) × (h.new.room.mark ≡ h.old.room.mark) }
+    ensures code { result ≡ if_made receiver_mark h.old.room.mark (links_code h.old.room.slot) }
+    ensures told { result ≡ done → CountsLinks h.old.room.slot links.new }
     ensures same { 0 < result → links.new ≡ links.old }
-    ensures kept { h.new.now ≡ h.old.now }
+    ensures kept { h.new.room.slot ≡ h.old.room.slot }
 {
-    h.lend().links(links)
+    let made = h.lend();
+    if made.mark != RECEIVER {
+        return NOT_MADE;
+    }
+    made.slot.links(links)
 }
 
 /// Tells the settings of the link at this place of the configuration, and how many ports it has.
@@ -211,13 +251,17 @@ pub extern "C" fn yelunnavi_receiver_link(
     link: usize,
     reply: &mut LinkReply,
 ) -> u32
-    ensures place { h.new.at ≡ h.old.at }
-    ensures code { result ≡ link_code h.old.now link }
-    ensures told { result ≡ done → TellsLink h.old.now link reply.new }
+    ensures place { (h.new.at ≡ h.old.at) × (h.new.room.mark ≡ h.old.room.mark) }
+    ensures code { result ≡ if_made receiver_mark h.old.room.mark (link_code h.old.room.slot link) }
+    ensures told { result ≡ done → TellsLink h.old.room.slot link reply.new }
     ensures same { 0 < result → reply.new ≡ reply.old }
-    ensures kept { h.new.now ≡ h.old.now }
+    ensures kept { h.new.room.slot ≡ h.old.room.slot }
 {
-    h.lend().link(link, reply)
+    let made = h.lend();
+    if made.mark != RECEIVER {
+        return NOT_MADE;
+    }
+    made.slot.link(link, reply)
 }
 
 /// Tells the settings of a port, by the places of its link and of the port in it, and its name, which stands at the
@@ -230,13 +274,17 @@ pub extern "C" fn yelunnavi_receiver_port(
     reply: &mut PortReply,
     name: &mut [u8; 16],
 ) -> u32
-    ensures place { h.new.at ≡ h.old.at }
-    ensures code { result ≡ port_code h.old.now link port }
-    ensures told { result ≡ done → TellsPort h.old.now link port reply.new name.new }
+    ensures place { (h.new.at ≡ h.old.at) × (h.new.room.mark ≡ h.old.room.mark) }
+    ensures code { result ≡ if_made receiver_mark h.old.room.mark (port_code h.old.room.slot link port) }
+    ensures told { result ≡ done → TellsPort h.old.room.slot link port reply.new name.old name.new }
     ensures same { 0 < result → (reply.new ≡ reply.old) × (name.new ≡ name.old) }
-    ensures kept { h.new.now ≡ h.old.now }
+    ensures kept { h.new.room.slot ≡ h.old.room.slot }
 {
-    h.lend().port(link, port, reply, name)
+    let made = h.lend();
+    if made.mark != RECEIVER {
+        return NOT_MADE;
+    }
+    made.slot.port(link, port, reply, name)
 }
 
 /// Tells the place of the link that has the port with this name, and the place of the port in it.
@@ -246,13 +294,17 @@ pub extern "C" fn yelunnavi_receiver_place(
     name: &[u8],
     reply: &mut PlaceReply,
 ) -> u32
-    ensures place { h.new.at ≡ h.old.at }
-    ensures code { result ≡ place_code h.old.now name.now }
-    ensures told { result ≡ done → TellsPlace h.old.now name.now reply.new }
+    ensures place { (h.new.at ≡ h.old.at) × (h.new.room.mark ≡ h.old.room.mark) }
+    ensures code { result ≡ if_made receiver_mark h.old.room.mark (place_code h.old.room.slot name.now) }
+    ensures told { result ≡ done → TellsPlace h.old.room.slot name.now reply.new }
     ensures same { 0 < result → reply.new ≡ reply.old }
-    ensures kept { h.new.now ≡ h.old.now }
+    ensures kept { h.new.room.slot ≡ h.old.room.slot }
 {
-    h.lend().place(name, reply)
+    let made = h.lend();
+    if made.mark != RECEIVER {
+        return NOT_MADE;
+    }
+    made.slot.place(name, reply)
 }
 
 // ---- the slot of a reader
@@ -262,16 +314,16 @@ pub extern "C" fn yelunnavi_receiver_place(
 pub extern "C" fn yelunnavi_reader_room() -> usize
     ensures { result ≡ type_size reader_row }
 {
-    std::mem::size_of::<ReaderSlot>()
+    std::mem::size_of::<MarkedReader>()
 }
 
 /// Makes a slot in the caller's room in which nothing is open.
 #[unsafe(no_mangle)]
-pub unsafe extern "C" fn yelunnavi_reader_init(at: *mut u8)
+pub unsafe extern "C" fn yelunnavi_reader_make(at: *mut u8)
     requires* { sem 𝓛 (uninit_at reader_row at) }
-    ensures* { sem 𝓛 (points_to reader_row at Closed) }
+    ensures* { sem 𝓛 (points_to reader_row at made_reader) }
 {
-    std::ptr::write(at as *mut ReaderSlot, ReaderSlot::empty())
+    std::ptr::write(at as *mut MarkedReader, MarkedReader::empty())
 }
 
 /// Reads the newest message at `now` microseconds, which is of the clock of the arrival times, and tells its number,
@@ -283,12 +335,16 @@ pub extern "C" fn yelunnavi_reader_read(
     out: &mut [u8],
     reply: &mut ReadReply,
 ) -> u32
-    ensures place { h.new.at ≡ h.old.at }
-    ensures code { result ≡ read_code h.old.now }
-    ensures read { result ≡ done → DidRead h.old.now h.new.now now out.old out.new reply.new }
-    ensures same { 0 < result → (h.new.now ≡ h.old.now) × (out.new ≡ out.old) × (reply.new ≡ reply.old) }
+    ensures place { (h.new.at ≡ h.old.at) × (h.new.room.mark ≡ h.old.room.mark) }
+    ensures code { result ≡ if_made reader_mark h.old.room.mark (read_code h.old.room.slot) }
+    ensures read { result ≡ done → DidRead h.old.room.slot h.new.room.slot now out.old out.new reply.new }
+    ensures same { 0 < result → (h.new.room.slot ≡ h.old.room.slot) × (out.new ≡ out.old) × (reply.new ≡ reply.old) }
 {
-    h.lend().read(now, out, reply)
+    let made = h.lend();
+    if made.mark != READER {
+        return NOT_MADE;
+    }
+    made.slot.read(now, out, reply)
 }
 
 /// Holds the newest message, and tells its number, time, length and validity at `now` microseconds. It stays as it is
@@ -299,56 +355,75 @@ pub extern "C" fn yelunnavi_reader_hold(
     now: u64,
     reply: &mut ReadReply,
 ) -> u32
-    ensures place { h.new.at ≡ h.old.at }
-    ensures code { result ≡ read_code h.old.now }
-    ensures held { result ≡ done → DidHold h.old.now h.new.now now reply.new }
-    ensures same { 0 < result → (h.new.now ≡ h.old.now) × (reply.new ≡ reply.old) }
+    ensures place { (h.new.at ≡ h.old.at) × (h.new.room.mark ≡ h.old.room.mark) }
+    ensures code { result ≡ if_made reader_mark h.old.room.mark (read_code h.old.room.slot) }
+    ensures held { result ≡ done → DidHold h.old.room.slot h.new.room.slot now reply.new }
+    ensures same { 0 < result → (h.new.room.slot ≡ h.old.room.slot) × (reply.new ≡ reply.old) }
 {
-    h.lend().hold(now, reply)
+    let made = h.lend();
+    if made.mark != READER {
+        return NOT_MADE;
+    }
+    made.slot.hold(now, reply)
 }
 
 /// Fills `out` with octets of the message that is held, from `first` on.
 #[unsafe(no_mangle)]
 pub extern "C" fn yelunnavi_reader_copy(h: &mut ReaderHandle, first: usize, out: &mut [u8]) -> u32
-    ensures place { h.new.at ≡ h.old.at }
-    ensures code { result ≡ copy_code h.old.now first (length out.old) }
-    ensures copied { result ≡ done → Copies h.old.now first out.new }
+    ensures place { (h.new.at ≡ h.old.at) × (h.new.room.mark ≡ h.old.room.mark) }
+    ensures code { result ≡ if_made reader_mark h.old.room.mark (copy_code h.old.room.slot first (length out.old)) }
+    ensures copied { result ≡ done → Copies h.old.room.slot first out.new }
     ensures length { length out.new ≡ length out.old }
     ensures same { 0 < result → out.new ≡ out.old }
-    ensures kept { h.new.now ≡ h.old.now }
+    ensures kept { h.new.room.slot ≡ h.old.room.slot }
 {
-    h.lend().copy(first, out)
+    let made = h.lend();
+    if made.mark != READER {
+        return NOT_MADE;
+    }
+    made.slot.copy(first, out)
 }
 
 /// Gives the message back that is held.
 #[unsafe(no_mangle)]
 pub extern "C" fn yelunnavi_reader_release(h: &mut ReaderHandle) -> u32
-    ensures place { h.new.at ≡ h.old.at }
-    ensures code { result ≡ release_code h.old.now }
-    ensures released { h.new.now ≡ released h.old.now }
+    ensures place { (h.new.at ≡ h.old.at) × (h.new.room.mark ≡ h.old.room.mark) }
+    ensures code { result ≡ if_made reader_mark h.old.room.mark (release_code h.old.room.slot) }
+    ensures released { h.new.room.slot ≡ after_close reader_mark h.old.room.mark (released h.old.room.slot) h.old.room.slot }
 {
-    h.lend().release()
+    let made = h.lend();
+    if made.mark != READER {
+        return NOT_MADE;
+    }
+    made.slot.release()
 }
 
 /// Tells the longest message of the port, in octets, and its refresh period, in microseconds.
 #[unsafe(no_mangle)]
 pub extern "C" fn yelunnavi_reader_limits(h: &mut ReaderHandle, reply: &mut LimitReply) -> u32
-    ensures place { h.new.at ≡ h.old.at }
-    ensures code { result ≡ read_code h.old.now }
-    ensures told { result ≡ done → TellsReader h.old.now reply.new }
+    ensures place { (h.new.at ≡ h.old.at) × (h.new.room.mark ≡ h.old.room.mark) }
+    ensures code { result ≡ if_made reader_mark h.old.room.mark (read_code h.old.room.slot) }
+    ensures told { result ≡ done → TellsReader h.old.room.slot reply.new }
     ensures same { 0 < result → reply.new ≡ reply.old }
-    ensures kept { h.new.now ≡ h.old.now }
+    ensures kept { h.new.room.slot ≡ h.old.room.slot }
 {
-    h.lend().limits(reply)
+    let made = h.lend();
+    if made.mark != READER {
+        return NOT_MADE;
+    }
+    made.slot.limits(reply)
 }
 
 /// Gives the reader away, with a message that it holds.
 #[unsafe(no_mangle)]
 pub extern "C" fn yelunnavi_reader_close(h: &mut ReaderHandle)
-    ensures place { h.new.at ≡ h.old.at }
-    ensures value { h.new.now ≡ Closed }
+    ensures place { (h.new.at ≡ h.old.at) × (h.new.room.mark ≡ h.old.room.mark) }
+    ensures value { h.new.room.slot ≡ after_close reader_mark h.old.room.mark Closed h.old.room.slot }
 {
-    h.lend().close();
+    let made = h.lend();
+    if made.mark == READER {
+        made.slot.close();
+    }
 }
 
 // ---- the slot of the end of a queue, a taker
@@ -358,16 +433,16 @@ pub extern "C" fn yelunnavi_reader_close(h: &mut ReaderHandle)
 pub extern "C" fn yelunnavi_taker_room() -> usize
     ensures { result ≡ type_size taker_row }
 {
-    std::mem::size_of::<TakerSlot>()
+    std::mem::size_of::<MarkedTaker>()
 }
 
 /// Makes a slot in the caller's room in which nothing is open.
 #[unsafe(no_mangle)]
-pub unsafe extern "C" fn yelunnavi_taker_init(at: *mut u8)
+pub unsafe extern "C" fn yelunnavi_taker_make(at: *mut u8)
     requires* { sem 𝓛 (uninit_at taker_row at) }
-    ensures* { sem 𝓛 (points_to taker_row at None) }
+    ensures* { sem 𝓛 (points_to taker_row at made_taker) }
 {
-    std::ptr::write(at as *mut TakerSlot, TakerSlot::empty())
+    std::ptr::write(at as *mut MarkedTaker, MarkedTaker::empty())
 }
 
 /// Takes the oldest message, if this end knows of one, into the beginning of `out`, and tells its time and length.
@@ -378,33 +453,44 @@ pub extern "C" fn yelunnavi_taker_take(
     out: &mut [u8],
     reply: &mut TakeReply,
 ) -> u32
-    ensures place { h.new.at ≡ h.old.at }
-    ensures code { result ≡ take_code h.old.now (length out.old) }
-    ensures took { result ≡ done → DidTake h.old.now h.new.now out.old out.new reply.new }
-    ensures same { 0 < result → (h.new.now ≡ h.old.now) × (out.new ≡ out.old) × (reply.new ≡ reply.old) }
+    ensures place { (h.new.at ≡ h.old.at) × (h.new.room.mark ≡ h.old.room.mark) }
+    ensures code { result ≡ if_made taker_mark h.old.room.mark (take_code h.old.room.slot (length out.old)) }
+    ensures took { result ≡ done → DidTake h.old.room.slot h.new.room.slot out.old out.new reply.new }
+    ensures same { 0 < result → (h.new.room.slot ≡ h.old.room.slot) × (out.new ≡ out.old) × (reply.new ≡ reply.old) }
 {
-    h.lend().take(out, reply)
+    let made = h.lend();
+    if made.mark != TAKER {
+        return NOT_MADE;
+    }
+    made.slot.take(out, reply)
 }
 
 /// Tells the longest message of the port, in octets.
 #[unsafe(no_mangle)]
 pub extern "C" fn yelunnavi_taker_longest(h: &mut TakerHandle, max: &mut usize) -> u32
-    ensures place { h.new.at ≡ h.old.at }
-    ensures code { result ≡ taker_code h.old.now }
-    ensures told { result ≡ done → TellsTaker h.old.now max.new }
+    ensures place { (h.new.at ≡ h.old.at) × (h.new.room.mark ≡ h.old.room.mark) }
+    ensures code { result ≡ if_made taker_mark h.old.room.mark (taker_code h.old.room.slot) }
+    ensures told { result ≡ done → TellsTaker h.old.room.slot max.new }
     ensures same { 0 < result → max.new ≡ max.old }
-    ensures kept { h.new.now ≡ h.old.now }
+    ensures kept { h.new.room.slot ≡ h.old.room.slot }
 {
-    h.lend().longest(max)
+    let made = h.lend();
+    if made.mark != TAKER {
+        return NOT_MADE;
+    }
+    made.slot.longest(max)
 }
 
 /// Gives the end away. What waits in the queue is lost.
 #[unsafe(no_mangle)]
 pub extern "C" fn yelunnavi_taker_close(h: &mut TakerHandle)
-    ensures place { h.new.at ≡ h.old.at }
-    ensures value { h.new.now ≡ None }
+    ensures place { (h.new.at ≡ h.old.at) × (h.new.room.mark ≡ h.old.room.mark) }
+    ensures value { h.new.room.slot ≡ after_close taker_mark h.old.room.mark None h.old.room.slot }
 {
-    h.lend().close();
+    let made = h.lend();
+    if made.mark == TAKER {
+        made.slot.close();
+    }
 }
 
 /// What may go to another thread: refused if a handle may not. Never called.

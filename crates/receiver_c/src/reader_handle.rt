@@ -1,34 +1,34 @@
-//! What C holds of a reader: where its slot is.
+//! What C holds of a reader: where its room is.
 ghost use Rattle.std.specs.Prelude.{◌≡◌};
-ghost use Rattle.receiver_slots.specs.declared.reader_slot.ReaderState.{ReaderState};
+ghost use Rattle.receiver_c.specs.declared.marked.MarkedReader.{MarkedReader};
 
-use receiver_slots::ReaderSlot;
+use crate::marked::MarkedReader;
 use std::marker::Model;
 
 /// A slot in room of the caller's.
 #[repr(C)]
 pub struct ReaderHandle {
     at: *mut u8,
-    pub ghost now: { ReaderState },
+    pub ghost room: { MarkedReader },
 }
 
 impl Model for ReaderHandle {
     ghost use Rattle.std.specs.Ptr.{points_to};
-    ghost use Rattle.receiver_slots.specs.contracts.reader_slot.ReaderSlot.{the_row as slot_row};
+    ghost use Rattle.receiver_c.specs.contracts.marked.MarkedReader.{the_row as room_row};
 
-    ghost also_owns = { λ h. points_to slot_row h.at h.now };
+    ghost also_owns = { λ h. points_to room_row h.at h.room };
 }
 
 impl ReaderHandle {
     ghost use Rattle.std.specs.Borrow.{sem};
-    ghost use Rattle.receiver_c.specs.ReaderLending.{LendsSlot};
+    ghost use Rattle.receiver_c.specs.ReaderLending.{LendsRoom};
 
-    /// The slot, to work on.
-    pub fn lend(&mut self) -> &mut ReaderSlot
-        ensures* writes_back { sem 𝓛 (LendsSlot self.entry result) }
-        ensures value { result.now ≡ self.old.now }
+    /// What stands in the room, to work on.
+    pub fn lend(&mut self) -> &mut MarkedReader
+        ensures* writes_back { sem 𝓛 (LendsRoom self.entry result) }
+        ensures value { result.now ≡ self.old.room }
     {
-        unsafe { &mut *(self.at as *mut ReaderSlot) }
+        unsafe { &mut *(self.at as *mut MarkedReader) }
     }
 }
 

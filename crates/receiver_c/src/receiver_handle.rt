@@ -1,34 +1,34 @@
-//! What C holds of a receiver: where its slot is.
-ghost use Rattle.std.specs.Prelude.{◌≡◌, Option};
-ghost use Rattle.receiver_slots.specs.Receiving.{Receiving};
+//! What C holds of a receiver: where its room is.
+ghost use Rattle.std.specs.Prelude.{◌≡◌};
+ghost use Rattle.receiver_c.specs.declared.marked.MarkedReceiver.{MarkedReceiver};
 
-use receiver_slots::ReceiverSlot;
+use crate::marked::MarkedReceiver;
 use std::marker::Model;
 
 /// A slot in room of the caller's.
 #[repr(C)]
 pub struct ReceiverHandle {
     at: *mut u8,
-    pub ghost now: { Option Receiving },
+    pub ghost room: { MarkedReceiver },
 }
 
 impl Model for ReceiverHandle {
     ghost use Rattle.std.specs.Ptr.{points_to};
-    ghost use Rattle.receiver_slots.specs.contracts.receiver_slot.ReceiverSlot.{the_row as slot_row};
+    ghost use Rattle.receiver_c.specs.contracts.marked.MarkedReceiver.{the_row as room_row};
 
-    ghost also_owns = { λ h. points_to slot_row h.at h.now };
+    ghost also_owns = { λ h. points_to room_row h.at h.room };
 }
 
 impl ReceiverHandle {
     ghost use Rattle.std.specs.Borrow.{sem};
-    ghost use Rattle.receiver_c.specs.ReceiverLending.{LendsSlot};
+    ghost use Rattle.receiver_c.specs.ReceiverLending.{LendsRoom};
 
-    /// The slot, to work on.
-    pub fn lend(&mut self) -> &mut ReceiverSlot
-        ensures* writes_back { sem 𝓛 (LendsSlot self.entry result) }
-        ensures value { result.now ≡ self.old.now }
+    /// What stands in the room, to work on.
+    pub fn lend(&mut self) -> &mut MarkedReceiver
+        ensures* writes_back { sem 𝓛 (LendsRoom self.entry result) }
+        ensures value { result.now ≡ self.old.room }
     {
-        unsafe { &mut *(self.at as *mut ReceiverSlot) }
+        unsafe { &mut *(self.at as *mut MarkedReceiver) }
     }
 }
 

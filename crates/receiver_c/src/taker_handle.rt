@@ -1,34 +1,34 @@
-//! What C holds of the end of a queue: where its slot is.
-ghost use Rattle.std.specs.Prelude.{◌≡◌, Option};
-ghost use Rattle.message_ring.specs.Queue.{Known};
+//! What C holds of a taker, the end of a queue: where its room is.
+ghost use Rattle.std.specs.Prelude.{◌≡◌};
+ghost use Rattle.receiver_c.specs.declared.marked.MarkedTaker.{MarkedTaker};
 
-use receiver_slots::TakerSlot;
+use crate::marked::MarkedTaker;
 use std::marker::Model;
 
 /// A slot in room of the caller's.
 #[repr(C)]
 pub struct TakerHandle {
     at: *mut u8,
-    pub ghost now: { Option Known },
+    pub ghost room: { MarkedTaker },
 }
 
 impl Model for TakerHandle {
     ghost use Rattle.std.specs.Ptr.{points_to};
-    ghost use Rattle.receiver_slots.specs.contracts.taker_slot.TakerSlot.{the_row as slot_row};
+    ghost use Rattle.receiver_c.specs.contracts.marked.MarkedTaker.{the_row as room_row};
 
-    ghost also_owns = { λ h. points_to slot_row h.at h.now };
+    ghost also_owns = { λ h. points_to room_row h.at h.room };
 }
 
 impl TakerHandle {
     ghost use Rattle.std.specs.Borrow.{sem};
-    ghost use Rattle.receiver_c.specs.TakerLending.{LendsSlot};
+    ghost use Rattle.receiver_c.specs.TakerLending.{LendsRoom};
 
-    /// The slot, to work on.
-    pub fn lend(&mut self) -> &mut TakerSlot
-        ensures* writes_back { sem 𝓛 (LendsSlot self.entry result) }
-        ensures value { result.now ≡ self.old.now }
+    /// What stands in the room, to work on.
+    pub fn lend(&mut self) -> &mut MarkedTaker
+        ensures* writes_back { sem 𝓛 (LendsRoom self.entry result) }
+        ensures value { result.now ≡ self.old.room }
     {
-        unsafe { &mut *(self.at as *mut TakerSlot) }
+        unsafe { &mut *(self.at as *mut MarkedTaker) }
     }
 }
 

@@ -14,18 +14,20 @@ const UNTOUCHED: FaultReply = FaultReply {
     level: 77,
     link: 77,
     port: 77,
+    line: 77,
 };
 
 /// The number of a link that isn't, in the place of the second one's.
 const NO_LINK: &str = "vl = 65536";
 
-/// The reply for it: a value out of its range, that of `vl` in the second link.
+/// The reply for it: a value out of its range, that of `vl` in the second link, after the 18 lines of the first and a heading.
 const OUT_OF_RANGE: FaultReply = FaultReply {
     fault: 4,
     key: 3,
     level: 1,
     link: 1,
     port: 0,
+    line: 20,
 };
 
 /// The answer for a text, and the reply after it. It has no clause: a test doesn't need what each text comes to.

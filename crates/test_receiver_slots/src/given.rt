@@ -13,6 +13,7 @@ pub(crate) const NO_FAULT: FaultReply = FaultReply {
     level: 0,
     link: 0,
     port: 0,
+    line: 0,
 };
 
 pub(crate) const FILTERED: FrameReply = FrameReply {

@@ -5,18 +5,30 @@ use receiver_slots::{FaultReply, ReaderSlot, ReceiverSlot};
 use std::alloc::Global;
 use std::process::Abort;
 
-/// Texts with a fault: its number, that of its key, and whether it is about no link, a link or a port.
-const FAULTS: [(&str, u32, u32, u32); 6] = [
-    ("link", 1, 0, 0),
-    ("constant = \"03\"", 4, 1, 0),
-    ("", 2, 2, 0),
-    ("link = 1", 3, 2, 0),
-    ("[[link]]\nvl = 65536", 4, 3, 1),
+/// Texts with a fault: its number, that of its key, whether it is about no link, a link or a port, and its line.
+const FAULTS: [(&str, u32, u32, u32, u64); 11] = [
+    ("link", 1, 0, 0, 1),
+    ("# one\n\nlink = = 1\n", 1, 0, 0, 3),
+    ("constant = \"03\"", 4, 1, 0, 1),
+    ("", 2, 2, 0, 1),
+    ("\n  link\t= 1", 3, 2, 0, 2),
+    ("[[link]]\nvl = 65536", 4, 3, 1, 2),
+    ("\n[[link]]\nvl = 1", 2, 4, 1, 2),
+    ("[[link]]\n[other]\nvl = 1\n", 2, 3, 1, 1),
+    (
+        "[[link]]\nvls = 1\nvl = -1\nvl.a = 2\n[[link]]\nvl = 2\n",
+        1,
+        0,
+        0,
+        4,
+    ),
+    ("link = [{vl = 65536}]", 4, 3, 1, 0),
     (
         "[[link]]\nvl = 1\nskew_max_us = 0\nreassembly_us = 0\n[[link.port]]\nname = \"a\"\nkind = 1",
         3,
         10,
         2,
+        7,
     ),
 ];
 
@@ -40,35 +52,36 @@ fn check_fault(rt: &impl Abort, alloc: Global, text: &[u8], wanted: FaultReply) 
     assert!(rt; is_closed(&mut slot));
 }
 
-/// A fault of this number and key, about a link, or about a port of it.
-fn fault(fault: u32, key: u32, (level, link, port): (u32, usize, usize)) -> FaultReply {
+/// A fault of this number and key, about a link, or about a port of it, at this line.
+fn fault(fault: u32, key: u32, (level, link, port): (u32, usize, usize), line: u64) -> FaultReply {
     FaultReply {
         fault,
         key,
         level,
         link,
         port,
+        line,
     }
 }
 
 fn check_faults(rt: &impl Abort, alloc: Global) {
-    for (text, number, key, level) in FAULTS.iter() {
+    for (text, number, key, level, line) in FAULTS.iter() {
         check_fault(
             rt,
             alloc,
             text.as_bytes(),
-            fault(*number, *key, (*level, 0, 0)),
+            fault(*number, *key, (*level, 0, 0), *line),
         );
     }
-    check_fault(rt, alloc, &[b'#', 255], fault(1, 0, (0, 0, 0)));
-    check_fault(rt, alloc, DOUBLE_LINK.as_bytes(), fault(5, 0, (1, 1, 0)));
+    check_fault(rt, alloc, &[b'\n', b'#', 255], fault(1, 0, (0, 0, 0), 2));
+    check_fault(rt, alloc, DOUBLE_LINK.as_bytes(), fault(5, 0, (1, 1, 0), 6));
     let mut double = text(rt, alloc);
     double.push_str(DOUBLE_NAME).expect(rt, "memory");
     check_fault(
         rt,
         alloc,
         double.as_str().as_bytes(),
-        fault(7, 0, (2, 1, 1)),
+        fault(7, 0, (2, 1, 1), 32),
     );
 }
 
@@ -82,7 +95,7 @@ fn check_name_of_another_link(rt: &impl Abort, alloc: Global) {
         rt,
         alloc,
         double.as_str().as_bytes(),
-        fault(7, 0, (2, 1, 0)),
+        fault(7, 0, (2, 1, 0), 26),
     );
 }
 

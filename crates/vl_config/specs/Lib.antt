@@ -6,3 +6,5 @@ pub mod Names
 pub mod Link
 pub mod Document
 pub mod Place
+pub mod Line
+pub mod Octets

@@ -1,5 +1,5 @@
 -- A link of the document.
-use Rattle.std.specs.Prelude.{ℕ, true, List, [], Option, Some, None, Result, Ok}
+use Rattle.std.specs.Prelude.{ℕ, Bool, true, List, [], Option, Some, None, Result, Ok}
 use Rattle.std.specs.List.{list_any}
 use Rattle.toml.specs.Data.{Data, Members}
 use Rattle.es_base.specs.Returns.{◌>>=◌}
@@ -42,17 +42,41 @@ default_window = 2
 abbrev pub window_from : Members → Result ℕ ConfigFault
 window_from table = integer_or keys.Window 1 widest_window default_window table
 
--- the link of this table, after these links
-abbrev pub link_from : List Settings → Members → Result Settings ConfigFault
-link_from links table = do
+-- what a link's table says before its ports, and the tables of these
+pub record Head : Type 0 where
+  pub vl : ℕ
+  pub skew_max : ℕ
+  pub redundancy : Bool
+  pub reassembly : ℕ
+  pub window : ℕ
+  pub tables : List Members
+
+abbrev pub head_from : List Settings → Members → Result Head ConfigFault
+head_from links table = do
   vl ← link_number_from links table
   skew_max ← integer_at keys.SkewMaxUs 0 longest_skew table
   redundancy ← flag_or keys.Redundancy true table
   reassembly ← integer_at keys.ReassemblyUs 0 longest_reassembly table
   window ← window_from table
   tables ← port_tables table
-  ports ← ports_from (ports_in links) tables
-  Ok (record { vl = record { 0 = vl }; skew_max = skew_max; redundancy = redundancy; reassembly = reassembly; window = window; ports = ports })
+  Ok (record { vl = vl; skew_max = skew_max; redundancy = redundancy; reassembly = reassembly; window = window; tables = tables })
+
+abbrev pub link_of : Head → List Port → Settings
+link_of head ports = record {
+  vl = record { 0 = head.vl };
+  skew_max = head.skew_max;
+  redundancy = head.redundancy;
+  reassembly = head.reassembly;
+  window = head.window;
+  ports = ports;
+}
+
+-- the link of this table, after these links
+abbrev pub link_from : List Settings → Members → Result Settings ConfigFault
+link_from links table = do
+  head ← head_from links table
+  ports ← ports_from (ports_in links) head.tables
+  Ok (link_of head ports)
 
 abbrev pub links_from : List Members → Result (List Settings) ConfigFault
 links_from = collected link_from []

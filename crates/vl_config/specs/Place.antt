@@ -1,9 +1,8 @@
 -- Where the first fault of a document stands: at which link, and at which of its ports.
-use Rattle.std.specs.Prelude.{ℕ, true, List, [], ◌∷◌, ◌++◌, length, Option, None, Some, Result, Ok, Err}
+use Rattle.std.specs.Prelude.{ℕ, List, [], ◌∷◌, ◌++◌, length, Option, None, Some, Result, Ok, Err}
 use Rattle.toml.specs.Data.{Members}
 use Rattle.toml.specs.Parse.{parse_document}
 use Rattle.es_base.specs.Returns.{◌>>=◌}
-use Rattle.es_base.specs.Limits.{longest_reassembly, longest_skew}
 use Rattle.es_base.specs.Config.{ports_in}
 use Rattle.es_base.specs.Port.{Port}
 use Rattle.es_base.specs.Settings.{Settings}
@@ -11,9 +10,9 @@ use Rattle.vl_config.specs.declared.fault.ConfigFault.{ConfigFault}
 use Rattle.vl_config.specs.declared.fault.Key.TheVariants as keys
 use Rattle.vl_config.specs.declared.place.FaultPlace.{FaultPlace}
 use Rattle.vl_config.specs.Document.{constant_if, link_tables}
-use Rattle.vl_config.specs.Link.{link_from, link_number_from, port_tables, window_from}
+use Rattle.vl_config.specs.Link.{Head, head_from, link_from}
 use Rattle.vl_config.specs.Port.{port_from}
-use Rattle.vl_config.specs.Table.{flag_or, integer_at, value_at}
+use Rattle.vl_config.specs.Table.{value_at}
 
 -- at no link
 abbrev pub nowhere : FaultPlace
@@ -32,18 +31,9 @@ port_place earlier ports [] = None
 port_place earlier ports (table ∷ rest) =
     on_read (port_from earlier ports table) (λ port. port_place earlier (ports ++ port ∷ []) rest) (Some (length ports))
 
--- the tables of the link's ports, if what is tested before them has no fault
-abbrev pub tables_of_ports : List Settings → Members → Result (List Members) ConfigFault
-tables_of_ports links table = do
-  vl ← link_number_from links table
-  skew_max ← integer_at keys.SkewMaxUs 0 longest_skew table
-  redundancy ← flag_or keys.Redundancy true table
-  reassembly ← integer_at keys.ReassemblyUs 0 longest_reassembly table
-  window ← window_from table
-  port_tables table
-
-abbrev pub port_place_if : List Port → Result (List Members) ConfigFault → Option ℕ
-port_place_if earlier (Ok tables) = port_place earlier [] tables
+-- in the link's table, by what it says before its ports
+abbrev pub port_place_if : List Port → Result Head ConfigFault → Option ℕ
+port_place_if earlier (Ok head) = port_place earlier [] head.tables
 port_place_if earlier (Err fault) = None
 
 -- ---- at a link
@@ -53,7 +43,7 @@ abbrev pub link_place : List Settings → List Members → FaultPlace
 link_place links [] = nowhere
 link_place links (table ∷ rest) =
     on_read (link_from links table) (λ link. link_place (links ++ link ∷ []) rest)
-    (record { link = Some (length links); port = port_place_if (ports_in links) (tables_of_ports links table) })
+    (record { link = Some (length links); port = port_place_if (ports_in links) (head_from links table) })
 
 -- ---- in a document
 

@@ -6,8 +6,10 @@
 mod built_in;
 mod document;
 mod fault;
+mod line;
 mod link;
 mod names;
+mod octets;
 mod place;
 mod port;
 mod table;
@@ -16,4 +18,5 @@ pub use built_in::BUILT_IN;
 pub use document::read_config;
 pub use es_base::{Config, MOST_LINKS};
 pub use fault::{ConfigFault, Key};
+pub use octets::{line_in_octets, place_in_octets, read_octets, text_of};
 pub use place::{FaultPlace, place_of_fault};

@@ -3,12 +3,12 @@ ghost use Rattle.std.specs.Prelude.{◌≡◌, ◌≤◌, ◌++◌, List, map, l
 ghost use Rattle.std.specs.List.{list_any, IsDistinct};
 ghost use Rattle.toml.specs.View.{table_view};
 ghost use Rattle.es_base.specs.Returns.{Gives};
-ghost use Rattle.es_base.specs.Limits.{most_ports, widest_window};
+ghost use Rattle.es_base.specs.Limits.{longest_reassembly, longest_skew, most_ports, widest_window};
 ghost use Rattle.es_base.specs.Port.{Port, are_apart};
 ghost use Rattle.es_base.specs.Config.{has_link_number, same_name, ports_in};
 ghost use Rattle.vl_config.specs.Fault.{GivesOrMemory};
 ghost use Rattle.vl_config.specs.Names.{AreNamesOf};
-ghost use Rattle.vl_config.specs.Link.{link_from, link_number_from, window_from, port_tables, ports_from};
+ghost use Rattle.vl_config.specs.Link.{head_from, link_from, link_number_from, window_from, port_tables, ports_from};
 
 use crate::names::Names;
 use crate::port::port_from;
@@ -38,18 +38,67 @@ pub(crate) fn link_from(
     ensures distinct { IfOk result (λ link. IsDistinct same_name (ports_in links.now ++ link.ports)) }
     ensures names { IfOk result (λ link. AreNamesOf names.new (ports_in links.now ++ link.ports)) }
 {
+    let head = head_from(alloc, table, links)?;
+    let ports = ports_from(alloc, &head.tables, names)?;
+    Ok(LinkSettings::new(
+        head.vl,
+        head.skew_max,
+        head.redundancy,
+        head.reassembly,
+        head.window,
+        ports,
+    )
+    .unwrap())
+}
+
+/// What a link's table says before its ports, and the tables of these.
+#[derive(Drop)]
+pub(crate) struct Head<'a> {
+    pub(crate) vl: LinkNo,
+    pub(crate) skew_max: u64,
+    pub(crate) redundancy: bool,
+    pub(crate) reassembly: u64,
+    pub(crate) window: u8,
+    pub(crate) tables: Vec<&'a Table>,
+}
+
+/// What this table says before its ports. `links` are the links of the document that were read before it.
+pub(crate) fn head_from<'a>(
+    alloc: Global,
+    table: &'a Table,
+    links: &[LinkSettings],
+) -> Result<Head<'a>, ConfigFault>
+    ensures value { GivesOrMemory (λ head. record {
+      vl = head.vl.0;
+      skew_max = head.skew_max;
+      redundancy = head.redundancy;
+      reassembly = head.reassembly;
+      window = head.window;
+      tables = map (λ table. table_view table.now) head.tables.items;
+    }) result (head_from links.now (table_view table.now)) }
+    ensures fresh { IfOk result (λ head. list_any (has_link_number head.vl.0) links.now ≡ false) }
+    ensures times { IfOk result (λ head. (head.skew_max ≤ longest_skew) × (head.reassembly ≤ longest_reassembly)) }
+    ensures window { IfOk result (λ head. (1 ≤ head.window) × (head.window ≤ widest_window)) }
+    ensures ports { IfOk result (λ head. length head.tables.items ≤ most_ports) }
+{
     let vl = link_number_from(table, links)?;
     let skew_max = integer_at(table, Key::SkewMaxUs, 0, LONGEST_SKEW)?;
     let redundancy = flag_or(table, Key::Redundancy, true)?;
     let reassembly = integer_at(table, Key::ReassemblyUs, 0, LONGEST_REASSEMBLY)?;
     let window = window_from(table)?;
     let tables = port_tables(alloc, table)?;
-    let ports = ports_from(alloc, &tables, names)?;
-    Ok(LinkSettings::new(vl, skew_max, redundancy, reassembly, window, ports).unwrap())
+    Ok(Head {
+        vl,
+        skew_max,
+        redundancy,
+        reassembly,
+        window,
+        tables,
+    })
 }
 
 /// The window of integrity checking, 1 to 4 sequence numbers.
-pub(crate) fn window_from(table: &Table) -> Result<u8, ConfigFault>
+fn window_from(table: &Table) -> Result<u8, ConfigFault>
     ensures value { result ≡ window_from (table_view table.now) }
     ensures limits { IfOk result (λ window. (1 ≤ window) × (window ≤ widest_window)) }
 {
@@ -59,7 +108,7 @@ pub(crate) fn window_from(table: &Table) -> Result<u8, ConfigFault>
 }
 
 /// The link number, 0 to 65,535, which no earlier link has.
-pub(crate) fn link_number_from(table: &Table, links: &[LinkSettings]) -> Result<LinkNo, ConfigFault>
+fn link_number_from(table: &Table, links: &[LinkSettings]) -> Result<LinkNo, ConfigFault>
     ensures value { Gives (λ vl. vl.0) result (link_number_from links.now (table_view table.now)) }
     ensures fresh { IfOk result (λ vl. list_any (has_link_number vl.0) links.now ≡ false) }
 {
@@ -78,10 +127,7 @@ fn has_link_number(links: &[LinkSettings], vl: u16) -> bool
 }
 
 /// The tables of the link's ports: 0 to 32.
-pub(crate) fn port_tables<'a>(
-    alloc: Global,
-    table: &'a Table,
-) -> Result<Vec<&'a Table>, ConfigFault>
+fn port_tables<'a>(alloc: Global, table: &'a Table) -> Result<Vec<&'a Table>, ConfigFault>
     ensures value { GivesOrMemory (λ tables. map (λ table. table_view table.now) tables.items) result
         (port_tables (table_view table.now)) }
     ensures limit { IfOk result (λ tables. length tables.items ≤ most_ports) }

@@ -4,17 +4,17 @@ ghost use Rattle.std.specs.List.{IsDistinct};
 ghost use Rattle.toml.specs.View.{table_view};
 ghost use Rattle.es_base.specs.Config.{ports_in, same_name};
 ghost use Rattle.es_base.specs.Port.{Port};
-ghost use Rattle.vl_config.specs.Fault.{GivesOrMemory};
 ghost use Rattle.vl_config.specs.Names.{AreNamesOf};
-ghost use Rattle.vl_config.specs.Place.{link_place, place_of, port_place, port_place_if, tables_of_ports};
+ghost use Rattle.vl_config.specs.Link.{head_from};
+ghost use Rattle.vl_config.specs.Place.{link_place, place_of, port_place, port_place_if};
 
 use crate::document::{constant_if, link_tables};
-use crate::link::{link_from, link_number_from, port_tables, window_from};
+use crate::link::{head_from, link_from};
 use crate::names::{Names, names_of};
 use crate::port::port_from;
-use crate::table::{flag_or, integer_at, value_at};
+use crate::table::value_at;
 use crate::{ConfigFault, Key};
-use es_base::{LONGEST_REASSEMBLY, LONGEST_SKEW, LinkSettings, Links, Memory, PortSettings};
+use es_base::{LinkSettings, Links, Memory, PortSettings};
 use std::alloc::{AllocError, Global};
 use toml::Table;
 
@@ -27,7 +27,7 @@ pub struct FaultPlace {
 }
 
 /// At no link.
-const NOWHERE: FaultPlace = FaultPlace {
+pub(crate) const NOWHERE: FaultPlace = FaultPlace {
     link: None,
     port: None,
 };
@@ -90,30 +90,18 @@ fn port_place_in(
     table: &Table,
     links: &[LinkSettings],
 ) -> Result<Option<usize>, Memory>
-    ensures { IfOk result (λ place. place ≡ port_place_if (ports_in links.now) (tables_of_ports links.now (table_view table.now))) }
+    ensures { IfOk result (λ place. place ≡ port_place_if (ports_in links.now) (head_from links.now (table_view table.now))) }
 {
-    match tables_of_ports(alloc, table, links) {
-        Ok(tables) => port_place(alloc, &tables, names_of(alloc, links)?, Vec::new(alloc)),
+    match head_from(alloc, table, links) {
+        Ok(head) => port_place(
+            alloc,
+            &head.tables,
+            names_of(alloc, links)?,
+            Vec::new(alloc),
+        ),
         Err(ConfigFault::Memory) => Err(AllocError),
         Err(_) => Ok(None),
     }
-}
-
-/// The tables of a link's ports, if what is tested before them has no fault.
-fn tables_of_ports<'a>(
-    alloc: Global,
-    table: &'a Table,
-    links: &[LinkSettings],
-) -> Result<Vec<&'a Table>, ConfigFault>
-    ensures { GivesOrMemory (λ tables. map (λ table. table_view table.now) tables.items) result
-        (tables_of_ports links.now (table_view table.now)) }
-{
-    let _ = link_number_from(table, links)?;
-    let _ = integer_at(table, Key::SkewMaxUs, 0, LONGEST_SKEW)?;
-    let _ = flag_or(table, Key::Redundancy, true)?;
-    let _ = integer_at(table, Key::ReassemblyUs, 0, LONGEST_REASSEMBLY)?;
-    let _ = window_from(table)?;
-    port_tables(alloc, table)
 }
 
 /// The place of the first port with a fault among these tables, after these ports of its link. `names` are the names

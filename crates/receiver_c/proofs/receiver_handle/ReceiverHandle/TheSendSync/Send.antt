@@ -5,12 +5,12 @@ use denote.Param.Send.{IsSend, owning_send, part_keyless, sendable}
 use denote.RawPtr.{Ptr, block_ptr, null_ptr}
 use Rattle.std.specs.Ptr.{points_to}
 use Rattle.receiver_c.specs.contracts.receiver_handle.ReceiverHandle.{the_row, the_type}
-use Rattle.receiver_slots.specs.contracts.receiver_slot.ReceiverSlot.{the_row as T}
-use Rattle.receiver_slots.proofs.receiver_slot.ReceiverSlot.TheSendSync as slot
+use Rattle.receiver_c.specs.contracts.marked.MarkedReceiver.{the_row as T}
+use Rattle.receiver_c.proofs.marked.MarkedReceiver.TheSendSync as slot
 
 lies : (p : Ptr) (x : T.Denot) → Keyless (points_to T p x)
 lies (block_ptr b o) x = part_keyless T slot.the_send full_share x b o
 lies null_ptr x = tt
 
 pub send : IsSend the_row
-send = owning_send the_type (search sendable, tt) (λ d. lies d.at d.now) (λ k x w. tt)
+send = owning_send the_type (search sendable, tt) (λ d. lies d.at d.room) (λ k x w. tt)

@@ -1,4 +1,4 @@
--- `lend` meets its contract: the slot leaves, and the handle follows it.
+-- `lend` meets its contract: what stands in the room leaves, and the handle follows it.
 use Rattle.receiver_c.proofs.Steps.{◌≡◌, List, [], ◌∷◌, ◌++◌, refl, sym, proved, full_share, id⊢, ftrue, flft, named, Val, vptr, tables, ‵, ◌⊛◌, some, later, at_ret, ◌$◌, ◌∵◌, !, qed, done, move, keep, drop, use1, split, join, fsplit, fsplit3, fjoin, feq_i, feq_l, pick, await, rewrite, suffices, frame, group, enter, of_opd, addr, load, stop, fld, first, blocks, exec, returns, alloc_all, pass_all, free_all, look_at, get, through, sets, env, Ptr, RawPtr, block_ptr, in_a_block, MutRef, mut_vals, mut_Tells, plain, nothing, opens, Stays, walk_of, says, stay_dropped, ends_at, mem, part_at, points_to}
 use Rattle.std.proofs.Common.{subst}
 use seplogic.Ra.Ura.{Ura}
@@ -19,8 +19,8 @@ use denote.Struct.Struct.{within}
 use denote.Struct.Owning.{shape}
 use denote.Triple.Walked.{Goes-spent_ref}
 use Rattle.std.proofs.VecSteps.Shapes.{after}
-use Rattle.receiver_slots.specs.contracts.receiver_slot.ReceiverSlot.{the_row as T}
-use Rattle.receiver_c.specs.ReceiverLending.{with_now}
+use Rattle.receiver_c.specs.contracts.marked.MarkedReceiver.{the_row as T}
+use Rattle.receiver_c.specs.ReceiverLending.{with_room}
 use Rattle.receiver_c.specs.declared.receiver_handle.ReceiverHandle.{ReceiverHandle as Handle}
 use Rattle.receiver_c.specs.contracts.receiver_handle.ReceiverHandle.{the_row as R, the_type}
 use Rattle.receiver_c.specs.contracts.receiver_handle.ReceiverHandle.lend as f
@@ -32,26 +32,26 @@ abbrev word : Ptr → Val
 word p = vstruct (vcons (ptr_val p) vnil)
 
 module _ {M : Type 1} {𝓤 : Ura M} {𝓛 : Logic 𝓤} {K : Type 0} {Γ : List (Item 𝓤)} {G : Goal 𝓤 𝓛.H} where
-  handle_out : K → (h : Handle) (vs : List Val) → (vs ≡ word h.at ∷ [] → Seq K 𝓛 (‵ (points_to T h.at h.now) ∷ Γ) G) → Seq K 𝓛 (‵ (R.own_val h vs) ∷ Γ) G
+  handle_out : K → (h : Handle) (vs : List Val) → (vs ≡ word h.at ∷ [] → Seq K 𝓛 (‵ (points_to T h.at h.room) ∷ Γ) G) → Seq K 𝓛 (‵ (R.own_val h vs) ∷ Γ) G
   handle_out t h vs k =
       fsplit t $ fpick t (λ vss. fsplit t $ feq_l t (λ ev. fsplit t $ feq_l t (λ ep. drop t $ k
       (subst (λ (ps : List Val). vs ≡ vstruct (of_list (ps ++ [])) ∷ []) ep ev))))
 
-  handle_in : K → (h : Handle) → Step K 𝓛 (‵ (R.own_val h (word h.at ∷ [])) ∷ Γ) G (‵ (points_to T h.at h.now) ∷ Γ) G
+  handle_in : K → (h : Handle) → Step K 𝓛 (‵ (R.own_val h (word h.at ∷ [])) ∷ Γ) G (‵ (points_to T h.at h.room) ∷ Γ) G
   handle_in t h = step (λ s.
       nothing t $ feq_i t (List Val) (ptr_val h.at ∷ []) (ptr_val h.at ∷ []) refl $ fjoin t $
       feq_i t (List Val) (word h.at ∷ []) (word h.at ∷ []) refl $ fjoin t $
       fpack t (Valss (RawPtr ∷ [])) (within (shape the_type) (h.at, tt) (word h.at ∷ [])) (ptr_val h.at ∷ [], tt) $ fjoin t $ s)
 
 back : {M : Type 1} {𝓤 : Ura M} (𝓛 : Logic 𝓤) (b o : _) (h : Handle) (b' o' : _) → h.at ≡ block_ptr b' o' → (w : T.Denot)
-    → ent 𝓤 (sep 𝓤 (sem 𝓛 ((mem T).own_at w b' o')) (sem 𝓛 (cell_at full_share R.mir (word (block_ptr b' o') ∷ []) b o))) (sem 𝓛 ((mem R).own_at (with_now h w) b o))
+    → ent 𝓤 (sep 𝓤 (sem 𝓛 ((mem T).own_at w b' o')) (sem 𝓛 (cell_at full_share R.mir (word (block_ptr b' o') ∷ []) b o))) (sem 𝓛 ((mem R).own_at (with_room h w) b o))
 unfolding part_of
 back 𝓛 b o h b' o' e w =
     qed 𝓛 (‵ (part_at T full_share w b' o') ∷ ‵ (cell_at full_share R.mir (word (block_ptr b' o') ∷ []) b o) ∷ []) ∵
     rewrite ! 0 (λ (p : Ptr). ‵ (points_to T p w)) (sym e) refl $
     rewrite ! 1 (λ (p : Ptr). ‵ (cell_at full_share R.mir (word p ∷ []) b o)) (sym e) refl $
-    handle_in ! (with_now h w) $ move ! (1 ∷ 0 ∷ []) $ fjoin ! $
-    fpack ! (List Val) (λ us. fsep (cell_at full_share R.mir us b o) (R.own_val (with_now h w) us)) (word h.at ∷ []) $ done !
+    handle_in ! (with_room h w) $ move ! (1 ∷ 0 ∷ []) $ fjoin ! $
+    fpack ! (List Val) (λ us. fsep (cell_at full_share R.mir us b o) (R.own_val (with_room h w) us)) (word h.at ∷ []) $ done !
 
 pub lend_spec : {M : Type 1} → statement M
 lend_spec 𝓤 𝓛 𝓜 𝓡 wired =
@@ -68,8 +68,8 @@ lend_spec 𝓤 𝓛 𝓜 𝓡 wired =
     enter ! _ _ _ _ _ $ alloc_all ! (λ l. pass_all ! refl ((tt, tt), tt) $
     fsplit3 ! $ move ! (1 ∷ 2 ∷ 3 ∷ []) $ opens ! tt R b o (λ us.
     move ! (1 ∷ []) $ handle_out ! h us (λ is. rewrite ! 1 Cell is refl $
-    in_a_block ! h.at (λ p. points_to T p h.now) (id⊢ 𝓤 _) (λ b' o' e. rewrite ! 1 (λ (p : Ptr). Cell (word p ∷ [])) e refl $
-    -- [the slot; the handle's cell; the open borrow, in three entries; self's first part]
+    in_a_block ! h.at (λ p. points_to T p h.room) (id⊢ 𝓤 _) (λ b' o' e. rewrite ! 1 (λ (p : Ptr). Cell (word p ∷ [])) e refl $
+    -- [the room; the handle's cell; the open borrow, in three entries; self's first part]
     first ! $ blocks ! $
     sets ! (of_opd ! (load ! (through ! refl (fld ! refl (stop !))) (look_in ! 1 (sub ! 0 refl (whole !))))) refl (tt, tt) $
     sets ! (of_opd ! (get ! refl)) refl (tt, tt) $
@@ -78,9 +78,9 @@ lend_spec 𝓤 𝓛 𝓜 𝓡 wired =
     sets ! (of_opd ! (get ! refl)) refl (tt, tt) $
     let Rest = sem 𝓛 (cell_at full_share R.mir (word (block_ptr b' o') ∷ []) b o) in
     move ! (2 ∷ 3 ∷ 4 ∷ 0 ∷ 1 ∷ []) $ group ! 5 $
-    use1 𝓛 (later (some (λ (δ : GName). ‵ ((MutRef (named 0) κ T).own_val (record { ref_ptr = (b', o'); ghost_name = δ; now = h.now }) (vptr b' o' ∷ [])) ⊛ (‵ (flft κ q) ⊛ ‵ (follows R T γ δ (with_now h))))))
-    (lends_Part 𝓛 R T (with_now h) (named 0) κ q b o b' o' γ Rest (back 𝓛 b o h b' o' e) (R.coded.code h) (R.coded.code h) h.now) $ await ! tt $ pick ! (λ δ.
+    use1 𝓛 (later (some (λ (δ : GName). ‵ ((MutRef (named 0) κ T).own_val (record { ref_ptr = (b', o'); ghost_name = δ; now = h.room }) (vptr b' o' ∷ [])) ⊛ (‵ (flft κ q) ⊛ ‵ (follows R T γ δ (with_room h))))))
+    (lends_Part 𝓛 R T (with_room h) (named 0) κ q b o b' o' γ Rest (back 𝓛 b o h b' o' e) (R.coded.code h) (R.coded.code h) h.room) $ await ! tt $ pick ! (λ δ.
     returns ! (look_at ! 0 refl) $ free_all ! refl $ keep ! (0 ∷ []) $ split ! $ move ! (1 ∷ []) $ split ! $ move ! (2 ∷ 0 ∷ 1 ∷ []) $
     -- [the reference; the token; that the handle follows]
-    suffices ! _ (ends_at 𝓛 f.ended stayed c y (vptr b' o') (record { ref_ptr = (b', o'); ghost_name = δ; now = h.now }) (tt, tt) (tt, tt)) $
+    suffices ! _ (ends_at 𝓛 f.ended stayed c y (vptr b' o') (record { ref_ptr = (b', o'); ghost_name = δ; now = h.room }) (tt, tt) (tt, tt)) $
     nothing ! $ nothing ! $ fjoin ! $ join ! $ nothing ! $ move ! (2 ∷ 0 ∷ []) $ join ! $ join ! $ frame ! $ says ! refl $ done !))))))

@@ -5,12 +5,12 @@ use denote.Param.Send.{IsSend, owning_send, part_keyless, sendable}
 use denote.RawPtr.{Ptr, block_ptr, null_ptr}
 use Rattle.std.specs.Ptr.{points_to}
 use Rattle.receiver_c.specs.contracts.taker_handle.TakerHandle.{the_row, the_type}
-use Rattle.receiver_slots.specs.contracts.taker_slot.TakerSlot.{the_row as T}
-use Rattle.receiver_slots.proofs.taker_slot.TakerSlot.TheSendSync as slot
+use Rattle.receiver_c.specs.contracts.marked.MarkedTaker.{the_row as T}
+use Rattle.receiver_c.proofs.marked.MarkedTaker.TheSendSync as slot
 
 lies : (p : Ptr) (x : T.Denot) → Keyless (points_to T p x)
 lies (block_ptr b o) x = part_keyless T slot.the_send full_share x b o
 lies null_ptr x = tt
 
 pub send : IsSend the_row
-send = owning_send the_type (search sendable, tt) (λ d. lies d.at d.now) (λ k x w. tt)
+send = owning_send the_type (search sendable, tt) (λ d. lies d.at d.room) (λ k x w. tt)

@@ -1,0 +1,106 @@
+-- The line of a document at which a fault stands (own): the documents that people write have a heading for each link and
+-- each port, and a line for each key.
+use Rattle.std.specs.Prelude.{ℕ, ◌+◌, ◌-◌, ◌^◌, ◌==◌, Bool, true, false, ◌&&◌, not, List, length, take, drop, min, codes, Option, None, Some, if◌then◌else◌}
+use Rattle.std.specs.List.{fold, prefix_len, starts_with}
+use Rattle.std.specs.Char.{is_ascii_whitespace}
+use Rattle.std.specs.Str.Lines.{lines}
+use Rattle.vl_config.specs.Fault.{key_name}
+use Rattle.vl_config.specs.declared.fault.ConfigFault.{ConfigFault}
+use Rattle.vl_config.specs.declared.fault.ConfigFault.TheVariants as faults
+use Rattle.vl_config.specs.declared.fault.Key.{Key}
+use Rattle.vl_config.specs.declared.fault.Key.TheVariants as keys
+use Rattle.vl_config.specs.declared.line.Heading.{Heading}
+use Rattle.vl_config.specs.declared.line.Heading.TheVariants.{Link, Port, Other, Not}
+use Rattle.vl_config.specs.declared.line.Seen.{Seen}
+use Rattle.vl_config.specs.declared.line.Sought.{Sought}
+use Rattle.vl_config.specs.declared.place.FaultPlace.{FaultPlace}
+
+-- one more; a count stops at the greatest number of 64 bits
+abbrev pub next : ℕ → ℕ
+next count = min (count + 1) (2 ^ 64 - 1)
+
+-- ---- by the octets before it
+
+abbrev pub step_octet : ℕ → ℕ → ℕ
+step_octet line octet = if octet == 10 then next line else line
+
+-- the line, from 1, of the octet at this place
+abbrev pub line_of_octet : List ℕ → ℕ → ℕ
+line_of_octet text at = fold step_octet 1 (take at text)
+
+-- ---- a line
+
+-- the line without white space before it
+abbrev pub bare : List ℕ → List ℕ
+bare line = drop (prefix_len is_ascii_whitespace line) line
+
+-- the line begins with this word
+abbrev pub begins : List ℕ → List ℕ → Bool
+begins line word = starts_with (λ a b. a == b) (bare line) word
+
+abbrev pub heading_of : List ℕ → Heading
+heading_of line =
+    if begins line (codes "[[link.port]]") then Port else if begins line (codes "[[link]]") then Link else if begins line (codes "[") then Other else Not
+
+-- the line gives the value of this key
+abbrev pub gives : List ℕ → Key → Bool
+gives line key = begins line (key_name key) && begins (drop (length (key_name key)) (bare line)) (codes "=")
+
+-- ---- the table
+
+-- so many headings of links, or of ports of a link, stand before the keys at this place
+abbrev pub passed : Option ℕ → ℕ
+passed None = 0
+passed (Some place) = next place
+
+abbrev pub list_key : Option ℕ → Key
+list_key None = keys.Link
+list_key (Some link) = keys.Port
+
+-- the key at which a fault stands
+abbrev pub key_of : ConfigFault → FaultPlace → Key
+key_of (faults.Missing key) place = key
+key_of (faults.Kind key) place = key
+key_of (faults.Range key) place = key
+key_of faults.DoubleLink place = keys.Vl
+key_of faults.DoublePort place = keys.Udp
+key_of faults.DoubleName place = keys.Name
+key_of faults.TooMany place = list_key place.link
+key_of faults.Text place = keys.Link
+key_of faults.Memory place = keys.Link
+
+abbrev pub sought_by : ConfigFault → FaultPlace → Sought
+sought_by fault place = record { links = passed place.link; ports = passed place.port; key = key_of fault place }
+
+-- ---- the lines, one after another
+
+abbrev pub start : Sought → Seen
+start sought = record { lines = 0; links = 0; ports = 0; elsewhere = false; found = if sought.links == 0 then 1 else 0; is_key = false }
+
+abbrev pub after_heading : Heading → Seen → Seen
+after_heading Link seen = record seen { links = next seen.links; ports = 0; elsewhere = false }
+after_heading Port seen = record seen { ports = next seen.ports; elsewhere = false }
+after_heading Other seen = record seen { elsewhere = true }
+after_heading Not seen = seen
+
+abbrev pub after : Heading → Seen → Seen
+after heading seen = after_heading heading (record seen { lines = next seen.lines })
+
+-- the last line stands in the table that is sought
+abbrev pub is_there : Sought → Seen → Bool
+is_there sought seen = not seen.elsewhere && (seen.links == sought.links && seen.ports == sought.ports)
+
+-- its heading is found, and then its key, once
+abbrev pub noted : Sought → Seen → Heading → List ℕ → Seen
+noted sought seen Not line = if gives line sought.key && not seen.is_key then record seen { found = seen.lines; is_key = true } else seen
+noted sought seen Link line = record seen { found = seen.lines }
+noted sought seen Port line = record seen { found = seen.lines }
+noted sought seen Other line = record seen { found = seen.lines }
+
+abbrev pub step : Sought → Seen → List ℕ → Seen
+step sought seen line =
+    let now = after (heading_of line) seen in
+    if is_there sought now then noted sought now (heading_of line) line else now
+
+abbrev pub line_in : List ℕ → ConfigFault → FaultPlace → ℕ
+line_in text fault place = (fold (step (sought_by fault place)) (start (sought_by fault place)) (lines text)).found
