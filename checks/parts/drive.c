@@ -1,0 +1,216 @@
+/* drive < SCRIPT: what the library for C answers to the calls of a script, a line each: the code, and what was told with DONE.
+   Octets are in hexadecimal, `-` if there are none. Each buffer has just the room that the call is told, and was filled with
+   0xa5. Ends stand in slots by number. At the end a line says how many blocks of memory weren't given back. */
+#include "yelunnavi.h"
+#include <inttypes.h>
+#include <stdio.h>
+#include <stdlib.h>
+#include <string.h>
+
+enum { SLOTS = 64, FILL = 0xa5 };
+
+static uint64_t receiver_room[64], reader_rooms[SLOTS][64], taker_rooms[SLOTS][64];
+static struct yelunnavi_receiver receiver;
+static struct yelunnavi_reader readers[SLOTS];
+static struct yelunnavi_taker takers[SLOTS];
+static long blocks;
+static bool may_ask;
+
+/* ---- memory: blocks that weren't given back are counted, and none is asked for but by an opening */
+
+static void asked(void) {
+    if (may_ask) return;
+    puts("memory was asked for");
+    exit(4);
+}
+
+struct rattle_tried rattle_alloc(size_t octets, size_t align) {
+    (void)align;
+    asked();
+    blocks++;
+    return (struct rattle_tried){true, malloc(octets ? octets : 1)};
+}
+
+struct rattle_tried rattle_realloc(void *at, size_t kept, size_t octets, size_t align) {
+    (void)kept, (void)align;
+    asked();
+    return (struct rattle_tried){true, realloc(at, octets ? octets : 1)};
+}
+
+void rattle_dealloc(void *at) {
+    blocks--;
+    free(at);
+}
+
+/* ---- the script */
+
+static char word[1 << 21];
+
+static const char *next_word(void) {
+    if (scanf("%2097151s", word) != 1) exit(3);
+    return word;
+}
+
+static uint64_t number(void) { return strtoull(next_word(), NULL, 10); }
+
+static uint8_t nibble(char digit) { return (uint8_t)(digit <= '9' ? digit - '0' : digit - 'a' + 10); }
+
+/* Octets in a block of their own, of just their length. */
+static uint8_t *octets(size_t *len) {
+    const char *text = next_word();
+    *len = *text == '-' ? 0 : strlen(text) / 2;
+    uint8_t *made = malloc(*len ? *len : 1);
+    for (size_t k = 0; k < *len; k++) made[k] = (uint8_t)(nibble(text[2 * k]) << 4 | nibble(text[2 * k + 1]));
+    return made;
+}
+
+static uint8_t *buffer(size_t len) { return memset(malloc(len ? len : 1), FILL, len ? len : 1); }
+
+static void show(const uint8_t *out, size_t len) {
+    printf(len ? " " : " -");
+    for (size_t k = 0; k < len; k++) printf("%02x", out[k]);
+}
+
+/* The code, and whether there is more to tell. */
+static bool code(uint32_t answer) {
+    printf("%" PRIu32, answer);
+    return answer == YELUNNAVI_DONE;
+}
+
+/* ---- the calls */
+
+static void open_it(void) {
+    struct yelunnavi_fault fault;
+    size_t readers_each = number(), len;
+    uint8_t *text = octets(&len);
+    may_ask = true;
+    code(yelunnavi_receiver_open(&receiver, text, len, readers_each, &fault));
+    may_ask = false;
+    memset(text, FILL, len);
+    free(text);
+}
+
+static void receive(void) {
+    struct yelunnavi_frame told;
+    uint32_t net = (uint32_t)number();
+    uint64_t now = number();
+    size_t len;
+    uint8_t *frame = octets(&len);
+    if (code(yelunnavi_receiver_receive(&receiver, net, now, frame, len, &told)))
+        printf(" %" PRIu32 " %" PRIu32 " %zu %" PRIu32 " %" PRIu32 " %" PRIu64 " %" PRIu64, told.kind, told.cause, told.link,
+               told.vl, told.port, told.place, told.number);
+    free(frame);
+}
+
+static void hand(bool samples) {
+    size_t slot = number(), len;
+    uint8_t *name = octets(&len);
+    code(samples ? yelunnavi_receiver_hand_reader(&receiver, &readers[slot], name, len)
+                 : yelunnavi_receiver_hand_taker(&receiver, &takers[slot], name, len));
+    free(name);
+}
+
+static void show_read(const struct yelunnavi_read *told) {
+    printf(" %" PRIu32 " %" PRIu32 " %" PRIu64 " %" PRIu64 " %zu", told->found, told->valid, told->number, told->time, told->len);
+}
+
+static void read_it(void) {
+    struct yelunnavi_read told;
+    size_t slot = number();
+    uint64_t now = number();
+    size_t len = number();
+    uint8_t *out = buffer(len);
+    if (code(yelunnavi_reader_read(&readers[slot], now, out, len, &told))) show_read(&told);
+    show(out, len);
+    free(out);
+}
+
+static void hold(void) {
+    struct yelunnavi_read told;
+    size_t slot = number();
+    if (code(yelunnavi_reader_hold(&readers[slot], number(), &told))) show_read(&told);
+}
+
+static void copy(void) {
+    size_t slot = number(), first = number(), len = number();
+    uint8_t *out = buffer(len);
+    code(yelunnavi_reader_copy(&readers[slot], first, out, len));
+    show(out, len);
+    free(out);
+}
+
+static void limits(void) {
+    struct yelunnavi_limits told;
+    if (code(yelunnavi_reader_limits(&readers[number()], &told))) printf(" %zu %" PRIu64, told.max, told.refresh);
+}
+
+static void take(void) {
+    struct yelunnavi_taken told;
+    size_t slot = number(), len = number();
+    uint8_t *out = buffer(len);
+    if (code(yelunnavi_taker_take(&takers[slot], out, len, &told)))
+        printf(" %" PRIu32 " %" PRIu64 " %zu", told.found, told.time, told.len);
+    show(out, len);
+    free(out);
+}
+
+static void longest(void) {
+    size_t max;
+    if (code(yelunnavi_taker_longest(&takers[number()], &max))) printf(" %zu", max);
+}
+
+static void count(void) {
+    uint64_t told;
+    size_t link = number();
+    uint32_t net = (uint32_t)number();
+    if (code(yelunnavi_receiver_count(&receiver, link, net, (uint32_t)number(), &told))) printf(" %" PRIu64, told);
+}
+
+static void filtered(void) {
+    uint64_t told;
+    uint32_t net = (uint32_t)number();
+    if (code(yelunnavi_receiver_filtered(&receiver, net, (uint32_t)number(), &told))) printf(" %" PRIu64, told);
+}
+
+static void place(void) {
+    struct yelunnavi_place told;
+    size_t len;
+    uint8_t *name = octets(&len);
+    if (code(yelunnavi_receiver_place(&receiver, name, len, &told))) printf(" %zu %" PRIu32, told.link, told.port);
+    free(name);
+}
+
+static void call(const char *name) {
+    if (!strcmp(name, "open")) open_it();
+    else if (!strcmp(name, "receive")) receive();
+    else if (!strcmp(name, "hand_reader")) hand(true);
+    else if (!strcmp(name, "hand_taker")) hand(false);
+    else if (!strcmp(name, "read")) read_it();
+    else if (!strcmp(name, "hold")) hold();
+    else if (!strcmp(name, "copy")) copy();
+    else if (!strcmp(name, "release")) code(yelunnavi_reader_release(&readers[number()]));
+    else if (!strcmp(name, "limits")) limits();
+    else if (!strcmp(name, "take")) take();
+    else if (!strcmp(name, "longest")) longest();
+    else if (!strcmp(name, "count")) count();
+    else if (!strcmp(name, "filtered")) filtered();
+    else if (!strcmp(name, "place")) place();
+    else if (!strcmp(name, "close")) yelunnavi_receiver_close(&receiver);
+    else if (!strcmp(name, "close_reader")) yelunnavi_reader_close(&readers[number()]);
+    else if (!strcmp(name, "close_taker")) yelunnavi_taker_close(&takers[number()]);
+    else exit(3);
+    putchar('\n');
+}
+
+int main(void) {
+    bool are_made = yelunnavi_receiver_init(&receiver, receiver_room, sizeof receiver_room) == YELUNNAVI_DONE;
+    for (int k = 0; k < SLOTS && are_made; k++)
+        are_made = yelunnavi_reader_init(&readers[k], reader_rooms[k], sizeof reader_rooms[k]) == YELUNNAVI_DONE
+            && yelunnavi_taker_init(&takers[k], taker_rooms[k], sizeof taker_rooms[k]) == YELUNNAVI_DONE;
+    if (!are_made || yelunnavi_abi() != YELUNNAVI_ABI) return 2;
+    while (scanf("%31s", word) == 1) call(word);
+    for (int k = 0; k < SLOTS; k++) yelunnavi_reader_close(&readers[k]), yelunnavi_taker_close(&takers[k]);
+    yelunnavi_receiver_close(&receiver);
+    printf("%ld blocks kept\n", blocks);
+    return 0;
+}
