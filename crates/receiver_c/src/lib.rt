@@ -14,10 +14,11 @@ ghost use Rattle.mailbox_reader.specs.Reads.{PortReader};
 ghost use Rattle.receiver.specs.Taking.{HandsReader, HandsTaker};
 ghost use Rattle.mailbox_port.specs.Port.{is_reader_count};
 ghost use Rattle.receiver_c.specs.Abi.{abi};
+ghost use Rattle.receiver_c.specs.HeldOctets.{TellsOctets};
 ghost use Rattle.receiver_slots.specs.Codes.{already_open, done, faulty, no_memory, none_left, not_open, out_of_range};
 ghost use Rattle.receiver_slots.specs.Handing.{HandsOut, hand_reader_code, hand_taker_code};
 ghost use Rattle.receiver_slots.specs.Naming.{CountsLinks, TellsLink, TellsPlace, TellsPort, link_code, links_code, place_code, port_code};
-ghost use Rattle.receiver_slots.specs.Reading.{Copies, DidHold, DidRead, TellsReader, copy_code, read_code, release_code, released};
+ghost use Rattle.receiver_slots.specs.Reading.{Copies, DidHold, DidRead, TellsReader, copy_code, held_octets, read_code, release_code, released};
 ghost use Rattle.receiver_slots.specs.Receiving.{CountsFrames, CountsFiltered, HasFault, Opens, Receives, count_code, filtered_code, receive_code};
 ghost use Rattle.receiver_slots.specs.Taking.{DidTake, TellsTaker, take_code, taker_code};
 ghost use Rattle.receiver_slots.specs.declared.reader_slot.ReaderState.TheVariants.{Closed, Reads};
@@ -25,22 +26,25 @@ ghost use Rattle.receiver_slots.specs.contracts.receiver_slot.ReceiverSlot.{the_
 ghost use Rattle.receiver_slots.specs.contracts.reader_slot.ReaderSlot.{the_row as reader_row};
 ghost use Rattle.receiver_slots.specs.contracts.taker_slot.TakerSlot.{the_row as taker_row};
 
+use receiver_slots::codes::{DONE, HOLDS_NONE};
 use receiver_slots::{
     FaultReply, FrameReply, LimitReply, LinkReply, PlaceReply, PortReply, ReadReply, ReaderSlot,
     ReceiverSlot, TakeReply, TakerSlot,
 };
 use std::alloc::Global;
 
+pub mod held_octets;
 pub mod reader_handle;
 pub mod receiver_handle;
 pub mod taker_handle;
 
+use held_octets::{HeldOctets, octets_at};
 use reader_handle::ReaderHandle;
 use receiver_handle::ReceiverHandle;
 use taker_handle::TakerHandle;
 
 /// The number of the interface: raised with each change of a struct, a call or a number.
-pub const ABI: u32 = 1;
+pub const ABI: u32 = 2;
 
 /// The number of the interface of this library. A program compares it with that of the header that it was compiled with.
 #[unsafe(no_mangle)]
@@ -305,6 +309,25 @@ pub extern "C" fn yelunnavi_reader_hold(
     ensures same { 0 < result → (h.new.now ≡ h.old.now) × (reply.new ≡ reply.old) }
 {
     h.lend().hold(now, reply)
+}
+
+/// Tells where the octets of the message stand that is held, and how many they are. They stay as they are until the message
+/// is released or the reader is closed.
+#[unsafe(no_mangle)]
+pub extern "C" fn yelunnavi_reader_octets(h: &mut ReaderHandle, octets: &mut HeldOctets) -> u32
+    ensures place { h.new.at ≡ h.old.at }
+    ensures code { result ≡ release_code h.old.now }
+    ensures told { result ≡ done → TellsOctets (held_octets h.old.now) octets.new }
+    ensures same { 0 < result → octets.new ≡ octets.old }
+    ensures kept { h.new.now ≡ h.old.now }
+{
+    match h.lend().octets() {
+        Some(held) => {
+            *octets = octets_at(held);
+            DONE
+        }
+        None => HOLDS_NONE,
+    }
 }
 
 /// Fills `out` with octets of the message that is held, from `first` on.
