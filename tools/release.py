@@ -1,15 +1,22 @@
-"""Packs a release: what was built, the tools, the examples and the pages, with a sum of each file."""
+"""Packs a release: what was built, the tools, the examples and the pages, and the evidence, with a sum of each file.
+
+Two packings of one commit are the same octets: each file has the time of the commit, nobody's name, and the rights to
+read, and to run what is a program.
+"""
 import io
+import os
 import subprocess
 import tarfile
 
+from evidence import evidence, git
 from marks import OUT, sum_of
 from proving import ROOT
+from version import version
 
 NAME = "yelunnavi"
 # What of the tree goes along: what runs without the toolchain, and what is read.
-PACKED = ("README.md", "afdx_play", "docs", "examples", "tools")
-SUMS = "SUMS"
+PACKED = ("README.md", "CHANGELOG.md", "afdx_play", "docs", "examples", "tools")
+SUMS, EVIDENCE = "SUMS", "evidence"
 
 
 def files_of_tree():
@@ -18,20 +25,22 @@ def files_of_tree():
     return [ROOT / name for name in listed.decode().split("\0") if name]
 
 
-def add_text(archive, name, text):
-    entry = tarfile.TarInfo(f"{NAME}/{name}")
-    entry.size = len(text)
-    archive.addfile(entry, io.BytesIO(text))
+def contents(folders, gate):
+    """The octets of each file and whether it is run, by its name in the release."""
+    paths = [*files_of_tree(), *(path for folder in folders for path in sorted(folder.iterdir()))]
+    files = {str(path.relative_to(ROOT)): (path.read_bytes(), os.access(path, os.X_OK)) for path in paths}
+    files |= {f"{EVIDENCE}/{name}": (text.encode(), False) for name, text in evidence(gate).items()}
+    sums = "".join(f"{sum_of(octets)}  {name}\n" for name, (octets, _) in files.items())
+    return {**files, SUMS: (sums.encode(), False)}
 
 
-def pack(folders):
-    """Packs the tree's files and these folders. Returns the archive's path."""
-    files = [*files_of_tree(), *(path for folder in folders for path in sorted(folder.iterdir()))]
-    names = [path.relative_to(ROOT) for path in files]
-    sums = "".join(f"{sum_of(path.read_bytes())}  {name}\n" for path, name in zip(files, names))
-    to = OUT / f"{NAME}.tar.xz"
-    with tarfile.open(to, "w:xz") as archive:
-        for path, name in zip(files, names):
-            archive.add(path, f"{NAME}/{name}")
-        add_text(archive, SUMS, sums.encode())
+def pack(folders, gate=None):
+    """Packs the tree's files, these folders and the evidence, with what the gate printed. Returns the archive's path."""
+    made, time = f"{NAME}-{version()}", int(git("log", "-1", "--format=%ct"))
+    to = OUT / f"{made}.tar.xz"
+    with tarfile.open(to, "w:xz", format=tarfile.GNU_FORMAT) as archive:
+        for name, (octets, is_run) in contents(folders, gate).items():
+            entry = tarfile.TarInfo(f"{made}/{name}")
+            entry.size, entry.mtime, entry.mode = len(octets), time, 0o755 if is_run else 0o644
+            archive.addfile(entry, io.BytesIO(octets))
     return to

@@ -125,10 +125,12 @@ static void of_no_octets_in(const uint8_t *in) {
 
 /* What calls of a reader do that have no room for octets: of a message of 17 of them. */
 static void of_no_room_to_read(uint8_t *out) {
+    struct yelunnavi_octets held;
     struct yelunnavi_frame frame;
     struct yelunnavi_read read;
     WANT(NOT_OPEN, yelunnavi_reader_read(&reader, 0, out, 0, &read));
     WANT(HOLDS_NONE, yelunnavi_reader_copy(&reader, 0, out, 0));
+    WANT(HOLDS_NONE, yelunnavi_reader_octets(&reader, &held));
     WANT(DONE, yelunnavi_receiver_hand_reader(&receiver, &reader, TEXT("pos")));
     WANT(DONE, yelunnavi_reader_read(&reader, 0, out, 0, &read));
     if (read.found != 0) exit(24);
@@ -140,6 +142,8 @@ static void of_no_room_to_read(uint8_t *out) {
     WANT(DONE, yelunnavi_reader_copy(&reader, 0, out, 0));
     WANT(DONE, yelunnavi_reader_copy(&reader, 17, out, 0));
     WANT(OUT_OF_RANGE, yelunnavi_reader_copy(&reader, 18, out, 0));
+    WANT(DONE, yelunnavi_reader_octets(&reader, &held));
+    if (held.len != 17 || memcmp(held.at, FRAME + 42, 17) != 0) exit(26);
     WANT(HOLDS_ONE, yelunnavi_reader_read(&reader, 1000, out, 0, &read));
     yelunnavi_reader_close(&reader);
 }
@@ -219,13 +223,16 @@ static void of_the_ends(void) {
     if (taken.found) exit(8);
 }
 
-/* A reader holds the first message while others are published, and is closed with it: the other reader finds the newest. */
+/* A reader holds the first message while others are published, and is closed with it: the other reader finds the newest. The
+   octets of the first stay where they stand. */
 static void of_a_hold(void) {
+    struct yelunnavi_octets held;
     struct yelunnavi_frame frame;
     struct yelunnavi_read read;
     uint8_t next[sizeof FRAME], out[64];
     memcpy(next, FRAME, sizeof next);
     WANT(DONE, yelunnavi_reader_hold(&reader, 1000, &read));
+    WANT(DONE, yelunnavi_reader_octets(&reader, &held));
     WANT(DONE, yelunnavi_receiver_hand_reader(&receiver, &other, TEXT("pos")));
     for (uint8_t number = 1; number < 10; number++) {
         next[59] = next[42] = number;
@@ -234,7 +241,7 @@ static void of_a_hold(void) {
         WANT(DONE, yelunnavi_reader_read(&other, 1000u * number, out, sizeof out, &read));
         if (read.found != 1 || read.number != number + 1u || out[0] != number) exit(19);
         WANT(DONE, yelunnavi_reader_copy(&reader, 0, out, 17));
-        if (out[0] != FRAME[42] || out[1] != FRAME[43]) exit(20);
+        if (memcmp(out, FRAME + 42, 17) != 0 || held.len != 17 || memcmp(held.at, out, 17) != 0) exit(20);
     }
     yelunnavi_reader_close(&reader);
     WANT(NONE_LEFT, yelunnavi_receiver_hand_reader(&receiver, &reader, TEXT("pos")));
@@ -281,7 +288,9 @@ static void want_no_receiver(struct yelunnavi_receiver *h) {
 static void want_no_reader(struct yelunnavi_reader *h) {
     struct yelunnavi_read read;
     struct yelunnavi_limits limits;
+    struct yelunnavi_octets held;
     uint8_t out[8];
+    WANT(NOT_MADE, yelunnavi_reader_octets(h, &held));
     WANT(NOT_MADE, yelunnavi_reader_read(h, 0, out, sizeof out, &read));
     WANT(NOT_MADE, yelunnavi_reader_hold(h, 0, &read));
     WANT(NOT_MADE, yelunnavi_reader_copy(h, 0, out, sizeof out));

@@ -139,6 +139,11 @@ static void copy(void) {
     free(out);
 }
 
+static void tell_octets(void) {
+    struct yelunnavi_octets told;
+    if (code(yelunnavi_reader_octets(&readers[number()], &told))) show(told.at, told.len);
+}
+
 static void limits(void) {
     struct yelunnavi_limits told;
     if (code(yelunnavi_reader_limits(&readers[number()], &told))) printf(" %zu %" PRIu64, told.max, told.refresh);
@@ -188,6 +193,7 @@ static void call(const char *name) {
     else if (!strcmp(name, "read")) read_it();
     else if (!strcmp(name, "hold")) hold();
     else if (!strcmp(name, "copy")) copy();
+    else if (!strcmp(name, "octets")) tell_octets();
     else if (!strcmp(name, "release")) code(yelunnavi_reader_release(&readers[number()]));
     else if (!strcmp(name, "limits")) limits();
     else if (!strcmp(name, "take")) take();

@@ -53,7 +53,7 @@ class Script:
         self.r.choice(calls)()
 
     def between(self):
-        ends = [self.read] * 4 + [self.hold, self.hold, self.copy, self.copy, self.release, self.take, self.take, self.take]
+        ends = [self.read] * 4 + [self.hold, self.hold, self.copy, self.octets, self.release, self.take, self.take, self.take]
         return [*ends, self.hand_reader, self.hand_taker, self.count, self.filtered, self.limits, self.longest, self.place,
                 self.chance_of_closing]
 
@@ -140,6 +140,10 @@ class Script:
         first = self.r.choice([0, 0, self.r.randrange(size + 2), WRONG])
         length = self.r.choice([0, 1, max(0, size - first), self.r.randrange(size + 2)])
         self.call(self.readers[slot].copy(first, length), "copy", slot, first, length)
+
+    def octets(self):
+        slot = self.open_slot(self.readers)
+        self.call(self.readers[slot].octets(), "octets", slot)
 
     def release(self):
         slot = self.open_slot(self.readers)

@@ -11,6 +11,7 @@ import parts.options  # noqa: F401  (the tools are on the path then)
 from verdict_words import ALLOWED, FILTER_CAUSES, HEADER_CAUSES, KINDS, NETWORKS
 
 CALLS, HANDLES = "crates/receiver_c/src/lib.rt", "crates/receiver_c/src/{}_handle.rt"
+HELD = "crates/receiver_c/src/held_octets.rt"
 REPLIES, CODES, NUMBERS = (f"crates/receiver_slots/src/{name}.rt" for name in ("replies", "codes", "numbers"))
 FAULTS = "crates/vl_config/src/fault.rt"
 BOUNDS = ("crates/es_base/src/config.rt", "crates/es_base/src/settings.rt", "crates/es_base/src/port.rt",
@@ -26,12 +27,12 @@ ROOM = "room"
 STRUCTS_OF_C = {
     "FaultReply": "yelunnavi_fault", "FrameReply": "yelunnavi_frame", "ReadReply": "yelunnavi_read",
     "TakeReply": "yelunnavi_taken", "LinkReply": "yelunnavi_link", "PortReply": "yelunnavi_port",
-    "PlaceReply": "yelunnavi_place", "LimitReply": "yelunnavi_limits",
+    "PlaceReply": "yelunnavi_place", "LimitReply": "yelunnavi_limits", "HeldOctets": "yelunnavi_octets",
     **{f"{kind}Handle": f"yelunnavi_{kind.lower()}" for kind in KINDS_OF_HANDLES},
 }
 STRUCTS_OF_RUST = {
     "FaultReply": "Fault", "FrameReply": "Frame", "ReadReply": "Read", "TakeReply": "Taken", "LinkReply": "Link",
-    "PortReply": "Port", "PlaceReply": "Place", "LimitReply": "Limits",
+    "PortReply": "Port", "PlaceReply": "Place", "LimitReply": "Limits", "HeldOctets": "Held",
 }
 # What a number's name begins with in C, after YELUNNAVI_, and in Ada. In Rust it is a constant of a type of its group.
 PREFIXES = {
@@ -121,6 +122,9 @@ def structs_of_source(tree):
         text = (tree / HANDLES.format(kind.lower())).read_text(encoding="utf-8")
         found(r"^#\[repr\(C\)\]\npub struct \w+Handle \{\n    at: \*mut u8,\n    pub ghost .*\n\}", text, f"{kind}Handle")
         made[f"{kind}Handle"] = [(ROOM, ROOM)]
+    text = (tree / HELD).read_text(encoding="utf-8")
+    found(r"^pub struct HeldOctets \{\n    pub at: \*const u8,\n    pub len: usize,\n\}", text, "HeldOctets")
+    made["HeldOctets"] = [("at", "octets"), ("len", "usize")]
     return made
 
 
@@ -315,7 +319,8 @@ def face_of_rust(tree):
     found(r"#\[repr\(C\)\] [^;]*?pub struct \$name \{", text, f"{RUST}: the form of a reply")
     groups = dict(re.findall(r"^    (\w+) \{(.*?)^    \}", block_of_rust(text, "numbers"), re.M | re.S))
     handle = found(r"#\[repr\(C\)\]\nstruct Handle \{(.*?)\}", text, f"{RUST}: Handle")[1]
-    structs = {"Handle": re.findall(r"(\w+): ([^,]+)", handle)}
+    held = found(r"#\[repr\(C\)\]\nstruct Held \{(.*?)\}", text, f"{RUST}: Held")[1]
+    structs = {"Handle": re.findall(r"(\w+): ([^,]+)", handle), "Held": re.findall(r"(\w+): (\**\w[^,]*\w)", held)}
     structs |= {name: re.findall(r"(\w+): (\w+)", body)
                 for name, body in re.findall(r"^ +(\w+) \{ (.*?) \}$", block_of_rust(text, "replies"), re.M)}
     calls = re.findall(r"^ +(yelunnavi_\w+)\((.*?)\)(?: -> (\w+))?;", block_of_rust(text, "calls"), re.M)
@@ -348,7 +353,7 @@ def name_in_rust(group, name):
 
 # ---- Ada
 
-NAMES_OF_ADA = {"length": "len", "name_length": "name_len", "into": "out"}
+NAMES_OF_ADA = {"length": "len", "name_length": "name_len", "into": "out", "where": "at"}
 
 
 def name_of_ada(name):
@@ -359,7 +364,8 @@ def type_of_ada(words, subtypes):
     """A type of the package in the source's words."""
     mode, name = ("in out ", words[7:]) if words.startswith("in out ") else ("", words)
     name = subtypes.get(name, name)
-    plain = {"Unsigned_32": "u32", "Unsigned_64": "u64", "size_t": "usize", "System.Address": ROOM}
+    plain = {"Unsigned_32": "u32", "Unsigned_64": "u64", "size_t": "usize", "System.Address": ROOM,
+             "access constant Unsigned_8": "octets"}
     if name in KINDS_OF_HANDLES:
         return f"{name}Handle" if mode else name
     if name.endswith(" octets"):

@@ -195,6 +195,9 @@ class Reader:
             return OUT_OF_RANGE, filled(b"", length)
         return DONE, self.held.octets[first:first + length]
 
+    def octets(self):
+        return (DONE, self.held.octets) if self.held else (HOLDS_NONE,)
+
     def release(self):
         code, self.held = DONE if self.held else HOLDS_NONE, None
         return (code,)

@@ -57,6 +57,7 @@ static struct yelunnavi_fault fault;
 static struct yelunnavi_frame frame;
 static struct yelunnavi_read found;
 static struct yelunnavi_limits limits;
+static struct yelunnavi_octets held;
 static struct yelunnavi_taken taken;
 static struct yelunnavi_link link_reply;
 static struct yelunnavi_port port_reply;
@@ -80,6 +81,7 @@ static void hand_reader(void) { code = yelunnavi_receiver_hand_reader(&receiver,
 static void hand_taker(void) { code = yelunnavi_receiver_hand_taker(&receiver, &taker, name, port_reply.name_len); }
 static void read_it(void) { code = yelunnavi_reader_read(&reader, 0, out, sizeof out, &found); }
 static void hold(void) { code = yelunnavi_reader_hold(&reader, 0, &found); }
+static void tell_octets(void) { code = yelunnavi_reader_octets(&reader, &held); }
 static void copy(void) { code = yelunnavi_reader_copy(&reader, 0, out, found.len); }
 static void release(void) { code = yelunnavi_reader_release(&reader); }
 static void tell_limits(void) { code = yelunnavi_reader_limits(&reader, &limits); }
@@ -165,7 +167,7 @@ static void of_frames(char **files) {
 static void of_a_reader(void) {
     if (yelunnavi_reader_init(&reader, end_rooms[at_port], sizeof end_rooms[0]) != YELUNNAVI_DONE) exit(9);
     call("hand_reader", hand_reader), call("limits", tell_limits), call("read", read_it), call("hold", hold);
-    if (found.found) call("copy", copy), call("release", release);
+    if (found.found) call("octets", tell_octets), call("copy", copy), call("release", release);
     call("hold", hold), call("close", close_reader);
 }
 

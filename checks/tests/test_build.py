@@ -1,9 +1,14 @@
 """What ./build keeps, and the words of ./afdx_play that are refused before anything is built."""
+import csv
+import io
 import subprocess
+import tarfile
 
 import pytest
+import release
 from conftest import ROOT
-from marks import Product
+from evidence import matrix
+from marks import Product, sum_of
 
 CONFIG = ROOT / "examples" / "two_links.toml"
 
@@ -39,6 +44,31 @@ def test_a_mark_of_other_sources_does_not_fit(tmp_path):
 def test_the_library_depends_on_its_header_and_its_target_has_a_folder():
     library, other = Product("library"), Product("library", "aarch64-unknown-linux-gnu")
     assert library.folder != other.folder and library.sum() == other.sum() != Product("program").sum()
+
+
+def packed(folder, gate):
+    """The octets of a release with one folder, which is in the tree and not in its commit."""
+    release.OUT = folder
+    return release.pack([ROOT / "examples" / "captures"], gate).read_bytes()
+
+
+def test_a_release_of_one_commit_is_always_the_same_octets(tmp_path):
+    made = packed(tmp_path, "12 passed, 0 failed\n")
+    assert made == packed(tmp_path, "12 passed, 0 failed\n") != packed(tmp_path, None)
+    with tarfile.open(fileobj=io.BytesIO(made)) as archive:
+        files = {entry.name.partition("/")[2]: (entry, archive.extractfile(entry).read()) for entry in archive}
+    assert files["afdx_play"][0].mode == 0o755 and files["README.md"][0].mode == 0o644
+    assert {(entry.uid, entry.uname) for entry, _ in files.values()} == {(0, "")}
+    sums = dict(reversed(line.split("  ", 1)) for line in files.pop(release.SUMS)[1].decode().splitlines())
+    assert sums == {name: sum_of(octets) for name, (_, octets) in files.items()}
+    assert files["evidence/gate"][1] == b"12 passed, 0 failed\n"
+
+
+def test_the_matrix_has_every_row_of_the_page():
+    rows = list(csv.DictReader(io.StringIO(matrix())))
+    page = (ROOT / "docs" / "TRACEABILITY.md").read_text(encoding="utf-8").splitlines()
+    headings = sum(line.startswith("| rule |") for line in page)
+    assert len(rows) == sum(line.startswith("| ") for line in page) - headings and all(row["rule"] for row in rows)
 
 
 @pytest.mark.parametrize("words, told", [

@@ -9,7 +9,7 @@ from parts import faces
 
 C, WORDS, RUST, ADA = faces.C, faces.WORDS, faces.RUST, faces.ADA
 HANDLES = [faces.HANDLES.format(kind.lower()) for kind in faces.KINDS_OF_HANDLES]
-SOURCES = [faces.CALLS, *HANDLES, faces.REPLIES, faces.CODES, faces.NUMBERS, faces.FAULTS, *faces.BOUNDS]
+SOURCES = [faces.CALLS, *HANDLES, faces.HELD, faces.REPLIES, faces.CODES, faces.NUMBERS, faces.FAULTS, *faces.BOUNDS]
 READ = [*SOURCES, C, WORDS, RUST, ADA]
 
 # A file, what stands there once, what is planted in its place, and what is told of it.
@@ -24,6 +24,10 @@ PLANTED = [
     (RUST, "skew_max: u64, reassembly: u64", "reassembly: u64, skew_max: u64", "struct LinkReply"),
     (ADA, "Skew_Max, Reassembly", "Reassembly, Skew_Max", "struct LinkReply"),
     (ADA, "Service, Address, Udp, Max", "Service, Udp, Address, Max", "struct PortReply"),
+    (C, "    const uint8_t *at; /* the first */\n    size_t len;        /* how many there are */\n",
+     "    size_t len;\n    const uint8_t *at;\n", "struct HeldOctets"),
+    (RUST, "struct Held {\n    at: *const u8,\n    len: usize,\n", "struct Held {\n    len: usize,\n    at: *const u8,\n", "struct HeldOctets"),
+    (ADA, "Where : access constant Unsigned_8; Length : size_t;", "Length : size_t; Where : access constant Unsigned_8;", "struct HeldOctets"),
     (faces.REPLIES, "    pub number: u64,\n    /// When it came, in microseconds.\n    pub time: u64,",
      "    pub time: u64,\n    pub number: u64,", "struct ReadReply"),
     # wrong widths, of a field, of a parameter and of a result
@@ -94,10 +98,10 @@ PLANTED = [
      "number Fault_Too_Many: 8; in the source: 10"),
     (faces.REPLIES, "(Some(_), None) => 1", "(Some(_), None) => 3", "number Level::LINK: 1; in the source: 3"),
     (faces.BOUNDS[0], "MOST_LINKS: usize = 64", "MOST_LINKS: usize = 65", "number Most_Links: 64; in the source: 65"),
-    (C, "#define YELUNNAVI_ABI 1", "#define YELUNNAVI_ABI 2", "number YELUNNAVI_ABI: 2; in the source: 1"),
-    (RUST, "pub const ABI: u32 = 1;", "pub const ABI: u32 = 2;", "number ABI: 2; in the source: 1"),
-    (ADA, "   Abi : constant Unsigned_32 := 1;\n", "", "no number Abi"),
-    (faces.CALLS, "pub const ABI: u32 = 1;", "pub const ABI: u32 = 2;", "number YELUNNAVI_ABI: 1; in the source: 2"),
+    (C, "#define YELUNNAVI_ABI 2", "#define YELUNNAVI_ABI 1", "number YELUNNAVI_ABI: 1; in the source: 2"),
+    (RUST, "pub const ABI: u32 = 2;", "pub const ABI: u32 = 1;", "number ABI: 1; in the source: 2"),
+    (ADA, "   Abi : constant Unsigned_32 := 2;\n", "", "no number Abi"),
+    (faces.CALLS, "pub const ABI: u32 = 2;", "pub const ABI: u32 = 1;", "number YELUNNAVI_ABI: 2; in the source: 1"),
     # words
     (WORDS, 'return "checksum"', 'return "sum"', "word of HeaderFault::CHECKSUM: 'sum'; in the source: 'checksum'"),
     (WORDS, "    case YELUNNAVI_VERDICT_QUEUED: return \"queued\";\n", "", "no word of Verdict::QUEUED"),
@@ -145,6 +149,7 @@ def test_a_difference_is_found(copy, name, old, new, told):
     (faces.CALLS, "    fault: &mut FaultReply,\n", "    fault: *mut FaultReply,\n"),
     (faces.CALLS, "fn yelunnavi_receiver_room() -> usize", "fn yelunnavi_receiver_room() -> (usize)"),
     (faces.HANDLES.format("taker"), "    at: *mut u8,", "    at: *mut u8,\n    octets: usize,"),
+    (faces.HELD, "    pub at: *const u8,\n    pub len: usize,", "    pub len: usize,\n    pub at: *const u8,"),
     (faces.REPLIES, "#[repr(C)]\n#[derive(Clone, Copy, Debug, Drop, PartialEq, Eq)]\npub struct TakeReply",
      "#[derive(Clone, Copy, Debug, Drop, PartialEq, Eq)]\npub struct TakeReply"),
     (RUST, "#[repr(transparent)] ", ""),

@@ -10,7 +10,7 @@ package Yelunnavi is
    type Taker is limited record Room : System.Address; end record with Convention => C;
 
    --  The number of this interface: raised with each change of a struct, a call or a number. Library_Abi has the library's.
-   Abi : constant Unsigned_32 := 2;
+   Abi : constant Unsigned_32 := 3;
 
    subtype Code is Unsigned_32;
    Done : constant Code := 0;
@@ -121,6 +121,7 @@ package Yelunnavi is
       Service, Address, Udp, Max : Unsigned_32; Limit : Unsigned_64; Name_Length : size_t;
    end record with Convention => C;
    type Place_Reply is record Link : size_t; Port : Unsigned_32; end record with Convention => C;
+   type Held_Octets is record Where : access constant Unsigned_8; Length : size_t; end record with Convention => C;
    type Limit_Reply is record Max : size_t; Refresh : Unsigned_64; end record with Convention => C;
 
    type Octets is array (size_t range <>) of aliased Unsigned_8 with Convention => C;
@@ -170,6 +171,8 @@ package Yelunnavi is
      with Import, Convention => C, External_Name => "yelunnavi_reader_read";
    function Hold (H : in out Reader; Now : Unsigned_64; Reply : in out Read_Reply) return Code
      with Import, Convention => C, External_Name => "yelunnavi_reader_hold";
+   function Octets_Held (H : in out Reader; Octets : in out Held_Octets) return Code
+     with Import, Convention => C, External_Name => "yelunnavi_reader_octets";
    function Copy (H : in out Reader; First : size_t; Into : in out Octets; Length : size_t) return Code
      with Import, Convention => C, External_Name => "yelunnavi_reader_copy";
    function Release (H : in out Reader) return Code

@@ -81,7 +81,7 @@ extern "C" {
 typedef char yelunnavi_is_of_64_bits[sizeof(size_t) == 8 && sizeof(void *) == 8 ? 1 : -1];
 
 /* The number of this interface: raised with each change of a struct, a call or a number. */
-#define YELUNNAVI_ABI 2
+#define YELUNNAVI_ABI 3
 
 /* The number of the library's interface. A program compares both before its first opening: if they differ, the header that
    it was compiled with is of another library. */
@@ -367,6 +367,16 @@ uint32_t yelunnavi_reader_read(struct yelunnavi_reader *h, uint64_t now, uint8_t
 /* Holds the newest message where it stands, and tells of it as a read does; with `found` 0 none is held. It stays as it is
    until it is released. The receiver goes on all the while, and so do the port's other readers. NOT_OPEN, HOLDS_ONE. */
 uint32_t yelunnavi_reader_hold(struct yelunnavi_reader *h, uint64_t now, struct yelunnavi_read *reply);
+
+/* Octets of the library: they are read, and neither written nor given back. */
+struct yelunnavi_octets {
+    const uint8_t *at; /* the first */
+    size_t len;        /* how many there are */
+};
+
+/* Tells where the octets of the message that is held stand. They stay there, and as they are, until it is released or the
+   reader is closed; the receiver goes on all the while, and so do the port's other readers. HOLDS_NONE. */
+uint32_t yelunnavi_reader_octets(struct yelunnavi_reader *h, struct yelunnavi_octets *octets);
 
 /* Fills `out` with octets of the message that is held, from `first` on. HOLDS_NONE; OUT_OF_RANGE if it has not so many. */
 uint32_t yelunnavi_reader_copy(struct yelunnavi_reader *h, size_t first, uint8_t *out, size_t len);

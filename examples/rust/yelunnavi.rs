@@ -87,7 +87,7 @@ impl Verdict {
 }
 
 /// The number of this interface: raised with each change of a struct, a call or a number.
-pub const ABI: u32 = 2;
+pub const ABI: u32 = 3;
 pub const MOST_LINKS: usize = 64;
 /// Of a link.
 pub const MOST_PORTS: usize = 32;
@@ -158,6 +158,13 @@ struct Handle {
     room: *mut c_void,
 }
 
+/// Where the octets of a message stand that is held, and how many there are.
+#[repr(C)]
+struct Held {
+    at: *const u8,
+    len: usize,
+}
+
 macro_rules! calls {
     ($($call:ident($($name:ident: $type:ty),*) $(-> $result:ty)?;)*) => {
         unsafe extern "C" { $(fn $call($($name: $type),*) $(-> $result)?;)* }
@@ -185,6 +192,7 @@ calls! {
     yelunnavi_receiver_hand_taker(h: *mut Handle, to: *mut Handle, name: *const u8, len: usize) -> Code;
     yelunnavi_reader_read(h: *mut Handle, now: u64, out: *mut u8, len: usize, reply: *mut Read) -> Code;
     yelunnavi_reader_hold(h: *mut Handle, now: u64, reply: *mut Read) -> Code;
+    yelunnavi_reader_octets(h: *mut Handle, octets: *mut Held) -> Code;
     yelunnavi_reader_copy(h: *mut Handle, first: usize, out: *mut u8, len: usize) -> Code;
     yelunnavi_reader_release(h: *mut Handle) -> Code;
     yelunnavi_reader_limits(h: *mut Handle, reply: *mut Limits) -> Code;
@@ -315,6 +323,13 @@ impl Reader<'_> {
     /// Holds it, until it is released.
     pub fn hold(&mut self, now: u64) -> Result<Read, Code> {
         told(|reply| unsafe { yelunnavi_reader_hold(&mut self.handle, now, reply) })
+    }
+
+    /// The octets of the message that is held, where they stand. It can't be released while they are looked at.
+    pub fn octets(&mut self) -> Result<&[u8], Code> {
+        let mut held = Held { at: core::ptr::null(), len: 0 };
+        answer(unsafe { yelunnavi_reader_octets(&mut self.handle, &mut held) })?;
+        Ok(unsafe { core::slice::from_raw_parts(held.at, held.len) })
     }
 
     pub fn copy(&mut self, first: usize, out: &mut [u8]) -> Result<(), Code> {

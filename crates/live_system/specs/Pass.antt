@@ -49,9 +49,9 @@ pub record Visits (pass : KnownLink) (did : LiveLink → LiveLink → Type 0) : 
 -- ---- a frame
 
 -- What one call did to a link: the place that it shows, and its verdict. Where the queue of the frame's port is known to
--- have room, the verdict is that with room.
+-- have room, before or after, the verdict is that with room.
 abbrev pub Did : Arrival → LiveLink → LiveLink → ℕ × Verdict → Type 0
-Did a old new answer = Takes ShowsPort GivesPort AnswersPort old new a answer.0 answer.1 × TakesIfKnown HasSpacePort old a answer.1
+Did a old new answer = Takes ShowsPort GivesPort AnswersPort old new a answer.0 answer.1 × TakesIfKnown HasSpacePort old new a answer.1
 
 -- One call more, which is what its visit came to, at its place, and it is counted; nothing else of the pass changes.
 pub record Calls (old : KnownLink) (c : Call) (new : KnownLink) : Type 0 where

@@ -14,12 +14,13 @@ ghost use Rattle.mailbox_reader.specs.Reads.{PortReader};
 ghost use Rattle.receiver.specs.Taking.{HandsReader, HandsTaker};
 ghost use Rattle.mailbox_port.specs.Port.{is_reader_count};
 ghost use Rattle.receiver_c.specs.Abi.{abi};
+ghost use Rattle.receiver_c.specs.HeldOctets.{TellsOctets};
 ghost use Rattle.receiver_c.specs.Made.{made_reader, made_receiver, made_taker};
 ghost use Rattle.receiver_c.specs.Marks.{after_close, if_made, is_made, reader_mark, receiver_mark, taker_mark};
 ghost use Rattle.receiver_slots.specs.Codes.{already_open, done, faulty, no_memory, none_left, not_made, not_open, out_of_range};
 ghost use Rattle.receiver_slots.specs.Handing.{HandsOut, hand_reader_code, hand_taker_code};
 ghost use Rattle.receiver_slots.specs.Naming.{CountsLinks, TellsLink, TellsPlace, TellsPort, link_code, links_code, place_code, port_code};
-ghost use Rattle.receiver_slots.specs.Reading.{Copies, DidHold, DidRead, TellsReader, copy_code, read_code, release_code, released};
+ghost use Rattle.receiver_slots.specs.Reading.{Copies, DidHold, DidRead, TellsReader, copy_code, held_octets, read_code, release_code, released};
 ghost use Rattle.receiver_slots.specs.Receiving.{CountsFrames, CountsFiltered, HasFault, Opens, Receives, count_code, filtered_code, receive_code};
 ghost use Rattle.receiver_slots.specs.Taking.{DidTake, TellsTaker, take_code, taker_code};
 ghost use Rattle.receiver_slots.specs.declared.reader_slot.ReaderState.TheVariants.{Closed, Reads};
@@ -27,24 +28,26 @@ ghost use Rattle.receiver_c.specs.contracts.marked.MarkedReceiver.{the_row as re
 ghost use Rattle.receiver_c.specs.contracts.marked.MarkedReader.{the_row as reader_row};
 ghost use Rattle.receiver_c.specs.contracts.marked.MarkedTaker.{the_row as taker_row};
 
-use receiver_slots::codes::NOT_MADE;
+use receiver_slots::codes::{DONE, HOLDS_NONE, NOT_MADE};
 use receiver_slots::{
     FaultReply, FrameReply, LimitReply, LinkReply, PlaceReply, PortReply, ReadReply, TakeReply,
 };
 use std::alloc::Global;
 
+pub mod held_octets;
 pub mod marked;
 pub mod reader_handle;
 pub mod receiver_handle;
 pub mod taker_handle;
 
+use held_octets::{HeldOctets, octets_at};
 use marked::{MarkedReader, MarkedReceiver, MarkedTaker, READER, RECEIVER, TAKER};
 use reader_handle::ReaderHandle;
 use receiver_handle::ReceiverHandle;
 use taker_handle::TakerHandle;
 
 /// The number of the interface: raised with each change of a struct, a call or a number.
-pub const ABI: u32 = 2;
+pub const ABI: u32 = 3;
 
 /// The number of the interface of this library. A program compares it with that of the header that it was compiled with.
 #[unsafe(no_mangle)]
@@ -365,6 +368,29 @@ pub extern "C" fn yelunnavi_reader_hold(
         return NOT_MADE;
     }
     made.slot.hold(now, reply)
+}
+
+/// Tells where the octets of the message stand that is held, and how many they are. They stay as they are until the message
+/// is released or the reader is closed.
+#[unsafe(no_mangle)]
+pub extern "C" fn yelunnavi_reader_octets(h: &mut ReaderHandle, octets: &mut HeldOctets) -> u32
+    ensures place { (h.new.at ≡ h.old.at) × (h.new.room.mark ≡ h.old.room.mark) }
+    ensures code { result ≡ if_made reader_mark h.old.room.mark (release_code h.old.room.slot) }
+    ensures told { result ≡ done → TellsOctets (held_octets h.old.room.slot) octets.new }
+    ensures same { 0 < result → octets.new ≡ octets.old }
+    ensures kept { h.new.room.slot ≡ h.old.room.slot }
+{
+    let made = h.lend();
+    if made.mark != READER {
+        return NOT_MADE;
+    }
+    match made.slot.octets() {
+        Some(held) => {
+            *octets = octets_at(held);
+            DONE
+        }
+        None => HOLDS_NONE,
+    }
 }
 
 /// Fills `out` with octets of the message that is held, from `first` on.

@@ -229,7 +229,7 @@ fn eight_threads_hold_whole_messages_in_order(rt: HostRuntime) {
 // ---- short messages
 
 /// How many messages of no octets are published, and how often a reader looks for one.
-const MANY_SHORT: u64 = 50_000;
+const MANY_SHORT: u64 = 400_000;
 
 /// Each message is its number alone, as its time: a publication takes few steps, and a slot is soon written again.
 fn publish_short(rt: &impl Abort, mut writer: Writer<1>) -> Writer<1> {

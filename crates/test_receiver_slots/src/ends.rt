@@ -104,6 +104,7 @@ fn message_is_held(
 ) -> bool {
     let mut part = [0; 3];
     let before = pos.copy(0, &mut part) == HOLDS_NONE && pos.release() == HOLDS_NONE;
+    let nowhere = pos.octets() == None;
     let stale = hold(pos, 22_001) == (DONE, message(2, 0)) && pos.release() == DONE;
     let held = hold(pos, 22_000) == (DONE, message(2, 1));
     let mut came = 0;
@@ -111,13 +112,14 @@ fn message_is_held(
         came = bring(rt, alloc, slot, false, number);
     }
     let again = hold(pos, 0).0 == HOLDS_ONE && read(pos, 0, &mut part).0 == HOLDS_ONE;
+    let in_place = pos.octets() == Some(&OCTETS[..]);
     let copied = pos.copy(14, &mut part) == DONE && part == [15, 16, 17];
     let too_far = pos.copy(15, &mut part) == OUT_OF_RANGE
         && pos.copy(usize::MAX, &mut part) == OUT_OF_RANGE;
     let released = pos.release() == DONE && pos.release() == HOLDS_NONE;
     let newest = read(pos, 22_000, &mut part) == (DONE, message(22, 1));
     let is_told = before && stale && held && again && released && newest;
-    is_told && came == SAMPLED && copied && too_far
+    is_told && came == SAMPLED && nowhere && in_place && copied && too_far
 }
 
 /// The limits of `pos`; a reader that holds a message is closed.

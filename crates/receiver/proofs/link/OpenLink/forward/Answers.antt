@@ -130,4 +130,7 @@ returns-clause-known g c =
       frame = record { short = step.frame.short; long = step.frame.long; carries = step.frame.carries };
       number = ap (λ (x : Arrival). link_number_of x.frame) c.look-step.ensures.came ∙ (rw (← c.self.view_is) at c.requires.link);
     } in
-    rw (← c.self.view_is, ← c.look-step.ensures.came) (with_room o.shows o.has_space o.gives o.answers old mid c.take-taken.follows.lender-at-none a step.outcome room taken.verdict taken.payload asked lent)
+    let new : Ported _ = ported c.take-taken.follows.lender-at-none c.put.new.outlets.items c.next_place.new.came in
+    let time : step.time ≡ c.args.now = ap (λ (x : Arrival). x.time) c.look-step.ensures.came in
+    rw (← c.self.view_is, ← c.look-step.ensures.came)
+    (with_room o.shows o.has_space o.gives o.answers old new mid c.take-taken.follows.lender-at-none a step.outcome room taken.verdict taken.payload asked lent (rw time c.put.ensures))

@@ -1,0 +1,14 @@
+-- Octets in memory, as C is told where they stand.
+use Rattle.std.specs.Prelude.{◌≡◌, ℕ, List, length, Option, None, Some}
+use Rattle.std.specs.Borrow.{Bor}
+use Rattle.std.specs.Ptr.{Ptr, block_ptr}
+use Rattle.receiver_c.specs.declared.held_octets.HeldOctets.{HeldOctets}
+
+-- where these octets stand, which are lent
+abbrev pub address : Bor (List ℕ) → Ptr
+address octets = block_ptr octets.ref_ptr.0 octets.ref_ptr.1
+
+-- it is told where these octets stand, and how many they are
+abbrev pub TellsOctets : Option (List ℕ) → HeldOctets → Type 0
+TellsOctets None told = ⊥
+TellsOctets (Some octets) told = (lent : Bor (List ℕ)) × (lent.now ≡ octets) × (told.at ≡ address lent) × (told.len ≡ length octets)
