@@ -22,6 +22,7 @@ use std::alloc::Global;
 use std::process::Abort;
 use std::sync::Wait;
 use test_inputs::CONSTANT;
+use test_inputs_live::Live;
 use test_inputs_systems::Running;
 
 /// How many octets the growth has that others follow which are refused.
@@ -303,4 +304,59 @@ fn a_receiver_for_one_task_is_used(rt: HostRuntime) {
 #[test]
 fn a_receiver_for_one_task_with_a_full_queue_is_used(rt: HostRuntime) {
     check_receiver(&rt, rt.alloc(), &overflowed(&rt, rt.alloc()));
+}
+
+// ---- a system that keeps no frame
+
+/// The case's frames as they are lent.
+fn lent<'a>(rt: &impl Abort, alloc: Global, case: &'a Case) -> Vec<(u64, &'a [u8])> {
+    let mut frames = Vec::new(alloc);
+    for row in &case.rows {
+        frames
+            .push((row.time, row.octets.as_slice()))
+            .expect(rt, OWN);
+    }
+    frames
+}
+
+/// The frames come one by one on network A, and at once on B.
+fn give_both(
+    rt: &impl Wait,
+    live: &mut Live,
+    frames: &[(u64, &[u8])],
+    replies: &mut [Reply],
+) -> usize {
+    for (time, octets) in frames {
+        let _reply = live.receive(rt, A, *time, octets);
+    }
+    live.receive_all(rt, B, frames, replies)
+}
+
+/// The frames come again and again, with all that partitions do between them; the system settles, and is looked at.
+fn check_live(rt: &(impl Abort + Wait), alloc: Global, case: &Case) {
+    let mut live = Live::open(alloc, &case.config).expect(rt, OWN);
+    let mut reader = live.take_reader("pos").expect(rt, "a reader");
+    let mut taker = live.take_taker("nav").expect(rt, "a taker");
+    let frames = lent(rt, alloc, case);
+    let mut replies = [Reply::Filtered(FilterCause::TooShort); 32];
+    let mut out = [0; 8192];
+    mark(rt, alloc);
+    for _ in 0..100 {
+        let many = give_both(rt, &mut live, &frames, &mut replies);
+        assert!(rt; many == frames.len());
+        let _reading = reader.read(2000, &mut out);
+        if taker.max() <= out.len() {
+            let _taken = taker.take(&mut out);
+        }
+    }
+    let settled = live.settle();
+    for link in &settled.links {
+        assert!(rt; link.came() == (frames.len() as u64).wrapping_mul(200));
+        assert!(rt; link.tally().count(B, 2) > 0);
+    }
+}
+
+#[test]
+fn a_system_that_keeps_no_frame_is_used(rt: HostRuntime) {
+    check_live(&rt, rt.alloc(), &joined(&rt, rt.alloc()));
 }
