@@ -61,7 +61,7 @@ def test_nothing_is_found_where_nothing_is_wrong(written, tmp_path):
     ("224.224.0.18", "224.224.1.18",
      "30: link 18 port alt: the address ends in 274, where most end in their link's number (18)"),
     ("vl = 17", "vl =", "4: refused: not TOML: Invalid value (at line 4, column 5)"),
-    ("vl = 17", "vl = 99999999999999999999", "3: link 99999999999999999999: refused: not TOML"),
+    ("vl = 17", "vl = 99999999999999999999", "1: refused: not TOML"),
 ])
 def test_each_slip_with_its_place(old, new, told, written):
     if "port = 1" in new:
@@ -74,10 +74,8 @@ def test_each_slip_with_its_place(old, new, told, written):
 
 def test_all_faults_in_one_run(written):
     """Each with its place, and no other: those of one port, and those after it."""
-    text = GOOD.replace("vl = 17", "vl = -1").replace('kind = "queuing"', 'kind = "queueing"').replace("depth = 4", "depth = 65") \
-        .replace('name = "alt"', 'name = "pos"').replace("skew_max_us = 1000\nreassembly_us = 50000\n\n[[link.port]]\nname = \"pos\"\n"
-                                                        "kind = \"sampling\"\naddress = \"224.224.0.18", "")
-    found = slips_of(written, text)
+    text = GOOD.replace("vl = 17", "vl = -1").replace('kind = "queuing"', 'kind = "queueing"').replace("depth = 4", "depth = 65")
+    found = slips_of(written, text.replace('name = "alt"', 'name = "pos"'))
     assert [line.split("refused: ")[1].partition(" (")[0] for line in found] == \
         ["vl out of range", "kind out of range", "depth out of range", "name given twice"]
     assert [line.partition(":")[0] for line in found] == ["4", "17", "20", "28"]
@@ -109,21 +107,22 @@ def changed(old, new):
 
 
 @pytest.mark.parametrize("old, new, told", [
-    ("udp = 5002", "udp = 5003", ["3: link 17: no port for 224.224.0.17 UDP 5002: 6 frames, the first packet 2 of A",
+    ("udp = 5002", "udp = 5003", ["3: link 17: no port for 224.224.0.17 UDP 5002: 3 frames, the first packet 2 of A",
+                                  "3: link 17: no port for 224.224.0.17 of a datagram in fragments: 3 frames, the first packet 5 of A",
                                   "15: link 17 port nav: no message came to it"]),
-    ("depth = 4", "depth = 4\nmax = 1500", ["15: link 17 port nav: 2 of its 6 messages was longer than max 1500, the first packet 8 of A"]),
+    ("depth = 4", "depth = 4\nmax = 1500", ["15: link 17 port nav: 2 of its 6 messages were longer than max 1500, the first packet 5 of A"]),
     ("udp = 5000", "udp = 5000\nmax = 0", [
-        "8: link 17 port pos: 7 of its 8 messages was longer than max 0, the first packet 1 of A"]),
+        "8: link 17 port pos: 7 of its 8 messages were longer than max 0, the first packet 1 of A",
+        "8: link 17 port pos: refresh_us 100000: its newest message was stale at the end, 281451 us old"]),
     ("skew_max_us = 40000", "skew_max_us = 1000", [
-        "3: link 17: skew_max_us 1000 is below the delays of 1 of 15 second copies, up to 32595 us: 0 messages came twice"]),
+        "3: link 17: skew_max_us 1000 is below the delays of 1 of 14 second copies, up to 32595 us: 0 messages came twice"]),
     ("refresh_us = 100000", "refresh_us = 20000", [
         "8: link 17 port pos: refresh_us 20000: the message was stale 7 times, before most of 8 messages; it was 63564 us old at most"]),
     ("reassembly_us = 50000", "reassembly_us = 0", [
-        "3: link 17: reassembly_us 0: none of 3 datagrams in parts was joined",
-        "3: link 17: window"]),
+        "3: link 17: reassembly_us 0: no datagram in parts was joined; 7 times one was given up"]),
 ])
 def test_what_a_capture_refutes(old, new, told, written):
-    assert slips_of(written, changed(old, new), A, B)[:len(told)] == told or slips_of(written, changed(old, new), A, B) == told[:1]
+    assert slips_of(written, changed(old, new), A, B) == told
 
 
 def test_networks_that_are_absent_or_joined(written, tmp_path):
@@ -152,29 +151,31 @@ def test_frames_that_come_too_often_for_the_bag(written):
 def steady(count, gap):
     """A trace of link 17 with a frame each `gap` microseconds."""
     frame = next(line.split()[1] for line in (ROOT / "examples" / "network_a.trace").read_text().splitlines() if line[0] == "1")
-    return "".join(f"{number * gap} {frame[:-2]}{number % 256 if number < 256 else 1 + (number - 1) % 255:02x}\n" for number in range(count))
+    return "".join(f"{place * gap} {frame[:-2]}{place % 255 + 1:02x}\n" for place in range(count))
 
 
-def with_skew(skew, more=""):
-    return f"{ONE[:ONE.index('[[link.port]]')]}".replace("skew_max_us = 1000", f"skew_max_us = {skew}{more}")
+def skews(written, skew, *traces, more=""):
+    """The slips of SkewMax: traces of networks that bring the same show no other."""
+    text = ONE.replace("skew_max_us = 1000", f"skew_max_us = {skew}{more}").replace("refresh_us = 20000", "refresh_us = 1000000")
+    return [line for line in slips_of(written, text, *traces) if "skew_max_us" in line]
 
 
 def test_a_skew_of_128_gaps(written):
     trace = written("t", steady(200, 10))
     for skew in (1280, 1281, 2551):
-        assert slips_of(written, with_skew(skew), trace) == [
+        assert skews(written, skew, trace, trace) == [
             f"3: link 17: skew_max_us {skew} isn't below the 1280 us in which 128 more of its frames came; what the delays "
             "differ by counts, too (docs/DELIVERY.md)"]
-    assert slips_of(written, with_skew(1279), trace) == slips_of(written, with_skew(1000000, "\nredundancy = false"), trace) == []
+    assert skews(written, 1279, trace, trace) == skews(written, 1000000, trace, trace, more="\nredundancy = false") == []
 
 
 def test_the_gaps_are_those_of_128_frames_at_their_closest(written):
     """128 frames and a gap of 127 show nothing; of both networks the one counts whose frames are closest."""
     few, many, closer = (written(name, steady(*given)) for name, given in
-                         [("few", (128, 10)), ("many", (129, 10)), ("closer", (300, 9))])
-    assert slips_of(written, with_skew(1280), few) == slips_of(written, with_skew(1151), many, closer) == []
-    assert "the 1280 us in which" in slips_of(written, with_skew(1280), many)[0]
-    assert "the 1152 us in which" in slips_of(written, with_skew(1152), many, closer)[0]
+                         [("few", (128, 10)), ("many", (129, 10)), ("closer", (129, 9))])
+    assert skews(written, 1280, few, few) == skews(written, 1151, many, closer) == []
+    assert "the 1280 us in which" in skews(written, 1280, many, many)[0]
+    assert "the 1152 us in which" in skews(written, 1152, many, closer)[0]
 
 
 def test_a_foreign_constant_that_most_frames_have(written):

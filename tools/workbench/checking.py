@@ -18,7 +18,7 @@ LEVELS = {
 }
 LEVEL_OF = {key: level for level, keys in LEVELS.items() for key in keys}
 OF_OTHER_KIND = {"sampling": ("depth", "take_us"), "queuing": ("refresh_us", "read_us")}
-MOST_FAULTS, MOST_LINKS, MOST_PORTS = 100, 64, 32
+MOST_FAULTS = 100
 # A value that is right, for each key whose value needn't differ from others.
 MENDED = {"constant": "03000000", "skew_max_us": 0, "redundancy": True, "reassembly_us": 0, "window": 2, "port": [],
           "address": "224.0.0.0", "max": 0, "refresh_us": 0, "depth": 1}
@@ -82,9 +82,7 @@ def mend(config, path, told):
         table = table[step]
     key = path[-1] if path else None
     if told.startswith("too many"):
-        at = table if key in ("link", "port") else table[key]
-        name = "port" if "link" in path else "link"
-        at[name] = at[name][:MOST_PORTS if name == "port" else MOST_LINKS]
+        del table[key:]
     elif key == "kind":
         table["kind"] = "queuing" if "depth" in table else "sampling"
         table.setdefault("refresh_us", 0)

@@ -152,8 +152,7 @@ class Copies:
         if time - self.latest > 2 * self.quiet and self.rate and self.newest - self.rate[0][0] >= STEADY:
             index, since = self.rate[0]
             expected = (time - self.latest) * (self.newest - index) // max(1, self.latest - since)
-        turns = max(0, (expected - steps + HALF_TURN) // TURN)
-        return steps + turns * TURN if turns or steps <= HALF_TURN else steps - TURN
+        return steps + TURN * max(-1, (expected - steps + HALF_TURN) // TURN)
 
     def advance(self, net, number, copy, ahead, is_reset=False):
         """A place that is newer than all."""

@@ -9,6 +9,7 @@ from workbench.faults import NOT_READ, Fault, plain
 
 GIVEN_TWICE = {"link": "vl", "port": "udp", "name": "name"}
 MOST_PERIOD, LONGEST_NAME = 10**9, 40  # microseconds, letters
+MOST_LINKS, MOST_PORTS = 64, 32
 # What a value of an own key has to be.
 PERIOD = f"a whole number of microseconds, 1 to {MOST_PERIOD}"
 OWN_KEYS = {
@@ -70,6 +71,8 @@ def allowed(fault, path):
 
 def path_of(fault):
     """The path of what is refused."""
+    if str(fault).startswith("too many"):
+        return ("link", MOST_LINKS) if fault.link is None else ("link", fault.link, "port", MOST_PORTS)
     first, *_ = str(fault).split()
     key = GIVEN_TWICE[first] if str(fault).endswith("given twice") else fault.key
     links = ("link", fault.link) if fault.link is not None else ()

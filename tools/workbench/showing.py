@@ -62,7 +62,9 @@ class Shown:
     def refused(self, one, reply):
         if reply.kind == "no-port":
             port = int.from_bytes(one.octets[36:38], "big")
-            self.count(self.strays, (reply.vl, f"{ipaddress.IPv4Address(one.octets[30:34])} UDP {port}"), one)
+            is_in_parts = int.from_bytes(one.octets[20:22], "big") & 0x1FFF
+            what = "of a datagram in fragments" if is_in_parts else f"UDP {port}"
+            self.count(self.strays, (reply.vl, f"{ipaddress.IPv4Address(one.octets[30:34])} {what}"), one)
         elif reply.kind == "too-long":
             self.count(self.too_long, reply.port, one)
 
@@ -134,7 +136,8 @@ def of_link(shown, vl):
     if link.link.redundancy:
         yield from of_skew_max(shown, link)
     if link.unfinished.count and not link.pieces.joined:
-        yield f"reassembly_us {link.link.reassembly}: none of {link.unfinished.count} datagrams in parts was joined"
+        yield (f"reassembly_us {link.link.reassembly}: no datagram in parts was joined; {link.unfinished.count} times one was "
+               "given up")
     if early := sum(net.early for net in link.nets):
         yield f"bag_us {link.own.bag}: {early} frames came within half of it"
     for (of, pair), (first, count) in shown.strays.items():
@@ -160,8 +163,8 @@ def of_port(shown, link, port):
     came = found["messages"] if found["kind"] == "sampling" else found["taken"] + found["waiting"] + found["overflows"]
     if name in shown.too_long:
         first, count = shown.too_long[name]
-        yield (f"{'each' if not came else count} of its {came + count} messages was longer than max "
-               f"{port.get('max', 'of its kind')}, the first {shown.packets.unit} {first}")
+        which = f"{count} of its {came + count} messages were" if came else f"each of its {count} messages was"
+        yield f"{which} longer than max {port.get('max', 'of its kind')}, the first {shown.packets.unit} {first}"
     elif not came and any(net.frames for net in shown.health.links[link["vl"]].nets):
         yield "no message came to it"
     if found["kind"] == "queuing" and found["overflows"]:
