@@ -187,6 +187,21 @@ def test_a_capture_without_a_fault_keeps_each_condition(written):
     assert run("health", "--config", config, CAPTURES / "ahead_a.pcap", CAPTURES / "ahead_b.pcap").returncode == 0
 
 
+def test_sums_of_udp_at_which_no_receiver_looks(written):
+    """A sum of 0 says none; the right one is taken, and a wrong one is told of each copy, with --each."""
+    plain = bytes.fromhex(frame(7, 1, "", 1, 8))
+    total = sum(int.from_bytes((plain[26:34] + bytes((0, 17)) + plain[38:40] + plain[34:50])[at:at + 2], "big") for at in range(0, 28, 2))
+    right = 0xFFFF ^ ((total & 0xFFFF) + (total >> 16))
+    frames = [plain[:40] + value.to_bytes(2, "big") + plain[42:59] + bytes([number]) for number, value in
+              enumerate((0, right, right ^ 1), 1)]
+    names = [written(net, "".join(f"{8000 * place + delay} {octets.hex()}\n" for place, octets in enumerate(frames)))
+             for net, delay in (("a", 0), ("b", 100))]
+    config = written("two.toml", TWO.replace("refresh_us = 900", "refresh_us = 9000"))
+    _, links = health(*names, "--each", config=config)
+    assert [links[7]["networks"][net]["hidden"] for net in "AB"] == [{"wrong-udp-checksum": 1}] * 2
+    assert not health(*names, config=config)[1][7]["networks"]["A"]["hidden"]
+
+
 @pytest.mark.parametrize("words, status", [("lost-a=6,lost-b=1", 0), ("lost-a=5", 1), ("lost-both", 1), ("overflow", 0), ("", 0),
                                            ("reset=1", 0), ("reset", 1), ("twice=1", 0)])
 def test_what_fails_can_be_chosen(words, status):

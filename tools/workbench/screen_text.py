@@ -4,6 +4,12 @@ from workbench import told
 from workbench.conditions import CONDITIONS
 
 HEADS = ("link", "A/s", "B/s", "lost A", "B", "both", "delay us", "SkewMax", "twice", "age ms", "queue", "law", "amiss")
+LEFT = ("link", "network", "law", "amiss")
+# What a narrow terminal goes without, in this order.
+DISPENSABLE = ("queue", "age ms", "SkewMax", "A/s", "B/s")
+# Of a network of one link: how its frames come, and what it does to them. Times without a unit are in microseconds.
+COMES = ("frames", "rate", "least_gap_us", "greatest_gap_us", "usual_gap_ms", "jitter_us", "early", "silent_us")
+LOSES = ("lost", "longest_run", "overtaken", "repeated", "late", "astray")
 SHOWN_ALONE = ("lost-a", "lost-b", "lost-both", "twice", "law", "reset")
 
 
@@ -45,18 +51,21 @@ def cells(link):
             link["law"] if link["law"] != "-" else "not " + ",".join(link["broken"]), ", ".join(words))
 
 
-def table(heads, rows):
-    """Lines of columns, the first and the last to the left."""
-    widths = [max(len(row[place]) for row in (heads, *rows)) for place in range(len(heads))]
-    last = len(heads) - 1
+def table(heads, rows, room=None):
+    """Lines of columns: those that there is room for, words to the left and figures to the right."""
+    widths = {head: max(len(row[place]) for row in (heads, *rows)) for place, head in enumerate(heads)}
+    for head in DISPENSABLE:
+        if room and sum(width + 1 for of, width in widths.items() if of != heads[-1]) > room:
+            widths.pop(head, None)
     for row in (heads, *rows):
-        yield " ".join(cell.ljust(width) if place in (0, last) else cell.rjust(width)
-                       for place, (cell, width) in enumerate(zip(row, widths))).rstrip()
+        shown = [(cell, widths[head], head in LEFT) for head, cell in zip(heads, row) if head in widths]
+        line = " ".join(cell.ljust(width) if is_left else cell.rjust(width) for cell, width, is_left in shown).rstrip()
+        yield line if not room or len(line) <= room else line[:room - 2] + ".."
 
 
-def lines(found):
-    """The screen of all links."""
-    yield from table(HEADS, [cells(link) for link in found["links"]])
+def lines(found, room=None):
+    """The screen of all links; in so many columns, if they are told."""
+    yield from table(HEADS, [cells(link) for link in found["links"]], room)
     for name in ("filtered", "left_out"):
         for net, counts in found[name].items():
             if counts:
@@ -71,8 +80,9 @@ def lines_of_link(link):
     bag = f", BAG {link['bag_us']} us" if link["bag_us"] else ""
     yield (f"link {link['vl']}{name}: SkewMax {link['skew_max_us']} us, window {link['window']}, reassembly "
            f"{link['reassembly_us']} us{bag}{'' if link['redundancy'] else ', redundancy management is off'}")
-    yield from table(("network", *(key.replace("_", " ") for key in list(link["networks"]["A"])[:-2])), [
-        (net, *(number(value) for value in list(about.values())[:-2])) for net, about in link["networks"].items()])
+    for keys in (COMES, LOSES):
+        yield from table(("network", *(key.removesuffix("_us").replace("_", " ") for key in keys)), [
+            (net, *(number(about[key]) for key in keys)) for net, about in link["networks"].items()])
     for net, about in link["networks"].items():
         hidden = "".join(f"; hidden by the other network's copies: {kind} {count}" for kind, count in about["hidden"].items())
         yield f"verdicts on {net}: {', '.join(f'{kind} {count}' for kind, count in about['verdicts'].items()) or 'none'}{hidden}"

@@ -1,8 +1,9 @@
 """A receiver and the partition that reads and takes its ports, fed by a stream."""
-from workbench import settings, stream
+from workbench import frames, settings, stream
 from workbench.partitions import Partition
 
 # The verdicts that say that a frame itself is at fault.
+WRONG_SUM = "wrong-udp-checksum"
 FAULTS = ("bad-header", "bad-fragment", "bad-udp", "no-port", "too-long", "fragmented-sample", "exhausted")
 
 
@@ -48,7 +49,8 @@ class Station:
 
 
 class Alone:
-    """A receiver of its own for each network: what of a network's frames the other one's copies hide."""
+    """A receiver of its own for each network: what of a network's frames the other one's copies hide. And the checksums of
+    UDP, at which no receiver looks."""
 
     def __init__(self, config):
         self.receivers = [settings.opened(config.octets) for _ in range(2)]
@@ -56,7 +58,9 @@ class Alone:
     def fault(self, one, now, reply):
         """The verdict of a frame on its network alone, if it is a fault that `reply` doesn't tell."""
         found = self.receivers[one.net].receive(one.net, now, one.octets)
-        return found if found.kind in FAULTS and found.kind != reply.kind else None
+        if found.kind in FAULTS:
+            return found if found.kind != reply.kind else None
+        return found._replace(kind=WRONG_SUM, port="", number=0) if found.port and frames.has_wrong_udp_sum(one.octets) else None
 
 
 def opened(path, takes=True, tell=None):

@@ -1,5 +1,6 @@
 """The health of captures: a line a link, one link, or all of it for programs; and the exit status."""
 import json
+import os
 import sys
 
 from workbench import files, screen_text, station, stream, told
@@ -41,7 +42,7 @@ def shown(found, given):
     if given.json:
         return [json.dumps(found)]
     if given.link is None:
-        return screen_text.lines(found)
+        return screen_text.lines(found, os.get_terminal_size(1).columns if os.isatty(1) else None)
     for link in found["links"]:
         if link["vl"] == given.link:
             return screen_text.lines_of_link(link)
