@@ -10,3 +10,6 @@ pub mod Running
 pub mod Threads
 pub mod Meets
 pub mod Knowing
+pub mod Turns
+pub mod InTurn
+pub mod Parts

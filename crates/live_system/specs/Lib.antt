@@ -1,3 +1,4 @@
+pub mod Burst
 pub mod Calls
 pub mod LookUps
 pub mod Meetings

@@ -10,6 +10,7 @@
 //! ```
 #![tactic(auto)]
 
+mod burst;
 mod counts;
 mod crossing;
 pub mod laws;
@@ -18,6 +19,7 @@ mod locked;
 mod meetings;
 mod net_pass;
 mod opened;
+mod row;
 mod settled;
 mod system;
 

@@ -1,5 +1,5 @@
 //! One network's pass on one link.
-ghost use Rattle.std.specs.Prelude.{◌≡◌, ℕ, Some, IfOk, length};
+ghost use Rattle.std.specs.Prelude.{◌≡◌, ◌<◌, ◌≤◌, ℕ, Some, IfOk, length, take};
 ghost use Rattle.es_base.specs.Frame.{IsFrame, link_number_of};
 ghost use Rattle.es_base.specs.declared.place.Net.TheVariants.{A, B};
 ghost use Rattle.es_base.specs.Limits.{verdict_kinds};
@@ -10,6 +10,7 @@ ghost use Rattle.receiver.specs.Link.{IsNewLink};
 ghost use Rattle.receiver.specs.Meetings.{HasOutletAt};
 ghost use Rattle.receiver.specs.Port.{IsPortOf, IsQueueOf, ReadsPort, ShowsPort};
 ghost use Rattle.network_calls.specs.Calls.{call, count_calls, user_of};
+ghost use Rattle.live_system.specs.Burst.{AreFramesFor, CallsInTurn, TookInTurn, most_in_row};
 ghost use Rattle.live_system.specs.Calls.{LiveLink, no_calls};
 ghost use Rattle.live_system.specs.Meetings.{MeetsReader, MeetsTaker};
 ghost use Rattle.live_system.specs.Pass.{AreCountsOf, Calls, Did, IsNewPass, IsNoCall, IsSettled, Visits};
@@ -17,9 +18,11 @@ ghost use Rattle.live_system.specs.Pass.{AreCountsOf, Calls, Did, IsNewPass, IsN
 use crate::counts::LinkCounts;
 use crate::locked::Locked;
 use crate::meetings::{meet_reader, meet_taker};
+use crate::row::{Answers, take, take_row, tell};
 use es_base::{LinkNo, LinkSettings, Memory, Net, PortNo, Verdict};
-use frame_reader::{Frame, frame_in};
+use frame_reader::Frame;
 use link_lock::{Lock, Opened, PassOf};
+use network_calls::Reply;
 use receiver::{
     MailboxReader, OpenLink, PartitionEnd, PortEnd, PortOutlet, ReaderCount, RingTaker,
 };
@@ -89,6 +92,36 @@ impl LinkPass {
         );
         self.counts.add(net, answer.1);
         answer
+    }
+
+    /// Gives the link frames that came on the pass's network, each at its time, in microseconds: waits until the link is
+    /// free, lets the link take them one after another, and then gives it back. Replies the place of each one's event, which
+    /// stops at the greatest number of 64 bits, and its verdict. Takes no memory, and can't fail.
+    pub(crate) fn receive_row<R: Wait>(
+        &mut self,
+        rt: &R,
+        lock: &Lock<Locked>,
+        row: &[(u64, &[u8])],
+        replies: &mut [Reply],
+    )
+        requires lock { self.old.lock ≡ lock.now }
+        requires some { 0 < length row.now }
+        requires few { length row.now ≤ most_in_row }
+        requires room { length replies.old ≡ length row.now }
+        requires frames { (link : LiveLink) × (self.old.link ≡ Some link) × (self.old.counts.vl ≡ link.core.settings.vl) × AreFramesFor link.core.settings.vl row.now }
+        ensures { CallsInTurn self.old row.now replies.new self.new }
+    {
+        let net = self.net;
+        let answers = lock.visit(
+            rt,
+            &mut self.pass,
+            move |locked: &mut Locked| -> Answers
+                requires few { length row.now ≤ most_in_row }
+                requires frames { AreFramesFor locked.old.core.settings.vl row.now }
+                ensures { TookInTurn net locked.old row.entry.now (take (length row.entry.now) result) locked.new }
+            { take_row(locked, net, row) },
+        );
+        tell(&mut self.counts, net, &answers, replies);
     }
 
     /// A sampling port of the link and a reader of it meet, under the link's lock, for which this waits: the reader then
@@ -222,13 +255,4 @@ pub(crate) fn settle_link(lock: Lock<Locked>, a: LinkPass, b: LinkPass) -> Settl
     } = b;
     let Locked { link } = lock.settle(first, second);
     SettledLink { link, a, b }
-}
-
-/// Lets a link that is locked take a frame. Returns the place of its event and its verdict.
-fn take(locked: &mut Locked, net: Net, now: u64, octets: &[u8]) -> (u64, Verdict)
-    requires link { link_number_of octets.now ≡ locked.old.core.settings.vl.0 }
-    requires frame { IsFrame octets.now }
-    ensures { Did (arrived net now octets.now) locked.old locked.new result }
-{
-    locked.link.receive(net, now, &frame_in(octets))
 }

@@ -43,7 +43,7 @@ impl LiveSystem {
     }
 
     /// Gives a frame to the link that it comes to, which has this place.
-    fn receive_at<R: Wait>(
+    pub(crate) fn receive_at<R: Wait>(
         &self,
         rt: &R,
         pass: &mut NetPass,

@@ -1,0 +1,77 @@
+-- Frames that are given at once.
+use Rattle.std.specs.Prelude.{◌≡◌, ℕ, List, [], ◌∷◌, ◌++◌, map}
+use Rattle.std.specs.Borrow.{Bor}
+use Rattle.std.specs.List.{All}
+use Rattle.es_base.specs.declared.place.LinkNo.{LinkNo}
+use Rattle.es_base.specs.declared.place.Net.{Net}
+use Rattle.es_base.specs.declared.verdict.Verdict.{Verdict}
+use Rattle.es_base.specs.Addressing.{ComesToPlace, addressee_of}
+use Rattle.es_base.specs.Config.{Configuration}
+use Rattle.es_base.specs.Frame.{IsFrame}
+use Rattle.es_base.specs.Limits.{verdict_kinds}
+use Rattle.es_base.specs.Past.{arrived}
+use Rattle.es_base.specs.Tally.{AddsOne, one_more}
+use Rattle.es_base.specs.Verdict.{kind_of}
+use Rattle.link_core.specs.Counted.{shown}
+use Rattle.network_calls.specs.declared.reply.Reply.{Reply}
+use Rattle.network_calls.specs.declared.reply.Reply.TheVariants as replies
+use Rattle.network_calls.specs.Calls.{call}
+use Rattle.live_system.specs.declared.counts.LinkCounts.{LinkCounts}
+use Rattle.live_system.specs.Calls.{LiveLink}
+use Rattle.live_system.specs.Pass.{Calls, Did, KnownLink}
+use Rattle.live_system.specs.Run.{Step, came}
+
+-- frames, each with the time at which it came, the first one first
+abbrev pub Frames : Type 0
+Frames = List (ℕ × Bor (List ℕ))
+
+-- the calls that gave these frames and had these replies, the latest first
+abbrev pub steps_in_turn : Frames → List Reply → List Step
+steps_in_turn [] answers = []
+steps_in_turn (f ∷ fs) [] = []
+steps_in_turn (f ∷ fs) (r ∷ rs) = steps_in_turn fs rs ++ came f.0 f.1.now r ∷ []
+
+-- ---- frames in a row of one link
+
+-- at most so many are given in one visit
+abbrev pub most_in_row : ℕ
+most_in_row = 32
+
+-- each comes to the link at this place of the configuration
+abbrev pub ComeToPlace : Configuration → ℕ → Frames → Type 0
+ComeToPlace config at frames = All (λ (f : ℕ × Bor (List ℕ)). IsFrame f.1.now × ComesToPlace config f.1.now at) frames
+
+-- each is a frame of the link with this number
+abbrev pub AreFramesFor : LinkNo → Frames → Type 0
+AreFramesFor vl frames = All (λ (f : ℕ × Bor (List ℕ)). IsFrame f.1.now × (addressee_of f.1.now ≡ vl)) frames
+
+-- A link took these frames of a network, one after another; of each the place that it shows, and its verdict.
+abbrev pub TookInTurn : Net → LiveLink → Frames → List (ℕ × Verdict) → LiveLink → Type 0
+TookInTurn net old [] [] new = new ≡ old
+TookInTurn net old (f ∷ fs) (r ∷ rs) new = (mid : LiveLink) × Did (arrived net f.0 f.1.now) old mid r × TookInTurn net mid fs rs new
+TookInTurn net old [] (r ∷ rs) new = ⊥
+TookInTurn net old (f ∷ fs) [] new = ⊥
+
+-- one call more was counted, with this verdict
+pub record CountsOne (net : Net) (old : LinkCounts) (verdict : Verdict) (new : LinkCounts) : Type 0 where
+  pub vl : new.vl ≡ old.vl
+  pub number : new.number ≡ one_more old.number
+  pub tally : AddsOne verdict_kinds old.tally new.tally net (kind_of verdict)
+
+-- calls with these answers were counted, one after another
+abbrev pub CountsInTurn : Net → LinkCounts → List (ℕ × Verdict) → LinkCounts → Type 0
+CountsInTurn net old [] new = new ≡ old
+CountsInTurn net old (r ∷ rs) new = (mid : LinkCounts) × CountsOne net old r.1 mid × CountsInTurn net mid rs new
+
+-- an answer as it is replied
+abbrev pub reply_of : LinkNo → ℕ × Verdict → Reply
+reply_of vl answer = replies.Link vl answer.0 answer.1
+
+-- A pass gave these frames to its link, one after another, and these are the replies.
+abbrev pub CallsInTurn : KnownLink → Frames → List Reply → KnownLink → Type 0
+CallsInTurn old [] [] new = new ≡ old
+CallsInTurn old (f ∷ fs) (r ∷ rs) new =
+    (mid : KnownLink) × (place : ℕ) × (verdict : Verdict) × (r ≡ replies.Link (addressee_of f.1.now) (shown place) verdict)
+    × Calls old (call place f.0 f.1.now verdict) mid × CallsInTurn mid fs rs new
+CallsInTurn old [] (r ∷ rs) new = ⊥
+CallsInTurn old (f ∷ fs) [] new = ⊥
