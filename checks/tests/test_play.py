@@ -67,6 +67,15 @@ def test_ages_at_reading(written):
         assert (int(number), int(age)) == (newest, int(time) - at) and (state == "fresh") == (int(age) <= 20_000)
 
 
+def test_a_long_silence_takes_no_time(written):
+    """A frame, and the next one after 31,000 years: reads are counted, and not made one by one."""
+    frame = TRACES[0].read_text().splitlines()[1].split()[1]
+    config = written("c.toml", CONFIG.read_text().replace("udp = 5000\n", "udp = 5000\nread_us = 3\n", 1)
+                     .replace("depth = 4", "depth = 4\ntake_us = 1"))
+    lines = done("play", "--config", config, written("t", f"1 {frame}\n{10**18} {frame}\n")).decode().splitlines()
+    assert f"read pos oldest {10**18 - 2} stale {(10**18 - 1) // 3 - 6667} reads {(10**18 - 1) // 3} missed 0" in lines
+
+
 @pytest.mark.parametrize("key, told", [
     ("take_us = 0", "take_us isn't a whole number of microseconds, 1 to 1000000000"),
     ("take_us = 1.5", "take_us isn't a whole number"), ("take_us = true", "take_us isn't a whole number")])
