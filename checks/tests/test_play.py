@@ -62,9 +62,9 @@ def test_ages_at_reading(written):
     came = [(int(words[0]), int(words[-1])) for words in lines if words[4:5] == [b"pos"] or "sampled" in words]
     reads = [words for words in lines if words[1:3] == ["read", "pos"]]
     assert reads and all(int(words[0]) % 50_000 == 0 for words in reads)
-    for time, _, _, number, age, state in reads:
-        at, newest = max(one for one in came if one[0] <= int(time))
-        assert (int(number), int(age)) == (newest, int(time) - at) and (state == "fresh") == (int(age) <= 20_000)
+    for moment, _, _, number, age, state in reads:
+        at, newest = max(one for one in came if one[0] <= int(moment))
+        assert (int(number), int(age)) == (newest, int(moment) - at) and (state == "fresh") == (int(age) <= 20_000)
 
 
 def test_a_long_silence_takes_no_time(written):
