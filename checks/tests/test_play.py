@@ -99,6 +99,29 @@ def test_lines_come_as_packets_come():
     assert early + rest == done("play", "--config", CONFIG, CAPTURES / "both.pcapng")
 
 
+def test_each_line_leads_back_to_its_packet():
+    """The packet's number in tshark has the time of the line."""
+    times = {net: {int(number): seconds for number, seconds in tshark(path, "-e", "frame.number", "-e", "frame.time_epoch")}
+             for net, path in [("A", A), ("B", B)]}
+    base = min(time for one in times.values() for time in one.values())
+    nanoseconds = {net: {number: int(time.replace(".", "")) - int(base.replace(".", "")) for number, time in one.items()}
+                   for net, one in times.items()}
+    plain, found = done("play", "--config", CONFIG, A, B), done("play", "--config", CONFIG, "--packets", A, B)
+    assert [line.split(b" ", 1)[1] for line in found.splitlines()] == plain.splitlines()
+    for line in found.decode().splitlines():
+        number, moment, net, *_ = line.split()
+        if number != "-":
+            assert nanoseconds[net][int(number)] // 1000 == int(moment)
+
+
+def test_numbers_of_packets_count_those_that_were_left_out():
+    found = done("play", "--config", CONFIG, "--packets", CAPTURES / "a_tagged.pcap")
+    tagged = {int(number) for number, kind in tshark(CAPTURES / "a_tagged.pcap", "-e", "frame.number", "-e", "eth.type")
+              if kind == "0x8100"}
+    numbers = [int(line.split()[0]) for line in found.splitlines() if line[:1].isdigit()]
+    assert tagged and sorted({*numbers} | tagged) == list(range(1, 18)) and not tagged & {*numbers}
+
+
 def test_messages_are_those_that_were_sent():
     """The kernel fragmented them. Where nobody takes the queue holds its first four; the sampling port has its last."""
     report = done("play", "--never-taken", "--config", CONFIG, A, B).decode().splitlines()
