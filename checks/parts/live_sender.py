@@ -17,6 +17,7 @@ MS = 1_000_000
 LINKS = [(101, 8, 5101, 64, True), (102, 8, 5102, 64, True), (110, 4, 5110, 96, True), (111, 32, 5111, 128, True),
          (130, 16, 6130, 48, False), (140, 16, 5140, 80, True), (141, 16, 5141, 80, True), (150, 32, 5150, 40, True),
          (160, 2, 6160, 300, False), (170, 128, 5170, 30, True)]
+COUNTED = ("sent_a", "sent_b", "lost_a", "both", "late", "bad", "babble", "reset")
 CUT, LOST, LATE, RESET, BABBLE, BAD, STOP = (5, 8), (16, 16.1), (10, 11), 12, (13, 14), (15, 15.5), 18  # seconds
 
 
@@ -53,7 +54,7 @@ class Sender:
 
     def __init__(self, outs, seconds):
         self.outs, self.end, self.random = outs, seconds * 1000 * MS, random.Random(5)
-        self.told = {vl: dict.fromkeys(("sent_a", "sent_b", "lost_a", "both", "late", "bad", "babble", "reset"), 0) for vl, *_ in LINKS}
+        self.told = {vl: dict.fromkeys(COUNTED, 0) for vl, *_ in LINKS}
         self.numbers, self.counts = dict.fromkeys(self.told, 0), dict.fromkeys(self.told, 0)
         self.events, self.order, self.worst = [], 0, 0
         for link in LINKS:

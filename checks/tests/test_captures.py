@@ -341,7 +341,8 @@ def test_mutated_captures_are_played_or_make_one_fault(written, tmp_path, capsys
     for case in range(600):
         path = written("mutated", mutated(rng, seeds))
         given = argparse.Namespace(files=[path], interfaces=(0, 1), fcs=rng.choice([None, True]), reorder=5,
-                                   networks=rng.choice(["interface", "source"]), shift_b=rng.choice([0, -7]), to=tmp_path / "made")
+                                   networks=rng.choice(["interface", "source"]), shift_b=rng.choice([0, -7]),
+                                   to=tmp_path / "made")
         latest = [0, 0]
         try:
             with stream.opened(given) as found:
@@ -370,7 +371,8 @@ def test_a_shift_moves_one_network_and_is_found():
 def test_networks_of_one_tap_are_told_apart_by_the_source_address(tmp_path):
     joined = tmp_path / "joined.pcap"
     subprocess.run(["mergecap", "-F", "nsecpcap", "-w", joined, CAPTURES / "a_nano.pcap", CAPTURES / "b_nano.pcap"], check=True)
-    assert done("play", "--config", CONFIG, "--networks", "source", joined) == play(CAPTURES / "a_nano.pcap", CAPTURES / "b_nano.pcap")
+    assert done("play", "--config", CONFIG, "--networks", "source", joined) == \
+        play(CAPTURES / "a_nano.pcap", CAPTURES / "b_nano.pcap")
 
 
 def test_what_is_neither_is_refused_with_a_hint(written):

@@ -104,17 +104,20 @@ def changed(old, new):
 
 
 @pytest.mark.parametrize("old, new, told", [
-    ("udp = 5002", "udp = 5003", ["3: link 17: no port for 224.224.0.17 UDP 5002: 3 frames, the first packet 2 of A",
-                                  "3: link 17: no port for 224.224.0.17 of a datagram in fragments: 3 frames, the first packet 5 of A",
-                                  "15: link 17 port nav: no message came to it"]),
-    ("depth = 4", "depth = 4\nmax = 1500", ["15: link 17 port nav: 2 of its 6 messages were longer than max 1500, the first packet 5 of A"]),
+    ("udp = 5002", "udp = 5003", [
+        "3: link 17: no port for 224.224.0.17 UDP 5002: 3 frames, the first packet 2 of A",
+        "3: link 17: no port for 224.224.0.17 of a datagram in fragments: 3 frames, the first packet 5 of A",
+        "15: link 17 port nav: no message came to it"]),
+    ("depth = 4", "depth = 4\nmax = 1500", [
+        "15: link 17 port nav: 2 of its 6 messages were longer than max 1500, the first packet 5 of A"]),
     ("udp = 5000", "udp = 5000\nmax = 0", [
         "8: link 17 port pos: 7 of its 8 messages were longer than max 0, the first packet 1 of A",
         "8: link 17 port pos: refresh_us 100000: its newest message was stale at the end, 281451 us old"]),
     ("skew_max_us = 40000", "skew_max_us = 1000", [
-        "3: link 17: skew_max_us 1000 is below the delays of 1 of 14 second copies, up to 32595 us: 0 messages came twice"]),
+        "3: link 17: skew_max_us 1000 is below the delays of 1 of 14 second copies, up to 32595 us"]),
     ("refresh_us = 100000", "refresh_us = 20000", [
-        "8: link 17 port pos: refresh_us 20000: the message was stale 7 times, before most of 8 messages; it was 63564 us old at most"]),
+        "8: link 17 port pos: refresh_us 20000: the message was stale 7 times, before most of 8 messages; it was 63564 us "
+        "old at most"]),
     ("reassembly_us = 50000", "reassembly_us = 0", [
         "3: link 17: reassembly_us 0: no datagram in parts was joined; 7 times one was given up"]),
 ])
@@ -236,7 +239,8 @@ def refusal_of(text):
     with tempfile.NamedTemporaryFile() as file:
         file.write(text.encode())
         file.flush()
-        done = subprocess.run([PROGRAM, "--config", file.name, "--a", os.devnull, "--b", os.devnull], capture_output=True, text=True)
+        words = [PROGRAM, "--config", file.name, "--a", os.devnull, "--b", os.devnull]
+        done = subprocess.run(words, capture_output=True, text=True)
     return done.stderr.strip().removeprefix("afdx_play: config: ")
 
 

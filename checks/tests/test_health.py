@@ -190,7 +190,8 @@ def test_a_capture_without_a_fault_keeps_each_condition(written):
 def test_sums_of_udp_at_which_no_receiver_looks(written):
     """A sum of 0 says none; the right one is taken, and a wrong one is told of each copy, with --each."""
     plain = bytes.fromhex(frame(7, 1, "", 1, 8))
-    total = sum(int.from_bytes((plain[26:34] + bytes((0, 17)) + plain[38:40] + plain[34:50])[at:at + 2], "big") for at in range(0, 28, 2))
+    summed = plain[26:34] + bytes((0, 17)) + plain[38:40] + plain[34:50]
+    total = sum(int.from_bytes(summed[at:at + 2], "big") for at in range(0, len(summed), 2))
     right = 0xFFFF ^ ((total & 0xFFFF) + (total >> 16))
     frames = [plain[:40] + value.to_bytes(2, "big") + plain[42:59] + bytes([number]) for number, value in
               enumerate((0, right, right ^ 1), 1)]
@@ -219,8 +220,8 @@ def test_the_screens():
     assert lines[0].split()[:4] == ["link", "A/s", "B/s", "lost"] and lines[1].split()[:2] == ["17", "135"]
     assert "not skew-max,losses,packets,copies" in lines[1] and "delay 1, bad 1" in lines[1]
     lines = done("health", "--config", CONFIG, FAULTS, "--fail-on", "", "--link", "17").decode().splitlines()
-    assert "  losses: few are lost: fewer in a row than the window, and never the first after a restart: 1 times, first by 60 of " \
-        "A: the first after 6 were lost" in lines
+    assert "  losses: few are lost: fewer in a row than the window, and never the first after a restart: 1 times, first by " \
+        "60 of A: the first after 6 were lost" in lines
     assert "has no link 99" in fault(2, "health", "--config", CONFIG, FAULTS, "--link", "99")
 
 

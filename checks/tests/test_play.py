@@ -62,9 +62,18 @@ def test_ages_at_reading(written):
     came = [(int(words[0]), int(words[-1])) for words in lines if words[4:5] == [b"pos"] or "sampled" in words]
     reads = [words for words in lines if words[1:3] == ["read", "pos"]]
     assert reads and all(int(words[0]) % 50_000 == 0 for words in reads)
-    for time, _, _, number, age, state in reads:
-        at, newest = max(one for one in came if one[0] <= int(time))
-        assert (int(number), int(age)) == (newest, int(time) - at) and (state == "fresh") == (int(age) <= 20_000)
+    for moment, _, _, number, age, state in reads:
+        at, newest = max(one for one in came if one[0] <= int(moment))
+        assert (int(number), int(age)) == (newest, int(moment) - at) and (state == "fresh") == (int(age) <= 20_000)
+
+
+def test_a_long_silence_takes_no_time(written):
+    """A frame, and the next one after 31,000 years: reads are counted, and not made one by one."""
+    frame = TRACES[0].read_text().splitlines()[1].split()[1]
+    config = written("c.toml", CONFIG.read_text().replace("udp = 5000\n", "udp = 5000\nread_us = 3\n", 1)
+                     .replace("depth = 4", "depth = 4\ntake_us = 1"))
+    lines = done("play", "--config", config, written("t", f"1 {frame}\n{10**18} {frame}\n")).decode().splitlines()
+    assert f"read pos oldest {10**18 - 2} stale {(10**18 - 1) // 3 - 6667} reads {(10**18 - 1) // 3} missed 0" in lines
 
 
 @pytest.mark.parametrize("key, told", [
@@ -88,6 +97,29 @@ def test_lines_come_as_packets_come():
         process.stdin.close()
         rest = process.stdout.read()
     assert early + rest == done("play", "--config", CONFIG, CAPTURES / "both.pcapng")
+
+
+def test_each_line_leads_back_to_its_packet():
+    """The packet's number in tshark has the time of the line."""
+    times = {net: {int(number): seconds for number, seconds in tshark(path, "-e", "frame.number", "-e", "frame.time_epoch")}
+             for net, path in [("A", A), ("B", B)]}
+    base = min(time for one in times.values() for time in one.values())
+    nanoseconds = {net: {number: int(time.replace(".", "")) - int(base.replace(".", "")) for number, time in one.items()}
+                   for net, one in times.items()}
+    plain, found = done("play", "--config", CONFIG, A, B), done("play", "--config", CONFIG, "--packets", A, B)
+    assert [line.split(b" ", 1)[1] for line in found.splitlines()] == plain.splitlines()
+    for line in found.decode().splitlines():
+        number, moment, net, *_ = line.split()
+        if number != "-":
+            assert nanoseconds[net][int(number)] // 1000 == int(moment)
+
+
+def test_numbers_of_packets_count_those_that_were_left_out():
+    found = done("play", "--config", CONFIG, "--packets", CAPTURES / "a_tagged.pcap")
+    tagged = {int(number) for number, kind in tshark(CAPTURES / "a_tagged.pcap", "-e", "frame.number", "-e", "eth.type")
+              if kind == "0x8100"}
+    numbers = [int(line.split()[0]) for line in found.splitlines() if line[:1].isdigit()]
+    assert tagged and sorted({*numbers} | tagged) == list(range(1, 18)) and not tagged & {*numbers}
 
 
 def test_messages_are_those_that_were_sent():

@@ -87,7 +87,8 @@ def test_what_is_refused():
 
 
 @pytest.mark.parametrize("old, new, told", [
-    ("vl = 18", "vl = 17", ("link given twice", None, 1, None)), ("depth = 4", "depth = 65", ("depth out of range", "depth", 0, 1)),
+    ("vl = 18", "vl = 17", ("link given twice", None, 1, None)),
+    ("depth = 4", "depth = 65", ("depth out of range", "depth", 0, 1)),
     ("[[link]]\nvl = 17", "constant = 3\n[[link]]\nvl = 17", ("wrong kind of constant", "constant", None, None)),
     ("vl = 17", "vl =", ("not TOML", None, None, None))])
 def test_faults_have_their_place(old, new, told):

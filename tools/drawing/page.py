@@ -22,11 +22,12 @@ MEANINGS = [
     ("overflow", "overflow", "it was forwarded, and the queue of its port was full, so that its message is lost"),
     ("redundant", "redundant", "it passed integrity checking, and redundancy management didn't forward it"),
     ("out", "out-of-sequence", "integrity checking discarded it: its sequence number may not come next on its network"),
-    ("lost", "(no verdict)", "a copy that didn’t come: the other network brought it, or frames after it came. It stands at the time "
-     "of the other copy, or of the frame that showed it, so that an outage of any length is seen"),
+    ("lost", "(no verdict)", "a copy that didn’t come: the other network brought it, or frames after it came. It stands at the "
+     "time of the other copy, or of the frame that showed it, so that an outage of any length is seen"),
     ("twice", "(besides its verdict)", "the second copy of a frame that was forwarded too: its message came twice"),
     ("restart", "(besides its verdict)", "the sender began anew, with the number 0 or without"),
-    ("unfinished", "(besides its verdict)", "at this frame a datagram in parts was given up, or at its own first frame if it never ended"),
+    ("unfinished", "(besides its verdict)", "at this frame a datagram in parts was given up, or at its own first frame if it "
+     "never ended"),
     ("filtered", "filtered CAUSE", "octets that are no frame of a configured link; no link's picture has them"),
 ]
 
@@ -72,7 +73,7 @@ KINDS_OF = {name: [kind for kind, word in enumerate(KINDS) if class_of(word) == 
 def totals(gathered):
     """Each figure of the head, with its name."""
     bins = gathered.bins
-    times = ("none",) * 3 if not gathered.frames else (f"{bins.first:,} µs", f"{bins.last:,} µs", f"{bins.last - bins.first:,} µs")
+    times = [f"{time:,} µs" if gathered.frames else "none" for time in (bins.first, bins.last, bins.last - bins.first)]
     began = [("time 0", told_time(gathered.base).partition("(")[2].rstrip(")"))] if gathered.base else []
     return [("frames", f"{gathered.frames:,}"), ("links", f"{len(gathered.links):,}"), ("ports", f"{len(gathered.ports):,}"),
             *zip(("first frame", "last frame", "from first to last"), times), *began]
@@ -226,7 +227,8 @@ def conditions_part(drawn):
     if not broken:
         return "<p>Each condition of the laws of delivery was kept: all that was sent was delivered, once, whole, in order.</p>"
     rows = [[word, CONDITIONS[word], one.count, f"{one.where}: {one.how}"] for word, one in broken.items()]
-    return "<h3>Conditions of the laws of delivery that were broken</h3>" + table(["word", "condition", "times", "first by"], rows)
+    heads = ["word", "condition", "times", "first by"]
+    return "<h3>Conditions of the laws of delivery that were broken</h3>" + table(heads, rows)
 
 
 def delays_figure(drawn):

@@ -5,6 +5,8 @@ moment, without a read.
 """
 import heapq
 
+FEW = 1000  # reads of a stretch in which nothing comes that are told one by one
+
 
 class SamplingEnd:
     """A sampling port: the ages of its newest message, at its reads or at any moment; what was stale, and what nobody read."""
@@ -40,6 +42,15 @@ class SamplingEnd:
             self.oldest = max(self.oldest, now - found.time)
             self.stale += not found.valid
         return found
+
+    def serve_many(self, first, count):
+        """So many reads, from the first on, while nothing comes."""
+        last = first + (count - 1) * self.period
+        found = self.serve(last)
+        self.reads += count - 1
+        if found:
+            fresh = (found.time + self.port.limit - first) // self.period + 1  # of these reads
+            self.stale += count - max(0, min(count, fresh)) - (not found.valid)
 
     def told(self, now):
         age = None if self.latest is None else max(0, now - self.latest)
@@ -77,6 +88,10 @@ class QueueEnd:
             self.oldest = max(self.oldest, now - found[0].time)
         return found
 
+    def serve_many(self, first, count):
+        """After the first taking nothing waits."""
+        return self.serve(first)
+
     def told(self, now):
         return {"port": self.port.name, "vl": self.port.vl, "kind": "queuing", "state": "overflow" if self.overflows else "",
                 "taken": self.taken, "waiting": self.waiting, "most": self.most, "depth": self.port.limit,
@@ -100,8 +115,13 @@ class Partition:
         """Serves what was due up to now, each at its time."""
         while self.due and self.due[0][0] <= now:
             moment, place, end = self.due[0]
-            self.serve(moment, end)
-            heapq.heapreplace(self.due, (moment + end.period, place, end))
+            count = (now - moment) // end.period + 1
+            if count <= FEW:
+                count = 1
+                self.serve(moment, end)
+            elif (found := end.serve_many(moment, count)) and self.tell:
+                self.tell(moment, end, found)
+            heapq.heapreplace(self.due, (moment + count * end.period, place, end))
         self.next = self.due[0][0] if self.due else float("inf")
 
     def serve(self, moment, end):

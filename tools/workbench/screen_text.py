@@ -1,5 +1,4 @@
 """The health of links as text: a line a link, a screen for one, and the ports."""
-from verdict_words import NETWORKS
 from workbench import told
 from workbench.conditions import CONDITIONS
 
@@ -88,7 +87,8 @@ def lines_of_link(link):
         yield f"verdicts on {net}: {', '.join(f'{kind} {count}' for kind, count in about['verdicts'].items()) or 'none'}{hidden}"
     found = link["delays_us"]
     yield f"lost on both networks: {link['lost_both']}"
-    yield f"B's copy came later by, in us, least/median/99 %/greatest: {delays(link)}; {found['pairs']} pairs, {found['beyond']} beyond SkewMax"
+    yield (f"B's copy came later by, in us, least/median/99 %/greatest: {delays(link)}; {found['pairs']} pairs, "
+           f"{found['beyond']} beyond SkewMax")
     for key, what in (("twice", "delivered twice"), ("resets", "restarts"), ("unfinished", "datagrams given up"),
                       ("identification_again", "identifications again")):
         if link[key]["count"]:

@@ -148,8 +148,9 @@ def of_link(shown, vl):
 def of_skew_max(shown, link):
     skew_max, greatest = link.link.skew_max, link.greatest_delay
     if link.beyond:
+        twice = f"; {link.twice.count} messages came twice" if link.twice.count else ""
         yield (f"skew_max_us {skew_max} is below the delays of {link.beyond} of {link.delays.number} second copies, up to "
-               f"{greatest} us: {link.twice.count} messages came twice")
+               f"{greatest} us{twice}")
     span = min((seen.spans[link.link.vl] for seen in shown.nets if link.link.vl in seen.spans), default=None)
     if span is not None and span <= skew_max:
         yield (f"skew_max_us {skew_max} isn't below the {span} us in which {AHEAD} more of its frames "

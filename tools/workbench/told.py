@@ -11,7 +11,8 @@ def micro(nanoseconds):
 def of_network(link, number, latest):
     net, side = link.nets[number], link.copies.sides[number]
     bag = link.own.bag if link.own else None
-    return {"frames": net.frames, "rate": round(net.rate, 1), "least_gap_us": micro(net.least), "greatest_gap_us": micro(net.most),
+    return {"frames": net.frames, "rate": round(net.rate, 1),
+            "least_gap_us": micro(net.least), "greatest_gap_us": micro(net.most),
             "usual_gap_ms": net.usual, "jitter_us": max(0, bag - micro(net.least)) if bag and net.least is not None else None,
             "early": net.early, "lost": side.lost, "longest_run": side.longest, "overtaken": side.overtaken,
             "repeated": side.repeated, "late": side.late, "astray": side.astray,

@@ -24,7 +24,7 @@ class Tapped:
         self.tap, self.given, self.found = tap, given, queue.SimpleQueue()
         self.account = stream.Account("the networks")
         self.order, self.has_ended, self.error = stream.Order(self.account), False, None
-        self.began = time.time_ns() - time.monotonic_ns()
+        self.began, self.step, self.correction, self.newest, self.steps = clock(), 0, 0, 0, 0
         threading.Thread(target=self.read, daemon=True).start()
 
     def read(self):
@@ -46,6 +46,7 @@ class Tapped:
             except queue.Empty:
                 yield from self.order.until(self.time())
                 continue
+            self.look_at_clock()
             if one is None:
                 self.has_ended = True
                 yield from self.order.until(float("inf"))
@@ -53,17 +54,34 @@ class Tapped:
                 self.has_ended, self.error = True, one
                 yield from self.order.until(float("inf"))
             else:
+                one = self.corrected(one)
                 self.order.put(one)
                 yield from self.order.until(one.time - self.tap.patience)
 
     def time(self):
         """Up to when nothing is waited for any more; 0 while there is something to take."""
-        return time.time_ns() - self.tap.patience if self.found.empty() else 0
+        return time.time_ns() + self.correction - self.tap.patience if self.found.empty() and not self.step else 0
 
-    def clock_was_set(self):
-        """Whether the clock of the times went otherwise than the monotonic one since it was asked last."""
-        began, self.began = self.began, time.time_ns() - time.monotonic_ns()
-        return abs(self.began - began) > STEP
+    def look_at_clock(self):
+        """Sees whether the clock of the times was set, by the monotonic one."""
+        now = clock()
+        if abs(now - self.began) > STEP:
+            self.step, self.steps = now - self.began, self.steps + 1
+        self.began = now
+
+    def corrected(self, one):
+        """A packet with the time that it would have if the clock hadn't been set."""
+        time_before = one.time + self.correction
+        if self.step and abs(time_before - self.newest) > abs(self.step) / 2:
+            self.correction, self.step = self.correction - self.step, 0
+        one = one._replace(time=one.time + self.correction) if self.correction else one
+        self.newest = max(self.newest, one.time)
+        return one
+
+
+def clock():
+    """By how much the clock of the packets' times is ahead of the monotonic one, in nanoseconds."""
+    return time.time_ns() - time.monotonic_ns()
 
 
 class Watch:
@@ -124,8 +142,8 @@ def go_on(given, watched, tapped, shown, show):
         for one in tapped.until(min(due, end_at)):
             watched.take(one)
         watched.pass_time(tapped.time())
-        if tapped.clock_was_set():
-            watched.notes.append(f"at {int(time.time())} the clock was set: times and losses around it mean nothing")
+        if tapped.steps > len(watched.notes):
+            watched.notes.append(f"at {int(time.time())} the clock was set; times go on as if it hadn't been")
         shown.clear()
         shown.update(watched.picture(tapped.tap.count_lost()))
         if show(shown):
