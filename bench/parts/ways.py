@@ -155,9 +155,19 @@ def port(program):
 
 # ---- a system that keeps no frame, by one thread and by two
 
-# Of so many links, how often all frames are given.
-LIVE = {64: 30}
-LIVE_WAYS = ["task", "one", "two"]
+class Like(NamedTuple):
+    """How many links there are, how many frames come to each in a row, 0 if all are smallest, and how often all are given."""
+    links: int
+    row: int
+    sizes: int
+    rounds: int
+
+
+LIVE = [
+    Like(64, 1, 1, 80), Like(64, 4, 1, 80), Like(64, 32, 1, 80), Like(64, 1, 0, 80), Like(64, 32, 0, 80),
+    Like(1, 32, 1, 80), Like(1, 32, 0, 80),
+]
+LIVE_WAYS = ["task", "one", "one_bursts", "two", "two_bursts"]
 
 
 class Ran(NamedTuple):
@@ -182,13 +192,13 @@ def ran(program, *words):
     return Ran(wall, 1e9 * (used.ru_utime + used.ru_stime), frames, published, used.ru_maxrss)
 
 
-def least_of(program, links, turns):
+def least_of(program, like, turns):
     """By its way the least of so many turns: wall and processor time of a frame, and its share of published ones."""
     found = {}
-    idle = min(ran(program, "one", links, 0).processors for _ in range(turns))
+    idle = min(ran(program, "one", *like[:3], 0).processors for _ in range(turns))
     for _ in range(turns):
         for way in LIVE_WAYS:
-            run = ran(program, way, links, LIVE[links])
+            run = ran(program, way, *like)
             times = run.wall / run.frames, (run.processors - idle) / run.frames
             found[way] = *map(min, times, found.get(way, times)), run.published / run.frames, run.memory / 1024
     return found
@@ -196,10 +206,11 @@ def least_of(program, links, turns):
 
 def live(program, turns):
     print_load()
-    for links in LIVE:
-        found = least_of(program, links, turns)
+    for like in LIVE:
+        found = least_of(program, like, turns)
         wall, used = found["one"][:2]
-        print(f"{links} links: ns a frame, of the processors; over one thread; published; MiB")
+        sizes = "of many sizes" if like.sizes else "the smallest"
+        print(f"{like.links} links, {like.row} in a row, {sizes}: ns a frame, of the processors; over one thread; published; MiB")
         for way, (each, by, published, memory) in found.items():
             print(f"{way:12} {each:7.1f} {by:7.1f}  {each / wall:.2f} {by / used:.2f}  {published:.3f}  {memory:.0f}", flush=True)
     print_load()

@@ -1,5 +1,5 @@
--- What a system to which each network gave a frame ends in.
-use Rattle.std.specs.Prelude.{◌≡◌, ℕ, List, [], ◌∷◌}
+-- What a system ends in to which network A gave a frame and network B a burst.
+use Rattle.std.specs.Prelude.{◌≡◌, ℕ, List, [], ◌∷◌, ◌++◌, map}
 use Rattle.es_base.specs.declared.place.Net.{Net}
 use Rattle.es_base.specs.declared.place.Net.TheVariants.{A, B}
 use Rattle.es_base.specs.Config.{Configuration}
@@ -8,8 +8,13 @@ use Rattle.receiver.specs.declared.ends.LinkEnds.{LinkEnds}
 use Rattle.receiver.specs.declared.partition.PartitionEnd.{PartitionEnd}
 use Rattle.network_calls.specs.declared.reply.Reply.{Reply}
 use Rattle.live_system.specs.declared.settled.Settled.{Settled}
-use Rattle.live_system.specs.Run.{HasEnded, Step, came}
+use Rattle.live_system.specs.Burst.{Frames, steps_in_turn}
+use Rattle.live_system.specs.Run.{HasEnded, RanAlone, Step, came}
 use Rattle.live_system.specs.System.{IsPassOf, KnownNet, Replies, System}
+
+-- a burst has at most so many frames
+abbrev pub room : ℕ
+room = 32
 
 -- a pass gave a frame, and this was replied
 pub record Gave (system : System) (old : KnownNet) (now : ℕ) (octets : List ℕ) (new : KnownNet) (reply : Reply) : Type 0 where
@@ -17,15 +22,25 @@ pub record Gave (system : System) (old : KnownNet) (now : ℕ) (octets : List �
   pub net : new.net ≡ old.net
   pub replies : Replies system.config old now octets reply new
 
--- a frame on each network, with what was replied
-abbrev pub two_frames : List ℕ → List ℕ → Reply → Reply → List (Net × Step)
-two_frames a b to_a to_b = (B, came 1001 b to_b) ∷ (A, came 1000 a to_a) ∷ []
+-- a pass gave a burst, and this was replied
+pub record GaveAll (system : System) (old : KnownNet) (frames : Frames) (new : KnownNet) (replies : List Reply) : Type 0 where
+  pub own : IsPassOf system new
+  pub net : new.net ≡ old.net
+  pub replied : RanAlone system old (steps_in_turn frames replies) new
 
--- it ends as the law of all calls says of these two
-pub record IsWhole (config : Configuration) (a b : List ℕ) (settled : Settled) : Type 0 where
+-- network B's calls
+abbrev pub on_b : Step → Net × Step
+on_b step = (B, step)
+
+-- a frame on network A, and the frames of a burst on network B, one after another, with what was replied
+abbrev pub frame_and_burst : List ℕ → Frames → Reply → List Reply → List (Net × Step)
+frame_and_burst a b to_a to_b = map on_b (steps_in_turn b to_b) ++ (A, came 1000 a to_a) ∷ []
+
+-- it ends as the law of all calls says of these
+pub record IsWhole (config : Configuration) (a : List ℕ) (b : Frames) (settled : Settled) : Type 0 where
   pub system : System
   pub of_config : system.config ≡ config
   pub ends : List (LinkEnds PartitionEnd)
   pub to_a : Reply
-  pub to_b : Reply
-  pub ended : HasEnded most_readers system (two_frames a b to_a to_b) ends settled.links.items settled.a settled.b
+  pub to_b : List Reply
+  pub ended : HasEnded most_readers system (frame_and_burst a b to_a to_b) ends settled.links.items settled.a settled.b

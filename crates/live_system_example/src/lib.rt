@@ -1,17 +1,23 @@
-//! A program in which each of two threads gives a frame to its network, and which then ends: what the law of a system
-//! that keeps no frame says of it, in whatever order the threads had their turn.
+//! A program in which one thread gives a frame to its network and another a burst of frames to the other one, and which then
+//! ends: what the law of a system that keeps no frame says of it, in whatever order the threads had their turn.
 #![tactic(auto)]
 
-ghost use Rattle.std.specs.Prelude.{◌≡◌, IfOk};
+ghost use Rattle.std.specs.Prelude.{◌≡◌, ◌≤◌, IfOk, length, take};
 ghost use Rattle.es_base.specs.declared.place.Net.TheVariants.{A, B};
 ghost use Rattle.live_system.specs.System.{IsPassOf};
-ghost use Rattle.live_system_example.specs.Whole.{Gave, IsWhole};
+ghost use Rattle.live_system_example.specs.Whole.{Gave, GaveAll, IsWhole, room};
 
-use es_base::{Config, Memory};
+use es_base::{Config, FilterCause, Memory};
 use live_system::{LiveSystem, NetPass, Opened, ReaderCount, Reply, Settled};
 use std::alloc::Global;
 use std::sync::Wait;
 use std::thread::{Threads, join};
+
+/// How many frames a burst has at most.
+pub const ROOM: usize = 32;
+
+/// What stands where no reply was written.
+const NOTHING: Reply = Reply::Filtered(FilterCause::TooShort);
 
 /// Gives a frame by a network's pass, and returns the pass and what was replied.
 fn give<R: Wait>(
@@ -28,15 +34,32 @@ fn give<R: Wait>(
     (pass, reply)
 }
 
-/// Gives network A's pass a frame at 1000 microseconds and network B's at 1001, each on a thread of its own, and settles the
+/// Gives a burst by a network's pass, and returns the pass and what was replied to as many frames.
+fn give_all<R: Wait>(
+    rt: &R,
+    system: &LiveSystem,
+    mut pass: NetPass,
+    frames: &[(u64, &[u8])],
+) -> (NetPass, [Reply; ROOM])
+    requires own { IsPassOf system.now pass }
+    requires few { length frames.now ≤ room }
+    ensures { GaveAll system.now pass frames.now result.0 (take (length frames.now) result.1) }
+{
+    let mut replies = [NOTHING; ROOM];
+    system.receive_all(rt, &mut pass, frames, &mut replies);
+    (pass, replies)
+}
+
+/// Gives network A's pass a frame at 1000 microseconds and network B's a burst, each on a thread of its own, and settles the
 /// system.
 pub fn run<R: Threads + Wait + Sync>(
     rt: &R,
     alloc: Global,
     config: &Config,
     on_a: &[u8],
-    on_b: &[u8],
+    on_b: &[(u64, &[u8])],
 ) -> Result<Settled, Memory>
+    requires { length on_b.now ≤ room }
     ensures { IfOk result (λ settled. IsWhole config.now on_a.now on_b.now settled) }
 {
     let Opened {
@@ -53,9 +76,10 @@ pub fn run<R: Threads + Wait + Sync>(
             ensures { Gave shared.entry.now a 1000 on_a.entry.now result.0 result.1 }
         { give(rt, shared, a, 1000, on_a) },
         move ||
-            requires { IsPassOf shared.now b }
-            ensures { Gave shared.entry.now b 1001 on_b.entry.now result.0 result.1 }
-        { give(rt, shared, b, 1001, on_b) },
+            requires own { IsPassOf shared.now b }
+            requires few { length on_b.now ≤ room }
+            ensures { GaveAll shared.entry.now b on_b.entry.now result.0 (take (length on_b.entry.now) result.1) }
+        { give_all(rt, shared, b, on_b) },
     );
     Ok(system.settle(a, b))
 }

@@ -1,4 +1,4 @@
-//! The program of which the law of all calls is proved: run on a frame and its copy.
+//! The program of which the law of all calls is proved: run on a frame, and on its copy as a burst.
 use crate::running::{LINK_17, built_in, octets_of};
 use es_base::Net::{A, B};
 use es_base::Verdict::Sampled;
@@ -13,7 +13,7 @@ use test_inputs::rows::{POS, smallest_row};
 fn check_example<R: Abort + Threads + Wait + Sync>(rt: &R, alloc: Global) {
     let config = built_in(rt, alloc);
     let frame = octets_of(rt, alloc, smallest_row((A, 1000, 1, Sampled(POS, 1))));
-    let settled = run(rt, alloc, &config, &frame, &frame).expect(rt, "memory");
+    let settled = run(rt, alloc, &config, &frame, &[(1001, frame.as_slice())]).expect(rt, "memory");
     assert!(rt; settled.a.calls(LINK_17) == 1 && settled.b.calls(LINK_17) == 1);
     for link in &settled.links {
         let tally = link.tally();

@@ -1,5 +1,5 @@
 //! Worked frames, each with its reply, and frames that come to no link.
-use crate::running::{LINK_17, Running, check_counts, check_frame};
+use crate::running::{LINK_17, check_counts, check_frame, open};
 use es_base::Net::{A, B};
 use es_base::Verdict::{Redundant, Sampled};
 use es_base::{FilterCause, LinkNo};
@@ -15,7 +15,7 @@ use test_inputs::rows::{
 
 /// A new system gives these frames these verdicts, and the places from 0 on.
 fn check_rows(rt: &(impl Abort + Wait), alloc: Global, rows: &[FrameRow<'_>]) {
-    let mut running = Running::open(rt, alloc);
+    let mut running = open(rt, alloc);
     let mut place = 0u64;
     for row in rows {
         check_frame(rt, alloc, &mut running, place, *row);
@@ -51,13 +51,13 @@ fn worked_frames_have_their_replies(rt: HostRuntime) {
 
 /// Two frames of A, and two copies on B that come too late: each pass counts its own, and no other link's.
 fn check_both_passes(rt: &(impl Abort + Wait), alloc: Global) {
-    let mut running = Running::open(rt, alloc);
+    let mut running = open(rt, alloc);
     let mut place = 0u64;
     for row in &two_frames_late() {
         check_frame(rt, alloc, &mut running, place, smallest_row(*row));
         place = place.wrapping_add(1);
     }
-    assert!(rt; running.calls(A) == 2 && running.calls(B) == 2);
+    assert!(rt; running.pass(A).calls(LINK_17) == 2 && running.pass(B).calls(LINK_17) == 2);
     let settled = running.settle();
     assert!(rt; settled.a.net() == A && settled.b.net() == B);
     check_counts(rt, &settled.a, Sampled(POS, 1), 2, 0);
@@ -72,14 +72,14 @@ fn each_pass_counts_its_own_frames(rt: HostRuntime) {
 
 /// Frames that are too short: of each network so many.
 fn check_too_short(rt: &(impl Abort + Wait), alloc: Global) {
-    let mut running = Running::open(rt, alloc);
+    let mut running = open(rt, alloc);
     let wanted = Reply::Filtered(FilterCause::TooShort);
     for net in [A, B, B] {
         assert!(rt; running.receive(rt, net, 1, &[3; 59]) == wanted);
     }
-    assert!(rt; running.filtered(A, FilterCause::TooShort) == 1);
-    assert!(rt; running.filtered(B, FilterCause::TooShort) == 2);
-    assert!(rt; running.calls(A) == 0 && running.calls(B) == 0);
+    assert!(rt; running.pass(A).filtered(FilterCause::TooShort) == 1);
+    assert!(rt; running.pass(B).filtered(FilterCause::TooShort) == 2);
+    assert!(rt; running.pass(A).calls(LINK_17) == 0 && running.pass(B).calls(LINK_17) == 0);
     let settled = running.settle();
     assert!(rt; settled.b.filtered(FilterCause::TooShort) == 2);
     assert!(rt; settled.b.filtered(FilterCause::UnknownLink) == 0);

@@ -1,38 +1,16 @@
 //! A system of the built-in configuration, with both of its passes.
-ghost use Rattle.std.specs.Prelude.{◌≡◌};
-ghost use Rattle.es_base.specs.declared.place.Net.TheVariants.{A, B};
-ghost use Rattle.live_system.specs.System.{IsPassOf};
-
-use es_base::{Config, FilterCause, LinkNo, Net, VERDICT_KINDS, Verdict};
-use live_system::{LiveSystem, Opened, PassCounts, ReaderCount, Reply, Settled};
+use es_base::{Config, LinkNo, VERDICT_KINDS, Verdict};
+use live_system::{PassCounts, Reply};
 use std::alloc::Global;
-use std::marker::Model;
 use std::process::Abort;
 use std::sync::Wait;
 use test_inputs::rows::FrameRow;
 use test_inputs::{ETHERNET, frame_of};
+use test_inputs_live::Live;
 use vl_config::{BUILT_IN, read_config};
 
 /// The link of the built-in configuration.
 pub(crate) const LINK_17: LinkNo = LinkNo(17);
-
-/// A system with both of its passes. To a contract it is the passes.
-#[derive(Drop)]
-pub(crate) struct Running {
-    opened: Opened,
-}
-
-impl Model for Running {
-    ghost use Rattle.std.specs.Prelude.{◌≡◌};
-    ghost use Rattle.es_base.specs.declared.place.Net.TheVariants.{A, B};
-    ghost use Rattle.live_system.specs.System.{IsPassOf, KnownNet};
-
-    ghost Value = { KnownNet × KnownNet };
-
-    ghost view = { λ r. (r.opened.a, r.opened.b) };
-
-    ghost invariant = { λ r. IsPassOf r.opened.system r.opened.a × IsPassOf r.opened.system r.opened.b × (r.opened.a.net ≡ A) × (r.opened.b.net ≡ B) };
-}
 
 /// The built-in configuration.
 pub(crate) fn built_in(rt: &impl Abort, alloc: Global) -> Config {
@@ -41,53 +19,10 @@ pub(crate) fn built_in(rt: &impl Abort, alloc: Global) -> Config {
         .expect(rt, "a configuration")
 }
 
-impl Running {
-    /// A new system.
-    pub(crate) fn open(rt: &impl Abort, alloc: Global) -> Running {
-        let config = built_in(rt, alloc);
-        let opened = LiveSystem::open(alloc, &config, ReaderCount::most()).expect(rt, "memory");
-        Running { opened }
-    }
-
-    /// The system receives a frame on this network.
-    pub(crate) fn receive(&mut self, rt: &impl Wait, net: Net, now: u64, octets: &[u8]) -> Reply {
-        let Opened { system, a, b, .. } = &mut self.opened;
-        match net {
-            Net::A => system.receive(rt, a, now, octets),
-            Net::B => system.receive(rt, b, now, octets),
-        }
-    }
-
-    /// How many frames of link 17 the pass of this network gave.
-    pub(crate) fn calls(&self, net: Net) -> u64 {
-        match net {
-            Net::A => self.opened.a.calls(LINK_17),
-            Net::B => self.opened.b.calls(LINK_17),
-        }
-    }
-
-    /// How many frames were filtered on this network for this cause.
-    pub(crate) fn filtered(&self, net: Net, cause: FilterCause) -> u64 {
-        match net {
-            Net::A => self.opened.a.filtered(cause),
-            Net::B => self.opened.b.filtered(cause),
-        }
-    }
-
-    /// The system, its passes and the ends, apart.
-    pub(crate) fn apart(self) -> Opened
-        ensures own { IsPassOf result.system result.a × IsPassOf result.system result.b }
-        ensures nets { (result.a.net ≡ A) × (result.b.net ≡ B) }
-    {
-        let Running { opened } = self;
-        opened
-    }
-
-    /// Ends the system.
-    pub(crate) fn settle(self) -> Settled {
-        let Opened { system, a, b, .. } = self.apart();
-        system.settle(a, b)
-    }
+/// A new system of it.
+pub(crate) fn open(rt: &impl Abort, alloc: Global) -> Live {
+    let config = built_in(rt, alloc);
+    Live::open(alloc, &config).expect(rt, "memory")
 }
 
 /// The octets of the frame of a row.
@@ -101,7 +36,7 @@ pub(crate) fn octets_of(rt: &impl Abort, alloc: Global, row: FrameRow<'_>) -> Ve
 pub(crate) fn check_frame(
     rt: &(impl Abort + Wait),
     alloc: Global,
-    running: &mut Running,
+    running: &mut Live,
     place: u64,
     row: FrameRow<'_>,
 ) {

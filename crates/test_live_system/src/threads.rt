@@ -3,7 +3,8 @@ ghost use Rattle.std.specs.Prelude.{◌≡◌};
 ghost use Rattle.es_base.specs.declared.place.Net.TheVariants.{A, B};
 ghost use Rattle.live_system.specs.System.{IsPassOf};
 
-use crate::running::{LINK_17, Running};
+use crate::bursts::{NOTHING, lent};
+use crate::running::{LINK_17, open};
 use es_base::Net;
 use live_system::{LinkEnds, LiveSystem, NetPass, Opened, PartitionEnd, Reply, Settled};
 use receiver::{MailboxReader, Reading};
@@ -28,8 +29,8 @@ fn place_of(rt: &impl Abort, reply: Reply) -> u64 {
     }
 }
 
-/// Gives the smallest frames with the sequence numbers from 1 on, one each 10 microseconds. Returns their places.
-fn give<R: Abort + Wait>(
+/// Gives the smallest frames with the sequence numbers from 1 on, one each 10 microseconds, one by one. Returns their places.
+fn give_each<R: Abort + Wait>(
     rt: &R,
     alloc: Global,
     system: &LiveSystem,
@@ -45,6 +46,64 @@ fn give<R: Abort + Wait>(
         places.push(place_of(rt, reply)).expect(rt, "memory");
     }
     (pass, places)
+}
+
+/// The smallest frames with the sequence numbers from 1 on, one each 10 microseconds.
+fn frames_of(rt: &impl Abort, alloc: Global) -> Vec<(u64, Vec<u8>)> {
+    let mut frames = Vec::new(alloc);
+    for number in 1..=MANY {
+        let octets = smallest(alloc, number).expect(rt, "octets");
+        let frame = (u64::from(number) * 10, octets);
+        frames.push(frame).expect(rt, "memory");
+    }
+    frames
+}
+
+/// Notes the places of the first replies of a burst.
+fn note(rt: &impl Abort, places: &mut Vec<u64>, replies: &[Reply], many: usize) {
+    for reply in replies.iter().take(many) {
+        places.push(place_of(rt, *reply)).expect(rt, "memory");
+    }
+}
+
+/// Gives the same frames in bursts of seven, and then some of no frame. Returns their places.
+fn give_bursts<R: Abort + Wait>(
+    rt: &R,
+    alloc: Global,
+    system: &LiveSystem,
+    mut pass: NetPass,
+) -> (NetPass, Vec<u64>)
+    requires { IsPassOf system.now pass }
+    ensures { IsPassOf system.now result.0 × (result.0.net ≡ pass.net) }
+{
+    let frames = frames_of(rt, alloc);
+    let lent = lent(rt, alloc, &frames);
+    let mut places = Vec::new(alloc);
+    let mut replies = [NOTHING; 7];
+    'bursts: for _ in 0..MANY {
+        let rest = lent.as_slice().get(places.len()..).expect(rt, "frames");
+        let many = system.receive_all(rt, &mut pass, rest, &mut replies);
+        note(rt, &mut places, &replies, many);
+    }
+    (pass, places)
+}
+
+/// Gives the frames, one by one or in bursts.
+fn give<R: Abort + Wait>(
+    rt: &R,
+    alloc: Global,
+    system: &LiveSystem,
+    pass: NetPass,
+    at_once: bool,
+) -> (NetPass, Vec<u64>)
+    requires { IsPassOf system.now pass }
+    ensures { IsPassOf system.now result.0 × (result.0.net ≡ pass.net) }
+{
+    if at_once {
+        give_bursts(rt, alloc, system, pass)
+    } else {
+        give_each(rt, alloc, system, pass)
+    }
 }
 
 /// What a run came to.
@@ -64,13 +123,13 @@ fn reader_of(rt: &impl Abort, ends: &mut [LinkEnds<PartitionEnd>]) -> MailboxRea
 }
 
 /// Both networks give their frames, each on a thread of its own.
-fn on_two_threads<R: Abort + Threads + Wait + Sync>(rt: &R, alloc: Global) -> Ended {
+fn on_two_threads<R: Abort + Threads + Wait + Sync>(rt: &R, alloc: Global, at_once: bool) -> Ended {
     let Opened {
         system,
         a,
         b,
         mut ends,
-    } = Running::open(rt, alloc).apart();
+    } = open(rt, alloc).apart();
     let reader = reader_of(rt, &mut ends);
     let shared = &system;
     let ((a, first), (b, second)) = join(
@@ -78,11 +137,11 @@ fn on_two_threads<R: Abort + Threads + Wait + Sync>(rt: &R, alloc: Global) -> En
         move ||
             requires { IsPassOf shared.now a × (a.net ≡ A) }
             ensures { IsPassOf shared.entry.now result.0 × (result.0.net ≡ A) }
-        { give(rt, alloc, shared, a) },
+        { give(rt, alloc, shared, a, at_once) },
         move ||
             requires { IsPassOf shared.now b × (b.net ≡ B) }
             ensures { IsPassOf shared.entry.now result.0 × (result.0.net ≡ B) }
-        { give(rt, alloc, shared, b) },
+        { give(rt, alloc, shared, b, at_once) },
     );
     let settled = system.settle(a, b);
     Ended {
@@ -93,17 +152,17 @@ fn on_two_threads<R: Abort + Threads + Wait + Sync>(rt: &R, alloc: Global) -> En
     }
 }
 
-/// Both networks give their frames on one thread, that of A first.
+/// Both networks give their frames on one thread, that of A first, and that of B in bursts.
 fn on_one_thread<R: Abort + Wait>(rt: &R, alloc: Global) -> Ended {
     let Opened {
         system,
         a,
         b,
         mut ends,
-    } = Running::open(rt, alloc).apart();
+    } = open(rt, alloc).apart();
     let reader = reader_of(rt, &mut ends);
-    let (a, first) = give(rt, alloc, &system, a);
-    let (b, second) = give(rt, alloc, &system, b);
+    let (a, first) = give(rt, alloc, &system, a, false);
+    let (b, second) = give(rt, alloc, &system, b, true);
     let settled = system.settle(a, b);
     Ended {
         settled,
@@ -167,5 +226,10 @@ fn one_thread_samples_each_frame_once(rt: HostRuntime) {
 
 #[test]
 fn two_threads_end_as_one_does(rt: HostRuntime) {
-    check_ended(&rt, on_two_threads(&rt, rt.alloc()));
+    check_ended(&rt, on_two_threads(&rt, rt.alloc(), false));
+}
+
+#[test]
+fn two_threads_with_bursts_end_as_one_does(rt: HostRuntime) {
+    check_ended(&rt, on_two_threads(&rt, rt.alloc(), true));
 }
