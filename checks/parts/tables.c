@@ -6,7 +6,7 @@
 #include TABLE
 
 static uint64_t rooms[2][64];
-static struct yelunnavi_receiver of_table, of_text;
+static struct yelunnavi_receiver of_table;
 
 static bool open_table(void) {
     struct yelunnavi_fault fault;
@@ -16,6 +16,8 @@ static bool open_table(void) {
 }
 
 #ifdef WITH_TEXT
+static struct yelunnavi_receiver of_text;
+
 static bool open_text(const char *name) {
     static uint8_t text[1 << 20];
     struct yelunnavi_fault fault;
