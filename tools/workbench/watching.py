@@ -2,6 +2,7 @@
 import contextlib
 import json
 import queue
+import signal
 import sys
 import threading
 import time
@@ -123,6 +124,8 @@ def watch(given):
         from workbench import metrics
         metrics.serve(given.prometheus, shown)
     tapped = Tapped(taps.WAYS[given.by](given.interfaces), given)
+    for number in (signal.SIGINT, signal.SIGTERM):
+        signal.signal(number, signal.default_int_handler)  # then what was seen is told
     try:
         with screen_of(given) as show, contextlib.suppress(KeyboardInterrupt):
             go_on(given, watched, tapped, shown, show)
