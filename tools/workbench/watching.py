@@ -8,7 +8,7 @@ import threading
 import time
 
 from workbench import screen_text, station, stream, taps, told
-from workbench.faults import REFUSED, Fault
+from workbench.faults import REFUSED
 from workbench.health import Health
 
 MOST_WAITING = 100_000  # packets that were read and not taken; then the kernel keeps them, and counts what it loses
@@ -117,8 +117,6 @@ class Watch:
 
 def watch(given):
     most = told.wanted(given.fail_on)
-    if most is None:
-        raise Fault(f"--fail-on takes {' '.join((*told.AMISS, *told.OF_ALL))}, each perhaps with =MOST", 2)
     watched, shown = Watch(given), {}
     if given.prometheus:
         from workbench import metrics
