@@ -1,10 +1,14 @@
 """watch: what a tap gives is put in order, also where its clock is set; the metrics; what it can't listen to."""
 import argparse
+import json
+import os
+import signal
+import subprocess
 import time
 import urllib.request
 
 import pytest
-from conftest import CAPTURES, CONFIG, fault, run
+from conftest import CAPTURES, CONFIG, TOOL, fault, run
 from test_captures import read
 from workbench import metrics, watching
 from workbench.captures import ETHERNET, Interface, Packet
@@ -76,3 +80,15 @@ def test_what_can_not_be_listened_to():
         assert found.returncode == 3 and b"Traceback" not in found.stderr
         assert b"nowhere-a: not listened to: No such device" in found.stderr or b"dumpcap ended: " in found.stderr
     assert "--fail-on takes" in fault(2, "watch", "--config", CONFIG, "a", "b", "--fail-on", "x")
+
+
+@pytest.mark.skipif(os.geteuid() != 0, reason="listening to an interface takes a right")
+@pytest.mark.parametrize("number, way", [(signal.SIGINT, "socket"), (signal.SIGTERM, "socket"), (signal.SIGINT, "dumpcap")])
+def test_it_tells_what_was_seen_when_it_is_ended(number, way):
+    process = subprocess.Popen([TOOL, "watch", "--config", CONFIG, "lo", "lo", "--by", way, "--json"], stdout=subprocess.PIPE,
+                               stderr=subprocess.PIPE)
+    lines = [process.stdout.readline() for _ in range(2)]
+    process.send_signal(number)
+    out, told = process.communicate(timeout=30)
+    assert all(json.loads(line)["links"] for line in (*lines, out.splitlines()[-1]))
+    assert process.returncode == 1 and b"lost by the tap: " in told and b"Traceback" not in told

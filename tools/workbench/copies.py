@@ -68,6 +68,8 @@ class Listener:
 
 
 class Copies:
+    """The places of a link's frames that are waited for, with what both networks brought of them, in bounded memory."""
+
     def __init__(self, skew_max, listener):
         self.wait, self.listener, self.sides = max(LEAST_WAIT, 10_000 * skew_max), listener, (Side(), Side())
         self.places, self.by_number = collections.deque(), {}

@@ -2,7 +2,7 @@
 import string
 
 # BROKEN: a file isn't of its form from some place on; what came before was played.
-REFUSED, NOT_READ, NO_MEMORY, BROKEN = 1, 3, 4, 5
+REFUSED, WRONG_WORDS, NOT_READ, NO_MEMORY, BROKEN = range(1, 6)
 PRINTABLE = set(string.printable) - set("\t\n\r\x0b\x0c")
 
 

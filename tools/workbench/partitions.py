@@ -14,7 +14,7 @@ class SamplingEnd:
 
     def __init__(self, receiver, port, period):
         self.port, self.period, self.reader = port, period, receiver.reader(port.name)
-        self.messages = self.reads = self.stale = self.missed = self.newest = self.oldest = self.stale_time = 0
+        self.messages = self.reads = self.stale = self.missed = self.newest = self.oldest = 0
         self.latest = None
 
     def came(self, now, number):
@@ -28,9 +28,7 @@ class SamplingEnd:
         if self.latest is not None:
             age = max(0, now - self.latest)
             self.oldest = max(self.oldest, age)
-            if age > self.port.limit:
-                self.stale += 1
-                self.stale_time += age - self.port.limit
+            self.stale += age > self.port.limit
 
     def serve(self, now):
         """Reads."""
@@ -55,13 +53,9 @@ class SamplingEnd:
     def told(self, now):
         age = None if self.latest is None else max(0, now - self.latest)
         state = "empty" if age is None else "stale" if age > self.port.limit else "fresh"
+        oldest, stale = self.oldest, self.stale
         if self.period is None and age is not None:
-            end = SamplingEnd.__new__(SamplingEnd)
-            end.__dict__.update(self.__dict__)
-            end.grow(now)
-            oldest, stale = end.oldest, end.stale
-        else:
-            oldest, stale = self.oldest, self.stale
+            oldest, stale = max(oldest, age), stale + (age > self.port.limit)
         return {"port": self.port.name, "vl": self.port.vl, "kind": "sampling", "state": state, "messages": self.messages,
                 "age_us": age, "oldest_us": oldest, "refresh_us": self.port.limit, "stale": stale,
                 "read_us": self.period, "reads": self.reads, "missed": self.missed}

@@ -4,6 +4,7 @@ import collections
 import contextlib
 import datetime
 import heapq
+import operator
 import os
 import sys
 from typing import NamedTuple, Optional
@@ -241,7 +242,7 @@ class Stream:
         return self.accounts[net % len(self.accounts)].name
 
     def __iter__(self):
-        for one in self.feeds[0] if len(self.feeds) == 1 else heapq.merge(*self.feeds):
+        for one in self.feeds[0] if len(self.feeds) == 1 else heapq.merge(*self.feeds, key=operator.itemgetter(0, 1)):
             if self.first is None:
                 self.first = one.time
             if self.shift.looks and self.is_of_captures:

@@ -4,14 +4,12 @@ import os
 import sys
 
 from workbench import files, screen_text, station, stream, told
-from workbench.faults import REFUSED, Fault
+from workbench.faults import REFUSED, WRONG_WORDS, Fault
 from workbench.health import Health
 
 
 def health(given):
     most = told.wanted(given.fail_on)
-    if most is None:
-        raise Fault(f"--fail-on takes {' '.join((*told.AMISS, *told.OF_ALL))}, each perhaps with =MOST", 2)
     if given.workers or given.scheduler:
         from workbench import sharing
         return sharing.health(given, most)
@@ -46,4 +44,4 @@ def shown(found, given):
     for link in found["links"]:
         if link["vl"] == given.link:
             return screen_text.lines_of_link(link)
-    raise Fault(f"{given.config} has no link {given.link}", 2)
+    raise Fault(f"{given.config} has no link {given.link}", WRONG_WORDS)

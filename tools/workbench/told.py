@@ -1,6 +1,7 @@
 """The health of links as plain data: for JSON and tables, screens and the words of `--fail-on`."""
 from verdict_words import NETWORKS
 from workbench.conditions import CONDITIONS
+from workbench.faults import WRONG_WORDS, Fault
 from workbench.station import FAULTS
 
 
@@ -127,6 +128,6 @@ def wanted(words):
     for one in filter(None, words.split(",")):
         word, _, most = one.partition("=")
         if word not in AMISS and word not in OF_ALL or most and not most.isdigit():
-            return None
+            raise Fault(f"--fail-on takes {' '.join((*AMISS, *OF_ALL))}, each perhaps with =MOST", WRONG_WORDS)
         found[word] = int(most or 0)
     return found

@@ -2,12 +2,13 @@
 import contextlib
 import json
 import queue
+import signal
 import sys
 import threading
 import time
 
 from workbench import screen_text, station, stream, taps, told
-from workbench.faults import REFUSED, Fault
+from workbench.faults import REFUSED
 from workbench.health import Health
 
 MOST_WAITING = 100_000  # packets that were read and not taken; then the kernel keeps them, and counts what it loses
@@ -116,13 +117,13 @@ class Watch:
 
 def watch(given):
     most = told.wanted(given.fail_on)
-    if most is None:
-        raise Fault(f"--fail-on takes {' '.join((*told.AMISS, *told.OF_ALL))}, each perhaps with =MOST", 2)
     watched, shown = Watch(given), {}
     if given.prometheus:
         from workbench import metrics
         metrics.serve(given.prometheus, shown)
     tapped = Tapped(taps.WAYS[given.by](given.interfaces), given)
+    for number in (signal.SIGINT, signal.SIGTERM):
+        signal.signal(number, signal.default_int_handler)  # then what was seen is told
     try:
         with screen_of(given) as show, contextlib.suppress(KeyboardInterrupt):
             go_on(given, watched, tapped, shown, show)
