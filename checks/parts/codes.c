@@ -273,6 +273,7 @@ static void want_no_receiver(struct yelunnavi_receiver *h) {
     uint64_t count;
     size_t links;
     WANT(NOT_MADE, yelunnavi_receiver_open(h, TEXT(CONFIG), 1, &fault));
+    WANT(NOT_MADE, yelunnavi_receiver_open_table(h, FRAME, NULL, 0, NULL, 0, 1, &fault));
     WANT(NOT_MADE, yelunnavi_receiver_receive(h, YELUNNAVI_A, 0, FRAME, sizeof FRAME, &frame));
     WANT(NOT_MADE, yelunnavi_receiver_count(h, 0, YELUNNAVI_A, YELUNNAVI_VERDICT_SAMPLED, &count));
     WANT(NOT_MADE, yelunnavi_receiver_filtered(h, YELUNNAVI_A, YELUNNAVI_FILTER_TOO_SHORT, &count));
@@ -374,6 +375,97 @@ static void of_lines(void) {
     WANT_LINE(0, RANGE, "link = [{vl = 65536}]\n");
 }
 
+/* ---- faults of tables: one value of a table that has none is another, and so has the fault of a text with that value */
+
+static const struct yelunnavi_link_row LINKS[2] = {{17, 1, 1000, 50000, 2, 2}, {18, 0, 0, 0, 4, 1}};
+static const struct yelunnavi_port_row PORTS[3] = {
+    {YELUNNAVI_SERVICE_SAMPLING, 0xe0e00011, 5000, 1471, 20000, 3, {'p', 'o', 's'}},
+    {YELUNNAVI_SERVICE_QUEUING, 0xe0e00011, 5002, 8192, 64, 3, {'n', 'a', 'v'}},
+    {YELUNNAVI_SERVICE_QUEUING, 0xe0e00011, 5002, 0, 1, 16, "abcdefghijklmno-"},
+};
+static struct yelunnavi_link_row links_of[65];
+static struct yelunnavi_port_row ports_of[66];
+
+static void fill_table(void) {
+    memset(ports_of, 0, sizeof ports_of);
+    memcpy(links_of, LINKS, sizeof LINKS), memcpy(ports_of, PORTS, sizeof PORTS);
+}
+
+static uint32_t open_rows(size_t links, size_t ports, struct yelunnavi_fault *fault) {
+    return yelunnavi_receiver_open_table(&receiver, FRAME, links_of, links, ports_of, ports, 1, fault);
+}
+
+/* The fault, its key, and where it stands, of a table with this change. */
+#define WANT_FAULT(change, ports, what, of_key, of_level, at_link, at_port)                                          \
+    do {                                                                                                             \
+        struct yelunnavi_fault told = {77, 77, 77, 77, 77, 77};                                                      \
+        fill_table();                                                                                                \
+        change;                                                                                                      \
+        WANT(FAULTY, open_rows(2, (ports), &told));                                                                  \
+        if (told.fault != YELUNNAVI_FAULT_##what || told.key != YELUNNAVI_KEY_##of_key || told.line                  \
+            || told.level != YELUNNAVI_LEVEL_##of_level || told.link != (at_link) || told.port != (at_port)) {       \
+            fprintf(stderr, "line %d: %u %u at %u %zu %zu\n", __LINE__, (unsigned)told.fault, (unsigned)told.key,    \
+                    (unsigned)told.level, told.link, told.port);                                                     \
+            exit(1);                                                                                                 \
+        }                                                                                                            \
+    } while (0)
+
+static void of_table_faults(void) {
+    WANT_FAULT(links_of[1].vl = 65536, 3, RANGE, VL, LINK, 1, 0);
+    WANT_FAULT(links_of[1].vl = 17, 3, DOUBLE_LINK, NONE, LINK, 1, 0);
+    WANT_FAULT(links_of[0].skew_max = 1000001, 3, RANGE, SKEW_MAX_US, LINK, 0, 0);
+    WANT_FAULT(links_of[0].redundancy = 2, 3, RANGE, REDUNDANCY, LINK, 0, 0);
+    WANT_FAULT(links_of[1].reassembly = 10000001, 3, RANGE, REASSEMBLY_US, LINK, 1, 0);
+    WANT_FAULT(links_of[1].window = 0, 3, RANGE, WINDOW, LINK, 1, 0);
+    WANT_FAULT(links_of[1].window = 5, 3, RANGE, WINDOW, LINK, 1, 0);
+    WANT_FAULT(links_of[1].ports = 33, 3, TOO_MANY, NONE, LINK, 1, 0);
+    WANT_FAULT(links_of[1].ports = SIZE_MAX, 3, TOO_MANY, NONE, LINK, 1, 0);
+    WANT_FAULT(links_of[1].ports = 2, 3, MISSING, PORT, LINK, 1, 0);
+    WANT_FAULT(links_of[1].ports = 0, 3, TOO_MANY, NONE, DOCUMENT, 0, 0);
+    WANT_FAULT(ports_of[2].name_len = 17, 3, RANGE, NAME, PORT, 1, 0);
+    WANT_FAULT(ports_of[2].name_len = SIZE_MAX, 3, RANGE, NAME, PORT, 1, 0);
+    WANT_FAULT(ports_of[2].name_len = 0, 3, RANGE, NAME, PORT, 1, 0);
+    WANT_FAULT(ports_of[1].name[1] = 'A', 3, RANGE, NAME, PORT, 0, 1);
+    WANT_FAULT(ports_of[1].name[1] = 0xff, 3, RANGE, NAME, PORT, 0, 1);
+    WANT_FAULT(ports_of[1].service = 3, 3, RANGE, KIND, PORT, 0, 1);
+    WANT_FAULT(ports_of[1].udp = 65536, 3, RANGE, UDP, PORT, 0, 1);
+    WANT_FAULT(ports_of[0].max = 1472, 3, RANGE, MAX, PORT, 0, 0);
+    WANT_FAULT(ports_of[1].max = 8193, 3, RANGE, MAX, PORT, 0, 1);
+    WANT_FAULT(ports_of[0].limit = 1000000001, 3, RANGE, REFRESH_US, PORT, 0, 0);
+    WANT_FAULT(ports_of[1].limit = 65, 3, RANGE, DEPTH, PORT, 0, 1);
+    WANT_FAULT(ports_of[1].limit = 0, 3, RANGE, DEPTH, PORT, 0, 1);
+    WANT_FAULT(ports_of[1].udp = 5000, 3, DOUBLE_PORT, NONE, PORT, 0, 1);
+    WANT_FAULT(ports_of[2] = PORTS[0], 3, DOUBLE_NAME, NONE, PORT, 1, 0);
+    WANT_FAULT(links_of[0].vl = 65536; ports_of[0].udp = 65536, 3, RANGE, VL, LINK, 0, 0);
+}
+
+/* Tables of no link, of 65, and of 64, with each request for memory refused in turn. */
+static void of_tables(void) {
+    struct yelunnavi_fault fault = {77, 77, 77, 77, 77, 77};
+    uint32_t code = YELUNNAVI_NO_MEMORY;
+    fill_table();
+    WANT(OUT_OF_RANGE, yelunnavi_receiver_open_table(&receiver, FRAME, links_of, 2, ports_of, 3, 0, &fault));
+    if (fault.fault != 77) exit(25);
+    WANT(FAULTY, open_rows(0, 0, &fault));
+    if (fault.fault != YELUNNAVI_FAULT_MISSING || fault.key != YELUNNAVI_KEY_LINK || fault.level) exit(26);
+    for (uint32_t k = 0; k < 65; k++) links_of[k] = (struct yelunnavi_link_row){k, 1, 0, 0, 1, 0};
+    WANT(FAULTY, open_rows(65, 0, &fault));
+    if (fault.fault != YELUNNAVI_FAULT_TOO_MANY || fault.key || fault.level) exit(27);
+    WANT(DONE, open_rows(64, 0, &fault));
+    yelunnavi_receiver_close(&receiver);
+    fill_table();
+    for (refused = 1; code == YELUNNAVI_NO_MEMORY; refused++) {
+        requests = 0;
+        code = open_rows(2, 3, &fault);
+        if (code == YELUNNAVI_NO_MEMORY && (blocks || requests < refused)) exit(28);
+    }
+    if (code != YELUNNAVI_DONE || refused < 10) exit(29);
+    refused = 0;
+    WANT(ALREADY_OPEN, open_rows(2, 3, &fault));
+    yelunnavi_receiver_close(&receiver);
+    if (blocks) exit(30);
+}
+
 int main(void) {
     uint8_t some[1] = {0};
     if (yelunnavi_abi() != YELUNNAVI_ABI) return 21;
@@ -384,6 +476,8 @@ int main(void) {
     WANT(DONE, yelunnavi_taker_init(&taker, rooms[3], sizeof rooms[3]));
     of_other_rooms();
     of_lines();
+    of_table_faults();
+    of_tables();
     of_memory(1);
     of_memory(YELUNNAVI_MOST_READERS);
     of_no_readers();

@@ -90,6 +90,34 @@ static void open_it(void) {
     free(text);
 }
 
+static struct yelunnavi_port_row port_row(void) {
+    struct yelunnavi_port_row row = {0};
+    row.service = (uint32_t)number(), row.address = (uint32_t)number(), row.udp = (uint32_t)number();
+    row.max = (uint32_t)number(), row.limit = number();
+    uint8_t *name = octets(&row.name_len);
+    memcpy(row.name, name, row.name_len);
+    free(name);
+    return row;
+}
+
+static void open_table(void) {
+    static const uint8_t constant[4] = {3};
+    struct yelunnavi_fault fault;
+    size_t readers_each = number(), links_len = number();
+    struct yelunnavi_link_row *links = calloc(links_len + 1, sizeof *links);
+    for (size_t k = 0; k < links_len; k++) {
+        links[k].vl = (uint32_t)number(), links[k].redundancy = (uint32_t)number(), links[k].skew_max = number();
+        links[k].reassembly = number(), links[k].window = (uint32_t)number(), links[k].ports = number();
+    }
+    size_t ports_len = number();
+    struct yelunnavi_port_row *ports = calloc(ports_len + 1, sizeof *ports);
+    for (size_t k = 0; k < ports_len; k++) ports[k] = port_row();
+    may_ask = true;
+    code(yelunnavi_receiver_open_table(&receiver, constant, links, links_len, ports, ports_len, readers_each, &fault));
+    may_ask = false;
+    free(links), free(ports);
+}
+
 static void receive(void) {
     struct yelunnavi_frame told;
     uint32_t net = (uint32_t)number();
@@ -187,6 +215,7 @@ static void place(void) {
 
 static void call(const char *name) {
     if (!strcmp(name, "open")) open_it();
+    else if (!strcmp(name, "open_table")) open_table();
     else if (!strcmp(name, "receive")) receive();
     else if (!strcmp(name, "hand_reader")) hand(true);
     else if (!strcmp(name, "hand_taker")) hand(false);

@@ -17,6 +17,21 @@ def line_of(answer):
     return " ".join(hexed(part) if isinstance(part, bytes) else str(part) for part in answer)
 
 
+def rows_of(links):
+    """The words of a table."""
+    yield len(links)
+    for link in links:
+        yield from (link.number, int(link.redundancy), link.skew, link.limit, link.window or 2, len(link.ports))
+    yield sum(len(link.ports) for link in links)
+    for link in links:
+        for port in link.ports:
+            samples = port.kind == "sampling"
+            longest = (1471 if samples else 8192) if port.max is None else port.max
+            limit = port.refresh if samples else port.depth
+            address = int.from_bytes(bytes([224, 224, link.place, 1]), "big")
+            yield from (1 if samples else 2, address, port.udp, longest, limit, hexed(port.name.encode()))
+
+
 class Script:
     """The calls of a case and their answers, one after another; what is open lives in the model."""
 
@@ -63,7 +78,10 @@ class Script:
         readers = self.r.choice([1, 1, 2, 4, 8, 8, 0, 9])
         text = config_text(self.r, self.links, False)
         answer = self.receiver.open(self.links, readers)
-        self.call(answer, "open", readers, hexed(text))
+        if self.r.random() < 0.5:
+            self.call(answer, "open", readers, hexed(text))
+        else:
+            self.call(answer, "open_table", readers, *rows_of(self.links))
         for _ in range(self.r.choice([0, 2, 6, 10]) if answer == (model.DONE,) else 0):
             self.chosen(self.hand_reader, self.hand_taker)
 

@@ -13,7 +13,7 @@ from verdict_words import ALLOWED, FILTER_CAUSES, HEADER_CAUSES, KINDS, NETWORKS
 CALLS, HANDLES = "crates/receiver_c/src/lib.rt", "crates/receiver_c/src/{}_handle.rt"
 HELD = "crates/receiver_c/src/held_octets.rt"
 REPLIES, CODES, NUMBERS = (f"crates/receiver_slots/src/{name}.rt" for name in ("replies", "codes", "numbers"))
-FAULTS = "crates/vl_config/src/fault.rt"
+FAULTS, ROWS = "crates/vl_config/src/fault.rt", "crates/vl_config/src/rows.rt"
 BOUNDS = ("crates/es_base/src/config.rt", "crates/es_base/src/settings.rt", "crates/es_base/src/port.rt",
           "crates/es_base/src/name.rt", "crates/mailbox_port/src/count.rt")
 C, RUST, ADA = "examples/c/yelunnavi.h", "examples/rust/yelunnavi.rs", "examples/ada/yelunnavi.ads"
@@ -28,11 +28,12 @@ STRUCTS_OF_C = {
     "FaultReply": "yelunnavi_fault", "FrameReply": "yelunnavi_frame", "ReadReply": "yelunnavi_read",
     "TakeReply": "yelunnavi_taken", "LinkReply": "yelunnavi_link", "PortReply": "yelunnavi_port",
     "PlaceReply": "yelunnavi_place", "LimitReply": "yelunnavi_limits", "HeldOctets": "yelunnavi_octets",
+    "LinkRow": "yelunnavi_link_row", "PortRow": "yelunnavi_port_row",
     **{f"{kind}Handle": f"yelunnavi_{kind.lower()}" for kind in KINDS_OF_HANDLES},
 }
 STRUCTS_OF_RUST = {
     "FaultReply": "Fault", "FrameReply": "Frame", "ReadReply": "Read", "TakeReply": "Taken", "LinkReply": "Link",
-    "PortReply": "Port", "PlaceReply": "Place", "LimitReply": "Limits", "HeldOctets": "Held",
+    "PortReply": "Port", "PlaceReply": "Place", "LimitReply": "Limits", "LinkRow": "LinkRow", "PortRow": "PortRow", "HeldOctets": "Held",
 }
 # What a number's name begins with in C, after YELUNNAVI_, and in Ada. In Rust it is a constant of a type of its group.
 PREFIXES = {
@@ -92,7 +93,9 @@ def split_at(separator, text):
 def parameters(name, of_type):
     """The parameters in C of one of an export: a slice is two, and the allocator none."""
     pairs = {"Global": [], "*mut u8": [(ROOM, ROOM)], "&[u8]": [(name, "octets"), ("len", "usize")],
-             "&mut [u8]": [(name, "octets out"), ("len", "usize")], "&mut [u8; 16]": [(name, "16 octets out")]}
+             "&mut [u8]": [(name, "octets out"), ("len", "usize")], "&mut [u8; 16]": [(name, "16 octets out")], "&[u8; 4]": [(name, "octets")],
+             "&[LinkRow]": [(name, "LinkRows"), (f"{name}_len", "usize")],
+             "&[PortRow]": [(name, "PortRows"), (f"{name}_len", "usize")]}
     if of_type in pairs:
         return pairs[of_type]
     kind = found(r"^(&mut )?(\w+)$", of_type, f"the type {of_type}")
@@ -110,12 +113,18 @@ def exports(text):
     return calls
 
 
+def of_array(kind):
+    """The type of a field: an array of octets is so many of them."""
+    array = re.fullmatch(r"\[u8; (\d+)\]", kind)
+    return f"{array[1]} octets" if array else kind
+
+
 def structs_of_source(tree):
-    text = (tree / REPLIES).read_text(encoding="utf-8")
+    text = "".join((tree / path).read_text(encoding="utf-8").split("/// A fault of a table")[0] for path in (REPLIES, ROWS))
     made = {}
     for name, body in re.findall(r"^#\[repr\(C\)\]\n(?:#[^\n]*\n)*pub struct (\w+) \{\n(.*?)^\}", text, re.M | re.S):
-        fields = re.findall(r"^    pub (\w+): (\w+),$", body, re.M)
-        made[name] = [(FIELDS.get((name, field), field), kind) for field, kind in fields]
+        fields = re.findall(r"^    pub (\w+): (\[u8; \d+\]|\w+),$", body, re.M)
+        made[name] = [(FIELDS.get((name, field), field), of_array(kind)) for field, kind in fields]
     if len(made) != text.count("pub struct "):
         raise Unread("a struct of replies")
     for kind in KINDS_OF_HANDLES:
@@ -216,6 +225,9 @@ def type_of_c(words):
     if of_struct and of_struct[1] in STRUCTS_OF_C.values():
         name = swapped(STRUCTS_OF_C)[of_struct[1]]
         return name if name.endswith("Handle") else f"{name} out"
+    of_rows = re.fullmatch(r"const struct (\w+_row) \*", words)
+    if of_rows and of_rows[1] in STRUCTS_OF_C.values():
+        return f"{swapped(STRUCTS_OF_C)[of_rows[1]]}s"
     of_number = re.fullmatch(r"(uint64_t|size_t) \*", words)
     return f"{plain[of_number[1]]} out" if of_number else words
 
@@ -225,6 +237,9 @@ def declared_in_c(words):
     array = re.fullmatch(r"uint8_t \(\*(\w+)\)\[(\d+)\]", words)
     if array:
         return array[1], f"{array[2]} octets out"
+    field = re.fullmatch(r"uint8_t (\w+)\[(\d+)\]", words)
+    if field:
+        return field[1], f"{field[2]} octets"
     parts = found(r"^(.*?)(\w+)$", words, f"{C}: {words}")
     return parts[2], type_of_c(parts[1].strip())
 
@@ -300,6 +315,9 @@ def type_of_rust(words, width, groups):
     array = re.fullmatch(r"\*mut \[u8; (\d+)\]", words)
     if words in pointers or array:
         return f"{array[1]} octets out" if array else pointers[words]
+    of_rows = re.fullmatch(r"\*const (\w+Row)", words)
+    if of_rows or words.startswith("["):
+        return f"{of_rows[1]}s" if of_rows else of_array(words)
     kind = found(r"^(\*mut )?(\w+)$", words, f"{RUST}: {words}")
     plain = width if kind[2] in groups else names.get(kind[2], kind[2])
     return plain + (" out" if kind[1] else "")
@@ -321,7 +339,7 @@ def face_of_rust(tree):
     handle = found(r"#\[repr\(C\)\]\nstruct Handle \{(.*?)\}", text, f"{RUST}: Handle")[1]
     held = found(r"#\[repr\(C\)\]\nstruct Held \{(.*?)\}", text, f"{RUST}: Held")[1]
     structs = {"Handle": re.findall(r"(\w+): ([^,]+)", handle), "Held": re.findall(r"(\w+): (\**\w[^,]*\w)", held)}
-    structs |= {name: re.findall(r"(\w+): (\w+)", body)
+    structs |= {name: re.findall(r"(\w+): (\[u8; \d+\]|\w+)", body)
                 for name, body in re.findall(r"^ +(\w+) \{ (.*?) \}$", block_of_rust(text, "replies"), re.M)}
     calls = re.findall(r"^ +(yelunnavi_\w+)\((.*?)\)(?: -> (\w+))?;", block_of_rust(text, "calls"), re.M)
 
@@ -353,7 +371,8 @@ def name_in_rust(group, name):
 
 # ---- Ada
 
-NAMES_OF_ADA = {"length": "len", "name_length": "name_len", "into": "out", "where": "at"}
+NAMES_OF_ADA = {"length": "len", "name_length": "name_len", "into": "out", "where": "at",
+                "constant_field": "constant", "links_length": "links_len", "ports_length": "ports_len"}
 
 
 def name_of_ada(name):

@@ -1,6 +1,8 @@
 """What all checks share: where the tree, its program and its tools stand, and the words of a command line."""
 import argparse
 import os
+import shutil
+import subprocess
 import sys
 from pathlib import Path
 
@@ -33,12 +35,19 @@ def end_if_missing(path, builder):
         sys.exit(2)
 
 
+def built(what):
+    """The path of the program, or of the library's folder, of these sources, if ./build has left it."""
+    done = subprocess.run([ROOT / "build", what, "--if-built", "--path"], stdin=subprocess.DEVNULL, stdout=subprocess.PIPE,
+                          text=True)
+    return done.stdout.strip() if done.returncode == 0 else None
+
+
 def program_of(given):
-    """The absolute path of the program that a command line asks for, or of the one of these sources."""
-    from workbench.faults import Fault
-    from workbench.program import find
-    try:
-        return find(given.program)
-    except Fault as fault:
-        print(f"{NAME}: {fault}", file=sys.stderr)
+    """The absolute path of the program that a command line or AFDX_PLAY asks for, or of the one of these sources."""
+    path = given.program or os.environ.get("AFDX_PLAY")
+    path = shutil.which(path) or path if path else built("program")
+    if not path or not os.access(path, os.X_OK) or os.path.isdir(path):
+        print(f"{NAME}: no program {path or 'of these sources'}: ./build program proves and builds it; --program FILE or "
+              "AFDX_PLAY name another", file=sys.stderr)
         sys.exit(2)
+    return os.path.abspath(path)

@@ -136,6 +136,30 @@ static void add_tables(unsigned levels, unsigned parts) {
     while (levels--) add("}");
 }
 
+/* The largest table: 64 links of 32 ports, and such a one with a fault at its end. */
+static struct yelunnavi_link_row link_rows[YELUNNAVI_MOST_LINKS];
+static struct yelunnavi_port_row port_rows[YELUNNAVI_MOST_LINKS * YELUNNAVI_MOST_PORTS];
+
+static void open_table(void) {
+    static const uint8_t constant[4] = {3};
+    code = yelunnavi_receiver_open_table(&receiver, constant, link_rows, YELUNNAVI_MOST_LINKS, port_rows,
+                                         YELUNNAVI_MOST_LINKS * YELUNNAVI_MOST_PORTS, YELUNNAVI_MOST_READERS, &fault);
+}
+
+static void of_tables(void) {
+    for (uint32_t at = 0; at < YELUNNAVI_MOST_LINKS * YELUNNAVI_MOST_PORTS; at++) {
+        port_rows[at] = (struct yelunnavi_port_row){YELUNNAVI_SERVICE_SAMPLING, 0xe0e00001, at, 1, 1000, 5, {'p'}};
+        for (uint32_t place = 1, rest = at; place < 5; place++, rest /= 10) port_rows[at].name[place] = (uint8_t)('0' + rest % 10);
+        link_rows[at / YELUNNAVI_MOST_PORTS] = (struct yelunnavi_link_row){at / YELUNNAVI_MOST_PORTS, 1, 0, 0, 1, YELUNNAVI_MOST_PORTS};
+    }
+    note("open, a table", written_by(open_table, LONG));
+    if (code != YELUNNAVI_DONE) exit(4);
+    call("close", close_it);
+    port_rows[YELUNNAVI_MOST_LINKS * YELUNNAVI_MOST_PORTS - 1].max = 1472;
+    note("open, a fault at the end of a table", written_by(open_table, LONG));
+    if (code != YELUNNAVI_FAULTY) exit(4);
+}
+
 static void of_texts(void) {
     text_len = 0;
     add_largest(5000);
@@ -198,6 +222,7 @@ int main(int argc, char **argv) {
     of_frames(argv + 1);
     of_ends();
     of_texts();
+    of_tables();
     for (size_t k = 0; most[k].name; k++) printf("%s: %zu\n", most[k].name, most[k].octets);
     return 0;
 }

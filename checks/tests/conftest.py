@@ -1,4 +1,4 @@
-"""What the tests share. The program is the one that yelunnavi finds: AFDX_PLAY, or what ./build program leaves."""
+"""What the tests share. The program is that of AFDX_PLAY, or what ./build program leaves."""
 import os
 import subprocess
 import sys
@@ -9,7 +9,7 @@ import pytest
 ROOT = Path(__file__).resolve().parents[2]
 sys.path[:0] = [str(ROOT / "tools"), str(ROOT / "checks")]
 
-from workbench import program  # noqa: E402
+from parts.options import built  # noqa: E402
 
 TOOL = ROOT / "tools" / "yelunnavi"
 CAPTURES = ROOT / "examples" / "captures"
@@ -17,7 +17,7 @@ CONFIG = ROOT / "examples" / "two_links.toml"
 TSHARK = ["tshark", "-n", "-o", "eth.padding:Never", "-o", "eth.fcs:Never", "-o", "udp.check_checksum:FALSE", "-X",
           f"lua_script:{ROOT / 'tools' / 'wireshark' / 'afdx.lua'}"]
 
-PROGRAM = program.find(None)
+PROGRAM = os.environ.get("AFDX_PLAY") or built("program")
 
 
 def run(*words, data=b"", **more):
@@ -51,7 +51,7 @@ def tshark(path, *words):
 
 def verdicts(output):
     """Network and words of each verdict line, without times."""
-    return [line.split(b" ", 1)[1] for line in output.splitlines() if line[:1].isdigit()]
+    return [line.split(b" ", 1)[1] for line in output.splitlines() if line[:1].isdigit() and line.split(b" ")[1] in (b"A", b"B")]
 
 
 @pytest.fixture

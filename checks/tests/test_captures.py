@@ -7,7 +7,7 @@ import subprocess
 
 import pytest
 from conftest import CAPTURES, CONFIG, PROGRAM, ROOT, TOOL, done, fault, run, tshark, verdicts
-from workbench import captures, traces
+from workbench import captures, stream, tracing
 from workbench.faults import Fault
 
 KERNELS = sorted(path.name for path in CAPTURES.iterdir() if "pcap" in path.suffix)
@@ -100,7 +100,7 @@ def test_times_are_microseconds_since_the_first_packet():
     found = run("play", "--config", CONFIG, CAPTURES / "a_nano.pcap", CAPTURES / "b_nano.pcap")
     times = sorted(packet.time for net in "ab" for packet in read(CAPTURES / f"{net}_nano.pcap"))
     base = times[0]
-    assert [int(line.split()[0]) for line in found.stdout.splitlines() if line[:1].isdigit()] == \
+    assert [int(line.split()[0]) for line in found.stdout.splitlines() if b" vl " in line] == \
         [(time - base) // 1000 for time in times]
     assert f"time 0 is {base // 10**9}.{base % 10**9:09d} seconds of 1970".encode() in found.stderr
 
@@ -198,20 +198,40 @@ def test_a_capture_cut_anywhere(name, written):
     rng = random.Random(1)
     for size in [0, 1, 3, 4, 23, 24, 25, *sorted(rng.sample(range(len(whole)), 40))]:
         found = run("play", "--config", CONFIG, written("cut", whole[:size]))
-        assert found.returncode in (0, 1) and b"Traceback" not in found.stderr, (size, found.stderr)
+        assert found.returncode in (0, 1, 5) and b"Traceback" not in found.stderr, (size, found.stderr)
         assert found.returncode == 0 or found.stderr.count(b"\n") == 1
     assert b"cut by the end of the capture: packet 17" in \
         run("play", "--config", CONFIG, written("cut", (CAPTURES / "a.pcap").read_bytes()[:-1])).stderr
 
 
-@pytest.mark.parametrize("place, octets, told", [
-    (32, b"\xff\xff\xff\x7f", "packet 1 has an absurd length, 2147483647 octets"),
-    (20, b"\x71\0\0\0", "packet 1 isn't Ethernet, but of link type 113"),
-])
-def test_forged_pcap(place, octets, told, written):
+def broken(*words):
+    """The line that says where a file is broken, of a run that played what came before."""
+    found = run("play", "--config", CONFIG, *words)
+    assert found.returncode == 5 and b"\ncount 17 A" in found.stdout and b"Traceback" not in found.stderr
+    return next(line for line in found.stderr.decode().splitlines() if "packets before were played" in line)
+
+
+def test_forged_pcap(written):
     data = bytearray((CAPTURES / "a.pcap").read_bytes())
-    data[place:place + len(octets)] = octets
-    assert fault(1, "play", "--config", CONFIG, written("x.pcap", data)) == f"yelunnavi: x.pcap: {told}"
+    data[32:36] = b"\xff\xff\xff\x7f"
+    assert broken(written("x.pcap", data)) == \
+        "yelunnavi: x.pcap: packet 1 has an absurd length, 2147483647 octets; 0 packets before were played"
+    data = bytearray((CAPTURES / "a.pcap").read_bytes())
+    data[20] = 113
+    assert fault(1, "play", "--config", CONFIG, written("x.pcap", data)) == \
+        "yelunnavi: x.pcap: packet 1 isn't Ethernet, but of link type 113"
+
+
+def test_what_came_before_a_bad_block_is_played(written):
+    """Zeros at the end of a whole capture, as a recorder leaves them that lost its power."""
+    whole = (CAPTURES / "faults.pcapng").read_bytes()
+    found = run("play", "--config", CONFIG, written("x.pcapng", whole + bytes(4096)))
+    assert found.returncode == 5 and found.stdout == done("play", "--config", CONFIG, CAPTURES / "faults.pcapng")
+    assert b"x.pcapng: a block of an absurd length, 0 octets; 97 packets before were played\n" in found.stderr
+    for words in (["annotate", "--to"], ["draw", "--to"], ["export", "--csv", "--to"]):
+        out = written("out", "")
+        assert run(*words, out, "--config", CONFIG, written("x.pcapng", whole + bytes(4096))).returncode == 5
+        assert os.path.getsize(out) > 1000
 
 
 def section(order="<"):
@@ -244,7 +264,7 @@ def a_packet(interface=0, time=0, octets=bytes(60), kept=None, order="<"):
     (section() + block(1, bytes(4)), "an interface without its link type"),
 ])
 def test_forged_pcapng(data, told, written):
-    assert fault(1, "play", "--config", CONFIG, written("x.pcapng", data)) == f"yelunnavi: x.pcapng: {told}"
+    assert broken(written("x.pcapng", data)) == f"yelunnavi: x.pcapng: {told}; 0 packets before were played"
 
 
 @pytest.mark.parametrize("options, ticks, expected", [
@@ -278,7 +298,7 @@ def test_a_block_of_many_options_takes_no_time(written):
 
 def test_too_many_interfaces(written):
     told = "more than 65536 interfaces"
-    assert fault(1, "play", "--config", CONFIG, written("x", section() + an_interface() * 65_537)) == f"yelunnavi: x: {told}"
+    assert broken(written("x", section() + an_interface() * 65_537)) == f"yelunnavi: x: {told}; 0 packets before were played"
 
 
 def test_a_file_that_grows(tmp_path):
@@ -314,30 +334,45 @@ def mutated(rng, seeds):
     return data[:rng.randrange(len(data))] if rng.random() < 0.3 else data
 
 
-def test_mutated_captures_make_traces_or_one_fault(written, tmp_path, capsys):
-    """A bounded fuzz: there is no other exception, and the program takes every trace that is made. Each packet of a
-    network is a line of its trace or was left out."""
+def test_mutated_captures_are_played_or_make_one_fault(written, tmp_path, capsys):
+    """A bounded fuzz: there is no other exception; the times of a network never fall; and the program takes the traces."""
     rng, made = random.Random(7), 0
     seeds = [(CAPTURES / name).read_bytes() for name in ("a.pcap", "both.pcapng", "a_nano.pcap", "a_fcs.pcap")]
     for case in range(600):
         path = written("mutated", mutated(rng, seeds))
-        given = argparse.Namespace(name="draw", files=[path], interfaces=(0, 1), fcs=rng.choice([None, True]), reorder=5)
+        given = argparse.Namespace(files=[path], interfaces=(0, 1), fcs=rng.choice([None, True]), reorder=5,
+                                   networks=rng.choice(["interface", "source"]), shift_b=rng.choice([0, -7]),
+                                   to=tmp_path / "made")
+        latest = [0, 0]
         try:
-            pair = traces.traces_of(given, tmp_path)
+            with stream.opened(given) as found:
+                for one in found:
+                    assert one.left_out or one.time >= latest[one.net]
+                    latest[one.net] = max(latest[one.net], 0 if one.left_out else one.time)
+            made += found.is_of_captures
+            if case % 10 == 0:
+                tracing.write(given)
+                words = [PROGRAM, "--config", CONFIG, "--a", given.to / "a.trace", "--b", given.to / "b.trace"]
+                played = subprocess.run(words, capture_output=True)
+                assert played.returncode == 0, played.stderr
         except Fault as refused:
             assert "\n" not in str(refused)
-            continue
-        if not all(isinstance(trace, traces.Captured) for trace in pair):
-            continue
-        made += 1
-        entries = [entry for trace in pair for entry in trace.entries()]
-        lines = sum(1 for trace in pair for _ in open(trace.path, "rb"))
-        assert sum(not entry.left_out for entry in entries) == lines
-        if case % 10 == 0:
-            words = [PROGRAM, "--config", CONFIG, "--a", pair[0].path, "--b", pair[1].path]
-            played = subprocess.run(words, capture_output=True)
-            assert played.returncode == 0, played.stderr
     assert made > 100 and "Traceback" not in capsys.readouterr().err
+
+
+def test_a_shift_moves_one_network_and_is_found():
+    words = ["play", "--config", CONFIG, CAPTURES / "ahead_a.pcap", CAPTURES / "ahead_b.pcap"]
+    assert b"B's clock seems 3200 us ahead of the other's, if it isn't its frames' delay: --shift-b -3200" in run(*words).stderr
+    found = run(*words, "--shift-b", "-3000")
+    assert b"ahead of the other's" not in found.stderr and sum(b" redundant" in line for line in found.stdout.splitlines()) == 20
+    assert b"ahead of the other's" not in run("play", "--config", CONFIG, CAPTURES / "faults.pcapng").stderr
+
+
+def test_networks_of_one_tap_are_told_apart_by_the_source_address(tmp_path):
+    joined = tmp_path / "joined.pcap"
+    subprocess.run(["mergecap", "-F", "nsecpcap", "-w", joined, CAPTURES / "a_nano.pcap", CAPTURES / "b_nano.pcap"], check=True)
+    assert done("play", "--config", CONFIG, "--networks", "source", joined) == \
+        play(CAPTURES / "a_nano.pcap", CAPTURES / "b_nano.pcap")
 
 
 def test_what_is_neither_is_refused_with_a_hint(written):

@@ -14,6 +14,7 @@ from verdict_words import KINDS, NETWORKS
 EXAMPLES = ROOT / "examples"
 PAIRS = [(EXAMPLES / f"{name}_a.trace", EXAMPLES / f"{name}_b.trace") for name in ("network", "fragments", "turning")]
 VOID = {"meta", "wbr", "br"}
+BESIDES = ("lost", "delivered twice", "restart", "datagram given up")
 LARGEST_PAGE, MOST_MEMORY = 5_000_000, 150_000_000
 
 
@@ -54,7 +55,7 @@ class Page(HTMLParser):
     def handle_data(self, data):
         if self.title is not None:
             self.title += data
-        elif self.rows and self.rows[-1]:
+        elif "td" in self.open or "th" in self.open:
             self.rows[-1][-1] += data
 
     def handle_endtag(self, tag):
@@ -71,7 +72,7 @@ class Page(HTMLParser):
         begin, end = map(int, re.match(r"(\d+) to (\d+) ", times).groups())
         for line in lines:
             for number, name, packet in re.findall(r"(\d+) ([^,()]+) \(\w+ (\d+)(?: and on)?\)", line[3:]):
-                if not name.startswith("no second copy") and name != "numbers missing":
+                if name not in BESIDES:
                     self.bins.setdefault((self.link, line[0], name), []).append((begin, end, int(number), int(packet)))
 
     def figure(self, name, value):
@@ -86,7 +87,7 @@ def frames_of(lines):
     """Time and number of the frames by link, network and kind with its cause, from `play --packets`."""
     found = {}
     for number, *words in map(str.split, lines):
-        if number != "-":
+        if words[1] in NETWORKS and number != "-":
             at = (None, words[1], words[3]) if words[2] == "filtered" else (words[3], words[1], words[5])
             if words[-2] == "bad-header":
                 at = (*at[:2], " ".join(words[5:]))
@@ -121,7 +122,7 @@ def compare_bins(bins, expected):
 
 
 def compare_ports(figures, lines):
-    frames = [line.split()[1:] for line in lines if line[0].isdigit()]
+    frames = [words for line in lines if line[0].isdigit() and (words := line.split()[1:])[1] in NETWORKS]
     times, queues = {}, {}
     for words in frames:
         if words[-2] in ("queued", "overflow"):
@@ -147,7 +148,7 @@ def test_turning_traces():
     delays = found.figure("data-delays", "7")
     on_a, on_b = (list(map(int, delays[f"data-first-{name}"].split())) for name in "ab")
     assert 20 <= on_a[1] and on_a[3] <= 140 and 10 <= on_b[1] and on_b[3] <= 70
-    assert found.figure("data-verdicts", "7")["data-gaps-b"] == "13 39 0"
+    assert found.figure("data-verdicts", "7")["data-lost-b"] == "39 26 0 0 0"
 
 
 def test_faults_lead_to_their_packets():
@@ -158,12 +159,18 @@ def test_faults_lead_to_their_packets():
     assert len(packets) == int(late[1]) and all(shown[number] == str("AB".index(net)) for number, net in packets)
 
 
-def test_gaps_are_those_that_were_made():
+def test_losses_are_those_that_were_made():
     """Number 4 is lost on A; 8, 9 and 10 on B, where 13 comes late."""
     found = page(CAPTURES / "a.pcap", CAPTURES / "b.pcap")
-    rows = [row for row in found.rows if row[:1] == ["17"] and len(row) == 6]
-    assert [row[:5] for row in rows] == [["17", "A", "1", "1", "0"], ["17", "B", "2", "4", "1"]]
-    assert "(5 after 3)" in rows[0][5] and "(11 after 7)" in rows[1][5]
+    rows = [row for row in found.rows if row[:1] == ["17"] and len(row) == 8]
+    assert rows == [["17", "A", "1", "0", "1", "0", "0", "0"], ["17", "B", "3", "0", "3", "1", "0", "0"]]
+
+
+def test_what_the_sender_and_the_networks_did_is_named():
+    """A copy that made a second message, a restart, and which condition of the laws was broken first by what."""
+    rows = page(CAPTURES / "faults.pcapng").rows
+    assert ["17", "delivered twice", "1", "33 of B"] in rows and ["17", "restart", "1", "64 of A after 44000 us"] in rows
+    assert ["skew-max", "1", "33 of B: 1700 us after its first copy"] in [[row[0], *row[2:]] for row in rows if len(row) == 4]
 
 
 def test_crossed_networks_are_told():
@@ -178,7 +185,7 @@ def test_packets_that_were_left_out_are_named():
 
 
 def test_a_configuration_that_the_program_refuses(written):
-    assert "config: not TOML" in fault(1, "draw", "--config", CAPTURES / "a.pcap", CAPTURES / "a.pcap")
+    assert "refused: not TOML" in fault(1, "draw", "--config", CAPTURES / "a.pcap", CAPTURES / "a.pcap")
 
 
 # ---- small traces whose delays and gaps are known
@@ -240,7 +247,7 @@ def test_small_traces(seed, written):
     if not is_lossy and delays:
         middle = delays[(len(delays) - 1) // 2]
         assert found.figure("data-delays", "7")["data-first-a"] == f"{len(delays)} {delays[0]} {middle} {delays[-1]}"
-        assert found.figure("data-verdicts", "7")["data-gaps-a"] == "0 0 0"
+        assert found.figure("data-verdicts", "7")["data-lost-a"] == "0 0 0 0 0"
 
 
 def test_copies_are_paired_by_their_numbers(written):
@@ -251,21 +258,26 @@ def test_copies_are_paired_by_their_numbers(written):
              for net, frames in (("a", a), ("b", b))]
     found = compare(*names, config=written("two.toml", TWO))
     delays, verdicts = found.figure("data-delays", "7"), found.figure("data-verdicts", "7")
-    assert delays["data-first-a"] == "3 100 100 110" and verdicts["data-gaps-b"] == "1 1 0"
-    assert any(row[:1] == ["7"] and row[-1].startswith("2 (3 after 1)") for row in found.rows)
+    assert delays["data-first-a"] == "3 100 100 110" and verdicts["data-lost-b"] == "1 1 0 0 0"
 
 
-@pytest.mark.parametrize("numbers, gaps", [
-    ([1, 2, 90, 3, 4, 5], "0 0 1"),  # 90 is astray
-    ([1, 2, 90, 4, 5], "1 1 1"),  # and 3 lost
-    ([1, 2, 90], "1 87 0"),  # whether it is so the end leaves open
-    ([1, 2, 7, 8], "1 4 0"), ([1, 2, 7, 12, 17, 18], "3 12 0"), ([1, 2, 7, 0, 1], "1 4 0"),  # lost numbers
-    ([1, 2, 4, 3, 5], "1 1 1"), ([1, 2, 2, 3], "0 0 1"),  # late, and again
-])
-def test_numbers_that_are_astray_make_no_gap(numbers, gaps, written):
-    trace = written("a", "".join(f"{100 * place} {frame(7, number, '', 1, 8)}\n" for place, number in enumerate(numbers)))
-    found = compare(trace, config=written("two.toml", TWO))
-    assert found.figure("data-verdicts", "7")["data-gaps-a"] == gaps
+def test_a_delay_beyond_skew_max_has_another_colour(written):
+    names = [written(net, "".join(f"{time} {frame(7, number, '', 1, 8)}\n" for time, number in frames))
+             for net, frames in (("a", [(0, 1), (5000, 2)]), ("b", [(100, 1), (7500, 2)]))]
+    found = compare(*names, config=written("two.toml", TWO))
+    delays = found.figure("data-delays", "7")
+    assert delays["data-beyond"] == "1" and delays["data-first-a"] == "2 100 100 2500"
+    assert "first-a beyond" in done("draw", "--config", written("two.toml", TWO), *names).decode()
+
+
+def test_a_queue_that_is_emptied_by_a_period(written):
+    """Three messages fit; taken each 10 milliseconds two of five are lost."""
+    trace = written("a", "".join(f"{1000 * place} {frame(7, place, '', 2, 8)}\n" for place in range(1, 6)))
+    found = page(trace, config=written("c", TWO.replace("depth = 3", "depth = 3, take_us = 10000")))
+    queue = found.figure("data-queuing", "q")
+    assert (queue["data-queued"], queue["data-overflow"], queue["data-most"]) == ("3", "2", "3")
+    queue = page(trace, config=written("c", TWO)).figure("data-queuing", "q")
+    assert (queue["data-queued"], queue["data-overflow"], queue["data-most"]) == ("5", "0", "1")
 
 
 def test_many_frames_make_a_bounded_page(written):

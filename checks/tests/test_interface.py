@@ -9,7 +9,7 @@ from parts import faces
 
 C, WORDS, RUST, ADA = faces.C, faces.WORDS, faces.RUST, faces.ADA
 HANDLES = [faces.HANDLES.format(kind.lower()) for kind in faces.KINDS_OF_HANDLES]
-SOURCES = [faces.CALLS, *HANDLES, faces.HELD, faces.REPLIES, faces.CODES, faces.NUMBERS, faces.FAULTS, *faces.BOUNDS]
+SOURCES = [faces.CALLS, *HANDLES, faces.HELD, faces.REPLIES, faces.CODES, faces.NUMBERS, faces.FAULTS, faces.ROWS, *faces.BOUNDS]
 READ = [*SOURCES, C, WORDS, RUST, ADA]
 
 # A file, what stands there once, what is planted in its place, and what is told of it.

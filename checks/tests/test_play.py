@@ -3,6 +3,7 @@ import csv
 import io
 import json
 import os
+import select
 import subprocess
 import sys
 import time
@@ -19,12 +20,83 @@ def program(*words):
     return subprocess.run([PROGRAM, *words], capture_output=True)
 
 
-def test_traces_are_played_as_they_are():
+def test_traces_are_played_as_the_program_does():
     alone = program("--config", CONFIG, "--a", TRACES[0], "--b", TRACES[1], "--at", "9999")
-    assert done("play", "--config", CONFIG, *TRACES, "--at", "9999") == alone.stdout
-    assert done("play", "--config", CONFIG, TRACES[0]) == \
-        done("play", "--config", CONFIG, "-", data=TRACES[0].read_bytes()) == \
+    assert done("play", "--never-taken", "--config", CONFIG, *TRACES, "--at", "9999") == alone.stdout
+    assert done("play", "--never-taken", "--config", CONFIG, TRACES[0]) == \
+        done("play", "--never-taken", "--config", CONFIG, "-", data=TRACES[0].read_bytes()) == \
         program("--config", CONFIG, "--a", TRACES[0], "--b", os.devnull).stdout
+
+
+@pytest.mark.parametrize("names", [("a.pcap", "b.pcap"), ("a_nano.pcap", "b_nano.pcap"), ("a_fcs.pcap", "b_fcs.pcap"),
+                                   ("both.pcapng",), ("faults.pcapng",), ("ahead_a.pcap", "ahead_b.pcap"), ("a_tagged.pcap",),
+                                   ("a_snapshot.pcap", "b.pcap"), ("empty.pcap",)])
+def test_captures_are_played_as_the_program_plays_their_traces(names, tmp_path):
+    """What nobody takes, in this process, is byte for byte what the program writes of the hex traces."""
+    paths = [CAPTURES / name for name in names]
+    done("traces", *paths, "--to", tmp_path / "made")
+    made = [tmp_path / "made" / f"{net}.trace" for net in "ab"]
+    assert done("play", "--never-taken", "--config", CONFIG, *paths) == \
+        program("--config", CONFIG, "--a", made[0], "--b", made[1]).stdout
+
+
+def test_queues_are_emptied_at_once_or_by_a_period(written):
+    """Each message is taken when it came, or at the next multiple of the period; none is lost where it isn't full."""
+    lines = done("play", "--config", CONFIG, A, B).decode().splitlines()
+    queued = [line.split()[0] for line in lines if " queued nav" in line]
+    taken = [line.split() for line in lines if " taken nav " in line]
+    assert [words[0] for words in taken] == [words[3] for words in taken] == queued and len(queued) == 6
+    assert [words[5] if len(words) > 5 else "" for words in taken] == \
+        [payload[0] if payload else "" for port, *payload in SENT if port == "5002"]
+    config = written("c.toml", CONFIG.read_text().replace("depth = 4", "depth = 4\ntake_us = 100000"))
+    lines = done("play", "--config", config, A, B).decode().splitlines()
+    taken = [line.split() for line in lines if " taken nav " in line]
+    waiting = len([line for line in lines if line.startswith("message nav ")])
+    assert len(taken) + waiting == 6 and all(int(words[0]) % 100_000 == 0 < int(words[0]) - int(words[3]) for words in taken)
+
+
+def test_ages_at_reading(written):
+    """A reader by its period finds the newest message, and how old it is."""
+    config = written("c.toml", CONFIG.read_text().replace("udp = 5000\n", "udp = 5000\nread_us = 50000\n", 1))
+    lines = [line.split() for line in done("play", "--config", config, A, B).decode().splitlines()]
+    came = [(int(words[0]), int(words[-1])) for words in lines if words[4:5] == [b"pos"] or "sampled" in words]
+    reads = [words for words in lines if words[1:3] == ["read", "pos"]]
+    assert reads and all(int(words[0]) % 50_000 == 0 for words in reads)
+    for moment, _, _, number, age, state in reads:
+        at, newest = max(one for one in came if one[0] <= int(moment))
+        assert (int(number), int(age)) == (newest, int(moment) - at) and (state == "fresh") == (int(age) <= 20_000)
+
+
+def test_a_long_silence_takes_no_time(written):
+    """A frame, and the next one after 31,000 years: reads are counted, and not made one by one."""
+    frame = TRACES[0].read_text().splitlines()[1].split()[1]
+    config = written("c.toml", CONFIG.read_text().replace("udp = 5000\n", "udp = 5000\nread_us = 3\n", 1)
+                     .replace("depth = 4", "depth = 4\ntake_us = 1"))
+    lines = done("play", "--config", config, written("t", f"1 {frame}\n{10**18} {frame}\n")).decode().splitlines()
+    assert f"read pos oldest {10**18 - 2} stale {(10**18 - 1) // 3 - 6667} reads {(10**18 - 1) // 3} missed 0" in lines
+
+
+@pytest.mark.parametrize("key, told", [
+    ("take_us = 0", "take_us isn't a whole number of microseconds, 1 to 1000000000"),
+    ("take_us = 1.5", "take_us isn't a whole number"), ("take_us = true", "take_us isn't a whole number")])
+def test_own_keys_that_can_not_be(key, told, written):
+    config = written("c.toml", CONFIG.read_text().replace("depth = 4", f"depth = 4\n{key}"))
+    assert f"{config}:21: link 17 port nav: {told}" in fault(1, "play", "--config", config, A)
+    assert run("play", "--never-taken", "--config", config, A).returncode == 0
+
+
+def test_lines_come_as_packets_come():
+    """A line of a pipe comes before the pipe ends, once its packet has waited for earlier ones."""
+    whole = (CAPTURES / "both.pcapng").read_bytes()
+    with subprocess.Popen([TOOL, "play", "--config", CONFIG, "-"], stdin=subprocess.PIPE, stdout=subprocess.PIPE,
+                          stderr=subprocess.DEVNULL) as process:
+        process.stdin.write(whole)
+        process.stdin.flush()
+        assert select.select([process.stdout], [], [], 30)[0]
+        early = os.read(process.stdout.fileno(), 10)
+        process.stdin.close()
+        rest = process.stdout.read()
+    assert early + rest == done("play", "--config", CONFIG, CAPTURES / "both.pcapng")
 
 
 def test_each_line_leads_back_to_its_packet():
@@ -37,9 +109,9 @@ def test_each_line_leads_back_to_its_packet():
     plain, found = done("play", "--config", CONFIG, A, B), done("play", "--config", CONFIG, "--packets", A, B)
     assert [line.split(b" ", 1)[1] for line in found.splitlines()] == plain.splitlines()
     for line in found.decode().splitlines():
-        number, time, net, *_ = line.split()
+        number, moment, net, *_ = line.split()
         if number != "-":
-            assert nanoseconds[net][int(number)] // 1000 == int(time)
+            assert nanoseconds[net][int(number)] // 1000 == int(moment)
 
 
 def test_numbers_of_packets_count_those_that_were_left_out():
@@ -51,8 +123,8 @@ def test_numbers_of_packets_count_those_that_were_left_out():
 
 
 def test_messages_are_those_that_were_sent():
-    """The kernel fragmented them; the queue holds its first four, the sampling port its last."""
-    report = done("play", "--config", CONFIG, A, B).decode().splitlines()
+    """The kernel fragmented them. Where nobody takes the queue holds its first four; the sampling port has its last."""
+    report = done("play", "--never-taken", "--config", CONFIG, A, B).decode().splitlines()
     queued = [line.split()[4] for line in report if line.startswith("message nav ")]
     assert queued == [payload[0] for port, *payload in SENT if port == "5002" and payload][:4]
     last = next(line for line in report if line.startswith("port pos")).split()
@@ -88,7 +160,7 @@ def test_a_record_a_frame():
         vl, sequence, source, interface = shown[record["network"], record["packet"]]
         assert [record["link"], record["sequence"], record["source"], record["interface"]] == \
             [int(vl), int(sequence), source, int(interface)]
-    plain = done("play", "--config", CONFIG, A, B).decode().splitlines()
+    plain = [line for line in done("play", "--config", CONFIG, A, B).decode().splitlines() if " vl " in line]
     for record, line in zip(found, plain):
         told = [record[name] for name in ("verdict", "cause", "port", "message") if record[name] is not None]
         assert line == f"{record['time_us']} {record['network']} vl 17 {record['place']} {' '.join(map(str, told))}"
@@ -121,55 +193,72 @@ def test_pandas_reads_it():
     assert list(pandas.read_json(text)["packet"])[:2] == [1, 1]
 
 
-def test_faults_of_the_program_are_its_own(written):
+def test_faults_of_a_configuration_have_their_place(written):
     bad = written("bad.toml", CONFIG.read_text().replace("vl = 17", "vl = 70000"))
-    assert fault(1, "play", "--config", bad, *TRACES) == \
-        "afdx_play: config: vl out of range (`yelunnavi check` says where)"
-    assert fault(1, "play", "--config", CONFIG, written("t", "1 00\n0 00\n")) == "afdx_play: trace A line 2: time falls"
+    for words in (["play"], ["health"], ["export", "--csv"], ["draw"], ["annotate", "--to", "/nowhere/x"]):
+        assert fault(1, *words, "--config", bad, "/nowhere") == \
+            f"yelunnavi: {bad}:4: link 70000: refused: vl out of range (allowed: an integer from 0 to 65535)"
+    assert fault(3, "play", "--config", "/nowhere", A) == "yelunnavi: /nowhere: not read: No such file or directory"
+
+
+@pytest.mark.parametrize("text, told, count", [
+    ("1 00\n0 00\n", "trace A line 2: time falls", 1), ("1 00\n2 0\n", "trace A line 2: hex", 1), ("x", "", None),
+    ("1 00\n2\n", "trace A line 2: space", 1), ("1 00\n#\n18446744073709551616 00\n", "trace A line 3: time", 1),
+    ("1 00\n01 00\n", "trace A line 2: space", 1), ("1 00\n" + "0" * 9000, "trace A line 2: long line", 1),
+    ("1 00\n2 0 0\n", "trace A line 2: hex", 1)])
+def test_a_faulty_trace_is_played_up_to_its_fault(text, told, count, written):
+    """The fault is the program's, which plays none of it."""
+    trace = written("t", text)
+    found = run("play", "--never-taken", "--config", CONFIG, trace)
+    if count is None:
+        assert found.returncode == 1 and b"neither a capture" in found.stderr
+        return
+    assert (found.returncode, found.stderr.decode()) == (5, f"yelunnavi: {told}\n")
+    assert len([line for line in found.stdout.splitlines() if b"filtered" in line and line[:1].isdigit()]) == count
+    assert program("--config", CONFIG, "--a", trace, "--b", os.devnull).stderr.decode() == f"afdx_play: {told}\n"
+
+
+def test_windows_line_ends_are_named(written):
     windows = written("w", TRACES[0].read_bytes().replace(b"\n", b"\r\n"))
-    assert "the line ends of Windows: sed" in fault(1, "play", "--config", CONFIG, windows)
-    assert fault(3, "play", "--config", "/nowhere", A).startswith("afdx_play: config not read")
-    assert run("play", "--config", CONFIG, A, "--at", "x").returncode == 2
-
-
-def written_program(written, name, text):
-    path = written(name, f"#!/bin/sh\n{text}\n")
-    os.chmod(path, 0o755)
-    return path
+    assert b"line ends of Windows: sed" in run("play", "--config", CONFIG, windows).stderr
 
 
 def test_own_faults(written, tmp_path):
     assert "nowhere: not read: No such file" in fault(3, "play", "--config", CONFIG, "nowhere")
     assert "not read: Is a directory" in fault(3, "play", "--config", CONFIG, tmp_path)
-    for program in ("/nowhere", str(tmp_path)):
-        told = fault(3, "play", "--config", CONFIG, A, "--program", program)
-        assert "./build program proves and builds it once, in 18 minutes" in told
-    assert "not written" in fault(3, "play", "--config", CONFIG, A, "--scratch", "/nowhere")
-    assert "not a line of the program" in fault(3, "export", "--csv", "--config", CONFIG, A, "--program", written_program(
-        written, "no_lines", "echo 1 B vl 2"))
-    dies = written_program(written, "dies", "kill -9 $$")
-    assert fault(137, "play", "--config", CONFIG, A, "--program", dies).endswith("the program was ended by signal 9")
+
+
+def test_a_library_that_is_not_there_or_of_another_interface(tmp_path):
+    source = "#include <stdint.h>\nuint32_t yelunnavi_abi(void) { return 77; }\n"
+    (tmp_path / "other.c").write_text(source)
+    subprocess.run(["cc", "-shared", "-o", tmp_path / "other.so", tmp_path / "other.c"], check=True)
+    for path, told in [("/nowhere", "no library /nowhere: ./build library"), (CONFIG, "not loaded: "),
+                       (tmp_path / "other.so", "its interface has the number 77, and yelunnavi.h has ")]:
+        found = fault(3, "play", "--config", CONFIG, A, env={**os.environ, "YELUNNAVI_LIBRARY": str(path)})
+        assert told in found
 
 
 def test_words_that_are_refused():
     for words in ([], ["play"], ["play", "--config", "c"], ["play", "--config", "c", "1", "2", "3"], ["export", "x"],
                   ["play", "--config", "c", "-", "-"], ["play", "--config", "c", "x", "--interfaces", "1"],
                   ["play", "--config", "c", "x", "--interfaces", "1,1"],
-                  ["play", "--config", "c", "x", "--workers", "0"], ["nothing"]):
+                  ["health", "--config", "c", "x", "--workers", "0"], ["nothing"], ["play", "--config", "c", "x", "--at", "-1"],
+                  ["watch", "--config", "c", "eth1"], ["traces", "x"]):
         found = run(*words)
         assert found.returncode == 2 and found.stderr.startswith(b"usage: yelunnavi") and not found.stdout
 
 
-@pytest.mark.parametrize("words", [[], ["play"], ["annotate"], ["check"], ["export"], ["draw"]])
+@pytest.mark.parametrize("words", [[], ["play"], ["annotate"], ["check"], ["export"], ["draw"], ["health"], ["watch"],
+                                   ["traces"]])
 def test_help_imports_nothing_heavy(words):
     text = subprocess.run([sys.executable, "-X", "importtime", TOOL, *words, "--help"], capture_output=True)
     assert text.returncode == 0 and text.stdout.startswith(b"usage: yelunnavi")
-    for name in (b"distributed", b"scapy", b"numpy", b"dask"):
+    for name in (b"distributed", b"scapy", b"numpy", b"dask", b"cffi", b"rich"):
         assert name not in text.stderr
 
 
 def test_an_output_that_nobody_takes():
-    for words in (["play"], ["play", "--packets"], ["export", "--csv"]):
+    for words in (["play"], ["play", "--packets"], ["export", "--csv"], ["health"], ["draw"]):
         with open("/dev/full", "wb") as full:
             found = subprocess.run([TOOL, *words, "--config", CONFIG, A, B], stdout=full, stderr=subprocess.PIPE)
         assert found.returncode == 3 and b"output not written" in found.stderr.splitlines()[-1]
@@ -191,17 +280,16 @@ def test_outputs_are_whole_or_not_there(tmp_path, written):
     assert "not written" in fault(3, "export", "--csv", "--config", CONFIG, A, "--to", "/nowhere/x")
 
 
-def test_a_signal_leaves_nothing(tmp_path, written):
-    """The program waits; SIGTERM ends it too."""
-    waits = written_program(written, "waits", "exec sleep 60")
-    scratch = tmp_path / "scratch"
-    scratch.mkdir()
-    process = subprocess.Popen([TOOL, "export", "--csv", "--config", CONFIG, A, B, "--program", waits, "--scratch", scratch,
-                                "--to", tmp_path / "out"], stdout=subprocess.DEVNULL, stderr=subprocess.PIPE)
+def test_a_signal_leaves_nothing(tmp_path):
+    """A pipe that brings nothing keeps it waiting."""
+    read_end, write_end = os.pipe()
+    process = subprocess.Popen([TOOL, "export", "--csv", "--config", CONFIG, "-", "--to", tmp_path / "out"], stdin=read_end,
+                               stdout=subprocess.DEVNULL, stderr=subprocess.PIPE)
     for _ in range(200):
         time.sleep(0.05)
         if any(path.name.startswith(".yelunnavi-") for path in tmp_path.iterdir()):
             break
     process.terminate()
-    assert process.wait(10) == 143 and list(scratch.iterdir()) == []
-    assert sorted(path.name for path in tmp_path.iterdir()) == ["scratch", "waits"]
+    assert process.wait(10) == 143 and list(tmp_path.iterdir()) == []
+    os.close(read_end)
+    os.close(write_end)

@@ -127,6 +127,16 @@ package Yelunnavi is
    type Octets is array (size_t range <>) of aliased Unsigned_8 with Convention => C;
    subtype Name_Octets is Octets (0 .. 15);
 
+   --  A table: links, and their ports one after another.
+   type Link_Row is record
+      Vl, Redundancy : Unsigned_32; Skew_Max, Reassembly : Unsigned_64; Window : Unsigned_32; Ports : size_t;
+   end record with Convention => C;
+   type Port_Row is record
+      Service, Address, Udp, Max : Unsigned_32; Limit : Unsigned_64; Name_Length : size_t; Name : Name_Octets;
+   end record with Convention => C;
+   type Link_Rows is array (size_t range <>) of aliased Link_Row with Convention => C;
+   type Port_Rows is array (size_t range <>) of aliased Port_Row with Convention => C;
+
    function Library_Abi return Unsigned_32 with Import, Convention => C, External_Name => "yelunnavi_abi";
    function Receiver_Room return size_t with Import, Convention => C, External_Name => "yelunnavi_receiver_room";
    function Reader_Room return size_t with Import, Convention => C, External_Name => "yelunnavi_reader_room";
@@ -144,6 +154,10 @@ package Yelunnavi is
    function Open
      (H : in out Receiver; Text : Octets; Length, Readers : size_t; Fault : in out Fault_Reply) return Code
      with Import, Convention => C, External_Name => "yelunnavi_receiver_open";
+   function Open_Table
+     (H : in out Receiver; Constant_Field : Octets; Links : Link_Rows; Links_Length : size_t; Ports : Port_Rows;
+      Ports_Length, Readers : size_t; Fault : in out Fault_Reply) return Code
+     with Import, Convention => C, External_Name => "yelunnavi_receiver_open_table";
    procedure Close (H : in out Receiver) with Import, Convention => C, External_Name => "yelunnavi_receiver_close";
    function Receive
      (H : in out Receiver; Net : Unsigned_32; Now : Unsigned_64; Frame : Octets; Length : size_t; Reply : in out Frame_Reply) return Code

@@ -17,7 +17,7 @@
    tries again: each reader of a sampling port has a copy of the newest message to itself. A reader that stops in the midst
    of a call, that holds a message for ever or that nobody uses any more holds up neither the receiver nor another reader.
 
-   MEMORY. yelunnavi_receiver_open asks for memory, by rattle_alloc, rattle_realloc and rattle_dealloc below; .._close
+   MEMORY. yelunnavi_receiver_open and .._open_table ask for memory, by rattle_alloc, rattle_realloc and rattle_dealloc below; .._close
    give some back. No other call asks for any or gives any back. For each sampling port it keeps 376 octets, and for each
    of its readers 376 and three times the longest message of the port. Beside these three the library needs memcpy,
    memmove and memset, and nothing else: no operating system, no C library's start-up. It never prints, never ends the
@@ -39,8 +39,9 @@
 
    STACK. An opening takes up to 20 KiB if the text is a configuration with no keys but its own, or is none for a fault that
    stands in one of its ports. Other keys whose values are nested take more: 2.6 MB for 80 levels of tables, each by a key of
-   80 parts, the most that is read. So a task with a short stack opens no text of a stranger's. Every other call takes up to
-   1 KiB. What the program's own functions take comes on top (docs/EMBEDDING.md has each call).
+   80 parts, the most that is read. So a task with a short stack opens no text of a stranger's. An opening of a table takes up to
+   20 KiB. Every other call takes up to 1 KiB. What the program's own functions take comes on top (docs/EMBEDDING.md has each
+   call).
 
    REGISTERS. The library uses the vector registers of its processor (SSE2, Advanced SIMD), in a receive and in nearly every
    other call: a task or an interrupt handler that may not use them may not call it.
@@ -269,6 +270,36 @@ struct yelunnavi_fault {
    and `fault` says why; NO_MEMORY, tested in this order. */
 uint32_t yelunnavi_receiver_open(struct yelunnavi_receiver *h, const uint8_t *text, size_t len, size_t readers,
                                  struct yelunnavi_fault *fault);
+
+/* A configuration without a text: a table of its links, and of their ports one after another, as examples/c/table.c writes one
+   of a text. A program that opens no text and is linked with --gc-sections has none of the library's reading of TOML. */
+struct yelunnavi_link_row {
+    uint32_t vl;         /* its link number, 0 to 65,535 */
+    uint32_t redundancy; /* 1: redundancy management is on. 0: it is off */
+    uint64_t skew_max;   /* SkewMax, up to 1,000,000 */
+    uint64_t reassembly; /* the limit of reassembly, up to 10,000,000 */
+    uint32_t window;     /* of integrity checking, 1 to 4 */
+    size_t ports;        /* how many ports it has, up to 32: the next of the table's */
+};
+
+struct yelunnavi_port_row {
+    uint32_t service;  /* enum yelunnavi_service */
+    uint32_t address;  /* the IPv4 address of its datagrams: the first octet is the most significant one */
+    uint32_t udp;      /* their UDP port, 0 to 65,535 */
+    uint32_t max;      /* the longest message: up to 1,471 of a sampling port, 8,192 of a queuing port */
+    uint64_t limit;    /* the refresh period, up to 1,000,000,000; or the depth of the queue, 1 to 64 messages */
+    size_t name_len;   /* how many octets its name has, 1 to 16 */
+    uint8_t name[16];  /* of a-z 0-9 _ -, at the beginning */
+};
+
+/* Opens the receiver of a table, whose constant field has the 4 octets at `constant`, as the call above opens that of a text:
+   with the same limits, answers, faults and places, tested in the same order. A fault has no line. A value that a text can't
+   have is out of range: a `service` or `redundancy` of another number. Ports that belong to no link are too many; if a link has
+   more ports than are left, KEY_PORT is missing there. */
+uint32_t yelunnavi_receiver_open_table(struct yelunnavi_receiver *h, const uint8_t *constant,
+                                       const struct yelunnavi_link_row *links, size_t links_len,
+                                       const struct yelunnavi_port_row *ports, size_t ports_len, size_t readers,
+                                       struct yelunnavi_fault *fault);
 
 /* Gives the receiver away, if one is open. Ends that were handed out live on: see AFTER A CLOSE. */
 void yelunnavi_receiver_close(struct yelunnavi_receiver *h);

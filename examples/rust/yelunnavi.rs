@@ -128,6 +128,10 @@ replies! {
     Port { service: Service, address: u32, udp: u32, max: u32, limit: u64, name_len: usize }
     /// Where a port is.
     Place { link: usize, port: u32 }
+    /// A link of a table: its settings, and how many of the table's ports, the next ones, are its own.
+    LinkRow { vl: u32, redundancy: u32, skew_max: u64, reassembly: u64, window: u32, ports: usize }
+    /// A port of a table.
+    PortRow { service: Service, address: u32, udp: u32, max: u32, limit: u64, name_len: usize, name: [u8; 16] }
     /// What a partition has to know of its port.
     Limits { max: usize, refresh: u64 }
 }
@@ -180,6 +184,7 @@ calls! {
     yelunnavi_reader_make(room: *mut c_void);
     yelunnavi_taker_make(room: *mut c_void);
     yelunnavi_receiver_open(h: *mut Handle, text: *const u8, len: usize, readers: usize, fault: *mut Fault) -> Code;
+    yelunnavi_receiver_open_table(h: *mut Handle, constant: *const u8, links: *const LinkRow, links_len: usize, ports: *const PortRow, ports_len: usize, readers: usize, fault: *mut Fault) -> Code;
     yelunnavi_receiver_close(h: *mut Handle);
     yelunnavi_receiver_receive(h: *mut Handle, net: Network, now: u64, frame: *const u8, len: usize, reply: *mut Frame) -> Code;
     yelunnavi_receiver_count(h: *mut Handle, link: usize, net: Network, kind: Verdict, count: *mut u64) -> Code;
@@ -271,6 +276,16 @@ impl Receiver<'_> {
         let mut fault = Fault::default();
         answer(unsafe { yelunnavi_receiver_open(&mut self.handle, text.as_ptr(), text.len(), readers, &mut fault) })
             .map_err(|code| (code, fault))
+    }
+
+    /// Opens the receiver of a table: the constant field, the links, and their ports one after another.
+    pub fn open_table(&mut self, constant: [u8; 4], links: &[LinkRow], ports: &[PortRow], readers: usize) -> Result<(), (Code, Fault)> {
+        let mut fault = Fault::default();
+        let (of_links, of_ports) = (links.as_ptr(), ports.as_ptr());
+        answer(unsafe {
+            yelunnavi_receiver_open_table(&mut self.handle, constant.as_ptr(), of_links, links.len(), of_ports, ports.len(), readers, &mut fault)
+        })
+        .map_err(|code| (code, fault))
     }
 
     /// Takes a frame that came on a network at `now`, in microseconds.

@@ -1,38 +1,33 @@
 """Draws what became of the frames of two networks as one page for a browser."""
-import tempfile
 from collections import Counter
 
 from drawing.gather import Gathered
 from drawing.page import page
-from drawing.read import totals
 from verdict_words import NETWORKS
-from workbench import files, frames, playing, program, traces
+from workbench import files, frames, station, stream
 
 NO_FAULTS = ("sampled", "queued", "redundant", "fragment-held")
 
 
 def draw(given):
-    with files.scratch(given.scratch) as folder, tempfile.TemporaryFile(dir=folder) as output:
-        pair = traces.traces_of(given, folder)
-        with program.running(program.words_of(given, pair), pair, output):
-            pass
-        output.seek(0)
-        found = totals(output, given.config, pair[0].unit)
-        output.seek(0)
-        gathered, faults = Gathered(found), Faults()
-        for net, entry, verdict in playing.seen(output, pair):
-            faults.see(net, entry, verdict)
-            if verdict:
-                gathered.see(net, entry, verdict)
-        gathered.end()
-    text = page(found, gathered, " and ".join(dict.fromkeys(trace.source for trace in pair)), faults)
+    played = station.opened(given.config, tell=lambda *found: gathered.served(*found))
+    gathered, faults = Gathered(played), Faults()
+    alone = station.Alone(played.config) if given.each else None
+    with stream.opened(given) as packets:
+        for one, now, reply in played.seen(packets):
+            gathered.see(one, now, reply)
+            faults.see(one, reply, alone and reply and alone.fault(one, now, reply))
+    gathered.end(played.latest, packets)
+    faults.hint = packets.shift.hint()
+    text = page(gathered, " and ".join(dict.fromkeys(packets.source(net) for net in (0, 1))), faults)
     with files.writing(given.to) as out:
         out.write(text.encode(errors="replace"))
+    return packets.status
 
 
 class Faults:
     """The first frames of each kind of fault, and what the source addresses say of their networks."""
-    SHOWN = 10
+    SHOWN, hint = 10, ""
 
     def __init__(self):
         self.counts, self.first, self.interfaces = {}, {}, {net: Counter() for net in NETWORKS}
@@ -40,13 +35,17 @@ class Faults:
     def are_crossed(self):
         return frames.are_crossed(self.interfaces.values())
 
-    def see(self, net, entry, verdict):
-        if verdict and verdict.link is not None:
-            self.interfaces[net][frames.interface_of(entry.octets)] += 1
-        kind = f"{verdict.kind} {verdict.cause}".rstrip() if verdict else f"left out: {entry.left_out}"
+    def see(self, one, reply, alone):
+        if reply and reply.vl is not None:
+            self.interfaces[NETWORKS[one.net]][frames.interface_of(one.octets)] += 1
+        self.count(one, reply, f"{reply.kind} {reply.cause}".rstrip() if reply else f"left out: {one.left_out}")
+        if alone:
+            self.count(one, alone, f"{alone.kind} {alone.cause}".rstrip() + ", hidden by the other network’s copy")
+
+    def count(self, one, reply, kind):
         if kind in NO_FAULTS:
             return
         self.counts[kind] = self.counts.get(kind, 0) + 1
         if self.counts[kind] <= self.SHOWN:
-            link = f" (link {verdict.link})" if verdict and verdict.link is not None else ""
-            self.first.setdefault(kind, []).append(f"{entry.number} of {net}{link}")
+            link = f" (link {reply.vl})" if reply and reply.vl is not None else ""
+            self.first.setdefault(kind, []).append(f"{one.number} of {NETWORKS[one.net]}{link}")

@@ -1,13 +1,15 @@
 """The page: totals, an overview, faults, the words, a section for each link, and filtered frames."""
 from html import escape
 
-from drawing.gather import ROWS
+from drawing.gather import LOST, RESTART, ROWS, TWICE, UNFINISHED
 from drawing.picture import (
     CLASSES, Row, Times, age_picture, class_of, delay_picture, filtered_rows, mark, path, queue_picture, rows_picture,
     strip,
 )
 from drawing.style import PATTERNS, SCRIPT, STYLE
-from verdict_words import FIRST_FORWARDED, KINDS, NETWORKS, OUT_OF_SEQUENCE, REDUNDANT
+from verdict_words import FILTER_CAUSES, FIRST_FORWARDED, KINDS, NETWORKS, OUT_OF_SEQUENCE, REDUNDANT
+from workbench.conditions import CONDITIONS
+from workbench.stream import told_time
 
 # Sections that are open at first; points and stretches of all pictures of ports together.
 OPEN_LINKS, POINTS_OF_PORTS, STRETCHES_OF_PORTS = 3, 80_000, 4_000
@@ -17,16 +19,15 @@ MEANINGS = [
     ("held", "fragment-held", "it was forwarded, and its fragment waits for the rest of its datagram"),
     ("refused", "bad-header CAUSE, bad-fragment, bad-udp, no-port, too-long, fragmented-sample, exhausted",
      "it was forwarded, and refused later for this cause"),
-    ("overflow", "overflow", "it was forwarded, and the queue of its port was full. The player takes no message from a "
-     "queue, so that each queue overflows in the end"),
+    ("overflow", "overflow", "it was forwarded, and the queue of its port was full, so that its message is lost"),
     ("redundant", "redundant", "it passed integrity checking, and redundancy management didn't forward it"),
     ("out", "out-of-sequence", "integrity checking discarded it: its sequence number may not come next on its network"),
-    ("alone", "(no verdict)", "a forwarded frame of whose number the other network brought no redundant frame: its copy "
-     "was lost or discarded, or comes after the last line. Drawn for links with redundant frames only, and beside the "
-     "frame's own verdict"),
-    ("missing", "(no verdict)", "sequence numbers that a network left out, at the frame that came next; the rows are "
-     "hatched from the frame before it on. A late frame fills no gap. A refused number that the "
-     "next frame is behind was astray"),
+    ("lost", "(no verdict)", "a copy that didn’t come: the other network brought it, or frames after it came. It stands at the "
+     "time of the other copy, or of the frame that showed it, so that an outage of any length is seen"),
+    ("twice", "(besides its verdict)", "the second copy of a frame that was forwarded too: its message came twice"),
+    ("restart", "(besides its verdict)", "the sender began anew, with the number 0 or without"),
+    ("unfinished", "(besides its verdict)", "at this frame a datagram in parts was given up, or at its own first frame if it "
+     "never ended"),
     ("filtered", "filtered CAUSE", "octets that are no frame of a configured link; no link's picture has them"),
 ]
 
@@ -58,61 +59,67 @@ def figure(drawn, caption, **data):
 
 
 def sum_of(link, kinds):
-    return sum(link.counts[network][kind] for network in (0, 1) for kind in kinds)
+    return sum(link.kinds_of(network)[kind] for network in (0, 1) for kind in kinds)
 
 
+# Rows that stand besides the verdicts.
+BESIDES = ("lost", "twice", "restart", "unfinished")
 FORWARDED_KINDS = range(FIRST_FORWARDED, len(KINDS))
 KINDS_OF = {name: [kind for kind, word in enumerate(KINDS) if class_of(word) == name] for name in CLASSES}
 
 
 # ---- the head of the page
 
-def head(output, source):
-    links = output.links.values()
-    filtered = sum(map(sum, output.filtered))
+def totals(gathered):
+    """Each figure of the head, with its name."""
+    bins = gathered.bins
+    times = [f"{time:,} µs" if gathered.frames else "none" for time in (bins.first, bins.last, bins.last - bins.first)]
+    began = [("time 0", told_time(gathered.base).partition("(")[2].rstrip(")"))] if gathered.base else []
+    return [("frames", f"{gathered.frames:,}"), ("links", f"{len(gathered.links):,}"), ("ports", f"{len(gathered.ports):,}"),
+            *zip(("first frame", "last frame", "from first to last"), times), *began]
+
+
+def head(gathered, source):
+    links = gathered.links.values()
     counted = {name: sum(sum_of(link, kinds) for link in links) for name, kinds in KINDS_OF.items()}
-    forwarded = sum(sum_of(link, FORWARDED_KINDS) for link in links)
-    rows = [("", "forwarded, in all", forwarded)]
+    rows = [("", "forwarded, in all", sum(sum_of(link, FORWARDED_KINDS) for link in links))]
     rows += [(name, f"of these {CLASSES[name][1]}", counted[name])
              for name in ("delivered", "held", "refused", "overflow")]
     rows += [(name, CLASSES[name][1], counted[name]) for name in ("redundant", "out")]
-    rows.append(("filtered", "filtered", filtered))
-    figures = [("frames", f"{output.frames:,}"), ("links", f"{len(links):,}"), ("ports", f"{len(output.ports):,}"),
-               ("first frame", "none" if output.first is None else f"{output.first:,} µs"),
-               ("last frame", "none" if output.last is None else f"{output.last:,} µs"),
-               ("from first to last", "none" if output.first is None else f"{output.last - output.first:,} µs")]
-    shown = "".join(f"<div><dt>{name}</dt><dd>{value}</dd></div>" for name, value in figures)
+    rows.append(("filtered", "filtered", sum(sum(counts.values()) for counts in gathered.filtered)))
+    shown = "".join(f"<div><dt>{name}</dt><dd>{value}</dd></div>" for name, value in totals(gathered))
     body = "".join(
         f'<tr><td class="word">{key(name) if name else ""} {escape(said)}</td>'
         f'<td data-total="{escape(said)}">{number:,}</td>'
-        f'<td>{share(number, output.frames)}</td><td class="bar"><span class="share" '
-        f'style="width:{100 * number / (output.frames or 1):.2f}%"></span></td></tr>'
+        f'<td>{share(number, gathered.frames)}</td><td class="bar"><span class="share" '
+        f'style="width:{100 * number / (gathered.frames or 1):.2f}%"></span></td></tr>'
         for name, said, number in rows)
     return (f"<h1>What became of each frame</h1><p>Drawn from {escape(source)}.</p>"
             f'<dl class="totals">{shown}</dl><table><thead><tr><th class="word">what became of it</th><th>frames</th>'
             f'<th>of all frames</th><th></th></tr></thead><tbody>{body}</tbody></table>')
 
 
-def overview(output, gathered, times):
-    rows = []
-    for link in output.links.values():
-        drawn = gathered.links[link.number]
-        alone = sum(each.total for each in drawn.copies.alone) if drawn.has_redundant else None
-        delays = drawn.copies.delays
-        medians = [f"first on {NETWORKS[n]}: {d.median():,}" for n, d in enumerate(delays) if d.number]
-        least = min((d.median() for d in delays if d.number), default=-1)
-        cells = [link.events(0), link.events(1), sum_of(link, FORWARDED_KINDS), sum_of(link, [REDUNDANT]),
-                 sum_of(link, [OUT_OF_SEQUENCE]), sum_of(link, KINDS_OF["refused"]), sum_of(link, KINDS_OF["overflow"]),
-                 *(gaps.missing.total for gaps in drawn.gaps)]
-        label = (f"Link {link.number} in small: {cells[0]} frames on A, {cells[1]} on B, {cells[4]} out of sequence, "
-                 f"{cells[5]} refused")
-        number = f'<td class="word" data-value="{link.number}"><a href="#link-{link.number}">{link.number}</a></td>'
-        rows.append(f"<tr>{number}<td>{strip(label, times, drawn)}</td>" + "".join(map(number_cell, cells))
-                    + ("<td>–</td>" if alone is None else number_cell(alone))
-                    + f'<td data-value="{least}">{"<br>".join(medians) or "–"}</td></tr>')
-    heads = ["frames on A", "frames on B", "forwarded", "redundant", "out of sequence", "refused", "overflow",
-             "numbers missing on A", "numbers missing on B", "no second copy", "median delay in µs"]
-    span = f"{output.first:,} to {output.last:,} µs" if output.frames else "no frame"
+def overview_row(link, times):
+    cells = [link.nets[0].frames, link.nets[1].frames, sum_of(link, FORWARDED_KINDS), sum_of(link, [REDUNDANT]),
+             sum_of(link, [OUT_OF_SEQUENCE]), sum_of(link, KINDS_OF["refused"]), sum_of(link, KINDS_OF["overflow"]),
+             *(side.lost for side in link.copies.sides), link.copies.lost_both, link.beyond, link.twice.count,
+             link.unfinished.count, link.resets.count]
+    label = (f"Link {link.label} in small: {cells[0]} frames on A, {cells[1]} on B, {cells[4]} out of sequence, "
+             f"{cells[5]} refused")
+    median = link.delays.median()
+    law = {"all": "all", "once": "once", "-": "not kept"}[link.conditions.law()]
+    return (f'<tr><td class="word" data-value="{link.number}"><a href="#link-{link.number}">{escape(link.label)}</a></td>'
+            f"<td>{strip(label, times, link)}</td>" + "".join(map(number_cell, cells))
+            + f'<td data-value="{-1 if median is None else median}">{"–" if median is None else f"{median:,}"}</td>'
+            f'<td class="word">{law}</td></tr>')
+
+
+def overview(gathered, times):
+    rows = [overview_row(link, times) for link in gathered.links.values()]
+    heads = ["frames on A", "frames on B", "forwarded", "redundant", "out of sequence", "refused", "overflow", "lost on A alone",
+             "lost on B alone", "lost on both", "beyond SkewMax", "delivered twice", "given up", "restarts",
+             "median delay of B in µs", "the laws’ conditions"]
+    span = f"{gathered.bins.first:,} to {gathered.bins.last:,} µs" if gathered.frames else "no frame"
     head = (f'<th class="word">link</th><th class="word fixed">{span}: A up, B down</th>'
             + "".join(f"<th>{head}</th>" for head in heads))
     return ('<h2 id="overview">All links</h2><div class="scroll" id="links-in-small">'
@@ -138,28 +145,33 @@ def words(gathered):
 for B below. A bar’s height is the number of frames in its bin; each row has its own scale: “full bar” is the number
 that its highest bar stands for, and “frames” counts all of the row. A row of few frames has a mark for each. Rest the
 pointer on a bin, or go there by the arrow keys, for its numbers and for its first frame in the input.</p>
-<p><b>Second copies.</b> A redundant frame is paired with the frame of its link and sequence number that the other
-network forwarded last.</p>
+<p><b>Second copies</b> are paired by their place among the sender’s frames, whatever became of them. Beyond SkewMax a bar has
+another colour: such a copy makes a second message of its frame.</p>
 <p><b>Ports.</b> A sampling port’s picture has the age of its newest message: in each bin the greatest one, from the
 first message to the last frame. Above the refresh period it is hatched: the message is stale there. Whether the newest
-message is fresh or stale in the report holds for the time of the report. A queuing port’s picture has the messages that
-wait: the player takes none, so that a queue only fills.</p></details>"""
+message is fresh or stale holds for the last frame. A queuing port’s picture has the messages that wait: a partition takes all
+by the period <code>take_us</code> of the configuration, or at once without one.</p></details>"""
 
 
-# ---- faults and gaps
+# ---- faults and losses
 
 def faults_part(faults, gathered, unit):
     rows = [[kind, f"{count:,}", ", ".join(faults.first[kind])] for kind, count in sorted(faults.counts.items())]
-    gaps = [[number, net, gaps.number, gaps.missing.total, gaps.behind, ", ".join(gaps.first)]
-            for number, link in gathered.links.items() for net, gaps in zip(NETWORKS, link.gaps)
-            if gaps.number or gaps.behind]
+    lost = [[link.label, net, side.lost, link.copies.lost_both, side.longest, side.overtaken, side.repeated,
+             side.late + side.astray] for link in gathered.links.values() for net, side in zip(NETWORKS, link.copies.sides)
+            if side.lost or side.longest or side.overtaken or side.repeated or side.late or side.astray]
+    others = [[link.label, what, events.count, ", ".join(events.first)] for link in gathered.links.values() for what, events in
+              ((TWICE, link.twice), (RESTART, link.resets), (UNFINISHED, link.unfinished), ("identification again", link.again))
+              if events.count]
     crossed = ("<p class=\"note\">Crossed networks: most source addresses of A say interface 2, and most of B interface 1."
                "</p>" if faults.are_crossed() else "")
+    hint = f'<p class="note">{escape(faults.hint)}</p>' if faults.hint else ""
     return "".join([
-        f'<h2 id="faults">Faults and gaps, by {unit}</h2>{crossed}', table(["kind", "frames", f"first {unit}s"], rows),
-        "<p>Gaps in the sequence numbers: how many, how many numbers are missing in them, how many frames came late, again "
-        f"or astray, and the first {unit}s after a gap.</p>",
-        table(["link", "network", "gaps", "missing", "late, again or astray", f"first {unit}s"], gaps)])
+        f'<h2 id="faults">Faults and losses, by {unit}</h2>{crossed}{hint}', table(["kind", "frames", f"first {unit}s"], rows),
+        "<p>Copies that didn’t come, by their numbers and times; the most in a row; and frames that came after a later one of "
+        "their network, again, or far off.</p>",
+        table(["link", "network", "lost on it alone", "lost on both", "in a row", "overtaken", "again", "far off"], lost),
+        table(["link", "what", "times", f"first {unit}s"], others)])
 
 
 def table(heads, rows):
@@ -177,170 +189,175 @@ def cell(tag, value):
 # ---- the links
 
 def rows_of(drawn, network):
-    """The rows of a network that have a frame, in the order of the verdicts; the two that aren't forwarded are last."""
+    """The rows of a network that have a frame, in the order of the verdicts; those that no verdict says are last."""
     rows = drawn.rows[network]
     names = [name for name in ROWS if ROWS[name] >= FIRST_FORWARDED]
     names.sort(key=lambda name: list(CLASSES).index(class_of(name)))
-    found = [Row(name, class_of(name), rows[name]) for name in (*names, "redundant", "out-of-sequence") if name in rows]
-    if drawn.has_redundant and drawn.copies.alone[network].total:
-        found.append(Row(f"no second copy on {NETWORKS[1 - network]}", "alone", drawn.copies.alone[network]))
-    if drawn.gaps[network].number:
-        found.append(Row("numbers missing", "missing", drawn.gaps[network].missing))
-    return found
+    return [Row(name, class_of(name), rows[name])
+            for name in (*names, "redundant", "out-of-sequence", LOST, TWICE, RESTART, UNFINISHED) if name in rows]
 
 
-def gaps_of(gaps):
-    missing, behind = gaps.missing.total, gaps.behind
-    said = (f" {plural(missing, 'sequence number is', 'sequence numbers are')} missing in {plural(gaps.number, 'gap')}."
-            if missing else "")
-    return said + (f" {plural(behind, 'frame came', 'frames came')} late, again or astray." if behind else "")
+def rate_of(net):
+    """How often frames came on a network, beside the BAG."""
+    if net.frames < 2:
+        return ""
+    beside = f", where the BAG allows {10**6 / net.bag:,.1f}" if net.bag else ""
+    early = f"; {plural(net.early, 'frame')} came within half the BAG" if net.early else ""
+    return f" {net.rate:,.1f} frames a second{beside}; the least gap is {net.least // 1000:,} µs{early}."
 
 
 def verdicts_figure(drawn, times):
-    number, said, bands = drawn.link.number, [], []
+    number, said, bands, found = drawn.number, [], [], {}
     for network, name in enumerate(NETWORKS):
-        rows = rows_of(drawn, network)
-        events = drawn.link.events(network)
-        bands.append((f"Network {name}: {plural(events, 'frame')}", rows, drawn.gaps[network].runs))
-        counts = listed(f"{row.total:,} {row.name}" for row in rows if row.of_class not in ("alone", "missing"))
-        alone = "".join(f" {row.total:,} of them {'has' if row.total == 1 else 'have'} {row.name}."
-                        for row in rows if row.of_class == "alone")
-        said.append(f"Network {name} brought {plural(events, 'frame')}{': ' + counts if events else ''}.{alone}"
-                    f"{gaps_of(drawn.gaps[network])}")
-    caption = " ".join(said)
-    found = {f"gaps_{name.lower()}": f"{gaps.number} {gaps.missing.total} {gaps.behind}"
-             for name, gaps in zip(NETWORKS, drawn.gaps)}
-    return figure(rows_picture(f"Verdicts of link {number} over time, network A above and B below", times, bands),
-                  caption, verdicts=number, **found)
+        rows, side, net = rows_of(drawn, network), drawn.copies.sides[network], drawn.nets[network]
+        bands.append((f"Network {name}: {plural(net.frames, 'frame')}", rows))
+        counts = listed(f"{row.total:,} {row.name}" for row in rows if row.of_class not in BESIDES)
+        lost = drawn.rows[network][LOST].total if LOST in drawn.rows[network] else 0
+        found[f"lost_{name.lower()}"] = f"{lost} {side.longest} {side.overtaken} {side.repeated} {side.late + side.astray}"
+        said.append(f"Network {name} brought {plural(net.frames, 'frame')}{': ' + counts if net.frames else ''}."
+                    f"{rate_of(net)}" + (f" {plural(lost, 'copy was', 'copies were')} lost, at most {side.longest:,} in a row."
+                                         if lost else ""))
+    return figure(rows_picture(f"Verdicts of link {drawn.label} over time, network A above and B below", times, bands),
+                  " ".join(said), verdicts=number, **found)
+
+
+def conditions_part(drawn):
+    """Which conditions of the laws were kept."""
+    broken = drawn.conditions.found
+    if not broken:
+        return "<p>Each condition of the laws of delivery was kept: all that was sent was delivered, once, whole, in order.</p>"
+    rows = [[word, CONDITIONS[word], one.count, f"{one.where}: {one.how}"] for word, one in broken.items()]
+    heads = ["word", "condition", "times", "first by"]
+    return "<h3>Conditions of the laws of delivery that were broken</h3>" + table(heads, rows)
 
 
 def delays_figure(drawn):
-    link, both = drawn.link, drawn.copies.delays
-    if not drawn.has_redundant:
-        why = ", since redundancy management is off" if not link.redundancy else ": no second copy came"
-        return f"<p>No frame of this link is redundant{why}.</p>"
+    both = drawn.directions()
+    if not drawn.delays.number:
+        return "<p>No second copy of a frame of this link came.</p>"
     said = []
-    for network, delays in enumerate(both):
-        if delays.number:
-            exact = "" if delays.step == 1 else f" (to {delays.step} µs)"
+    for network, found in enumerate(both):
+        if found.number:
+            exact = "" if found.step == 1 else f" (to {found.step} µs)"
             said.append(f"First on {NETWORKS[network]}, {'solid' if network == 0 else 'hatched'}: "
-                        f"{plural(delays.number, 'pair')}, delays of {delays.least:,} µs at least, "
-                        f"{delays.median():,} µs in the median{exact}, {delays.greatest:,} µs at most.")
-    redundant, paired = sum_of(link, [REDUNDANT]), sum(delays.number for delays in both)
-    caption = (f"{paired:,} of {plural(redundant, 'redundant frame')} {'is' if paired == 1 else 'are'} paired by their "
-               f"sequence numbers. {' '.join(said)} The link’s SkewMax is {link.skew_max:,} µs.")
-    if not paired:
-        return f"<p>{escape(caption)}</p>"
+                        f"{plural(found.number, 'pair')}, delays of {found.least:,} µs at least, "
+                        f"{found.median():,} µs in the median{exact}, {found.greatest:,} µs at most.")
+    skew_max = drawn.link.skew_max
+    beyond = f" {plural(drawn.beyond, 'copy', 'copies')} came beyond it." if drawn.beyond else ""
+    caption = f"{' '.join(said)} The link’s SkewMax is {skew_max:,} µs.{beyond}"
     pairs = {f"first_{name.lower()}": f"{d.number} {d.least} {d.median()} {d.greatest}"
              for name, d in zip(NETWORKS, both) if d.number}
-    return figure(delay_picture(f"Delays of second copies of link {link.number}", both), caption, delays=link.number,
-                  **pairs)
+    return figure(delay_picture(f"Delays of second copies of link {drawn.label}", both, skew_max), caption,
+                  delays=drawn.number, beyond=drawn.beyond, **pairs)
 
 
-def age_caption(port, ages, last):
+def age_caption(ages, last):
     part = share(ages.stale_time, max(1, last - ages.first))
     stale = (f"the message was stale (hatched) {plural(ages.stale_stretches, 'time')}, for {ages.stale_time:,} µs in "
              f"all, {part} of the time since the first message." if ages.stale_stretches else "no message was stale.")
+    state = "stale" if last - ages.latest > ages.refresh else "fresh"
     return (f"{plural(ages.messages, 'message')}, the first at {ages.first:,} µs and the newest at {ages.latest:,} µs. "
             f"The greatest age up to the last frame was {ages.oldest:,} µs. The refresh period is {ages.refresh:,} µs; "
-            f"{stale} In the report it is {port.state}.")
+            f"{stale} At the last frame it is {state}.")
 
 
-def queue_caption(queue, unit):
-    said = [plural(len(queue.times), "message") + " queued"]
-    if queue.times:
-        said.append(f", the first at {queue.times[0]:,} µs and the last at {queue.times[-1]:,} µs")
+def queue_caption(queue, unit, period):
+    said = [plural(queue.queued, "message") + " queued"]
+    if queue.queued:
+        said.append(f", the first at {queue.first:,} µs and the last at {queue.last:,} µs")
     said.append(f"; {plural(queue.overflows.total, 'overflow')}" if queue.overflows.total else "; no overflow")
     if queue.overflows.total:
         said.append(f", the first at {queue.first_overflow[0]:,} µs ({unit} {queue.first_overflow[1]})")
-    said.append(f". The queue holds {plural(queue.depth, 'message')}")
-    return "".join(said) + "."
+    said.append(f". The queue holds {plural(queue.depth, 'message')}; at most {queue.level.greatest} waited. They are taken "
+                + (f"each {period:,} µs." if period else "at once."))
+    return "".join(said)
 
 
-def ports_part(output, gathered, times, number):
+def ports_part(gathered, times, number):
     """The pictures of a link's ports, and the names of those that got nothing."""
-    of_all = max(1, len(output.ports))
+    of_all = max(1, len(gathered.ports))
     points = max(40, POINTS_OF_PORTS // of_all)
     size = -(-gathered.bins.number // points)
     stretches = min(60, STRETCHES_OF_PORTS // of_all)
     hover_size = -(-gathered.bins.number // stretches) if stretches > 4 else 0
     parts, empty = [], []
-    for port in output.ports.values():
-        if port.link != number:
+    for port in gathered.ports:
+        if port.vl != number:
             continue
         ages, queue = gathered.ages.get(port.name), gathered.queues.get(port.name)
         if ages and ages.messages:
-            caption = age_caption(port, ages, gathered.bins.last)
+            caption = age_caption(ages, gathered.bins.last)
             drawn = age_picture(port.name, times, ages, size, hover_size)
             data = {"sampling": port.name, "messages": ages.messages, "oldest": ages.oldest, "stale": ages.stale_time}
             parts.append(f"<h3>Sampling port {port.name}: age of its newest message</h3>")
             parts.append(figure(drawn, caption, **data))
-        elif queue and queue.times:
-            caption = queue_caption(queue, output.unit)
+        elif queue and (queue.queued or queue.overflows.total):
+            caption = queue_caption(queue, gathered.unit, gathered.periods[port.name])
             drawn = queue_picture(port.name, times, queue, size, hover_size)
-            data = {"queuing": port.name, "queued": len(queue.times), "overflow": queue.overflows.total}
+            data = {"queuing": port.name, "queued": queue.queued, "overflow": queue.overflows.total,
+                    "most": queue.level.greatest}
             parts.append(f"<h3>Queuing port {port.name}: messages in its queue</h3>")
             parts.append(figure(drawn, caption, **data))
         else:
-            empty.append(f"{port.name} ({port.kind})")
+            empty.append(f"{port.name} ({'sampling' if port.is_sampling else 'queuing'})")
     if empty:
         parts.append(f"<p>No message came to {escape(listed(empty))}.</p>")
     return "".join(parts)
 
 
-def link_section(output, gathered, times, place, link):
-    drawn = gathered.links[link.number]
-    events = link.events(0) + link.events(1)
+def link_section(gathered, times, place, link):
+    events = sum(net.frames for net in link.nets)
     said = (f"{plural(events, 'frame')}: {plural(sum_of(link, FORWARDED_KINDS), 'forwarded', 'forwarded')}, "
             f"{sum_of(link, [REDUNDANT]):,} redundant, {sum_of(link, [OUT_OF_SEQUENCE]):,} out of sequence")
-    counts = " ".join(f'data-{name.lower()}="{" ".join(map(str, link.counts[n]))}"' for n, name in enumerate(NETWORKS))
-    inside = ports_part(output, gathered, times, link.number)
+    counts = " ".join(f'data-{name.lower()}="{" ".join(map(str, link.kinds_of(n)))}"' for n, name in enumerate(NETWORKS))
+    inside = ports_part(gathered, times, link.number)
     if events:
-        inside = (f"{verdicts_figure(drawn, times)}<h3>Delay of second copies</h3>{delays_figure(drawn)}{inside}")
+        inside = (f"{verdicts_figure(link, times)}<h3>Delay of second copies</h3>{delays_figure(link)}{conditions_part(link)}"
+                  f"{inside}")
     is_open = " open" if place < OPEN_LINKS else ""
     return (f'<details id="link-{link.number}" data-link="{link.number}" {counts}{is_open}>'
-            f"<summary>Link {link.number} <span>{said}</span></summary>{inside}</details>")
+            f"<summary>Link {escape(link.label)} <span>{said}</span></summary>{inside}</details>")
 
 
-def links_part(output, gathered, times):
-    sections = (link_section(output, gathered, times, place, link) for place, link in enumerate(output.links.values()))
+def links_part(gathered, times):
+    sections = (link_section(gathered, times, place, link) for place, link in enumerate(gathered.links.values()))
     return f'<h2 id="links">Link by link</h2>{"".join(sections)}'
 
 
 # ---- filtered frames
 
-def filtered_part(output, gathered, times):
+def filtered_part(gathered, times):
     head = '<h2 id="filtered">Filtered frames</h2>'
-    if not any(map(sum, output.filtered)):
+    if not any(counts.total() for counts in gathered.filtered):
         return f"{head}<p>No frame was filtered.</p>"
     bands, said = [], []
     for network, name in enumerate(NETWORKS):
-        found = filtered_rows(gathered.filtered[network])
-        number = sum(output.filtered[network])
-        bands.append((f"Network {name}: {number:,} filtered", found, []))
+        found = filtered_rows(gathered.filtered_rows[network])
+        number = gathered.filtered[network].total()
+        bands.append((f"Network {name}: {number:,} filtered", found))
         said.append(f"On network {name} {plural(number, 'frame was', 'frames were')} filtered"
                     + (": " + listed(f"{row.total:,} {row.name}" for row in found) if number else "") + ".")
     caption = " ".join(said)
     drawn = rows_picture("Filtered frames over time by cause, network A above and B below", times, bands)
-    return head + figure(drawn, caption, **{f"filtered_{net.lower()}": " ".join(map(str, found))
-                                            for net, found in zip(NETWORKS, output.filtered)})
+    return head + figure(drawn, caption, **{f"filtered_{net.lower()}": " ".join(str(found[cause]) for cause in FILTER_CAUSES)
+                                            for net, found in zip(NETWORKS, gathered.filtered)})
 
 
-def page(output, gathered, source, faults):
+def page(gathered, source, faults):
     """The whole page, as text."""
-    times = Times(gathered.bins, output.unit)
+    times = Times(gathered.bins, gathered.unit, gathered.base)
     parts = [
         '<!DOCTYPE html>\n<html lang="en"><head><meta charset="utf-8">'
         '<meta name="viewport" content="width=device-width,initial-scale=1">'
         f"<title>What became of each frame: {escape(source)}</title><style>{STYLE}</style></head><body>"
         f'<svg width="0" height="0" aria-hidden="true" style="position:absolute"><defs>{PATTERNS}{times.definition()}'
         "</defs></svg>",
-        head(output, source),
-        '<nav aria-label="parts of the page"><a href="#overview">All links</a><a href="#faults">Faults and gaps</a>'
+        head(gathered, source),
+        '<nav aria-label="parts of the page"><a href="#overview">All links</a><a href="#faults">Faults and losses</a>'
         '<a href="#words">How to read the pictures</a><a href="#links">Link by link</a>'
         '<a href="#filtered">Filtered frames</a></nav>',
-        overview(output, gathered, times), faults_part(faults, gathered, output.unit), words(gathered),
-        links_part(output, gathered, times), filtered_part(output, gathered, times),
+        overview(gathered, times), faults_part(faults, gathered, gathered.unit), words(gathered),
+        links_part(gathered, times), filtered_part(gathered, times),
         f"<script>{SCRIPT}</script></body></html>\n",
     ]
     return "".join(parts)

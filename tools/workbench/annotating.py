@@ -1,27 +1,56 @@
-"""One capture of both networks in which each packet has its verdict as a comment."""
+"""One capture of both networks in which each packet has its verdict as a comment, and why."""
 from verdict_words import NETWORKS
-from workbench import captures, files, playing, program, traces
+from workbench import captures, copies, files, station, stream
 from workbench.faults import Fault
+from workbench.health import Health
 
 
 def annotate(given):
-    with files.scratch(given.scratch) as folder, files.writing(given.to) as out:
-        pair = traces.traces_of(given, folder)
-        with program.lines(program.words_of(given, pair), pair) as lines:
-            out.writelines(blocks(playing.seen(lines, pair), pair))
+    played = station.opened(given.config)
+    found, alone = Health(played.config), station.Alone(played.config) if given.each else None
+    with files.writing(given.to) as out, stream.opened(given) as packets:
+        out.writelines(blocks(played.seen(packets), packets, found, alone))
+    return packets.status
 
 
-def blocks(packets, pair):
+def blocks(seen, packets, found, alone):
     yield captures.written_section("yelunnavi")
-    for net, trace in zip(NETWORKS, pair):
-        yield captures.written_interface(net, trace.source)
+    for number, net in enumerate(NETWORKS):
+        yield captures.written_interface(net, packets.source(number))
     with files.Bar("writing", 0) as bar:
-        for net, entry, verdict in packets:
-            place = NETWORKS.index(net)
-            trace = pair[place]
-            if entry.time >= traces.MOST_TIME:
-                raise Fault(f"{trace.source}: {trace.unit} {entry.number}: its time is past what a capture can have")
-            told = verdict.words if verdict else f"left out: {entry.left_out}"
-            where = f"{trace.unit} {entry.number} of {trace.source}"
-            yield captures.written_packet(place, entry.time, entry.octets, entry.length, f"{told} ({where})")
+        for one, now, reply in seen:
+            source = packets.source(one.net)
+            if one.time >= stream.MOST_TIME:
+                raise Fault(f"{source}: {packets.unit} {one.number}: its time is past what a capture can have")
+            told = f"left out: {one.left_out}"
+            if reply:
+                why = reason(one, found.see(one, now, reply), found.links.get(reply.vl), reply)
+                fault = alone and alone.fault(one, now, reply)
+                told = reply.words + "".join(f", {part}" for part in why) + (f", alone {fault.words}" if fault else "")
+            yield captures.written_packet(one.net, one.time, one.octets, one.length,
+                                          f"{told} ({packets.unit} {one.number} of {source})")
             bar.add(1)
+
+
+def reason(one, note, link, reply):
+    """Why a frame has its verdict, beside which packets."""
+    if not note:
+        return
+    other = note.other
+    if note.what == copies.COPY:
+        delay = (one.time - other.time) // 1000
+        yield f"{delay} us after packet {other.packet} on {NETWORKS[1 - one.net]}"
+        if delay > link.link.skew_max:
+            yield "beyond SkewMax"
+        if other.is_forwarded and reply.kind not in ("out-of-sequence", "redundant") and link.link.redundancy:
+            yield "delivered twice"
+    elif note.what == copies.REPEATED:
+        yield f"again, {(one.time - other.time) // 1000} us after packet {other.packet}"
+    if note.missing:
+        yield f"{note.missing} before it missing"
+    if note.is_overtaken:
+        yield "after a later frame"
+    if note.what in (copies.RESET, copies.ANEW):
+        yield f"the sender began anew{'' if note.what == copies.RESET else ' without a 0'}"
+    elif note.what == copies.LATE:
+        yield "far behind the newest"

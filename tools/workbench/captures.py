@@ -53,13 +53,17 @@ class Cut(Exception):
     """The file ends in the middle of something."""
 
 
+class Broken(Fault):
+    """From here on the file isn't of its form."""
+
+
 def is_capture(magic):
     return magic in PCAP or magic == SECTION_MAGIC
 
 
 def packets(file, magic, lost=None):
     """The packets of a capture whose first four octets were read. Ends with `Cut` where the file is cut short, and
-    with a `Fault` where it isn't of its form. Into `lost` goes, by section and interface, how many packets whoever
+    with `Broken` where it isn't of its form. Into `lost` goes, by section and interface, how many packets whoever
     captured says were lost."""
     return pcap(file, *PCAP[magic]) if magic in PCAP else pcapng(file, magic, {} if lost is None else lost)
 
@@ -81,7 +85,7 @@ def pcap(file, order, unit):
             raise Cut
         seconds, part, kept, length = head.unpack(first)
         if kept > MOST_OCTETS:
-            raise Fault(f"packet {number} has an absurd length, {kept} octets")
+            raise Broken(f"packet {number} has an absurd length, {kept} octets")
         yield Packet(number, 0, seconds * SECOND + part * unit, exactly(file, kept), length, about)
 
 
@@ -110,16 +114,16 @@ def begin_section(file):
     """Skips the header of a section; its magic number says the byte order."""
     length, magic = exactly(file, 4), exactly(file, 4)
     if magic not in ORDERS:
-        raise Fault("a section without its byte-order magic")
+        raise Broken("a section without its byte-order magic")
     if exactly(file, length_of_block(ORDERS[magic], length, 28) - 12)[-4:] != length:
-        raise Fault("a section header that doesn't end with its length")
+        raise Broken("a section header that doesn't end with its length")
     return ORDERS[magic]
 
 
 def length_of_block(order, octets, least):
     size, = LENGTHS[order].unpack(octets)
     if size < least or size % 4 or size > MOST_BLOCK:
-        raise Fault(f"a block of an absurd length, {size} octets")
+        raise Broken(f"a block of an absurd length, {size} octets")
     return size
 
 
@@ -127,7 +131,7 @@ def block(file, order, magic):
     length = exactly(file, 4)
     body = exactly(file, length_of_block(order, length, 12) - 8)
     if body[-4:] != length:
-        raise Fault("a block that doesn't end with its length")
+        raise Broken("a block that doesn't end with its length")
     return LENGTHS[order].unpack(magic)[0], body[:-4]
 
 
@@ -139,16 +143,16 @@ def options(order, octets):
         if code == END:
             return
         if place + 4 + length > len(octets):
-            raise Fault("an option that is longer than its block")
+            raise Broken("an option that is longer than its block")
         yield code, octets[place + 4:place + 4 + length]
         place += 4 + length + -length % 4
 
 
 def interface(order, body, before):
     if before == MOST_INTERFACES:
-        raise Fault(f"more than {MOST_INTERFACES} interfaces")
+        raise Broken(f"more than {MOST_INTERFACES} interfaces")
     if len(body) < 8:
-        raise Fault("an interface without its link type")
+        raise Broken("an interface without its link type")
     link_type, snapshot = struct.unpack(order + "HxxI", body[:8])
     units, offset, fcs = 10**6, 0, None
     for code, value in options(order, body[8:]):
@@ -164,7 +168,7 @@ def interface(order, body, before):
 def statistics(order, body):
     """An interface, and how many packets were lost there up to here."""
     if len(body) < 12:
-        raise Fault("statistics without their interface")
+        raise Broken("statistics without their interface")
     counts = (struct.unpack(order + "Q", value)[0] for code, value in options(order, body[12:])
               if code in LOST and len(value) == 8)
     return LENGTHS[order].unpack(body[:4])[0], sum(counts)
@@ -174,11 +178,11 @@ def packet(order, kind, body, number, interfaces):
     head = HEADS[order, kind]
     size = head.size
     if len(body) < size:
-        raise Fault(f"packet {number} has no room for its lengths")
+        raise Broken(f"packet {number} has no room for its lengths")
     found = head.unpack_from(body)
     own = 0 if kind == SIMPLE_PACKET else found[0]
     if own >= len(interfaces):
-        raise Fault(f"packet {number} is of interface {own}, which the capture hasn't")
+        raise Broken(f"packet {number} is of interface {own}, which the capture hasn't")
     about = interfaces[own]
     if kind == SIMPLE_PACKET:
         kept = min(found[0], about.snapshot or found[0])
@@ -187,7 +191,7 @@ def packet(order, kind, body, number, interfaces):
         kept = found[3]
         time = (found[1] << 32 | found[2]) * SECOND // about.units + about.offset * SECOND
     if kept > MOST_OCTETS or size + kept > len(body):
-        raise Fault(f"packet {number} has an absurd length, {kept} octets")
+        raise Broken(f"packet {number} has an absurd length, {kept} octets")
     return Packet(number, own, time, body[size:size + kept], found[-1], about)
 
 

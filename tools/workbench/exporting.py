@@ -3,31 +3,31 @@ import csv
 import io
 import json
 
-from workbench import files, frames, playing, program, traces
+from verdict_words import NETWORKS
+from workbench import files, frames, station, stream
 
 COLUMNS = ("packet", "time_us", "epoch_ns", "network", "link", "source", "interface", "sequence", "octets", "place",
            "verdict", "cause", "port", "message")
 
 
 def export(given):
-    form = csv_lines if given.csv else json_lines
-    with files.scratch(given.scratch) as folder:
-        pair = traces.traces_of(given, folder)
-        with files.writing(given.to) as out, program.lines(program.words_of(given, pair), pair) as lines:
-            out.writelines(form(records(playing.seen(lines, pair))))
+    played, form = station.opened(given.config), csv_lines if given.csv else json_lines
+    with files.writing(given.to) as out, stream.opened(given) as packets:
+        out.writelines(form(records(played.seen(packets))))
+    return packets.status
 
 
-def records(packets):
-    """A packet that was left out has the verdict `left-out`, and no time of the trace. What isn't a frame of the networks
+def records(seen):
+    """A packet that was left out has the verdict `left-out`, and no time of the receiver's. What isn't a frame of the networks
     has no link and no sequence number; a frame of an unknown link has the networks' constant field."""
-    for net, entry, found in packets:
-        octets = entry.octets
-        is_frame = found and (found.link is not None or found.cause == "unknown-link")
+    for one, now, reply in seen:
+        octets = one.octets
+        is_frame = reply and (reply.vl is not None or reply.cause == "unknown-link")
         link, sequence = (int.from_bytes(octets[4:6], "big"), octets[-1]) if is_frame else (None, None)
-        time, *become = (found.time, found.place, found.kind, found.cause, found.port, found.message) if found else \
-            (None, None, "left-out", entry.left_out, "", None)
-        yield (entry.number, time, entry.time, net, link, octets[6:12].hex(":"), frames.interface_of(octets), sequence,
-               len(octets), *(None if one == "" else one for one in become))
+        now, *become = (now, reply.place, reply.kind, reply.cause, reply.port, reply.number or None) if reply else \
+            (None, None, "left-out", one.left_out, "", None)
+        yield (one.number, now, one.time, NETWORKS[one.net], link, octets[6:12].hex(":"), frames.interface_of(octets), sequence,
+               len(octets), *(None if word == "" else word for word in become))
 
 
 def csv_lines(found):

@@ -1,7 +1,8 @@
 """What ends a run: one line on the standard error, and an exit status like the program's."""
 import string
 
-REFUSED, NOT_READ, NO_MEMORY = 1, 3, 4
+# BROKEN: a file isn't of its form from some place on; what came before was played.
+REFUSED, WRONG_WORDS, NOT_READ, NO_MEMORY, BROKEN = range(1, 6)
 PRINTABLE = set(string.printable) - set("\t\n\r\x0b\x0c")
 
 

@@ -1,4 +1,4 @@
-"""Files and the terminal: inputs with a progress bar, outputs that are whole or not there, folders that go again."""
+"""Files and the terminal: inputs with a progress bar, outputs that are whole or not there."""
 import contextlib
 import io
 import os
@@ -88,11 +88,6 @@ def not_written(name, error, more=""):
     return Fault(f"{name}: not written: {error.strerror or error}{more}", NOT_READ)
 
 
-def not_kept(folder, error):
-    """A fault of what is kept while a run lasts."""
-    return not_written(error.filename or folder, error, " (--scratch and TMPDIR choose another folder)")
-
-
 @contextlib.contextmanager
 def writing(name):
     """A file that has its name once it is whole; `-` is the standard output. A device or a pipe is written as it is."""
@@ -133,14 +128,3 @@ def output():
             yield file
     except OSError:
         raise Fault("output not written", NOT_READ) from None
-
-
-@contextlib.contextmanager
-def scratch(parent):
-    """A folder that goes with the run."""
-    try:
-        folder = tempfile.TemporaryDirectory(prefix="yelunnavi-", dir=parent and os.path.abspath(parent))
-    except OSError as error:
-        raise not_kept(parent or tempfile.gettempdir(), error) from None
-    with folder as name:
-        yield name

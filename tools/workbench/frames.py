@@ -1,4 +1,5 @@
-"""What is read of a frame beside the program: whether it ends with its check sequence, and its interface."""
+"""What is read of a frame beside the receiver: its check sequence, its interface, and the sum of a UDP datagram."""
+import struct
 from zlib import crc32
 
 SHORTEST = 60
@@ -26,6 +27,16 @@ def refusal(octets):
     if octets[12:14] in TAGS:
         return TAGGED
     return TOO_LONG if len(octets) > MOST_OCTETS else None
+
+
+def has_wrong_udp_sum(octets):
+    """Whether the checksum of a whole UDP datagram is another than the one that it says; 0 says none (RFC 768)."""
+    length, told = struct.unpack_from("!HH", octets, 38)
+    datagram = octets[34:34 + length]
+    if int.from_bytes(octets[20:22], "big") & 0x3FFF or not told or len(datagram) < length:
+        return False
+    text = octets[26:34] + bytes((0, 17)) + octets[38:40] + datagram + bytes(length % 2)
+    return sum(struct.unpack(f"!{len(text) // 2}H", text)) % 0xFFFF != 0
 
 
 def interface_of(octets):

@@ -1,6 +1,6 @@
 //! The receiver for one task, for programs in C: three kinds of handles, each of a slot in room of the caller's. What a
 //! call does is said at the slots ([`receiver_slots`]) and, for C, in `examples/c/yelunnavi.h`. Of all calls
-//! `yelunnavi_receiver_open` alone takes memory, and none waits. What C has to keep, and nothing checks: the room is as
+//! the two openings alone take memory, and none waits. What C has to keep, and nothing checks: the room is as
 //! large as `.._room()` says, aligned to 8, made by `.._init` once and used through one handle; one call at a time is
 //! made on a handle; what a call is passed doesn't overlap.
 #![tactic(auto)]
@@ -21,7 +21,7 @@ ghost use Rattle.receiver_slots.specs.Codes.{already_open, done, faulty, no_memo
 ghost use Rattle.receiver_slots.specs.Handing.{HandsOut, hand_reader_code, hand_taker_code};
 ghost use Rattle.receiver_slots.specs.Naming.{CountsLinks, TellsLink, TellsPlace, TellsPort, link_code, links_code, place_code, port_code};
 ghost use Rattle.receiver_slots.specs.Reading.{Copies, DidHold, DidRead, TellsReader, copy_code, held_octets, read_code, release_code, released};
-ghost use Rattle.receiver_slots.specs.Receiving.{CountsFrames, CountsFiltered, HasFault, Opens, Receives, count_code, filtered_code, receive_code};
+ghost use Rattle.receiver_slots.specs.Receiving.{CountsFrames, CountsFiltered, HasFault, HasTableFault, Opens, OpensTable, Receives, count_code, filtered_code, receive_code};
 ghost use Rattle.receiver_slots.specs.Taking.{DidTake, TellsTaker, take_code, taker_code};
 ghost use Rattle.receiver_slots.specs.declared.reader_slot.ReaderState.TheVariants.{Closed, Reads};
 ghost use Rattle.receiver_c.specs.contracts.marked.MarkedReceiver.{the_row as receiver_row};
@@ -30,7 +30,8 @@ ghost use Rattle.receiver_c.specs.contracts.marked.MarkedTaker.{the_row as taker
 
 use receiver_slots::codes::{DONE, HOLDS_NONE, NOT_MADE};
 use receiver_slots::{
-    FaultReply, FrameReply, LimitReply, LinkReply, PlaceReply, PortReply, ReadReply, TakeReply,
+    FaultReply, FrameReply, LimitReply, LinkReply, LinkRow, PlaceReply, PortReply, PortRow,
+    ReadReply, TakeReply,
 };
 use std::alloc::Global;
 
@@ -102,6 +103,37 @@ pub extern "C" fn yelunnavi_receiver_open(
         return NOT_MADE;
     }
     made.slot.open_text(alloc, text, readers, fault)
+}
+
+/// Opens the receiver of the configuration of a table: the constant field, the links, and their ports one after another.
+/// Else as `yelunnavi_receiver_open`, with the same faults, which have no line.
+#[unsafe(no_mangle)]
+pub extern "C" fn yelunnavi_receiver_open_table(
+    alloc: Global,
+    h: &mut ReceiverHandle,
+    constant: &[u8; 4],
+    links: &[LinkRow],
+    ports: &[PortRow],
+    readers: usize,
+    fault: &mut FaultReply,
+) -> u32
+    ensures place { (h.new.at ≡ h.old.at) × (h.new.room.mark ≡ h.old.room.mark) }
+    ensures opened { result ≡ done → OpensTable readers constant.now links.now ports.now h.new.room.slot }
+    ensures fault { result ≡ faulty → HasTableFault constant.now links.now ports.now fault.new }
+    ensures made { (result ≡ not_made) ↔ (is_made receiver_mark h.old.room.mark ≡ false) }
+    ensures already { is_made receiver_mark h.old.room.mark ≡ true → (result ≡ already_open) ↔ IsSome h.old.room.slot }
+    ensures range { is_made receiver_mark h.old.room.mark ≡ true → h.old.room.slot ≡ None → (result ≡ out_of_range) ↔ (is_reader_count readers ≡ false) }
+    ensures same { 0 < result → h.new.room.slot ≡ h.old.room.slot }
+    ensures others { result ≢ faulty → fault.new ≡ fault.old }
+    ensures codes { (result ≤ no_memory) ⊎ ((result ≡ out_of_range) ⊎ (result ≡ not_made)) }
+    ensures tried { result ≢ not_open }
+{
+    let made = h.lend();
+    if made.mark != RECEIVER {
+        return NOT_MADE;
+    }
+    made.slot
+        .open_table(alloc, constant, links, ports, readers, fault)
 }
 
 /// Gives the receiver away, and the ends of its ports that weren't handed out.

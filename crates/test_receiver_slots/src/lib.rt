@@ -13,3 +13,5 @@ mod greatest;
 mod opening;
 #[cfg(test)]
 mod places;
+#[cfg(test)]
+mod tables;

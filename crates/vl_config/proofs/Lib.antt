@@ -5,3 +5,4 @@ pub mod Ports
 pub mod Links
 pub mod PortNames
 pub mod Places
+pub mod RowByRow

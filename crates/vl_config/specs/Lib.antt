@@ -8,3 +8,4 @@ pub mod Document
 pub mod Place
 pub mod Line
 pub mod Octets
+pub mod Rows

@@ -12,6 +12,7 @@ mod names;
 mod octets;
 mod place;
 mod port;
+mod rows;
 mod table;
 
 pub use built_in::BUILT_IN;
@@ -20,3 +21,4 @@ pub use es_base::{Config, MOST_LINKS};
 pub use fault::{ConfigFault, Key};
 pub use octets::{line_in_octets, place_in_octets, read_octets, text_of};
 pub use place::{FaultPlace, place_of_fault};
+pub use rows::{LinkRow, PortRow, TableFault, config_of_table};

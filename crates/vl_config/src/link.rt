@@ -120,7 +120,7 @@ fn link_number_from(table: &Table, links: &[LinkSettings]) -> Result<LinkNo, Con
     }
 }
 
-fn has_link_number(links: &[LinkSettings], vl: u16) -> bool
+pub(crate) fn has_link_number(links: &[LinkSettings], vl: u16) -> bool
     ensures { result ≡ list_any (has_link_number vl) links.now }
 {
     links.iter().any(|link| link.vl().0 == vl)

@@ -18,7 +18,7 @@ use toml::Table;
 
 /// The two port services (ARINC 664 Part 7, port services).
 #[derive(Clone, Copy, Debug)]
-enum Service {
+pub(crate) enum Service {
     Sampling,
     Queuing,
 }
@@ -85,7 +85,7 @@ fn address_from(text: &str) -> Result<u32, ConfigFault>
 }
 
 /// The longest message of a port with this service, in octets.
-fn largest_message(service: Service) -> u64
+pub(crate) fn largest_message(service: Service) -> u64
     ensures { result ≡ largest_message service }
 {
     match service {

@@ -1,0 +1,94 @@
+"""watch: what a tap gives is put in order, also where its clock is set; the metrics; what it can't listen to."""
+import argparse
+import json
+import os
+import signal
+import subprocess
+import time
+import urllib.request
+
+import pytest
+from conftest import CAPTURES, CONFIG, TOOL, fault, run
+from test_captures import read
+from workbench import metrics, watching
+from workbench.captures import ETHERNET, Interface, Packet
+
+A, B, MS = 0, 1, 1_000_000
+OCTETS = read(CAPTURES / "a.pcap")[0].octets
+
+
+class Tap:
+    """Packets that are there: nanoseconds and network. `after` is called when the packet of a number was given."""
+    patience = 50 * MS
+
+    def __init__(self, packets, after=lambda number: None):
+        self.given, self.after = packets, after
+
+    def packets(self):
+        for number, (at, net) in enumerate(self.given, 1):
+            yield Packet(number, net, at, OCTETS, len(OCTETS), Interface(ETHERNET, None))
+            self.after(number)
+
+
+def tapped(tap):
+    found = watching.Tapped(tap, argparse.Namespace(shift_b=0, fcs=None))
+    return [(one.time, one.net) for one in found.until(time.monotonic() + 5)], found
+
+
+def test_packets_of_two_interfaces_are_in_order():
+    found, one = tapped(Tap([(1000 * MS, A), (990 * MS, B), (1100 * MS, B), (1090 * MS, A)]))
+    assert found == [(990 * MS, B), (1000 * MS, A), (1090 * MS, A), (1100 * MS, B)] and one.has_ended
+
+
+def test_a_clock_that_is_set_moves_no_time(monkeypatch):
+    """Back by an hour after the second packet, and forward by two after the fourth: gaps stay as they were."""
+    offset = [0]
+    monkeypatch.setattr(watching, "clock", lambda: offset[0])
+    times = [10**15, 10**15 + 8 * MS, 10**15 + 16 * MS, 10**15 + 24 * MS, 10**15 + 32 * MS, 10**15 + 40 * MS]
+    hour = 3600 * 10**9
+    given = [*((at, A) for at in times[:2]), *((at - hour, A) for at in times[2:4]), *((at + hour, A) for at in times[4:])]
+    tap = Tap(given)
+    one = watching.Tapped(tap, argparse.Namespace(shift_b=0, fcs=None))
+    time.sleep(0.2)  # all were read
+    seen, real = [], one.found.get
+
+    def get(timeout):
+        seen.append(1)
+        offset[0] = 0 if len(seen) < 3 else -hour if len(seen) < 5 else hour
+        return real(timeout=timeout)
+    monkeypatch.setattr(one, "found", argparse.Namespace(get=get, empty=lambda: False))
+    assert [arrival.time for arrival in one.until(time.monotonic() + 5)] == times and one.steps == 2
+
+
+def test_the_metrics_are_served():
+    pytest.importorskip("prometheus_client")
+    watched = watching.Watch(argparse.Namespace(config=CONFIG))
+    with watching.stream.opened(argparse.Namespace(files=[CAPTURES / "faults.pcapng"], interfaces=(0, 1), networks="interface",
+                                                   shift_b=0, fcs=None, reorder=1000)) as packets:
+        for one in packets:
+            watched.take(one)
+    shown = watched.picture([3, 0])
+    metrics.serve(19_171, shown)
+    text = urllib.request.urlopen("http://127.0.0.1:19171/metrics").read().decode()
+    assert 'yelunnavi_frames_total{network="A",verdict="sampled",vl="17"} 18.0' in text
+    assert 'yelunnavi_amiss_total{vl="17",what="twice"} 1.0' in text and 'yelunnavi_tap_lost_total{network="A"} 3.0' in text
+
+
+def test_what_can_not_be_listened_to():
+    for way in ("socket", "dumpcap"):
+        found = run("watch", "--config", CONFIG, "nowhere-a", "nowhere-b", "--by", way, "--json", "--seconds", "5")
+        assert found.returncode == 3 and b"Traceback" not in found.stderr
+        assert b"nowhere-a: not listened to: No such device" in found.stderr or b"dumpcap ended: " in found.stderr
+    assert "--fail-on takes" in fault(2, "watch", "--config", CONFIG, "a", "b", "--fail-on", "x")
+
+
+@pytest.mark.skipif(os.geteuid() != 0, reason="listening to an interface takes a right")
+@pytest.mark.parametrize("number, way", [(signal.SIGINT, "socket"), (signal.SIGTERM, "socket"), (signal.SIGINT, "dumpcap")])
+def test_it_tells_what_was_seen_when_it_is_ended(number, way):
+    process = subprocess.Popen([TOOL, "watch", "--config", CONFIG, "lo", "lo", "--by", way, "--json"], stdout=subprocess.PIPE,
+                               stderr=subprocess.PIPE)
+    lines = [process.stdout.readline() for _ in range(2)]
+    process.send_signal(number)
+    out, told = process.communicate(timeout=30)
+    assert all(json.loads(line)["links"] for line in (*lines, out.splitlines()[-1]))
+    assert process.returncode == 1 and b"lost by the tap: " in told and b"Traceback" not in told

@@ -1,0 +1,214 @@
+"""The handles of the library: a receiver, readers of its sampling ports, takers of its queuing ports."""
+import struct
+from typing import NamedTuple, Optional
+
+from receiver.library import load, words
+from verdict_words import PORT_KINDS
+
+A, B = range(2)
+NETWORKS = "AB"
+# The fields of struct yelunnavi_frame, yelunnavi_taken and yelunnavi_read, which are read at each call.
+FRAME, TAKEN, READ = (struct.Struct(fields).unpack_from for fields in ("IIQIIQQ", "IxxxxQQ", "IIQQQ"))
+
+
+class Refused(Exception):
+    """A call that was answered with a code that isn't `done`: its word, and what the call was about."""
+
+    def __init__(self, code, about=""):
+        self.code = words("code_word").get(code, "?")
+        super().__init__(f"{about}: {self.code}" if about else self.code)
+
+
+class ConfigFault(Exception):
+    """The first fault of a configuration: the player's words for it, its key, and the places of its link and port."""
+
+    def __init__(self, found):
+        self.key = words("key_word")[found.key] or None
+        self.link = found.link if found.level > 0 else None
+        self.port = found.port if found.level > 1 else None
+        before, after = (words(f"fault_{part}").get(found.fault, "") for part in ("before", "after"))
+        super().__init__(f"{before}{self.key or ''}{after}")
+
+
+class Reply(NamedTuple):
+    """What became of a frame. A filtered frame has no `vl` and no `place`."""
+    kind: str
+    cause: str = ""
+    vl: Optional[int] = None
+    place: Optional[int] = None
+    port: str = ""
+    number: int = 0
+
+    @property
+    def words(self):
+        """As the player's lines have them."""
+        if self.vl is None:
+            return f"filtered {self.cause}"
+        rest = f" {self.cause or self.port}" if self.cause or self.port else ""
+        return f"vl {self.vl} {self.place} {self.kind}{rest}" + (f" {self.number}" if self.number else "")
+
+
+class Link(NamedTuple):
+    """A link's settings; times are in microseconds."""
+    vl: int
+    redundancy: bool
+    skew_max: int
+    reassembly: int
+    window: int
+
+
+class Port(NamedTuple):
+    """A port's settings. `limit` is the refresh period in microseconds, or the depth of the queue."""
+    name: str
+    link: int
+    vl: int
+    is_sampling: bool
+    address: int
+    udp: int
+    max: int
+    limit: int
+
+
+class Read(NamedTuple):
+    """A message that was read."""
+    number: int
+    time: int
+    valid: bool
+    octets: bytes
+
+
+class Taken(NamedTuple):
+    """A message that was taken."""
+    time: int
+    octets: bytes
+
+
+class Slot:
+    """The room of a handle of a kind, `receiver`, `reader` or `taker`, and its calls by their names in the header."""
+
+    def __init__(self, kind):
+        self.ffi, self.library = load()
+        self.prefix = f"yelunnavi_{kind}_"
+        room = self.ffi.new("uint64_t[]", self.found("room")() // 8 + 1)
+        self.handle = self.ffi.new(f"struct yelunnavi_{kind} *", {"room": room})
+        self.kept = room  # the handle alone doesn't keep it
+        self.found("make")(room)
+
+    def found(self, name):
+        return getattr(self.library, self.prefix + name)
+
+    def call(self, name, *given, about=""):
+        if code := self.found(name)(self.handle, *given):
+            raise Refused(code, about)
+
+    def answer(self, kind, name, *given):
+        """What a call writes at its last pointer."""
+        found = self.ffi.new(f"{kind} *")
+        self.call(name, *given, found)
+        return found
+
+    def close(self):
+        self.found("close")(self.handle)
+
+    def __enter__(self):
+        return self
+
+    def __exit__(self, *_):
+        self.close()
+
+
+class Receiver(Slot):
+    """The receiver of a configuration, a TOML text. Each sampling port gets so many readers, 1 to 8."""
+
+    def __init__(self, text, readers=1):
+        super().__init__("receiver")
+        octets, fault = text.encode() if isinstance(text, str) else text, self.ffi.new("struct yelunnavi_fault *")
+        if code := self.found("open")(self.handle, octets, len(octets), readers, fault):
+            raise ConfigFault(fault) if code == self.library.YELUNNAVI_FAULTY else Refused(code)
+        self.frame = self.ffi.new("struct yelunnavi_frame *")
+        self.frame_octets, self.receive_call = self.ffi.buffer(self.frame), self.found("receive")
+        self.verdicts, self.filters, self.faults = (words(f"{name}_word") for name in ("verdict", "filter", "header"))
+        self.named = {number for number, word in self.verdicts.items() if word in PORT_KINDS}
+        self.links = [self.link(place) for place in range(self.answer("size_t", "links")[0])]
+        self.ports_of = [self.ports_at(place) for place in range(len(self.links))]
+        self.ports = [port for ports in self.ports_of for port in ports]
+
+    def link(self, place):
+        found = self.answer("struct yelunnavi_link", "link", place)
+        return Link(found.vl, bool(found.redundancy), found.skew_max, found.reassembly, found.window)
+
+    def ports_at(self, place):
+        """The ports of the link at a place."""
+        return [self.port(place, port) for port in range(self.answer("struct yelunnavi_link", "link", place).ports)]
+
+    def port(self, link, place):
+        found, name = self.ffi.new("struct yelunnavi_port *"), self.ffi.new("uint8_t[16]")
+        self.call("port", link, place, found, self.ffi.addressof(name))
+        return Port(bytes(name)[:found.name_len].decode(), link, self.links[link].vl,
+                    found.service == self.library.YELUNNAVI_SERVICE_SAMPLING, found.address, found.udp, found.max, found.limit)
+
+    def receive(self, net, now, octets):
+        """Takes a frame without its check sequence that came on a network, A or B, at `now` in microseconds."""
+        if code := self.receive_call(self.handle, net, now, octets, len(octets), self.frame):
+            raise Refused(code)
+        kind, cause, link, vl, port, place, number = FRAME(self.frame_octets)
+        if not kind:
+            return Reply("filtered", self.filters[cause])
+        return Reply(self.verdicts[kind], self.faults[cause] if cause else "", vl, place,
+                     self.ports_of[link][port].name if kind in self.named else "", number)
+
+    def counts(self):
+        """The frames of each link and network by their kinds; those that were filtered by their causes, of link None."""
+        def told(by_number, name, *place):
+            return {word: self.answer("uint64_t", name, *place, number)[0] for number, word in by_number.items()}
+
+        verdicts = {number: word for number, word in self.verdicts.items() if number}
+        return {(link.vl, net): told(verdicts, "count", place, number) for place, link in enumerate(self.links)
+                for number, net in enumerate(NETWORKS)} | {
+                    (None, net): told(self.filters, "filtered", number) for number, net in enumerate(NETWORKS)}
+
+    def reader(self, name):
+        """A reader of the sampling port of this name."""
+        return Reader(self, name)
+
+    def taker(self, name):
+        """The one end of the queue of this name."""
+        return Taker(self, name)
+
+
+class End(Slot):
+    """An end of a port that a receiver hands out, with room for a message and for what a call answers."""
+    kind = ""
+
+    def __init__(self, receiver, name, answer):
+        super().__init__(self.kind)
+        receiver.call(f"hand_{self.kind}", self.handle, name.encode(), len(name), about=name)
+        self.size = self.library.YELUNNAVI_LONGEST_QUEUED
+        self.out, self.told = self.ffi.new("uint8_t[]", self.size), self.ffi.new(f"struct yelunnavi_{answer} *")
+        self.octets, self.told_octets = self.ffi.buffer(self.out), self.ffi.buffer(self.told)
+
+
+class Reader(End):
+    kind = "reader"
+
+    def __init__(self, receiver, name):
+        super().__init__(receiver, name, "read")
+
+    def read(self, now):
+        """The newest message, with whether it is valid at `now`; None if there is none."""
+        self.call("read", now, self.out, self.size, self.told)
+        found, valid, number, time, length = READ(self.told_octets)
+        return Read(number, time, bool(valid), self.octets[:length]) if found else None
+
+
+class Taker(End):
+    kind = "taker"
+
+    def __init__(self, receiver, name):
+        super().__init__(receiver, name, "taken")
+
+    def take(self):
+        """The oldest message that waits; None if there is none."""
+        self.call("take", self.out, self.size, self.told)
+        found, time, length = TAKEN(self.told_octets)
+        return Taken(time, self.octets[:length]) if found else None

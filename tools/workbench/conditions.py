@@ -1,0 +1,62 @@
+"""The conditions of docs/DELIVERY.md that a capture can refute: under all of them each message comes once, whole, in order."""
+from workbench import copies
+
+# Each condition by the word of the report, as the page says it.
+CONDITIONS = {
+    "redundancy": "redundancy management is on",
+    "sender": "all frames are one sender's, with numbers that follow",
+    "skew-max": "times fit SkewMax: delays differ by no more, and a sender's pause is longer than both",
+    "near": "networks begin near each other",
+    "overtaking": "no copy overtakes",
+    "losses": "few are lost: fewer in a row than the window, and never the first after a restart",
+    "packets": "each frame has a datagram, whole or in fragments, for a port that admits it",
+    "whole": "of each datagram in parts all fragments come, within the limit",
+    "parts": "at most four datagrams are in parts at a time",
+    "identification": "no identification comes again within the reassembly limit",
+    "queues": "no queue is full",
+    "copies": "a copy of each frame comes",
+}
+REFUSED = {"bad-header": "packets", "bad-fragment": "packets", "bad-udp": "packets", "no-port": "packets",
+           "too-long": "packets", "fragmented-sample": "packets", "overflow": "queues"}
+
+
+class Broken:
+    """How often a condition was broken, and the packet that broke it first, with how."""
+
+    def __init__(self, where, how):
+        self.count, self.where, self.how = 1, where, how
+
+
+class Conditions:
+    """Of a link: those that were broken, by their words."""
+
+    def __init__(self, link):
+        self.link, self.found = link, {}
+        if not link.redundancy:
+            self.broken("redundancy", "the configuration", "it is off")
+
+    def broken(self, word, where, how):
+        if word in self.found:
+            self.found[word].count += 1
+        else:
+            self.found[word] = Broken(where, how)
+
+    def look_at(self, note, reply, where, steps, before, time):
+        """What a frame breaks. Its place is so many steps ahead of the newest before, which came at `before`."""
+        if reply.kind in REFUSED:
+            self.broken(REFUSED[reply.kind], where, f"{reply.kind} {reply.cause}".rstrip())
+        if note.is_overtaken:
+            self.broken("overtaking", where, "came after a later frame")
+        if note.what == copies.LATE:
+            self.broken("sender", where, "a number that isn't waited for any more")
+        elif note.what == copies.ANEW:
+            self.broken("sender", where, "numbers that began anew without a 0")
+        if steps > copies.HALF_TURN and time - before <= 1000 * self.link.skew_max:
+            self.broken("near", where, f"{steps} frames after the newest while SkewMax runs")
+
+    def law(self):
+        """What the laws of the page say: `all` of what was sent was delivered; `once` at most, whole and in order, and each
+        message of which a copy came unless its queue was full; or nothing."""
+        if not self.found:
+            return "all"
+        return "once" if set(self.found) <= {"copies", "queues"} else "-"

@@ -1,0 +1,234 @@
+"""The copies of a link's frames: which came on which network, which were lost, and when.
+
+Sequence numbers turn at 255, so that an outage of 500 frames looks like one of 245. Therefore each frame of the sender has a
+place in a row that goes on. Of the places that a number may mean it is the one nearest to the newest place of which a
+copy came on either network; and where both were silent for longer than ever before without a loss, nearest to where the
+sender would stand by now at its usual rate.
+
+A frame that integrity checking refuses counts once the next one of its network goes on from it; else it was astray.
+"""
+import collections
+from typing import NamedTuple, Optional
+
+HALF_TURN, TURN = 127, 255
+LEAST_WAIT = 100_000_000  # nanoseconds that a copy is waited for, or ten times SkewMax
+RATE_OF, STEADY = 64, 8  # places by which the usual rate is known; how many it takes at least
+RENEWED = 3  # frames in turn that go on from a number which was behind: the sender has begun anew
+
+# What a frame is: the first copy of its place, or the second; again on the same network; of a place that was given up; the
+# first one after a restart, with the number 0 or without; or refused, and what it is will be seen.
+FIRST, COPY, REPEATED, LATE, RESET, ANEW, HELD = "first", "copy", "repeated", "late", "reset", "anew", "held"
+
+
+class Copy(NamedTuple):
+    """A frame that came: its time in nanoseconds, its packet, and whether redundancy management forwarded it."""
+    time: int
+    packet: int
+    is_forwarded: bool
+
+
+class Place:
+    """A frame of the sender: its place, its number, since when and by which packet of which network it is known of, and its
+    copies on both networks."""
+    __slots__ = ("index", "number", "since", "by", "copies")
+
+    def __init__(self, index, number, since, by):
+        self.index, self.number, self.since, self.by, self.copies = index, number, since, by, [None, None]
+
+
+class Note(NamedTuple):
+    """What a frame is beside the others: how many numbers before it came on neither network, whether it came after a later
+    one, and its other copy."""
+    what: str
+    missing: int = 0
+    is_overtaken: bool = False
+    other: Optional[Copy] = None
+
+
+class Side:
+    """What a link lost on a network, or had more than once."""
+
+    def __init__(self):
+        self.began, self.newest, self.number, self.held = None, -1, None, None
+        self.lost = self.run = self.longest = self.follow = 0
+        self.overtaken = self.repeated = self.late = self.astray = 0
+
+
+class Listener:
+    """Who is told what became of a link's places."""
+
+    def settled(self, place, lost):
+        """No more copies of it are waited for: on these networks it was lost."""
+
+    def lost_many(self, count, net, packet):
+        """So many places before this packet came on neither network."""
+
+    def run_ended(self, net, run, copy):
+        """The first copy of a network after it lost so many frames in a row."""
+
+
+class Copies:
+    """The places of a link's frames that are waited for, with what both networks brought of them, in bounded memory."""
+
+    def __init__(self, skew_max, listener):
+        self.wait, self.listener, self.sides = max(LEAST_WAIT, 10_000 * skew_max), listener, (Side(), Side())
+        self.places, self.by_number = collections.deque(), {}
+        self.newest, self.number, self.latest = -1, None, None  # place, number and time
+        self.rate, self.quiet = collections.deque(maxlen=RATE_OF), 0
+        self.lost_both = self.resets = 0
+
+    # ---- a frame
+
+    def see(self, net, time, number, packet, is_forwarded, is_refused):
+        side, copy = self.sides[net], Copy(time, packet, is_forwarded)
+        if side.held:
+            self.judge(net, side, number)
+        other = self.sides[1 - net]
+        if other.held and other.held[0] == number:
+            self.judge(1 - net, other, number)
+        if self.places and self.places[0].since < time - self.wait:
+            self.settle(time - self.wait)
+        place = self.by_number.get(number)
+        if place and not place.copies[net] and place.copies[1 - net]:
+            return self.come(net, place, copy, self.newest)
+        ahead = self.ahead(number, time)
+        if is_refused and ahead > 0:
+            side.held = number, copy, self.newest
+            return Note(HELD, ahead - 1)
+        return self.take(net, number, copy, ahead, self.newest)
+
+    def judge(self, net, side, number):
+        """Whether the refused frame before counts, by the number that comes next."""
+        (held, copy, newest), side.held = side.held, None
+        if number and held and (number - held) % TURN > HALF_TURN:
+            side.astray += 1
+            return
+        place = self.by_number.get(held)
+        if place and not place.copies[net] and place.copies[1 - net]:
+            self.come(net, place, copy, newest)
+        else:
+            self.take(net, held, copy, self.ahead(held, copy.time), newest)
+
+    def take(self, net, number, copy, ahead, newest):
+        """A frame that isn't a second copy: of a new place, or of one of which none came, or again."""
+        if ahead > 0:
+            return self.advance(net, number, copy, ahead)
+        index = self.newest + ahead
+        if not self.places or index < self.places[0].index:
+            return self.fall_behind(net, number, copy)
+        place = self.places[index - self.places[0].index]
+        if place.copies[net]:
+            self.sides[net].repeated += 1
+            return Note(REPEATED, 0, index < newest, place.copies[net])
+        return self.come(net, place, copy, newest)
+
+    def come(self, net, place, copy, newest):
+        """A copy of a place that is known of. `newest` is the newest place when it came."""
+        side, other = self.sides[net], place.copies[1 - net]
+        place.copies[net] = copy
+        side.overtaken += place.index < side.newest
+        self.go_on(side, place)
+        return Note(COPY if other else FIRST, 0, place.index < newest, other)
+
+    def go_on(self, side, place):
+        side.began = place.index if side.began is None else min(place.index, side.began)
+        side.newest, side.number, side.follow = max(side.newest, place.index), place.number, 0
+
+    def fall_behind(self, net, number, copy):
+        """It is of no place that is waited for. If others go on from it, the sender has begun anew without a 0."""
+        side = self.sides[net]
+        follows = side.number is not None and (number - side.number) % TURN == 1
+        side.number, side.follow = number, side.follow + 1 if follows else 1
+        if side.follow == RENEWED:
+            return self.advance(net, number, copy, 1, is_reset=True)
+        side.late += 1
+        return Note(LATE)
+
+    def ahead(self, number, time):
+        """How many places a frame of this number is ahead of the newest one; 0 or less if it isn't."""
+        before = self.number
+        if before is None or number == 0:
+            return 0 if before == 0 == number and time - self.latest < self.wait else 1
+        steps = number if before == 0 else (number - before) % TURN
+        expected = 0
+        if time - self.latest > 2 * self.quiet and self.rate and self.newest - self.rate[0][0] >= STEADY:
+            index, since = self.rate[0]
+            expected = (time - self.latest) * (self.newest - index) // max(1, self.latest - since)
+        return steps + TURN * max(-1, (expected - steps + HALF_TURN) // TURN)
+
+    def advance(self, net, number, copy, ahead, is_reset=False):
+        """A place that is newer than all."""
+        time, missing = copy.time, ahead - 1
+        is_reset = self.number is not None and (is_reset or number == 0)
+        if is_reset:
+            self.rate.clear()
+            self.resets += 1
+        elif self.latest is not None and not missing:
+            self.quiet = max(self.quiet, time - self.latest)
+        if missing > HALF_TURN:
+            self.settle(float("inf"))
+            self.lose(missing - HALF_TURN)
+            self.listener.lost_many(missing - HALF_TURN, net, copy.packet)
+        by = net, copy.packet
+        for back in range(min(missing, HALF_TURN), 0, -1):
+            self.add((number - back - 1) % TURN + 1, time, by)
+        place = self.add(number, time, by)
+        place.copies[net] = copy
+        self.number, self.latest = number, time
+        self.rate.append((self.newest, time))
+        self.go_on(self.sides[net], place)
+        while len(self.places) > HALF_TURN + 1:
+            self.end(self.places.popleft())
+        return Note((RESET if number == 0 else ANEW) if is_reset else FIRST, missing)
+
+    def add(self, number, time, by):
+        self.newest += 1
+        self.by_number[number] = place = Place(self.newest, number, time, by)
+        self.places.append(place)
+        return place
+
+    # ---- what isn't waited for any more
+
+    def settle(self, before):
+        """Settles the places that are known of since before this time."""
+        while self.places and self.places[0].since < before:
+            self.end(self.places.popleft())
+
+    def end(self, place):
+        if self.by_number.get(place.number) is place:
+            del self.by_number[place.number]
+        lost = []
+        for net, side in enumerate(self.sides):
+            if place.copies[net]:
+                if side.run:
+                    self.listener.run_ended(net, side.run, place.copies[net])
+                side.run = 0
+            elif side.began is not None and side.began < place.index:
+                side.run += 1
+                side.longest = max(side.longest, side.run)
+                lost.append(net)
+        if not any(place.copies):
+            self.lost_both += 1
+        elif lost:
+            self.sides[lost[0]].lost += 1
+        self.listener.settled(place, lost)
+
+    def lose(self, count):
+        """So many places of which no copy came."""
+        self.lost_both += count
+        self.newest += count
+        for side in self.sides:
+            side.run += count
+            side.longest = max(side.longest, side.run)
+
+    def finish(self, time, skew_max):
+        """At the end a copy is lost if its network brought a later one, or SkewMax is over."""
+        for net, side in enumerate(self.sides):
+            if side.held:
+                self.judge(net, side, side.held[0])
+        while self.places:
+            place = self.places.popleft()
+            for net, side in enumerate(self.sides):
+                if not place.copies[net] and side.newest < place.index and time - place.since <= 1000 * skew_max:
+                    side.began = None
+            self.end(place)

@@ -1,0 +1,194 @@
+"""The health of links: what the receiver's replies, the numbers and the times of their frames say of both networks.
+
+What is kept grows with the links and the ports, not with the frames.
+"""
+from collections import Counter
+
+from verdict_words import FIRST_FORWARDED, KINDS, NETWORKS, OUT_OF_SEQUENCE
+from workbench import copies, frames
+from workbench.conditions import Conditions
+from workbench.copies import Copies
+from workbench.delays import Delays
+from workbench.pieces import Pieces
+
+SHOWN = 5  # places of each kind
+CODES = {kind: code for code, kind in enumerate(KINDS)}
+FIRST_PIECE = CODES["bad-fragment"]  # frames of this kind and those after it have a good header
+SENDER = slice(6, 11)  # octets of a source address that both networks share
+
+
+class Network:
+    """When frames of a link came on a network."""
+
+    def __init__(self, bag):
+        self.bag, self.frames, self.early = bag, 0, 0
+        self.first = self.last = self.least = self.most = None
+        self.bags = Counter()
+
+    def see(self, time):
+        self.frames += 1
+        if self.last is None:
+            self.first = time
+        else:
+            gap = time - self.last
+            if self.least is None or gap < self.least:
+                self.least = gap
+            if self.most is None or gap > self.most:
+                self.most = gap
+            self.early += self.bag is not None and 2 * gap < 1000 * self.bag
+            self.bags[(gap * 181 // 128_000_000).bit_length()] += 1  # the nearest of 2^n milliseconds, by ratio
+        self.last = time
+
+    @property
+    def rate(self):
+        """Frames a second."""
+        return (self.frames - 1) * 1e9 / (self.last - self.first) if self.frames > 1 and self.last > self.first else 0.0
+
+    @property
+    def usual(self):
+        """The commonest gap, as a power of 2 of milliseconds; 0 if it is less than one."""
+        return (1 << self.bags.most_common(1)[0][0]) // 2 if self.bags else None
+
+
+class Events:
+    """How often something was seen, and where at first."""
+
+    def __init__(self):
+        self.count, self.first = 0, []
+
+    def add(self, text):
+        self.count += 1
+        if len(self.first) < SHOWN:
+            self.first.append(text)
+
+
+class Link(copies.Listener):
+    """What is known of a link."""
+
+    def __init__(self, link, own):
+        self.link, self.own = link, own
+        self.nets = tuple(Network(own.bag if own else None) for _ in NETWORKS)
+        self.copies, self.pieces = Copies(link.skew_max, self), Pieces(link.reassembly, self.given_up)
+        self.conditions, self.delays, self.beyond = Conditions(link), Delays(), 0
+        self.kinds, self.hidden = tuple(Counter() for _ in NETWORKS), tuple(Counter() for _ in NETWORKS)
+        self.twice, self.resets, self.unfinished, self.again = Events(), Events(), Events(), Events()
+        self.least_pause, self.sender = None, None
+
+    def see(self, now, one, reply):
+        """Returns what the frame is beside the others."""
+        net, time, octets, packet = one.net, one.time, one.octets, one.number
+        code, number = CODES[reply.kind], octets[-1]
+        is_forwarded = code >= FIRST_FORWARDED
+        self.nets[net].see(time)
+        self.kinds[net][reply.kind] += 1
+        before, newest = self.copies.latest, self.copies.newest
+        note = self.copies.see(net, time, number, packet, is_forwarded, code == OUT_OF_SEQUENCE)
+        where = f"{packet} of {NETWORKS[net]}"
+        if octets[SENDER] != self.sender:
+            self.look_at_sender(octets[SENDER], where)
+        if note.what == copies.COPY:
+            self.pair(net, time, is_forwarded, note.other, where)
+        elif note.what in (copies.RESET, copies.ANEW):
+            self.restart(time - before, where)
+        self.conditions.look_at(note, reply, where, self.copies.newest - newest, before, time)
+        if is_forwarded and code >= FIRST_PIECE and (note.what != copies.COPY or not note.other.is_forwarded):
+            self.pieces.see(now, octets, reply.kind, where)
+        return note
+
+    def look_at_sender(self, sender, where):
+        if self.sender is not None:
+            self.conditions.broken("sender", where, "another source address")
+        self.sender = sender
+
+    def pair(self, net, time, is_forwarded, other, where):
+        delay = (time - other.time if net else other.time - time) // 1000
+        self.delays.add(delay)
+        if abs(delay) > self.link.skew_max:
+            self.beyond += 1
+            self.conditions.broken("skew-max", where, f"{abs(delay)} us after its first copy")
+        if is_forwarded and other.is_forwarded and self.link.redundancy:
+            self.twice.add(where)
+
+    def restart(self, pause, where):
+        pause //= 1000
+        self.resets.add(f"{where} after {pause} us")
+        self.least_pause = pause if self.least_pause is None else min(pause, self.least_pause)
+        if pause <= self.link.skew_max + self.greatest_delay:
+            self.conditions.broken("skew-max", where, f"restarted after {pause} us")
+
+    @property
+    def greatest_delay(self):
+        """The greatest of either sign: D is at least this."""
+        return max(abs(self.delays.least), abs(self.delays.greatest)) if self.delays.number else 0
+
+    def run_ended(self, net, run, copy):
+        if run >= self.link.window:
+            self.conditions.broken("losses", f"{copy.packet} of {NETWORKS[net]}", f"the first after {run} were lost")
+
+    def settled(self, place, lost):
+        where = f"{place.by[1]} of {NETWORKS[place.by[0]]}"
+        if lost and place.number == 0:
+            self.conditions.broken("losses", where, f"{NETWORKS[lost[0]]} lost its copy, the first after a restart")
+        if not any(place.copies):
+            self.conditions.broken("copies", where, f"number {place.number} before it came on neither network")
+
+    def lost_many(self, count, net, packet):
+        self.conditions.broken("copies", f"{packet} of {NETWORKS[net]}", f"{count} frames before it came on neither network")
+
+    def given_up(self, why, first, where):
+        if why == "identification":
+            self.again.add(where)
+            self.conditions.broken("identification", where, "the same identification within the limit")
+            return
+        self.unfinished.add(f"{first} ({why})")
+        if why != "four others":
+            self.conditions.broken("whole", first, f"its datagram never ended ({why})")
+        if why == "four others":
+            self.conditions.broken("parts", where, "a fifth datagram in parts")
+
+    def pass_time(self, time):
+        self.copies.settle(time - self.copies.wait)
+
+    def finish(self, time, now):
+        self.copies.finish(time, self.link.skew_max)
+        self.pieces.finish(now)
+
+    def of_kinds(self, *names):
+        """How many frames have these verdicts."""
+        return sum(kinds[name] for kinds in self.kinds for name in names)
+
+
+class Health:
+    """Of all links, by their numbers; and what was filtered, by network and cause. `made` makes what is known of a link, of
+    its settings and its own keys."""
+
+    def __init__(self, config, made=Link):
+        self.links = {link.vl: made(link, config.own.get(link.vl)) for link in config.receiver.links}
+        self.filtered, self.left_out = (tuple(Counter() for _ in NETWORKS) for _ in range(2))
+        self.interfaces = tuple(Counter() for _ in NETWORKS)
+        self.frames, self.first, self.latest = 0, None, 0
+
+    def see(self, one, now, reply):
+        """Returns what the frame is beside the others of its link, if it is of one."""
+        self.latest = one.time
+        if self.first is None:
+            self.first = one.time
+        if not reply:
+            self.left_out[one.net][one.left_out] += 1
+            return None
+        self.frames += 1
+        if reply.vl is None:
+            self.filtered[one.net][reply.cause] += 1
+            return None
+        self.interfaces[one.net][frames.interface_of(one.octets)] += 1
+        return self.links[reply.vl].see(now, one, reply)
+
+    def pass_time(self, time):
+        """Lets it be so late, though nothing came."""
+        self.latest = max(time, self.latest)
+        for link in self.links.values():
+            link.pass_time(time)
+
+    def finish(self, now):
+        for link in self.links.values():
+            link.finish(self.latest, now)

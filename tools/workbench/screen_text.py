@@ -1,0 +1,109 @@
+"""The health of links as text: a line a link, a screen for one, and the ports."""
+from workbench import told
+from workbench.conditions import CONDITIONS
+
+HEADS = ("link", "A/s", "B/s", "lost A", "B", "both", "delay us", "SkewMax", "twice", "age ms", "queue", "law", "amiss")
+LEFT = ("link", "network", "law", "amiss")
+# What a narrow terminal goes without, in this order.
+DISPENSABLE = ("queue", "age ms", "SkewMax", "A/s", "B/s")
+# Of a network of one link: how its frames come, and what it does to them. Times without a unit are in microseconds.
+COMES = ("frames", "rate", "least_gap_us", "greatest_gap_us", "usual_gap_ms", "jitter_us", "early", "silent_us")
+LOSES = ("lost", "longest_run", "overtaken", "repeated", "late", "astray")
+SHOWN_ALONE = ("lost-a", "lost-b", "lost-both", "twice", "law", "reset")
+
+
+def number(value):
+    """A figure as short as it can be."""
+    return "-" if value is None else f"{value:.0f}" if abs(value) >= 100 or value == int(value) else f"{value:.1f}"
+
+
+def rate(net, is_marked=True):
+    return number(net["rate"]) + ("!" if is_marked and told.is_silent(net) else "")
+
+
+def delays(link):
+    """The least, the median, that which 99 of 100 don't pass, and the greatest."""
+    found = link["delays_us"]
+    return "/".join(str(found[name]) for name in ("least", "median", "most_of_99", "greatest")) if found["pairs"] else "-"
+
+
+def age(link):
+    """The worst age at a sampling port."""
+    ages = [port["oldest_us"] for port in link["ports"] if port["kind"] == "sampling" and port["state"] != "empty"]
+    return number(max(ages) / 1000) if ages else "-"
+
+
+def queue(link):
+    """Of the queue that was fullest: how many messages waited at most, and its depth."""
+    found = [port for port in link["ports"] if port["kind"] == "queuing"]
+    worst = max(found, key=lambda port: port["most"] / port["depth"], default=None)
+    return f"{worst['most']}/{worst['depth']}" if worst else "-"
+
+
+def cells(link):
+    """The line of a link."""
+    a, b = link["networks"].values()
+    words = [f"{word} {count}" for word, count in told.amiss(link).items() if word not in SHOWN_ALONE]
+    label = f"{link['vl']} {link['name']}" if link["name"] else str(link["vl"])
+    return (label, rate(a), rate(b), str(a["lost"]), str(b["lost"]), str(link["lost_both"]), delays(link),
+            str(link["skew_max_us"]) if link["redundancy"] else "off", str(link["twice"]["count"]), age(link), queue(link),
+            link["law"] if link["law"] != "-" else "not " + ",".join(link["broken"]), ", ".join(words))
+
+
+def table(heads, rows, room=None):
+    """Lines of columns: those that there is room for, words to the left and figures to the right."""
+    widths = {head: max(len(row[place]) for row in (heads, *rows)) for place, head in enumerate(heads)}
+    for head in DISPENSABLE:
+        if room and sum(width + 1 for of, width in widths.items() if of != heads[-1]) > room:
+            widths.pop(head, None)
+    for row in (heads, *rows):
+        shown = [(cell, widths[head], head in LEFT) for head, cell in zip(heads, row) if head in widths]
+        line = " ".join(cell.ljust(width) if is_left else cell.rjust(width) for cell, width, is_left in shown).rstrip()
+        yield line if not room or len(line) <= room else line[:room - 2] + ".."
+
+
+def lines(found, room=None):
+    """The screen of all links; in so many columns, if they are told."""
+    yield from table(HEADS, [cells(link) for link in found["links"]], room)
+    for name in ("filtered", "left_out"):
+        for net, counts in found[name].items():
+            if counts:
+                yield f"{name.replace('_', ' ')} on {net}: " + ", ".join(f"{cause} {count}" for cause, count in counts.items())
+    if found["lost_by_tap"]:
+        yield f"lost by the tap: {' '.join(map(str, found['lost_by_tap']))}"
+
+
+def lines_of_link(link):
+    """The screen of one link."""
+    name = f" {link['name']}" if link["name"] else ""
+    bag = f", BAG {link['bag_us']} us" if link["bag_us"] else ""
+    yield (f"link {link['vl']}{name}: SkewMax {link['skew_max_us']} us, window {link['window']}, reassembly "
+           f"{link['reassembly_us']} us{bag}{'' if link['redundancy'] else ', redundancy management is off'}")
+    for keys in (COMES, LOSES):
+        yield from table(("network", *(key.removesuffix("_us").replace("_", " ") for key in keys)), [
+            (net, *(number(about[key]) for key in keys)) for net, about in link["networks"].items()])
+    for net, about in link["networks"].items():
+        hidden = "".join(f"; hidden by the other network's copies: {kind} {count}" for kind, count in about["hidden"].items())
+        yield f"verdicts on {net}: {', '.join(f'{kind} {count}' for kind, count in about['verdicts'].items()) or 'none'}{hidden}"
+    found = link["delays_us"]
+    yield f"lost on both networks: {link['lost_both']}"
+    yield (f"B's copy came later by, in us, least/median/99 %/greatest: {delays(link)}; {found['pairs']} pairs, "
+           f"{found['beyond']} beyond SkewMax")
+    for key, what in (("twice", "delivered twice"), ("resets", "restarts"), ("unfinished", "datagrams given up"),
+                      ("identification_again", "identifications again")):
+        if link[key]["count"]:
+            yield f"{what}: {link[key]['count']}, at first {', '.join(link[key]['first'])}"
+    yield from map(line_of_port, link["ports"])
+    yield {"all": "By docs/DELIVERY.md all that was sent was delivered, once, whole, in order: each condition was kept.",
+           "once": "By docs/DELIVERY.md each message was delivered at most once, whole, in order; what is missing:",
+           "-": "The laws of docs/DELIVERY.md don't cover it; of their conditions were broken:"}[link["law"]]
+    for word, one in link["broken"].items():
+        yield f"  {word}: {CONDITIONS[word]}: {one['count']} times, first by {one['first']}: {one['how']}"
+
+
+def line_of_port(port):
+    words = " ".join(f"{key.removesuffix('_us')} {value}" for key, value in port.items()
+                     if key not in ("port", "vl", "kind") and value not in (None, ""))
+    return f"port {port['port']} {port['kind']}: {words}"
+
+

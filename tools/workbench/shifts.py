@@ -1,0 +1,37 @@
+"""Whether one tap's clock is ahead of the other's: the delays of the first frames, which are found by their octets."""
+import statistics
+
+LOOKED_AT = 20_000  # frames of each network
+FEWEST, LEAST = 8, 1_000_000  # pairs; nanoseconds
+
+
+class Shift:
+    """The times of the first frames of each network, by what both copies share: all but the source address."""
+
+    def __init__(self):
+        self.times, self.seen, self.looks = ({}, {}), [0, 0], True
+
+    def see(self, arrival):
+        net, octets = arrival.net, arrival.octets
+        if self.seen[net] < LOOKED_AT and not arrival.left_out:
+            self.seen[net] += 1
+            key = hash(octets[:6] + octets[12:])
+            # What comes twice tells nothing.
+            self.times[net][key] = None if key in self.times[net] else arrival.time
+        self.looks = min(self.seen) < LOOKED_AT
+
+    def found(self):
+        """By how many nanoseconds B's clock seems ahead, 0 if delays alone explain what was seen."""
+        a, b = self.times
+        delays = [b[key] - time for key, time in a.items() if time is not None and b.get(key) is not None]
+        if len(delays) < FEWEST:
+            return 0
+        tenths = statistics.quantiles(delays, n=10)
+        middle, spread = statistics.median(delays), tenths[-1] - tenths[0]
+        return round(middle) if abs(middle) > max(LEAST, 4 * spread) else 0
+
+    def hint(self):
+        ahead = self.found() // 1000
+        which = "B" if ahead > 0 else "A"
+        return ahead and (f"{which}'s clock seems {abs(ahead)} us ahead of the other's, if it isn't its frames' delay: "
+                          f"--shift-b {-ahead}")

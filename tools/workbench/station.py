@@ -1,0 +1,68 @@
+"""A receiver and the partition that reads and takes its ports, fed by a stream."""
+from workbench import frames, settings, stream
+from workbench.partitions import Partition
+
+# The verdicts that say that a frame itself is at fault.
+WRONG_SUM = "wrong-udp-checksum"
+FAULTS = ("bad-header", "bad-fragment", "bad-udp", "no-port", "too-long", "fragmented-sample", "exhausted")
+
+
+class Station:
+    """The receiver of a configuration. With `takes` partitions read and take; else nobody does, as in the player."""
+
+    def __init__(self, config, takes=True, tell=None):
+        self.config, self.receiver, self.partition = config, config.receiver, None
+        if takes:
+            config.read_own()
+            periods = {name: period for own in config.own.values() for name, period in own.periods.items()}
+            self.partition = Partition(self.receiver, periods, tell)
+        self.clock, self.latest = stream.Clock(), 0
+
+    def take(self, one):
+        """The time of an arrival in microseconds since the first, and its reply; none if it was left out."""
+        if one.left_out:
+            return self.clock.since(one.time), None
+        now = self.clock.of(one.net, one.time)
+        if now > self.latest:
+            self.latest = now
+        partition = self.partition
+        if partition and now > partition.next:
+            partition.wake(now - 1)
+        reply = self.receiver.receive(one.net, now, one.octets)
+        if partition and reply.port:
+            partition.came(now, reply)
+        return now, reply
+
+    def pass_time(self, now):
+        """Lets it be so late, though nothing came."""
+        if now > self.latest:
+            self.latest = now
+            if self.partition:
+                self.partition.wake(now)
+
+    def seen(self, found):
+        """Each arrival of a stream with its time and its reply."""
+        self.clock = stream.Clock(found.is_of_captures)
+        for one in found:
+            yield one, *self.take(one)
+        self.pass_time(self.latest)
+
+
+class Alone:
+    """A receiver of its own for each network: what of a network's frames the other one's copies hide. And the checksums of
+    UDP, at which no receiver looks."""
+
+    def __init__(self, config):
+        self.receivers = [settings.opened(config.octets) for _ in range(2)]
+
+    def fault(self, one, now, reply):
+        """The verdict of a frame on its network alone, if it is a fault that `reply` doesn't tell."""
+        found = self.receivers[one.net].receive(one.net, now, one.octets)
+        if found.kind in FAULTS:
+            return found if found.kind != reply.kind else None
+        return found._replace(kind=WRONG_SUM, port="", number=0) if found.port and frames.has_wrong_udp_sum(one.octets) else None
+
+
+def opened(path, takes=True, tell=None):
+    """The configuration is read before any capture."""
+    return Station(settings.Settings(path), takes, tell)

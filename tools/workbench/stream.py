@@ -1,0 +1,281 @@
+"""The packets of both networks in the order of their times, out of captures, a pipe or traces: nothing is kept of them but
+those that may stand out of order."""
+import collections
+import contextlib
+import datetime
+import heapq
+import operator
+import os
+import sys
+from typing import NamedTuple, Optional
+
+from workbench import captures, files, frames, hex_traces
+from workbench.faults import BROKEN, Fault, plain
+from workbench.shifts import Shift
+
+MOST_TIME = 2**64  # nanoseconds
+LATE, NO_TIME = "too late for its place", "no time that a trace can have"
+OTHER, TORN = "of another interface", "cut by the end of the capture"
+SHOWN = 8
+# Nanoseconds of the capture's clock that a packet of a pipe waits for earlier ones: dumpcap reads each quarter of a second.
+HOLD_OF_A_PIPE = 300_000_000
+HINTS = {b"\x1f\x8b": "compressed: gunzip it, or `zcat FILE | yelunnavi .. -`", b"\xfd7zX": "compressed: unxz it",
+         b"\x28\xb5\x2f\xfd": "compressed: unzstd it", b"\xef\xbb\xbf": "a byte order mark: sed '1s/^\\xef\\xbb\\xbf//'",
+         b"\xff\xfe": "UTF-16: iconv -f UTF-16 -t ASCII"}
+
+
+class Arrival(NamedTuple):
+    """A packet of a network, 0 for A: its time in nanoseconds of 1970, its number in the capture, its octets without check
+    sequence, why it was left out, and its length before the snapshot length cut it."""
+    time: int
+    net: int
+    number: int
+    octets: bytes
+    left_out: Optional[str]
+    length: int
+
+
+class Account:
+    """What was met in a capture, for people."""
+    broken = ""
+
+    def __init__(self, name):
+        self.name, self.packets, self.whole, self.checked, self.moved = name, 0, 0, 0, 0
+        self.newest, self.lost = 0, {}
+        self.left_out = collections.defaultdict(list)
+        self.counts = collections.Counter()
+
+    def leave_out(self, number, reason):
+        self.counts[reason] += 1
+        if self.counts[reason] <= SHOWN:
+            self.left_out[reason].append(number)
+
+    def all_had_fcs(self):
+        """Whether that was so of each packet before: then one whose check sequence is wrong was damaged."""
+        return self.checked == self.whole >= SHOWN or None
+
+    def lines(self):
+        more = [f", {self.checked} check sequences cut off"] if self.checked else []
+        more += [f", {self.moved} put in order"] if self.moved else []
+        if more:
+            yield f"{self.name}: {self.packets} packets{''.join(more)}"
+        for (_, interface), count in self.lost.items():
+            if count:
+                yield (f"{self.name}: {count} packets were lost while it was captured, on interface {interface}: what "
+                       "they were is unknown, and looks like a fault of the network")
+        for reason, numbers in self.left_out.items():
+            rest = f" and {self.counts[reason] - SHOWN} more" if self.counts[reason] > SHOWN else ""
+            yield f"{self.name}: left out, {reason}: packet {', '.join(map(str, numbers))}{rest}"
+        if self.broken:
+            yield self.broken
+
+
+class Clock:
+    """The times that the receiver is given, in microseconds since the first packet. The player takes A's frame first if both
+    networks have one at a time; so if a frame of A came after one of B, but in the same microsecond, it gets the next one."""
+
+    def __init__(self, from_first=True):
+        self.base, self.latest = (None if from_first else 0), [(-1, -1), (-1, -1)]
+
+    def since(self, time):
+        if self.base is None:
+            self.base = time
+        return max(0, time - self.base) // 1000
+
+    def of(self, net, time):
+        """Of a frame that is handed in."""
+        found = max(self.since(time), self.latest[net][1])
+        other, of_other = self.latest[1 - net]
+        if (time, net) > (other, 1 - net):
+            found = max(found, of_other + (net == 0))
+        self.latest[net] = time, found
+        return found
+
+
+# ---- from a file to arrivals
+
+def arrivals(packets, net_of, given, account):
+    """What comes of a capture's packets; `net_of` tells the network of an interface and octets."""
+    latest, shifts = 0, (0, 1000 * given.shift_b)
+    try:
+        for number, interface, time, octets, length, about in packets:
+            account.packets = number
+            net = net_of(interface, octets)
+            if net is None:
+                account.leave_out(number, OTHER)
+                continue
+            if about.link_type != captures.ETHERNET:
+                raise Fault(f"packet {number} isn't Ethernet, but of link type {about.link_type}")
+            reason = frames.SNAPSHOT if len(octets) < length else None
+            if not reason:
+                has = about.fcs if given.fcs is None else given.fcs
+                found, reason = frames.without_fcs(octets, account.all_had_fcs() if has is None else has)
+                account.checked += len(found) < len(octets)
+                account.whole += reason is None
+                octets, length, reason = found, len(found), reason or frames.refusal(found)
+            if time is None or not 0 <= (time := time + shifts[net]) < MOST_TIME:
+                time, reason = latest, reason or NO_TIME
+            yield Arrival(time, net, number, octets, reason, length)
+            latest = time
+    except captures.Cut:
+        account.leave_out(account.packets + 1, TORN)
+    except captures.Broken as broken:
+        account.broken = f"{account.name}: {broken}; {account.packets} packets before were played"
+    except Fault as fault:
+        raise Fault(f"{account.name}: {fault}", fault.status) from None
+
+
+def of_trace(found, net, account):
+    """The lines of a trace."""
+    try:
+        for number, time, octets in found:
+            account.packets += 1
+            yield Arrival(1000 * time, net, number, octets, None, len(octets))
+    except Fault as fault:
+        if fault.status != BROKEN:
+            raise
+        account.broken = str(fault)
+
+
+class Order:
+    """Puts arrivals in order of time. Those that come in order stand in a row, the others in a heap."""
+
+    def __init__(self, account):
+        self.row, self.late, self.latest, self.account = collections.deque(), [], [0, 0], account
+
+    def __len__(self):
+        return len(self.row) + len(self.late)
+
+    def put(self, one):
+        if self.row and one < self.row[-1]:
+            heapq.heappush(self.late, one)
+        else:
+            self.row.append(one)
+
+    def next(self):
+        """The earliest; it is left out if it comes too late for its network."""
+        from_heap = self.late and (not self.row or self.late[0] < self.row[0])
+        one = heapq.heappop(self.late) if from_heap else self.row.popleft()
+        account = self.account
+        if not one.left_out and one.time < self.latest[one.net]:
+            one = one._replace(left_out=LATE)
+        if one.left_out:
+            account.leave_out(one.number, one.left_out)
+        else:
+            self.latest[one.net] = one.time
+            account.moved += one.number < account.newest
+            account.newest = max(one.number, account.newest)
+        return one
+
+    def until(self, time):
+        """All up to this time."""
+        while self.row and self.row[0].time <= time or self.late and self.late[0].time <= time:
+            yield self.next()
+
+
+def in_order(found, window, hold, account):
+    """Each waits for so many packets or, where `hold` isn't None, so many nanoseconds of the capture's clock."""
+    order = Order(account)
+    for one in found:
+        order.put(one)
+        if len(order) > window:
+            yield order.next()
+        if hold is not None:
+            yield from order.until(one.time - hold)
+    while len(order):
+        yield order.next()
+
+
+# ---- the files of a command line
+
+class Input:
+    """A file that is a capture or a trace."""
+
+    def __init__(self, name, stack):
+        self.name, self.label = name, "standard input" if name == "-" else plain(os.path.basename(name))
+        self.file = stack.enter_context(files.reading(name, "reading"))
+        self.magic = self.file.read(4)
+        self.is_capture = captures.is_capture(self.magic)
+        if not self.is_capture and self.magic and self.magic[0] not in b"0123456789#\n":
+            hint = next((hint for magic, hint in HINTS.items() if self.magic.startswith(magic)),
+                        "`editcap -F pcapng FILE -` makes one of what Wireshark reads")
+            raise Fault(f"{name}: neither a capture (pcap, pcapng) nor a trace; {hint}")
+
+
+def by_source(_, octets):
+    """The network that the source address says."""
+    return {1: 0, 2: 1}.get(frames.interface_of(octets))
+
+
+def networks_of(place, count, given):
+    """The network of each packet of a capture: one of two captures has one; else by interface or by source."""
+    if given.networks == "source":
+        return by_source
+    if count == 2:
+        return lambda interface, octets: place
+    nets = dict(zip(given.interfaces, (0, 1)))
+    return lambda interface, octets: nets.get(interface)
+
+
+class Stream:
+    """The arrivals of one capture with both networks, or of two; or of one or two traces."""
+
+    def __init__(self, inputs, given):
+        if len({one.is_capture for one in inputs if one.magic}) > 1:
+            raise Fault("one capture and one trace: their times have nothing in common")
+        self.is_of_captures = any(one.is_capture for one in inputs)
+        self.unit, self.first = "packet" if self.is_of_captures else "line", None
+        self.accounts = [Account(one.label) for one in inputs]
+        self.shift = Shift()
+        self.feeds = [self.feed(place, one, given) for place, one in enumerate(inputs)]
+
+    def feed(self, place, one, given):
+        account = self.accounts[place]
+        if not self.is_of_captures:
+            return of_trace(hex_traces.lines(one.file, one.magic, place), place, account)
+        packets = captures.packets(one.file, one.magic, account.lost) if one.magic else ()
+        found = arrivals(packets, networks_of(place, len(self.accounts), given), given, account)
+        return in_order(found, given.reorder, HOLD_OF_A_PIPE if one.name == "-" else None, account)
+
+    def source(self, net):
+        """The name of the file that a network's packets are of."""
+        return self.accounts[net % len(self.accounts)].name
+
+    def __iter__(self):
+        for one in self.feeds[0] if len(self.feeds) == 1 else heapq.merge(*self.feeds, key=operator.itemgetter(0, 1)):
+            if self.first is None:
+                self.first = one.time
+            if self.shift.looks and self.is_of_captures:
+                self.shift.see(one)
+            yield one
+
+    @property
+    def status(self):
+        return BROKEN if any(account.broken for account in self.accounts) else 0
+
+    def lines(self):
+        """What was met, for the standard error."""
+        for account in self.accounts:
+            yield from account.lines()
+        if hint := self.shift.hint():
+            yield hint
+
+    def tell_beginning(self):
+        if self.is_of_captures:
+            print(f"yelunnavi: time 0 is {told_time(self.first or 0)}", file=sys.stderr)
+
+
+@contextlib.contextmanager
+def opened(given):
+    """The stream of the files that a command line names; at its end what was met is told."""
+    with contextlib.ExitStack() as stack:
+        found = Stream([Input(name, stack) for name in given.files], given)
+        yield found
+    for line in found.lines():
+        print(f"yelunnavi: {line}", file=sys.stderr)
+
+
+def told_time(base):
+    seconds, rest = divmod(base, captures.SECOND)
+    day = datetime.datetime.fromtimestamp(seconds, datetime.timezone.utc)
+    return f"{seconds}.{rest:09d} seconds of 1970 ({day:%Y-%m-%d %H:%M:%S} UTC)"

@@ -1,0 +1,47 @@
+"""The health of captures: a line a link, one link, or all of it for programs; and the exit status."""
+import json
+import os
+import sys
+
+from workbench import files, screen_text, station, stream, told
+from workbench.faults import REFUSED, WRONG_WORDS, Fault
+from workbench.health import Health
+
+
+def health(given):
+    most = told.wanted(given.fail_on)
+    if given.workers or given.scheduler:
+        from workbench import sharing
+        return sharing.health(given, most)
+    found, status = summed(given)
+    with files.output() as out:
+        out.writelines(f"{line}\n".encode() for line in shown(found, given))
+    failed = list(told.failures(found, most))
+    for line in failed if given.fail_on is not None else ():
+        print(f"yelunnavi: {line}", file=sys.stderr)
+    return status or (REFUSED if failed else 0)
+
+
+def summed(given):
+    """The health of a capture or a pair of them, as plain data, and the status of their files."""
+    played = station.opened(given.config)
+    found, alone = Health(played.config), station.Alone(played.config) if given.each else None
+    with stream.opened(given) as packets:
+        for one, now, reply in played.seen(packets):
+            found.see(one, now, reply)
+            if alone and reply and reply.vl is not None and (fault := alone.fault(one, now, reply)):
+                found.links[reply.vl].hidden[one.net][f"{fault.kind} {fault.cause}".rstrip()] += 1
+    found.finish(played.latest)
+    lost = [sum(account.lost.values()) for account in packets.accounts]
+    return told.of_all(found, played.partition, played.latest, lost if any(lost) else None), packets.status
+
+
+def shown(found, given):
+    if given.json:
+        return [json.dumps(found)]
+    if given.link is None:
+        return screen_text.lines(found, os.get_terminal_size(1).columns if os.isatty(1) else None)
+    for link in found["links"]:
+        if link["vl"] == given.link:
+            return screen_text.lines_of_link(link)
+    raise Fault(f"{given.config} has no link {given.link}", WRONG_WORDS)

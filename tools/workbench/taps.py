@@ -1,0 +1,123 @@
+"""Packets of two interfaces as they come: by dumpcap, or by sockets of this process. Both have the kernel's times."""
+import itertools
+import re
+import select
+import socket
+import struct
+import subprocess
+import tempfile
+
+from workbench import captures
+from workbench.captures import Interface, Packet
+from workbench.faults import NOT_READ, Fault, plain
+
+# Of Linux: ETH_P_ALL, SO_TIMESTAMPNS, SO_RCVBUFFORCE; SOL_PACKET with its options; PACKET_OUTGOING.
+ALL_PROTOCOLS, TIMESTAMPS, FORCED_BUFFER = 3, 35, 33
+PACKET_LEVEL, ADD_MEMBERSHIP, STATISTICS, PROMISCUOUS, OUTGOING = 263, 1, 6, 1, 4
+BUFFER, LARGEST = 64 << 20, 65_536
+# dumpcap's own queue: by default it has 1,000 packets, and loses the rest.
+QUEUE = ("-B", "64", "-N", "1000000", "-C", "268435456")
+ETHERNET = Interface(captures.ETHERNET, None)
+TIME = struct.Struct("qq").unpack
+
+
+class Sockets:
+    """Needs the right CAP_NET_RAW. Tells at any moment how many packets were lost."""
+    patience = 50_000_000  # nanoseconds that a packet waits for earlier ones
+
+    def __init__(self, names):
+        self.lost = [0, 0]
+        self.sockets = [self.opened(name) for name in names]
+
+    def opened(self, name):
+        try:
+            found = socket.socket(socket.AF_PACKET, socket.SOCK_RAW, 0)
+            found.setsockopt(socket.SOL_SOCKET, TIMESTAMPS, 1)
+            found.setsockopt(socket.SOL_SOCKET, FORCED_BUFFER, BUFFER)
+            found.bind((name, ALL_PROTOCOLS))
+            found.setsockopt(PACKET_LEVEL, ADD_MEMBERSHIP, struct.pack("iHH8s", socket.if_nametoindex(name), PROMISCUOUS, 0, b""))
+        except OSError as error:
+            raise Fault(f"{name}: not listened to: {error.strerror}", NOT_READ) from None
+        found.setblocking(False)
+        return found
+
+    def packets(self):
+        """The earlier of both heads, so that they stay in order also where much has come meanwhile."""
+        poll, numbers, heads = select.poll(), itertools.count(1), [None, None]
+        for one in self.sockets:
+            poll.register(one, select.POLLIN)
+        while True:
+            for net in range(2):
+                heads[net] = heads[net] or self.head(net)
+            found = [one for one in heads if one]
+            if not found:
+                poll.poll()
+                continue
+            time, net, octets = min(found)
+            heads[net] = None
+            yield Packet(next(numbers), net, time, octets, len(octets), ETHERNET)
+
+    def head(self, net):
+        """The next that was received, if there is one."""
+        while True:
+            try:
+                octets, told, _, (name, _, kind, _, _) = self.sockets[net].recvmsg(LARGEST, 64)
+            except BlockingIOError:
+                return None
+            except OSError as error:
+                raise Fault(f"an interface went away: {error.strerror}", NOT_READ) from None
+            if kind != OUTGOING:
+                seconds, rest = TIME(told[0][2])
+                return seconds * captures.SECOND + rest, net, octets
+
+    def count_lost(self):
+        """The kernel counts anew after each answer."""
+        for net, one in enumerate(self.sockets):
+            self.lost[net] += struct.unpack("II", one.getsockopt(PACKET_LEVEL, STATISTICS, 8))[1]
+        return self.lost
+
+    def close(self):
+        """The last count."""
+        lost = self.count_lost()
+        for one in self.sockets:
+            one.close()
+        return lost
+
+
+class Dumpcap:
+    """Needs the rights of dumpcap alone, which goes on until it is ended. It tells at its end how many packets were lost."""
+    patience = 400_000_000
+
+    def __init__(self, names):
+        self.told = tempfile.TemporaryFile()
+        words = ["dumpcap", "-q", "-n", *QUEUE, *itertools.chain(*(("-i", name) for name in names)), "-w", "-"]
+        try:
+            self.process = subprocess.Popen(words, stdin=subprocess.DEVNULL, stdout=subprocess.PIPE, stderr=self.told,
+                                            bufsize=1 << 20, start_new_session=True)
+        except OSError as error:
+            raise Fault(f"dumpcap: not run: {error.strerror}", NOT_READ) from None
+
+    def packets(self):
+        file = self.process.stdout
+        magic = file.read(4)
+        if magic:
+            yield from captures.packets(file, magic)
+        self.process.wait()
+        self.told.seek(0)
+        lines = [line for line in self.told.read().decode(errors="replace").splitlines() if line]
+        raise Fault(f"dumpcap ended: {plain(' '.join(lines))}", NOT_READ)
+
+    def count_lost(self):
+        """None until it has ended."""
+        self.told.seek(0)
+        found = re.findall(rb"received/dropped on interface .*?: \d+/(\d+)", self.told.read())
+        return [int(count) for count in found] if len(found) == 2 else None
+
+    def close(self):
+        self.process.terminate()
+        self.process.stdout.close()
+        self.process.wait()
+        return self.count_lost()
+
+
+WAYS = {"dumpcap": Dumpcap, "socket": Sockets}

@@ -1,0 +1,133 @@
+"""The health of links as plain data: for JSON and tables, screens and the words of `--fail-on`."""
+from verdict_words import NETWORKS
+from workbench.conditions import CONDITIONS
+from workbench.faults import WRONG_WORDS, Fault
+from workbench.station import FAULTS
+
+
+def micro(nanoseconds):
+    return None if nanoseconds is None else round(nanoseconds / 1000)
+
+
+def of_network(link, number, latest):
+    net, side = link.nets[number], link.copies.sides[number]
+    bag = link.own.bag if link.own else None
+    return {"frames": net.frames, "rate": round(net.rate, 1),
+            "least_gap_us": micro(net.least), "greatest_gap_us": micro(net.most),
+            "usual_gap_ms": net.usual, "jitter_us": max(0, bag - micro(net.least)) if bag and net.least is not None else None,
+            "early": net.early, "lost": side.lost, "longest_run": side.longest, "overtaken": side.overtaken,
+            "repeated": side.repeated, "late": side.late, "astray": side.astray,
+            "silent_us": None if net.last is None else micro(latest - net.last),
+            "hidden": dict(link.hidden[number]), "verdicts": dict(link.kinds[number])}
+
+
+def of_delays(link):
+    """How much later B's copy came, negative if it came first."""
+    found = link.delays
+    share = {"median": found.median(), "most_of_99": found.below(0.99)} if found.number else {"median": None, "most_of_99": None}
+    return {"pairs": found.number, "least": found.least, **share, "greatest": found.greatest, "beyond": link.beyond}
+
+
+def of_events(events):
+    return {"count": events.count, "first": events.first}
+
+
+def of_link(link, ports, latest):
+    settings = link.link
+    broken = {word: {"count": one.count, "first": one.where, "how": one.how} for word in CONDITIONS
+              if (one := link.conditions.found.get(word))}
+    return {"vl": settings.vl, "name": link.own.name if link.own else None, "bag_us": link.own.bag if link.own else None,
+            "redundancy": settings.redundancy, "skew_max_us": settings.skew_max, "window": settings.window,
+            "reassembly_us": settings.reassembly,
+            "networks": {net: of_network(link, number, latest) for number, net in enumerate(NETWORKS)},
+            "lost_both": link.copies.lost_both, "delays_us": of_delays(link), "twice": of_events(link.twice),
+            "resets": of_events(link.resets), "least_pause_us": link.least_pause, "unfinished": of_events(link.unfinished),
+            "identification_again": of_events(link.again), "bad": link.of_kinds(*FAULTS),
+            "out_of_sequence": link.of_kinds("out-of-sequence"), "overflows": link.of_kinds("overflow"),
+            "law": link.conditions.law(), "broken": broken, "ports": ports}
+
+
+def of_all(health, partition, now, lost=None):
+    """Of all links, at a moment in microseconds since the first packet. `lost` are the packets that the tap lost."""
+    ports = partition.told(now) if partition else []
+    links = [of_link(link, [port for port in ports if port["vl"] == link.link.vl], health.latest)
+             for link in health.links.values()]
+    counted = {name: {net: dict(counts) for net, counts in zip(NETWORKS, found)}
+               for name, found in (("filtered", health.filtered), ("left_out", health.left_out))}
+    return {"first_ns": health.first, "microseconds": now, "frames": health.frames, "links": links, **counted,
+            "lost_by_tap": lost}
+
+
+# ---- what is amiss
+
+def sum_of(link, name):
+    return sum(net[name] for net in link["networks"].values())
+
+
+# Each word of a link: a count that should be 0.
+AMISS = {
+    "lost-a": lambda link: link["networks"]["A"]["lost"],
+    "lost-b": lambda link: link["networks"]["B"]["lost"],
+    "lost-both": lambda link: link["lost_both"],
+    "delay": lambda link: link["delays_us"]["beyond"],
+    "twice": lambda link: link["twice"]["count"],
+    "overtaken": lambda link: sum_of(link, "overtaken"),
+    "repeated": lambda link: sum_of(link, "repeated"),
+    "astray": lambda link: sum_of(link, "astray") + sum_of(link, "late"),
+    "reset": lambda link: link["resets"]["count"],
+    "early": lambda link: sum_of(link, "early"),
+    "unfinished": lambda link: link["unfinished"]["count"],
+    "identification": lambda link: link["identification_again"]["count"],
+    "bad": lambda link: link["bad"],
+    "hidden": lambda link: sum(sum(net["hidden"].values()) for net in link["networks"].values()),
+    "out-of-sequence": lambda link: link["out_of_sequence"],
+    "overflow": lambda link: link["overflows"],
+    "stale": lambda link: sum(port.get("stale", 0) for port in link["ports"]),
+    "silent": lambda link: sum(is_silent(net) for net in link["networks"].values()),
+    "law": lambda link: link["law"] == "-" and link["redundancy"],
+}
+OF_ALL = ("filtered", "left-out", "tap")
+# A sender may restart, and a law says only that something else is amiss.
+NOT_BY_DEFAULT = ("reset", "law")
+# A network is silent if it brought nothing, or nothing for so many of its longest gaps before.
+SILENT_GAPS = 3
+HARMLESS = ("not-ip",)
+
+
+def is_silent(net):
+    if net["frames"] < 2:
+        return net["frames"] == 0
+    return net["silent_us"] > SILENT_GAPS * max(1, net["greatest_gap_us"])
+
+
+def amiss(link):
+    """The words of what a link has amiss, with their counts."""
+    found = {word: int(count(link)) for word, count in AMISS.items()}
+    return {word: count for word, count in found.items() if count}
+
+
+def amiss_in_all(told):
+    """The same of what is of no link."""
+    filtered = sum(count for counts in told["filtered"].values() for cause, count in counts.items() if cause not in HARMLESS)
+    left_out = sum(sum(counts.values()) for counts in told["left_out"].values())
+    return dict(zip(OF_ALL, (filtered, left_out, sum(told["lost_by_tap"] or ()))))
+
+
+def failures(told, most):
+    """A line for each word that has more than its most; `most` is by word."""
+    for link in told["links"]:
+        yield from (f"link {link['vl']}: {word} {count}" for word, count in amiss(link).items() if count > most.get(word, count))
+    yield from (f"{word} {count}" for word, count in amiss_in_all(told).items() if count > most.get(word, count))
+
+
+def wanted(words):
+    """The most of each word that `--fail-on` names; of all but a few if it isn't given."""
+    if words is None:
+        return {word: 0 for word in (*AMISS, *OF_ALL) if word not in NOT_BY_DEFAULT}
+    found = {}
+    for one in filter(None, words.split(",")):
+        word, _, most = one.partition("=")
+        if word not in AMISS and word not in OF_ALL or most and not most.isdigit():
+            raise Fault(f"--fail-on takes {' '.join((*AMISS, *OF_ALL))}, each perhaps with =MOST", WRONG_WORDS)
+        found[word] = int(most or 0)
+    return found
