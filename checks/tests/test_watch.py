@@ -19,7 +19,7 @@ OCTETS = read(CAPTURES / "a.pcap")[0].octets
 
 class Tap:
     """Packets that are there: nanoseconds and network. `after` is called when the packet of a number was given."""
-    patience = 50 * MS
+    patience, stop = 50 * MS, staticmethod(lambda: None)
 
     def __init__(self, packets, after=lambda number: None):
         self.given, self.after = packets, after

@@ -26,7 +26,7 @@ class Sockets:
     patience = 50_000_000  # nanoseconds that a packet waits for earlier ones
 
     def __init__(self, names):
-        self.lost = [0, 0]
+        self.lost, self.passed, self.taken, self.is_stopped = [0, 0], [0, 0], [0, 0], False
         self.sockets = [self.opened(name) for name in names]
 
     def opened(self, name):
@@ -50,8 +50,10 @@ class Sockets:
             for net in range(2):
                 heads[net] = heads[net] or self.head(net)
             found = [one for one in heads if one]
+            if not found and self.is_stopped:
+                return
             if not found:
-                poll.poll()
+                poll.poll(100)
                 continue
             time, net, octets = min(found)
             heads[net] = None
@@ -66,6 +68,7 @@ class Sockets:
                 return None
             except OSError as error:
                 raise Fault(f"an interface went away: {error.strerror}", NOT_READ) from None
+            self.taken[net] += 1
             if kind != OUTGOING:
                 seconds, rest = TIME(told[0][2])
                 return seconds * captures.SECOND + rest, net, octets
@@ -73,15 +76,21 @@ class Sockets:
     def count_lost(self):
         """The kernel counts anew after each answer."""
         for net, one in enumerate(self.sockets):
-            self.lost[net] += struct.unpack("II", one.getsockopt(PACKET_LEVEL, STATISTICS, 8))[1]
+            passed, lost = struct.unpack("II", one.getsockopt(PACKET_LEVEL, STATISTICS, 8))
+            self.passed[net] += passed
+            self.lost[net] += lost
         return self.lost
 
+    def stop(self):
+        """No packet is waited for any more."""
+        self.is_stopped = True
+
     def close(self):
-        """The last count."""
+        """The packets that were lost, and how many weren't taken."""
         lost = self.count_lost()
         for one in self.sockets:
             one.close()
-        return lost
+        return lost, max(0, sum(self.passed) - sum(lost) - sum(self.taken))
 
 
 class Dumpcap:
@@ -89,7 +98,7 @@ class Dumpcap:
     patience = 400_000_000
 
     def __init__(self, names):
-        self.told = tempfile.TemporaryFile()
+        self.told, self.is_stopped = tempfile.TemporaryFile(), False
         words = ["dumpcap", "-q", "-n", *QUEUE, *itertools.chain(*(("-i", name) for name in names)), "-w", "-"]
         try:
             self.process = subprocess.Popen(words, stdin=subprocess.DEVNULL, stdout=subprocess.PIPE, stderr=self.told,
@@ -103,6 +112,8 @@ class Dumpcap:
         if magic:
             yield from captures.packets(file, magic)
         self.process.wait()
+        if self.is_stopped:
+            return
         self.told.seek(0)
         lines = [line for line in self.told.read().decode(errors="replace").splitlines() if line]
         raise Fault(f"dumpcap ended: {plain(' '.join(lines))}", NOT_READ)
@@ -113,11 +124,17 @@ class Dumpcap:
         found = re.findall(rb"received/dropped on interface .*?: \d+/(\d+)", self.told.read())
         return [int(count) for count in found] if len(found) == 2 else None
 
-    def close(self):
+    def stop(self):
+        """It writes what it has, and ends."""
+        self.is_stopped = True
         self.process.terminate()
-        self.process.stdout.close()
+
+    def close(self):
+        """The packets that were lost. Whoever reads takes all others."""
+        if self.process.poll() is None:
+            self.process.kill()
         self.process.wait()
-        return self.count_lost()
+        return self.count_lost(), 0
 
 
 WAYS = {"dumpcap": Dumpcap, "socket": Sockets}

@@ -12,6 +12,7 @@ from workbench.faults import REFUSED
 from workbench.health import Health
 
 MOST_WAITING = 100_000  # packets that were read and not taken; then the kernel keeps them, and counts what it loses
+LAST_SECONDS = 20  # in which what came before the end is looked at
 STEP = 2_000_000_000  # nanoseconds: a clock that goes by more than this beside the monotonic one was set
 
 
@@ -26,14 +27,19 @@ class Tapped:
         self.account = stream.Account("the networks")
         self.order, self.has_ended, self.error = stream.Order(self.account), False, None
         self.began, self.step, self.correction, self.newest, self.steps = clock(), 0, 0, 0, 0
-        threading.Thread(target=self.read, daemon=True).start()
+        self.is_over, self.has_more, self.behind = False, False, 0
+        self.thread = threading.Thread(target=self.read, daemon=True)
+        self.thread.start()
 
     def read(self):
         try:
             nets = {0: 0, 1: 1}
             for one in stream.arrivals(self.tap.packets(), lambda interface, _: nets.get(interface), self.given, self.account):
+                if self.is_over:
+                    self.behind += 1
+                    continue
                 self.found.put(one)
-                while self.found.qsize() > MOST_WAITING:
+                while self.found.qsize() > MOST_WAITING and not self.is_over:
                     time.sleep(0.01)
         except Exception as error:  # told by the thread that takes
             self.found.put(error)
@@ -58,6 +64,21 @@ class Tapped:
                 one = self.corrected(one)
                 self.order.put(one)
                 yield from self.order.until(one.time - self.tap.patience)
+
+    def close(self, take):
+        """Ends the tap, and takes what it still has, for some seconds. Returns how many packets were lost; in `behind` stands
+        how many came and weren't looked at."""
+        self.tap.stop()
+        for one in self.until(time.monotonic() + LAST_SECONDS):
+            take(one)
+        self.is_over = True
+        self.thread.join(3 * LAST_SECONDS)
+        self.has_more = self.thread.is_alive()
+        while not self.found.empty():
+            self.behind += isinstance(self.found.get(), stream.Arrival)
+        lost, untaken = self.tap.close()
+        self.behind += untaken + len(self.order)
+        return lost
 
     def time(self):
         """Up to when nothing is waited for any more; 0 while there is something to take."""
@@ -128,7 +149,7 @@ def watch(given):
         with screen_of(given) as show, contextlib.suppress(KeyboardInterrupt):
             go_on(given, watched, tapped, shown, show)
     finally:
-        lost = tapped.tap.close()
+        lost = tapped.close(watched.take)
     watched.health.finish(watched.played.latest)
     found = watched.picture(lost)
     return end(given, found, most, tapped)
@@ -159,7 +180,9 @@ def end(given, found, most, tapped):
         print("\n".join(screen_text.lines(found)))
     lost = found["lost_by_tap"]
     told_lost = "unknown" if lost is None else f"{lost[0]} on A, {lost[1]} on B"
-    print(f"yelunnavi: {tapped.account.packets} packets; lost by the tap: {told_lost}", file=sys.stderr)
+    least = "at least " if tapped.has_more else ""
+    behind = f"; {least}{tapped.behind} came, and weren't looked at by the end" if tapped.behind or least else ""
+    print(f"yelunnavi: {tapped.account.packets} packets; lost by the tap: {told_lost}{behind}", file=sys.stderr)
     for line in (*tapped.account.lines(), *found["notes"]):
         print(f"yelunnavi: {line}", file=sys.stderr)
     if tapped.error:
