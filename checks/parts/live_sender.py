@@ -1,6 +1,7 @@
 """Sends numbered frames of ten links on two interfaces, with faults at times that are told; prints what it did of each link.
 
     live_sender.py A B SECONDS [RATE]
+    live_sender.py A B probe        a frame on each that isn't IP
 
 With a RATE it sends pairs of copies without faults, so many frames a second on both together.
 """
@@ -128,6 +129,10 @@ def blast(outs, seconds, rate):
 
 def main(a, b, seconds, rate=None):
     outs = sockets((a, b))
+    if seconds == "probe":
+        for out in outs:
+            out.send(bytes(12) + b"\x88\xb5" + bytes(46))
+        return
     if rate:
         print(json.dumps({"sent": blast(outs, float(seconds), float(rate))}))
         return

@@ -3,7 +3,7 @@
 Sequence numbers turn at 255, so that an outage of 500 frames looks like one of 245. Therefore each frame of the sender has a
 place in a row that goes on. Of the places that a number may mean it is the one nearest to the newest place of which a
 copy came on either network; and where both were silent for longer than ever before without a loss, nearest to where the
-sender would stand by now at its usual rate.
+sender would stand by now at its usual rate. If the next number follows, the sender paused: 255 lost frames look the same.
 
 A frame that integrity checking refuses counts once the next one of its network goes on from it; else it was astray.
 """
@@ -150,6 +150,8 @@ class Copies:
         if before is None or number == 0:
             return 0 if before == 0 == number and time - self.latest < self.wait else 1
         steps = number if before == 0 else (number - before) % TURN
+        if steps == 1:
+            return 1
         expected = 0
         if time - self.latest > 2 * self.quiet and self.rate and self.newest - self.rate[0][0] >= STEADY:
             index, since = self.rate[0]
