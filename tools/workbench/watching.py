@@ -27,7 +27,7 @@ class Tapped:
         self.account = stream.Account("the networks")
         self.order, self.has_ended, self.error = stream.Order(self.account), False, None
         self.began, self.step, self.correction, self.newest, self.steps = clock(), 0, 0, 0, 0
-        self.is_over, self.has_more, self.behind = False, False, 0
+        self.is_over, self.has_more, self.behind, self.is_ended = False, False, 0, False
         self.thread = threading.Thread(target=self.read, daemon=True)
         self.thread.start()
 
@@ -47,7 +47,7 @@ class Tapped:
 
     def until(self, deadline):
         """What comes until then by the monotonic clock."""
-        while not self.has_ended and (rest := deadline - time.monotonic()) > 0:
+        while not self.has_ended and not self.is_ended and (rest := deadline - time.monotonic()) > 0:
             try:
                 one = self.found.get(timeout=min(rest, 0.05))
             except queue.Empty:
@@ -69,6 +69,7 @@ class Tapped:
         """Ends the tap, and takes what it still has, for some seconds. Returns how many packets were lost; in `behind` stands
         how many came and weren't looked at."""
         self.tap.stop()
+        self.is_ended = False
         for one in self.until(time.monotonic() + LAST_SECONDS):
             take(one)
         self.is_over = True
@@ -144,9 +145,9 @@ def watch(given):
         metrics.serve(given.prometheus, shown)
     tapped = Tapped(taps.WAYS[given.by](given.interfaces), given)
     for number in (signal.SIGINT, signal.SIGTERM):
-        signal.signal(number, signal.default_int_handler)  # then what was seen is told
+        signal.signal(number, lambda *_: setattr(tapped, "is_ended", True))  # then what was seen is told
     try:
-        with screen_of(given) as show, contextlib.suppress(KeyboardInterrupt):
+        with screen_of(given) as show:
             go_on(given, watched, tapped, shown, show)
     finally:
         lost = tapped.close(watched.take)
@@ -159,7 +160,7 @@ def go_on(given, watched, tapped, shown, show):
     """Shows a picture each second, until it is ended."""
     end_at = time.monotonic() + (given.seconds or float("inf"))
     due = time.monotonic()
-    while not tapped.has_ended and time.monotonic() < end_at:
+    while not tapped.has_ended and not tapped.is_ended and time.monotonic() < end_at:
         due = max(due + 1, time.monotonic() + 0.1)
         for one in tapped.until(min(due, end_at)):
             watched.take(one)
