@@ -251,7 +251,7 @@ def test_the_first_refusal_is_the_programs(written):
         text = mutated(rng)
         refusal = refusal_of(text)
         found = [line for line in slips_of(written, text) if "refused: " in line]
-        words = [re.split(r" \(it has|:", line.partition("refused: ")[2])[0] for line in found]
+        words = [re.split(r" \(allowed|:", line.partition("refused: ")[2])[0] for line in found]
         assert words[:1] == ([refusal] if refusal else []), text
         faulty += len(words) > 1
     assert faulty > 10

@@ -74,6 +74,7 @@ fn no_fault() -> FaultReply {
         level: 0,
         link: 0,
         port: 0,
+        line: 0,
     }
 }
 
