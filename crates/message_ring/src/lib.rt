@@ -149,6 +149,7 @@ impl RingPutter {
         ensures told { BeginsWith self.new.taken self.old.taken }
         ensures room { IsTrue result → length self.new.put < length self.new.taken + self.new.depth }
         ensures full { IsFalse result → MayBeFull self.new }
+        ensures full_before { IsFalse result → MayBeFull self.old }
         ensures room_is_known { length self.old.put < length self.old.taken + self.old.depth → IsTrue result }
     {
         has_room(&mut self.ring, self.needed)

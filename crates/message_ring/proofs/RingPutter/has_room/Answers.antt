@@ -19,6 +19,10 @@ returns-clause-full c = λ is.
     let keeps = look_keeps _ _ _ _ c.self.inside.ring c.has_room.new.ring c.self.invariant.0 c.has_room.ensures.looked in
     full_all c.self.inside.max c.self.inside.depth c.self.inside.needed c.self.inside.latest c.has_room.new.ring keeps (c.has_room.ensures.full is)
 
+pub returns-clause-full_before : goal.returns-clause-full_before
+returns-clause-full_before c = λ is.
+    rw (← c.self.view_is) (full_put c.self.inside.max c.self.inside.depth c.self.inside.needed c.self.inside.latest c.self.inside.ring c.has_room.new.ring c.self.invariant.0 c.has_room.ensures.looked (c.has_room.ensures.full is))
+
 pub returns-clause-room_is_known : goal.returns-clause-room_is_known
 returns-clause-room_is_known c = λ less.
     ⊎_elim
