@@ -17,7 +17,7 @@ def blocks(seen, packets, found, alone):
     yield captures.written_section("yelunnavi")
     for number, net in enumerate(NETWORKS):
         yield captures.written_interface(net, packets.source(number))
-    with files.Bar("writing", 0) as bar:
+    with files.bar("writing", 0) as add:
         for one, now, reply in seen:
             source = packets.source(one.net)
             if one.time >= stream.MOST_TIME:
@@ -29,7 +29,7 @@ def blocks(seen, packets, found, alone):
                 told = reply.words + "".join(f", {part}" for part in why) + (f", alone {fault.words}" if fault else "")
             yield captures.written_packet(one.net, one.time, one.octets, one.length,
                                           f"{told} ({packets.unit} {one.number} of {source})")
-            bar.add(1)
+            add(1)
 
 
 def reason(one, note, link, reply):

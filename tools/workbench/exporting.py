@@ -1,6 +1,7 @@
 """One record a frame, for spreadsheets and pandas."""
 import csv
 import io
+import itertools
 import json
 
 from verdict_words import NETWORKS
@@ -11,9 +12,9 @@ COLUMNS = ("packet", "time_us", "epoch_ns", "network", "link", "source", "interf
 
 
 def export(given):
-    played, form = station.opened(given.config), csv_lines if given.csv else json_lines
+    played, write = station.opened(given.config), write_csv if given.csv else write_json
     with files.writing(given.to) as out, stream.opened(given) as packets:
-        out.writelines(form(records(played.seen(packets))))
+        write(out, records(played.seen(packets)))
     return packets.status
 
 
@@ -30,22 +31,16 @@ def records(seen):
                len(octets), *(None if word == "" else word for word in become))
 
 
-def csv_lines(found):
-    text = io.StringIO()
-    table = csv.writer(text, lineterminator="\n")
-    table.writerow(COLUMNS)
-    for record in found:
-        table.writerow(record)
-        yield text.getvalue().encode()
-        text.seek(0)
-        text.truncate()
-    yield text.getvalue().encode()
+def write_csv(out, found):
+    text = io.TextIOWrapper(out, "utf-8", newline="")
+    csv.writer(text, lineterminator="\n").writerows(itertools.chain([COLUMNS], found))
+    text.detach()
 
 
-def json_lines(found):
+def write_json(out, found):
     """An array, with a line for each record."""
     mark = b"[\n"
     for record in found:
-        yield mark + json.dumps(dict(zip(COLUMNS, record))).encode()
+        out.write(mark + json.dumps(dict(zip(COLUMNS, record))).encode())
         mark = b",\n"
-    yield b"\n]\n" if mark == b",\n" else b"[]\n"
+    out.write(b"\n]\n" if mark == b",\n" else b"[]\n")

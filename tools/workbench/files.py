@@ -1,4 +1,4 @@
-"""Files and the terminal: inputs with a progress bar, outputs that are whole or not there."""
+"""Files and the terminal: inputs whose progress is shown, outputs that are whole or not there."""
 import contextlib
 import io
 import os
@@ -10,48 +10,33 @@ import time
 from workbench.faults import NOT_READ, Fault, plain
 
 BLOCK = 1 << 20
-QUIET_SECONDS, REDRAW_SECONDS, WIDTH = 1.0, 0.2, 30
+QUIET_SECONDS, REDRAW_SECONDS = 1.0, 0.2
 
 
-class Bar:
-    """How far the work is, on a terminal, once it has taken a second."""
+@contextlib.contextmanager
+def bar(what, total):
+    """Shows on a terminal how far the work is, once it has taken a second. Yields what adds to it."""
+    done, shown, due = 0, False, time.monotonic() + QUIET_SECONDS if sys.stderr and sys.stderr.isatty() else float("inf")
 
-    def __init__(self, what, total):
-        self.what, self.total, self.done = what, total, 0
-        self.next = time.monotonic() + QUIET_SECONDS if sys.stderr and sys.stderr.isatty() else float("inf")
-        self.shown = False
+    def add(amount):
+        nonlocal done, shown, due
+        done += amount
+        if time.monotonic() >= due:
+            due, shown = time.monotonic() + REDRAW_SECONDS, True
+            print(f"\r\x1b[K{what} {f'{min(done / total, 1):.0%}' if total else f'{done:,}'}", end="", file=sys.stderr, flush=True)
 
-    def __enter__(self):
-        return self
-
-    def __exit__(self, *_):
-        self.clear()
-
-    def add(self, amount):
-        self.done += amount
-        if time.monotonic() >= self.next:
-            self.next, self.shown = time.monotonic() + REDRAW_SECONDS, True
-            sys.stderr.write(f"\r\x1b[K{self.what} {self.state()}")
-            sys.stderr.flush()
-
-    def state(self):
-        if not self.total:
-            return f"{self.done:,}"
-        share = min(self.done / self.total, 1)
-        return f"[{'#' * int(WIDTH * share):{WIDTH}}] {share:.0%}"
-
-    def clear(self):
-        if self.shown:
-            sys.stderr.write("\r\x1b[K")
-            sys.stderr.flush()
-            self.shown = False
+    try:
+        yield add
+    finally:
+        if shown:
+            print("\r\x1b[K", end="", file=sys.stderr, flush=True)
 
 
 class Watched(io.RawIOBase):
-    """A file whose reading moves a bar, and whose faults are lines."""
+    """A file whose reading is shown, and whose faults are lines."""
 
-    def __init__(self, raw, name, bar):
-        self.raw, self.name, self.bar = raw, name, bar
+    def __init__(self, raw, name, add):
+        self.raw, self.name, self.add = raw, name, add
 
     def readable(self):
         return True
@@ -63,7 +48,7 @@ class Watched(io.RawIOBase):
             raise not_read(self.name, error) from None
         if count is None:
             raise Fault(f"{self.name}: not read: it gives nothing without a wait (O_NONBLOCK)", NOT_READ)
-        self.bar.add(count)
+        self.add(count)
         return count
 
 
@@ -76,8 +61,8 @@ def reading(name, what):
         raise not_read(name, error) from None
     with raw:
         about = os.fstat(raw.fileno())
-        with Bar(f"{what} {plain(name)}", about.st_size if stat.S_ISREG(about.st_mode) else 0) as bar:
-            yield io.BufferedReader(Watched(raw, name, bar), BLOCK)
+        with bar(f"{what} {plain(name)}", about.st_size if stat.S_ISREG(about.st_mode) else 0) as add:
+            yield io.BufferedReader(Watched(raw, name, add), BLOCK)
 
 
 def not_read(name, error):

@@ -64,7 +64,7 @@ def health(given, most):
     tools = os.path.dirname(os.path.dirname(os.path.abspath(__file__)))
     pairs = [[os.path.abspath(name) for name in names.split(",")] for names in given.files]
     table, worst = [], 0
-    with executor_of(given) as executor, files.Bar("captures", len(pairs)) as bar:
+    with executor_of(given) as executor, files.bar("captures", len(pairs)) as add:
         tasks = [executor.submit(task, words, names, tools) for names in pairs]
         for names, one in zip(pairs, tasks):
             try:
@@ -75,7 +75,7 @@ def health(given, most):
             worst = max(worst, status, REFUSED if failed else 0)
             for line in failed if given.fail_on is not None or not found else ():
                 print(f"yelunnavi: {plain(' '.join(names))}: {line}", file=sys.stderr)
-            bar.add(1)
+            add(1)
     write(given.to, table)
     return worst
 
