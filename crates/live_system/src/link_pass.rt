@@ -213,7 +213,7 @@ pub(crate) fn open_link(
     ensures { IfOk result (λ o. (link : LiveLink) × IsNewLink ShowsPort (ReadsPort readers) settings.now link o.ends.items
         × IsNewPass settings.now link o.lock A o.a × IsNewPass settings.now link o.lock B o.b) }
 {
-    let (link, ends) = OpenLink::<PortOutlet>::open(alloc, settings, readers)?;
+    let (link, ends) = OpenLink::<PortOutlet>::open(alloc, settings, &readers)?;
     let Opened {
         lock,
         first,
