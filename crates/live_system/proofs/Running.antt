@@ -12,6 +12,7 @@ use Rattle.es_base.specs.FilterTally.{HasFiltered}
 use Rattle.es_base.specs.Integrity.{is_same_net}
 use Rattle.es_base.specs.Limits.{verdict_kinds}
 use Rattle.es_base.specs.Past.{arrived}
+use Rattle.es_base.specs.Port.{Port}
 use Rattle.es_base.specs.Settings.{Settings}
 use Rattle.es_base.specs.Tally.{IsKind, count_of}
 use Rattle.es_base.specs.Verdict.{kind_of}
@@ -25,6 +26,7 @@ use Rattle.link_lock.specs.declared.user.User.TheVariants.{First, Second}
 use Rattle.receiver.specs.declared.ends.LinkEnds.{LinkEnds}
 use Rattle.receiver.specs.declared.partition.PartitionEnd.{PartitionEnd}
 use Rattle.receiver.specs.Ends.{AreOpened as AreOpenedPorts}
+use Rattle.receiver.specs.Outlet.{reads_by}
 use Rattle.receiver.specs.Port.{ReadsPort, ShowsPort}
 use Rattle.receiver.specs.Receiver.{AreNewLinks}
 use Rattle.network_calls.specs.declared.call.Call.{Call}
@@ -199,7 +201,7 @@ both_know_more system first B step steps old new makes know = record {
   b = knows_more system first.b B (B, step) steps old.b new.b refl makes.own makes.of_net makes.does know.b;
 }
 
-both_know : (readers : ℕ) (system : System) (first last : Passes) (ends : List (LinkEnds PartitionEnd)) (steps : List (Net × Step))
+both_know : (readers : Port → ℕ) (system : System) (first last : Passes) (ends : List (LinkEnds PartitionEnd)) (steps : List (Net × Step))
     → AreOpened readers system first ends → Ran system first steps last → BothKnow system first steps last
 both_know readers system first last ends [] opened ran = rw ran (record {
   a = knows_none system first.a A opened.own_a opened.new_a;
@@ -228,15 +230,15 @@ settled_at (s ∷ links) (k ∷ a) (l ∷ b) (link ∷ settled) (suc place) sett
     let later = settled_at links a b settled place settings one other are.2 there in_a in_b in
     record { link = later.link; there = later.there; with_settings = later.with_settings; settled = later.settled }
 
-record EndsAt (readers : ℕ) (settings : Settings) (place : ℕ) (pass : KnownLink) (ends : List (LinkEnds PartitionEnd)) : Type 0 where
+record EndsAt (readers : Port → ℕ) (settings : Settings) (place : ℕ) (pass : KnownLink) (ends : List (LinkEnds PartitionEnd)) : Type 0 where
   pub link : LiveLink
   pub known : pass.link ≡ Some link
   pub its_ends : LinkEnds PartitionEnd
   pub there : slice_get ends place ≡ Some its_ends
-  pub ports : AreOpenedPorts ShowsPort (ReadsPort readers) 0 settings.ports link.outlets its_ends.ports.items
+  pub ports : AreOpenedPorts ShowsPort (reads_by ReadsPort readers) 0 settings.ports link.outlets its_ends.ports.items
 
-ends_at : (readers : ℕ) (settings : List Settings) (links : List LiveLink) (passes : List KnownLink) (ends : List (LinkEnds PartitionEnd)) (place : ℕ) (one : Settings) (pass : KnownLink)
-    → AreNewLinks ShowsPort (ReadsPort readers) settings links ends → KnowLinks passes links → slice_get settings place ≡ Some one → slice_get passes place ≡ Some pass → EndsAt readers one place pass ends
+ends_at : (readers : Port → ℕ) (settings : List Settings) (links : List LiveLink) (passes : List KnownLink) (ends : List (LinkEnds PartitionEnd)) (place : ℕ) (one : Settings) (pass : KnownLink)
+    → AreNewLinks ShowsPort (reads_by ReadsPort readers) settings links ends → KnowLinks passes links → slice_get settings place ≡ Some one → slice_get passes place ≡ Some pass → EndsAt readers one place pass ends
 ends_at readers [] links passes ends place one pass are know there in_passes = cc
 ends_at readers (s ∷ settings) [] passes ends place one pass are know there in_passes = absurd are
 ends_at readers (s ∷ settings) (l ∷ links) [] ends place one pass are know there in_passes = absurd know
@@ -247,7 +249,7 @@ ends_at readers (s ∷ settings) (l ∷ links) (k ∷ passes) (e ∷ ends) (suc 
     let later = ends_at readers settings links passes ends place one pass are.1 know.1 there in_passes in
     record { link = later.link; known = later.known; its_ends = later.its_ends; there = later.there; ports = later.ports }
 
-ends_in_one_run : (readers : ℕ) (steps : List (Net × Step)) (settings : Settings) (ends : List (LinkEnds PartitionEnd)) (place : ℕ) (first : Passes) (last : Passes) (links : List LiveLink)
+ends_in_one_run : (readers : Port → ℕ) (steps : List (Net × Step)) (settings : Settings) (ends : List (LinkEnds PartitionEnd)) (place : ℕ) (first : Passes) (last : Passes) (links : List LiveLink)
     → (a : AtLink first.a place (calls_in A settings.vl steps) last.a) → (b : AtLink first.b place (calls_in B settings.vl steps) last.b)
     → EndsAt readers settings place a.opened ends → (at : SettledAt settings place a.pass b.pass links) → EndsInOneRun readers steps settings ends place at.link
 ends_in_one_run readers steps settings ends place first last links a b its at =
@@ -309,7 +311,7 @@ counts_filtered system first net steps last counts knows counted kind is = rw (c
 
 -- ---- altogether
 
-pub ended : (readers : ℕ) (system : System) (first last : Passes) (ends : List (LinkEnds PartitionEnd)) (steps : List (Net × Step)) (links : List LiveLink) (a b : KnownCounts) → AreOpened readers system first ends
+pub ended : (readers : Port → ℕ) (system : System) (first last : Passes) (ends : List (LinkEnds PartitionEnd)) (steps : List (Net × Step)) (links : List LiveLink) (a b : KnownCounts) → AreOpened readers system first ends
     → Ran system first steps last → HasSettled system last links a b → HasEnded readers system steps ends links a b
 ended readers system first last ends steps links a b opened ran has_settled =
     let know = both_know readers system first last ends steps opened ran in
@@ -321,7 +323,7 @@ ended readers system first last ends steps links a b opened ran has_settled =
           let of_b = know.b.each link.settings.vl place named_so in
           let at = settled_at system.config.links last.a.links last.b.links links place link.settings of_a.pass of_b.pass has_settled.links link.there of_a.there of_b.there in
           let new = opened.links.new in
-          let in_config : AreNewLinks ShowsPort (ReadsPort readers) system.config.links opened.links.opened.links ends = new.links in
+          let in_config : AreNewLinks ShowsPort (reads_by ReadsPort readers) system.config.links opened.links.opened.links ends = new.links in
           let its = ends_at readers system.config.links opened.links.opened.links first.a.links ends place link.settings of_a.opened in_config opened.links.known_a link.there of_a.was_there in
           (link.settings, at.link, link.there, link.numbered, at.there, ends_in_one_run readers steps link.settings ends place first last links of_a of_b its at);
       calls_a = counts_calls system first.a A steps last.a a know.a has_settled.counted_a;

@@ -35,7 +35,7 @@ steps_in_turn (f ∷ fs) (r ∷ rs) = steps_in_turn fs rs ++ came f.0 f.1.now r 
 
 -- at most so many are given in one visit
 abbrev pub most_in_row : ℕ
-most_in_row = 32
+most_in_row = 8
 
 -- each comes to the link at this place of the configuration
 abbrev pub ComeToPlace : Configuration → ℕ → Frames → Type 0

@@ -1,6 +1,7 @@
 -- What a clause sees of the system, and of a network's pass on all of its links.
 use Rattle.std.specs.Prelude.{◌≡◌, ℕ, List, [], ◌∷◌, slice_get, slice_set, Some, Err}
 use Rattle.es_base.specs.declared.place.Net.{Net}
+use Rattle.es_base.specs.Port.{Port}
 use Rattle.es_base.specs.Settings.{Settings}
 use Rattle.es_base.specs.Config.{Configuration}
 use Rattle.es_base.specs.Addressing.{ComesToPlace, addressed_link, addressee_of}
@@ -12,6 +13,7 @@ use Rattle.link_lock.specs.Pass.{LockId}
 use Rattle.receiver.specs.declared.ends.LinkEnds.{LinkEnds}
 use Rattle.receiver.specs.declared.partition.PartitionEnd.{PartitionEnd}
 use Rattle.receiver.specs.declared.port.PortOutlet.{PortOutlet}
+use Rattle.receiver.specs.Outlet.{reads_by}
 use Rattle.receiver.specs.Port.{ReadsPort, ShowsPort}
 use Rattle.receiver.specs.Receiver.{IsNew, Links}
 use Rattle.network_calls.specs.declared.call.Call.{Call}
@@ -76,10 +78,10 @@ KnowLinks (pass ∷ passes) [] = ⊥
 KnowLinks [] (link ∷ links) = ⊥
 
 -- The passes of both networks know the links of a receiver of this configuration to which nothing came, and these are the
--- ends of its ports. Each sampling port has so many readers.
-pub record AreOfNewLinks (readers : ℕ) (config : Configuration) (a b : KnownNet) (ends : List (LinkEnds PartitionEnd)) : Type 0 where
+-- ends of its ports. Each sampling port has as many readers as this says.
+pub record AreOfNewLinks (readers : Port → ℕ) (config : Configuration) (a b : KnownNet) (ends : List (LinkEnds PartitionEnd)) : Type 0 where
   pub opened : Links PortOutlet
-  pub new : IsNew ShowsPort (ReadsPort readers) config opened ends
+  pub new : IsNew ShowsPort (reads_by ReadsPort readers) config opened ends
   pub known_a : KnowLinks a.links opened.links
   pub known_b : KnowLinks b.links opened.links
 

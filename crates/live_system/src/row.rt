@@ -12,7 +12,7 @@ use frame_reader::frame_in;
 use network_calls::Reply;
 
 /// How many frames are given in one visit at most.
-pub(crate) const MOST_IN_ROW: usize = 32;
+pub(crate) const MOST_IN_ROW: usize = 8;
 
 /// Of each frame of a row the place of its event and its verdict; what stands after them says nothing.
 pub(crate) type Answers = [(u64, Verdict); MOST_IN_ROW];

@@ -1,13 +1,14 @@
 use Rattle.std.proofs.Common.{◌≡◌, ◌≤◌, ◌∙◌, ◌+◌, ◌∷◌, ◌++◌, [], ap, arith, length, sym, take}
 use Rattle.std.proofs.lemmas.List.{length-take-le, take_more}
 use Rattle.es_base.specs.declared.place.Net.TheVariants.{A, B}
+use Rattle.receiver.specs.Outlet.{reads_by}
 use Rattle.receiver.specs.Port.{ReadsPort, ShowsPort}
 use Rattle.receiver.proofs.Opens.{links_push}
 use Rattle.live_system.proofs.Opens.{as_many, know_push, none_push, opened_pass, passes_push}
 use Rattle.live_system.proofs.opened.open_links.Goals as goal
 
 pub links-preserved : goal.links-preserved
-links-preserved c =
+links-preserved g c =
     let links = c.args.links.now in
     let place = c.links.link-index in
     let settings = c.link-item.result in
@@ -26,14 +27,14 @@ links-preserved c =
       );
       links = (
         so_far.links.0 ++ link ∷ [],
-        links_push ShowsPort (ReadsPort c.args.readers) (take place links) so_far.links.0 _ settings link (record { vl = c.vl-vl.result; ports = c.in_ok-lock.field-0.ends }) so_far.links.1 one.1 c.vl-vl.ensures,
+        links_push ShowsPort (reads_by ReadsPort (g.R.Readers.count c.args.readers.now)) (take place links) so_far.links.0 _ settings link (record { vl = c.vl-vl.result; ports = c.in_ok-lock.field-0.ends }) so_far.links.1 one.1 c.vl-vl.ensures,
         know_push _ _ _ link so_far.links.2 one.2.known,
         know_push _ _ _ link so_far.links.3 one.3.known,
       );
     })
 
 pub returns-clause-many : goal.returns-clause-many
-returns-clause-many c =
+returns-clause-many g c =
     let links = c.args.links.now in
     let place = c.links.link-index in
     let within : place ≤ length links = c.links.auto.link-index-end in
