@@ -47,5 +47,5 @@ returns g c =
       ends = ends;
       to_a = c.join-a.result.0.1;
       to_b = to_b;
-      ended = ended most_readers system first last ends steps c.settle.result.links.items c.settle.result.a c.settle.result.b opened ran settles;
+      ended = ended (λ _. most_readers) system first last ends steps c.settle.result.links.items c.settle.result.a c.settle.result.b opened ran settles;
     }
