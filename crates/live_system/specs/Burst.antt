@@ -1,5 +1,5 @@
 -- Frames that are given at once.
-use Rattle.std.specs.Prelude.{◌≡◌, ℕ, List, [], ◌∷◌, ◌++◌, map}
+use Rattle.std.specs.Prelude.{◌≡◌, ℕ, List, [], ◌∷◌, ◌++◌}
 use Rattle.std.specs.Borrow.{Bor}
 use Rattle.std.specs.List.{All}
 use Rattle.es_base.specs.declared.place.LinkNo.{LinkNo}
@@ -15,8 +15,8 @@ use Rattle.es_base.specs.Verdict.{kind_of}
 use Rattle.link_core.specs.Counted.{shown}
 use Rattle.network_calls.specs.declared.reply.Reply.{Reply}
 use Rattle.network_calls.specs.declared.reply.Reply.TheVariants as replies
+use Rattle.network_calls.specs.declared.counts.LinkCounts.{LinkCounts}
 use Rattle.network_calls.specs.Calls.{call}
-use Rattle.live_system.specs.declared.counts.LinkCounts.{LinkCounts}
 use Rattle.live_system.specs.Calls.{LiveLink}
 use Rattle.live_system.specs.Pass.{Calls, Did, KnownLink}
 use Rattle.live_system.specs.Run.{Step, came}
