@@ -168,6 +168,8 @@ LIVE = [
     Like(1, 32, 1, 80), Like(1, 32, 0, 80),
 ]
 LIVE_WAYS = ["task", "one", "one_bursts", "two", "two_bursts"]
+# Some of these, of a million calls.
+LIVE_LONGEST = [Like(64, 1, 1, 8), Like(64, 1, 0, 8), Like(1, 32, 1, 8)]
 
 
 class Ran(NamedTuple):
@@ -204,15 +206,30 @@ def least_of(program, like, turns):
     return found
 
 
+def named(like):
+    sizes = "of many sizes" if like.sizes else "the smallest"
+    return f"{like.links} links, {like.row} in a row, {sizes}"
+
+
+def print_live_longest(program):
+    print("single calls of two threads, a million of them: ns; the longest, and how many above 2,500, by the least of 4 passes")
+    print(f"{'':38}{'mean':>10}{'longest':>10}{'above':>8}{'the longest of all passes':>28}", flush=True)
+    for like in LIVE_LONGEST:
+        words = " ".join(map(str, ("longest", *like)))
+        told = subprocess.run([program], input=words, stdout=subprocess.PIPE, text=True, check=True).stdout
+        mean, longest, above, of_all = told.split()
+        print(f"{named(like):38}{mean:>10}{longest:>10}{above:>8}{of_all:>28}", flush=True)
+
+
 def live(program, turns):
     print_load()
     for like in LIVE:
         found = least_of(program, like, turns)
         wall, used = found["one"][:2]
-        sizes = "of many sizes" if like.sizes else "the smallest"
-        print(f"{like.links} links, {like.row} in a row, {sizes}: ns a frame, of the processors; over one thread; published; MiB")
+        print(f"{named(like)}: ns a frame, of the processors; over one thread; published; MiB")
         for way, (each, by, published, memory) in found.items():
             print(f"{way:12} {each:7.1f} {by:7.1f}  {each / wall:.2f} {by / used:.2f}  {published:.3f}  {memory:.0f}", flush=True)
+    print_live_longest(program)
     print_load()
     return 0
 

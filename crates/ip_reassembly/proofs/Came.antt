@@ -1,9 +1,8 @@
 -- Where octets came: after a piece more, where none came, and whether a datagram's octets all came.
-use Rattle.std.proofs.Common.{◌≡◌, ◌∙◌, ap, sym, ◌⊎◌, ℕ, zero, suc, ◌+◌, ◌-◌, ◌<◌, ◌≤◌, ◌==◌, ⊎_elim, inl, inr, Bool, true, false, List, [], ◌∷◌, ◌++◌, length, take, drop, replicate, slice_index_or, min, refl, arith, if◌then◌else◌}
-use Rattle.std.proofs.lemmas.Bool.{cases_Bool, cases_lt, eq-eqb, eqb-true, false≢true}
+use Rattle.std.proofs.Common.{◌≡◌, ◌∙◌, ap, sym, ◌⊎◌, ℕ, zero, suc, ◌+◌, ◌-◌, ◌<◌, ◌≤◌, ⊎_elim, inl, inr, Bool, true, false, List, [], ◌∷◌, ◌++◌, length, take, drop, replicate, slice_index_or, refl, arith}
+use Rattle.std.proofs.lemmas.Bool.{cases_lt, false≢true}
 use Rattle.std.proofs.lemmas.List.{replicate-append-replicate, take-append-drop}
 use Rattle.std.proofs.lemmas.Grind.{common_steps}
-use Rattle.es_base.specs.Limits.{longest_joined}
 use Rattle.ip_reassembly.specs.declared.runs.Runs.{Runs}
 use Rattle.ip_reassembly.specs.Covering.{AreCovered}
 use Rattle.ip_reassembly.specs.Runs.{AreRuns, CameWithin, IsRun, with_marks}

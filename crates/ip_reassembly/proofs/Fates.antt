@@ -10,6 +10,7 @@ use Rattle.ip_reassembly.specs.declared.answer.Preview.TheVariants as previews
 use Rattle.es_base.specs.Udp.{head_of}
 use Rattle.ip_reassembly.specs.Answers.{preview_of}
 use Rattle.ip_reassembly.specs.Kept.{joined_group}
+use Rattle.ip_reassembly.specs.GivenUp.{given_up, one_at, one_for_room}
 use Rattle.ip_reassembly.proofs.Datagrams.{one_missing}
 use Rattle.ip_reassembly.proofs.Datagrams.{octet_before}
 
@@ -86,3 +87,21 @@ module _ (limit : ℕ) (groups : List Group) (packet : PacketParts) (now : ℕ) 
       → groups_after limit groups packet now ≡ joined_group groups place group packet now
   unfolding groups_after
   joins_groups place group part good found = rw (part, good, found) refl
+
+  pub whole_given_up : is_whole packet ≡ true → given_up limit groups packet now ≡ one_at (place_of (key_of packet) groups)
+  unfolding given_up
+  whole_given_up is = rw is refl
+
+  pub bad_given_up : is_whole packet ≡ false → is_bad packet ≡ true → given_up limit groups packet now ≡ 0
+  unfolding given_up
+  bad_given_up part is = rw (part, is) refl
+
+  pub begins_given_up : (others : List Group) → is_whole packet ≡ false → is_bad packet ≡ false → found_for limit groups (key_of packet) now ≡ begins others
+      → given_up limit groups packet now ≡ one_at (place_of (key_of packet) groups) + one_for_room others
+  unfolding given_up
+  begins_given_up others part good found = rw (part, good, found) refl
+
+  pub joins_given_up : (place : ℕ) (group : Group) → is_whole packet ≡ false → is_bad packet ≡ false → found_for limit groups (key_of packet) now ≡ joins place group
+      → given_up limit groups packet now ≡ 0
+  unfolding given_up
+  joins_given_up place group part good found = rw (part, good, found) refl

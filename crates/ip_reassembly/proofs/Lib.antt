@@ -7,4 +7,5 @@ pub mod Lists
 pub mod Four
 pub mod Stands
 pub mod Fates
+pub mod GivenUp
 pub mod Apartness

@@ -8,9 +8,11 @@ use Rattle.es_base.specs.Groups.{Group, Found, joins, begins, begin_or, is_same_
 use Rattle.ip_reassembly.specs.declared.partial.Partial.{Partial}
 use Rattle.ip_reassembly.specs.Held.{Holds}
 
--- the limit of time, in microseconds, and the partial datagrams in the order in which they began
+-- the limit of time, in microseconds; how many partial datagrams were given up; and those that stand, in the order in
+-- which they began
 pub record Kept : Type 0 where
   pub limit : ℕ
+  pub given_up : ℕ
   pub partials : List Partial
 
 -- a partial datagram is what is kept of this group; a group has a piece, so that the time of the first

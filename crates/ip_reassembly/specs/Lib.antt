@@ -2,6 +2,7 @@ pub mod Held
 pub mod Runs
 pub mod Covering
 pub mod Kept
+pub mod GivenUp
 pub mod Stretch
 pub mod Answers
 pub mod Ends

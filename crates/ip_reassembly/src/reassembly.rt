@@ -3,10 +3,12 @@ ghost use Rattle.std.specs.Prelude.{◌≡◌, ℕ, ◌+◌, ◌<◌, ◌≤◌,
 ghost use Rattle.std.specs.Borrow.{sem};
 ghost use Rattle.arrayvec.specs.ArrayVec.{array_vec_len};
 ghost use Rattle.es_base.specs.Limits.{longest_joined, most_partials};
+ghost use Rattle.es_base.specs.Tally.{one_more};
 ghost use Rattle.es_base.specs.Fragments.{piece_of, key_of, datagram_from};
 ghost use Rattle.es_base.specs.Groups.{Group, place_of, found_for, group_with, with_room, without, fate, fate_if, groups_after};
 ghost use Rattle.frame_reader.specs.Parts.{packet_parts};
 ghost use Rattle.ip_reassembly.specs.Kept.{StandFor, StandsFor, Finds, joined_group};
+ghost use Rattle.ip_reassembly.specs.GivenUp.{GoesOn, one_at, one_for_room, shown};
 ghost use Rattle.ip_reassembly.specs.Answers.{preview_of, fate_seen};
 
 use crate::fragment::{head_of, is_bad, is_whole, key_of};
@@ -33,6 +35,8 @@ pub const MOST_PARTIALS: usize = 4;
 #[derive(Drop)]
 pub struct Reassembly {
     limit: u64,
+    /// How many partial datagrams were given up. The count stops at the greatest number of 64 bits.
+    given_up: u64,
     /// How many partial datagrams stand.
     standing: usize,
     /// Those that stand come first, in the order in which they began; the others are spare.
@@ -47,7 +51,7 @@ impl Model for Reassembly {
 
     ghost Value = { Kept };
 
-    ghost view = { λ r. record { limit = r.limit; partials = take r.standing r.partials.items } };
+    ghost view = { λ r. record { limit = r.limit; given_up = r.given_up; partials = take r.standing r.partials.items } };
 
     ghost invariant = { λ r. (array_vec_len r.partials ≡ most_partials) × (r.standing ≤ most_partials) };
 }
@@ -61,7 +65,8 @@ impl Reassembly {
     /// All memory is taken here, and none after it: buffers for four datagrams of 8200 octets. The only
     /// error is that there wasn't so much.
     pub fn new(alloc: Global, limit: u64) -> Result<Reassembly, Memory>
-        ensures { IfOk result (λ reassembly. StandsFor reassembly limit []) }
+        ensures pieces { IfOk result (λ reassembly. StandsFor reassembly limit []) }
+        ensures given_up { IfOk result (λ reassembly. reassembly.given_up ≡ 0) }
     {
         let first = Partial::spare(alloc)?;
         let second = Partial::spare(alloc)?;
@@ -69,6 +74,7 @@ impl Reassembly {
         let fourth = Partial::spare(alloc)?;
         Ok(Reassembly {
             limit,
+            given_up: 0,
             standing: 0,
             partials: ArrayVec::from([first, second, third, fourth]),
         })
@@ -85,6 +91,7 @@ impl Reassembly {
         let fourth = self.partials[3].copy(alloc)?;
         Ok(Reassembly {
             limit: self.limit,
+            given_up: self.given_up,
             standing: self.standing,
             partials: ArrayVec::from([first, second, third, fourth]),
         })
@@ -93,15 +100,17 @@ impl Reassembly {
     /// This many partial datagrams that stand, in the order in which they began, and spare ones after them.
     pub(crate) fn of(
         limit: u64,
+        given_up: u64,
         standing: usize,
         partials: ArrayVec<Partial, MOST_PARTIALS>,
     ) -> Reassembly
         requires four { array_vec_len partials ≡ most_partials }
         requires standing { standing ≤ most_partials }
-        ensures { result ≡ record { limit = limit; partials = take standing partials.items } }
+        ensures { result ≡ record { limit = limit; given_up = given_up; partials = take standing partials.items } }
     {
         Reassembly {
             limit,
+            given_up,
             standing,
             partials,
         }
@@ -120,6 +129,15 @@ impl Reassembly {
         ensures { result ≡ self.now.limit }
     {
         self.limit
+    }
+
+    /// How many partial datagrams were given up so far: without an end of their own, since their time was over
+    /// as the next good fragment of their key came, since four stood and a fifth began, or since a datagram with
+    /// their key came whole. The count stops at the greatest number of 64 bits.
+    pub fn given_up(&self) -> u64
+        ensures { result ≡ self.now.given_up }
+    {
+        self.given_up
     }
 
     /// What would become of a packet that comes at `now`, in microseconds: what `offer` would answer, but
@@ -157,8 +175,7 @@ impl Reassembly {
         ensures answer { (limit : ℕ) (groups : List Group) → StandsFor self.old limit groups →
             fate_seen result ≡ fate limit groups (packet_parts packet.now) now }
         ensures* after { sem 𝓛 (EndsWith self.entry (λ r. (limit : ℕ) (groups : List Group) →
-            StandsFor self.old limit groups →
-            StandsFor r limit (groups_after limit groups (packet_parts packet.now) now))) }
+            StandsFor self.old limit groups → GoesOn self.old limit groups (packet_parts packet.now) now r)) }
     {
         let key = key_of(packet);
         if is_whole(packet) {
@@ -216,9 +233,11 @@ impl Reassembly {
             StandFor self.new.partials (remove groups place) }
         ensures one_less { length self.new.partials + 1 ≡ length self.old.partials }
         ensures limit { self.new.limit ≡ self.old.limit }
+        ensures given_up { self.new.given_up ≡ one_more self.old.given_up }
     {
         move_to_end(&mut self.partials, place, self.standing);
         self.standing -= 1;
+        self.given_up = self.given_up.saturating_add(1);
     }
 
     /// Gives up the partial datagram with a key, if there is one.
@@ -226,6 +245,8 @@ impl Reassembly {
         ensures stand { (groups : List Group) → StandFor self.old.partials groups →
             StandFor self.new.partials (without groups (place_of key groups)) }
         ensures limit { self.new.limit ≡ self.old.limit }
+        ensures given_up { (groups : List Group) (n : ℕ) → StandFor self.old.partials groups → self.old.given_up ≡ shown n →
+            self.new.given_up ≡ shown (n + one_at (place_of key groups)) }
     {
         if let Some(place) = self.place_of(key) {
             self.give_up(place);
@@ -246,6 +267,8 @@ impl Reassembly {
             StandFor self.new.partials (with_room groups) }
         ensures room { length self.new.partials < most_partials }
         ensures limit { self.new.limit ≡ self.old.limit }
+        ensures given_up { (groups : List Group) (n : ℕ) → StandFor self.old.partials groups → self.old.given_up ≡ shown n →
+            self.new.given_up ≡ shown (n + one_for_room groups) }
     {
         if self.is_full() {
             self.give_up(0);
@@ -261,6 +284,7 @@ impl Reassembly {
             (slice_set groups place (group_with group (piece_of (packet_parts packet.now) time))) }
         ensures len { length self.new.partials ≡ length self.old.partials }
         ensures limit { self.new.limit ≡ self.old.limit }
+        ensures given_up { self.new.given_up ≡ self.old.given_up }
     {
         self.partials[place].join(packet);
     }
@@ -272,6 +296,7 @@ impl Reassembly {
         ensures stand { (groups : List Group) → StandFor self.old.partials groups → StandFor self.new.partials
             (groups ++ record { key = key; pieces = piece_of (packet_parts packet.now) now ∷ [] } ∷ []) }
         ensures limit { self.new.limit ≡ self.old.limit }
+        ensures given_up { self.new.given_up ≡ self.old.given_up }
     {
         self.partials[self.standing].begin(key, packet, now);
         self.standing += 1;
@@ -284,6 +309,8 @@ impl Reassembly {
             (with_room (without groups (place_of key groups))
             ++ record { key = key; pieces = piece_of (packet_parts packet.now) now ∷ [] } ∷ []) }
         ensures limit { self.new.limit ≡ self.old.limit }
+        ensures given_up { (groups : List Group) (n : ℕ) → StandFor self.old.partials groups → self.old.given_up ≡ shown n →
+            self.new.given_up ≡ shown (n + (one_at (place_of key groups) + one_for_room (without groups (place_of key groups)))) }
     {
         self.give_up_key(key);
         self.make_room();
@@ -297,7 +324,7 @@ impl Reassembly {
         ensures octets { (groups : List Group) (group : Group) (datagram : List ℕ) →
             StandFor self.old.partials groups → slice_get groups place ≡ Some group →
             datagram_from group.pieces ≡ Some datagram → length datagram ≡ len → result.now ≡ datagram }
-        ensures* after { sem 𝓛 (EndsWith self.entry (λ r. (r.limit ≡ self.old.limit)
+        ensures* after { sem 𝓛 (EndsWith self.entry (λ r. (r.limit ≡ self.old.limit) × (r.given_up ≡ self.old.given_up)
             × ((groups : List Group) → StandFor self.old.partials groups → StandFor r.partials (remove groups place)))) }
     {
         move_to_end(&mut self.partials, place, self.standing);
@@ -312,7 +339,7 @@ impl Reassembly {
         ensures answer { (groups : List Group) (group : Group) (time : ℕ) → StandFor self.old.partials groups →
             slice_get groups place ≡ Some group →
             fate_seen result ≡ fate_if (datagram_from (piece_of (packet_parts packet.now) time ∷ group.pieces)) }
-        ensures* after { sem 𝓛 (EndsWith self.entry (λ r. (r.limit ≡ self.old.limit)
+        ensures* after { sem 𝓛 (EndsWith self.entry (λ r. (r.limit ≡ self.old.limit) × (r.given_up ≡ self.old.given_up)
             × ((groups : List Group) (group : Group) (time : ℕ) → StandFor self.old.partials groups →
             slice_get groups place ≡ Some group → StandFor r.partials
             (joined_group groups place group (packet_parts packet.now) time)))) }

@@ -52,6 +52,8 @@ impl WaitingDatagram {
 pub struct Waiting {
     /// The limit of time, in microseconds.
     limit: u64,
+    /// How many partial datagrams were given up before. The count stops at the greatest number of 64 bits.
+    given_up: u64,
     /// How many partial datagrams stood.
     standing: usize,
     /// Those that stood come first, in the order in which they began; the others are empty.
@@ -66,7 +68,7 @@ impl Model for Waiting {
 
     ghost Value = { Kept };
 
-    ghost view = { λ w. record { limit = w.limit; partials = take w.standing w.partials.items } };
+    ghost view = { λ w. record { limit = w.limit; given_up = w.given_up; partials = take w.standing w.partials.items } };
 
     ghost invariant = { λ w. (array_vec_len w.partials ≡ most_partials) × (w.standing ≤ most_partials) };
 }
@@ -84,6 +86,7 @@ impl Reassembly {
         let fourth = copy_or_empty(alloc, partials, 3)?;
         Ok(Waiting {
             limit: self.limit(),
+            given_up: self.given_up(),
             standing: partials.len(),
             partials: ArrayVec::from([first, second, third, fourth]),
         })
@@ -102,7 +105,7 @@ impl Waiting {
         let third = partial_or_spare(alloc, waiting, 2)?;
         let fourth = partial_or_spare(alloc, waiting, 3)?;
         let four = ArrayVec::from([first, second, third, fourth]);
-        Ok(Reassembly::of(self.limit, self.standing, four))
+        Ok(Reassembly::of(self.limit, self.given_up, self.standing, four))
     }
 }
 

@@ -1,5 +1,5 @@
 //! The lock.
-ghost use Rattle.std.specs.Prelude.{◌≡◌, Some, [], ◌∷◌, IfOk};
+ghost use Rattle.std.specs.Prelude.{◌≡◌, Some, [], ◌∷◌, IfNone, IfOk, IfSome, false, true};
 ghost use Rattle.std.specs.Fn.{FnOnceReturnsAtMut, FnOnceTakesAtMut};
 ghost use Rattle.atomic_table.specs.Table.{step};
 ghost use mathlib.Core.Option.{none};
@@ -89,6 +89,21 @@ impl<S: Recorded> Lock<S> {
         }
     }
 
+    /// Takes the value if it is in its slot, and returns whether it was.
+    fn try_take(&self, right: &mut Right<S, S::List>) -> bool
+        requires lock { right.old.table_id ≡ self.now }
+        requires ready { (user : User) × IsReady user right.old.me }
+        ensures id { (right.new.table_id ≡ right.old.table_id) × (right.new.id ≡ right.old.id) }
+        ensures took { result ≡ true → Took S.fixed S.agree right.old.me right.new.me }
+        ensures away { result ≡ false → right.new.me ≡ right.old.me }
+    {
+        let found = self
+            .table
+            .shared
+            .compare_exchange::<Takes>(right, WORD, FREE, AWAY);
+        found == FREE
+    }
+
     /// Waits until the value is in its slot, and takes it.
     fn take<R: Wait>(&self, rt: &R, right: &mut Right<S, S::List>)
         requires lock { right.old.table_id ≡ self.now }
@@ -97,11 +112,7 @@ impl<S: Recorded> Lock<S> {
         ensures took { Took S.fixed S.agree right.old.me right.new.me }
     {
         for _ in rt.forever() {
-            let found = self
-                .table
-                .shared
-                .compare_exchange::<Takes>(right, WORD, FREE, AWAY);
-            if found == FREE {
+            if self.try_take(right) {
                 return;
             }
             thread::yield_now();
@@ -155,6 +166,33 @@ impl<S: Recorded> Lock<S> {
         let answer = self.work_on(right, work);
         self.give_back(right);
         answer
+    }
+
+    /// One visit if no user has the value at this moment: as [`visit`](Lock::visit), and returns what `work` returned.
+    /// `None` if a user has it: `work` isn't called, and the pass is as it was, so that another try may follow. Tries
+    /// once, and waits for nobody. Takes no memory.
+    ///
+    /// That `None` comes only if a user has the value isn't proved.
+    pub fn try_visit<T, F: FnOnce(&mut S) -> T + Drop>(
+        &self,
+        pass: &mut PassOf<S>,
+        work: F,
+    ) -> Option<T>
+        requires lock { pass.old.lock ≡ self.now }
+        requires callable { (lists : User → S.List) (found : S) → MayFind S.fixed S.agree pass.old lists found →
+            FnOnceTakesAtMut F.FnOnce work found }
+        requires keeps { (lists : User → S.List) (found left : S) (answer : T) → MayFind S.fixed S.agree pass.old lists found →
+            FnOnceReturnsAtMut F.FnOnce work found answer left → MayLeave S.fixed S.agree S.goes_on pass.old lists found left }
+        ensures visited { IfSome result (λ answer. Visited S.fixed S.agree S.goes_on (λ found left. FnOnceReturnsAtMut F.FnOnce work found answer left) pass.old pass.new) }
+        ensures away { IfNone result (pass.new ≡ pass.old) }
+    {
+        let right = &mut pass.right;
+        if !self.try_take(right) {
+            return None;
+        }
+        let answer = self.work_on(right, work);
+        self.give_back(right);
+        Some(answer)
     }
 
     /// Ends the lock. Returns the value, with which the lists of both users agree. There is nobody to wait for,

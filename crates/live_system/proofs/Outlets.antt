@@ -16,7 +16,7 @@ use Rattle.receiver.specs.declared.port.PortOutlet.{PortOutlet}
 use Rattle.receiver.specs.declared.port.PortOutlet.TheVariants as outlets
 use Rattle.receiver.specs.Ends.{AreOpened}
 use Rattle.receiver.specs.Link.{IsNewLink}
-use Rattle.receiver.specs.Outlet.{GivesAt}
+use Rattle.receiver.specs.Outlet.{GivesAt, reads_by}
 use Rattle.receiver.specs.Port.{GivesPort, ReadsAs, ReadsPort, ShowsPort}
 use Rattle.live_system.specs.Calls.{LiveLink, as_opened, new_outlet}
 
@@ -44,10 +44,10 @@ new_one readers (kinds.Sampling refresh) max outlet (ends.Readers list) reads = 
 new_one readers (kinds.Sampling refresh) max outlet (ends.Taker taker) reads = absurd reads
 new_one readers (kinds.Queuing depth) max outlet end reads = rw reads.1 refl
 
-new_ones : (readers place : ℕ) (ports : List Port) (outlets : List PortOutlet) (ends : List (PortEnd PartitionEnd)) → AreOpened ShowsPort (ReadsPort readers) place ports outlets ends → map new_outlet outlets ≡ outlets
+new_ones : (readers : Port → ℕ) (place : ℕ) (ports : List Port) (outlets : List PortOutlet) (ends : List (PortEnd PartitionEnd)) → AreOpened ShowsPort (reads_by ReadsPort readers) place ports outlets ends → map new_outlet outlets ≡ outlets
 new_ones readers place [] [] [] are = refl
 new_ones readers place (port ∷ ports) (outlet ∷ outlets) (end ∷ ends) are =
-    ap (λ (x : PortOutlet). x ∷ map new_outlet outlets) (new_one readers port.kind port.max outlet end.reads are.0.read)
+    ap (λ (x : PortOutlet). x ∷ map new_outlet outlets) (new_one (readers port) port.kind port.max outlet end.reads are.0.read)
     ∙ ap (λ (xs : List PortOutlet). outlet ∷ xs) (new_ones readers (place + 1) ports outlets ends are.1)
 new_ones readers place (port ∷ ports) (outlet ∷ outlets) [] are = absurd are
 new_ones readers place (port ∷ ports) [] ends are = absurd are
@@ -55,7 +55,7 @@ new_ones readers place [] (outlet ∷ outlets) ends are = absurd are
 new_ones readers place [] [] (end ∷ ends) are = absurd are
 
 -- a new link is as it was opened
-pub new_link : (readers : ℕ) (settings : Settings) (link : LiveLink) (ends : List (PortEnd PartitionEnd)) → IsNewLink ShowsPort (ReadsPort readers) settings link ends → as_opened link ≡ link
+pub new_link : (readers : Port → ℕ) (settings : Settings) (link : LiveLink) (ends : List (PortEnd PartitionEnd)) → IsNewLink ShowsPort (reads_by ReadsPort readers) settings link ends → as_opened link ≡ link
 new_link readers settings link ends is =
     let past = is.nothing in
     let outlets = new_ones readers 0 settings.ports link.outlets ends is.opened in

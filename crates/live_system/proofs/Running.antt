@@ -1,45 +1,45 @@
 -- From the opening of a system to its end.
-use Rattle.std.proofs.Common.{◌≡◌, ◌∙◌, ap, sym, subst, refl, ℕ, zero, suc, ◌+◌, ◌==◌, Bool, true, false, List, [], ◌∷◌, ◌++◌, length, map, if◌then◌else◌, append-nil, Option, Some, position}
-use Rattle.std.specs.List.{position_or_len, slice_get, slice_set}
+use Rattle.std.proofs.Common.{◌≡◌, ◌∙◌, ap, sym, subst, refl, ℕ, zero, suc, ◌+◌, ◌==◌, Bool, true, false, List, [], ◌∷◌, ◌++◌, length, map, if◌then◌else◌, append-nil, Option, Some}
+use Rattle.std.specs.List.{slice_get, slice_set}
 use Rattle.std.proofs.lemmas.List.{length-map, map-append, reverse-reverse}
 use Rattle.std.proofs.lemmas.Option.{same_Some, slice_get_within}
 use Rattle.es_base.specs.declared.place.LinkNo.{LinkNo}
 use Rattle.es_base.specs.declared.place.Net.{Net}
 use Rattle.es_base.specs.declared.place.Net.TheVariants.{A, B}
 use Rattle.es_base.specs.declared.event.Arrival.{Arrival}
-use Rattle.es_base.specs.Config.{has_link_number, link_of}
+use Rattle.es_base.specs.Config.{link_of}
 use Rattle.es_base.specs.FilterTally.{HasFiltered}
 use Rattle.es_base.specs.Integrity.{is_same_net}
 use Rattle.es_base.specs.Limits.{verdict_kinds}
 use Rattle.es_base.specs.Past.{arrived}
+use Rattle.es_base.specs.Port.{Port}
 use Rattle.es_base.specs.Settings.{Settings}
 use Rattle.es_base.specs.Tally.{IsKind, count_of}
 use Rattle.es_base.specs.Verdict.{kind_of}
 use Rattle.es_base.proofs.Addressed.{link_at}
 use Rattle.es_base.proofs.Counted.{one_frame_more}
 use Rattle.es_base.proofs.Elements.{slice_get-set_other, slice_get-set_same}
-use Rattle.es_base.proofs.Firsts.{found_at}
 use Rattle.link_core.specs.Counted.{shown}
-use Rattle.link_lock.specs.Pass.{LockId}
 use Rattle.link_lock.specs.declared.user.User.TheVariants.{First, Second}
 use Rattle.receiver.specs.declared.ends.LinkEnds.{LinkEnds}
 use Rattle.receiver.specs.declared.partition.PartitionEnd.{PartitionEnd}
 use Rattle.receiver.specs.Ends.{AreOpened as AreOpenedPorts}
+use Rattle.receiver.specs.Outlet.{reads_by}
 use Rattle.receiver.specs.Port.{ReadsPort, ShowsPort}
 use Rattle.receiver.specs.Receiver.{AreNewLinks}
 use Rattle.network_calls.specs.declared.call.Call.{Call}
 use Rattle.network_calls.specs.declared.reply.Reply.TheVariants as replies
 use Rattle.network_calls.specs.Calls.{call, calls_from, count_calls}
+use Rattle.network_calls.specs.Passes.{calls_of}
 use Rattle.network_calls.proofs.Filtered.{not_filtered}
 use Rattle.network_calls.proofs.Named.{named_at, other_place, this_place}
 use Rattle.network_calls.proofs.Standing.{stand}
+use Rattle.network_calls.proofs.Rows.{at_place, found_pass}
 use Rattle.live_system.specs.Calls.{LiveLink, as_opened, events_of, new_outlet}
-use Rattle.live_system.specs.LookUps.{IsCounted, calls_of, calls_on, has_number, pass_on}
+use Rattle.live_system.specs.LookUps.{IsCounted, calls_on}
 use Rattle.live_system.specs.Pass.{IsSettled, KnownLink}
-use Rattle.live_system.specs.System.{ArePasses, AreSettled, AreWithoutCalls, CallsAt, IsNewPassOf, IsPassOf, KnowLinks, KnownCounts, KnownNet, System}
+use Rattle.live_system.specs.System.{AreSettled, AreWithoutCalls, CallsAt, IsNewPassOf, IsPassOf, KnowLinks, KnownCounts, KnownNet, System, on_link, settings_in}
 use Rattle.live_system.specs.Run.{AreOpened, CountsCalls, CountsFiltered, Does, EndsInOneRun, HasEnded, HasSettled, Makes, Passes, Ran, Step, call_in, came, calls_in, frame_in, frames_in, met, shown_call}
-use Rattle.live_system.proofs.Opens.{as_many}
-use Rattle.live_system.proofs.Rows.{at_place}
 
 -- ---- calls as replies show them
 
@@ -170,7 +170,7 @@ knows_none system first net own new = record {
   filtered = new.none_filtered;
   each = λ vl place named.
       let link = named_at system.config.links vl place named in
-      let at = at_place first.net system.locks system.config.links first.links place link.settings own link.there in
+      let at = at_place on_link settings_in first.net system.locks system.config.links first.links place link.settings own link.there in
       record {
         pass = at.pass;
         there = at.pass_there;
@@ -199,7 +199,7 @@ both_know_more system first B step steps old new makes know = record {
   b = knows_more system first.b B (B, step) steps old.b new.b refl makes.own makes.of_net makes.does know.b;
 }
 
-both_know : (readers : ℕ) (system : System) (first last : Passes) (ends : List (LinkEnds PartitionEnd)) (steps : List (Net × Step))
+both_know : (readers : Port → ℕ) (system : System) (first last : Passes) (ends : List (LinkEnds PartitionEnd)) (steps : List (Net × Step))
     → AreOpened readers system first ends → Ran system first steps last → BothKnow system first steps last
 both_know readers system first last ends [] opened ran = rw ran (record {
   a = knows_none system first.a A opened.own_a opened.new_a;
@@ -228,15 +228,15 @@ settled_at (s ∷ links) (k ∷ a) (l ∷ b) (link ∷ settled) (suc place) sett
     let later = settled_at links a b settled place settings one other are.2 there in_a in_b in
     record { link = later.link; there = later.there; with_settings = later.with_settings; settled = later.settled }
 
-record EndsAt (readers : ℕ) (settings : Settings) (place : ℕ) (pass : KnownLink) (ends : List (LinkEnds PartitionEnd)) : Type 0 where
+record EndsAt (readers : Port → ℕ) (settings : Settings) (place : ℕ) (pass : KnownLink) (ends : List (LinkEnds PartitionEnd)) : Type 0 where
   pub link : LiveLink
   pub known : pass.link ≡ Some link
   pub its_ends : LinkEnds PartitionEnd
   pub there : slice_get ends place ≡ Some its_ends
-  pub ports : AreOpenedPorts ShowsPort (ReadsPort readers) 0 settings.ports link.outlets its_ends.ports.items
+  pub ports : AreOpenedPorts ShowsPort (reads_by ReadsPort readers) 0 settings.ports link.outlets its_ends.ports.items
 
-ends_at : (readers : ℕ) (settings : List Settings) (links : List LiveLink) (passes : List KnownLink) (ends : List (LinkEnds PartitionEnd)) (place : ℕ) (one : Settings) (pass : KnownLink)
-    → AreNewLinks ShowsPort (ReadsPort readers) settings links ends → KnowLinks passes links → slice_get settings place ≡ Some one → slice_get passes place ≡ Some pass → EndsAt readers one place pass ends
+ends_at : (readers : Port → ℕ) (settings : List Settings) (links : List LiveLink) (passes : List KnownLink) (ends : List (LinkEnds PartitionEnd)) (place : ℕ) (one : Settings) (pass : KnownLink)
+    → AreNewLinks ShowsPort (reads_by ReadsPort readers) settings links ends → KnowLinks passes links → slice_get settings place ≡ Some one → slice_get passes place ≡ Some pass → EndsAt readers one place pass ends
 ends_at readers [] links passes ends place one pass are know there in_passes = cc
 ends_at readers (s ∷ settings) [] passes ends place one pass are know there in_passes = absurd are
 ends_at readers (s ∷ settings) (l ∷ links) [] ends place one pass are know there in_passes = absurd know
@@ -247,7 +247,7 @@ ends_at readers (s ∷ settings) (l ∷ links) (k ∷ passes) (e ∷ ends) (suc 
     let later = ends_at readers settings links passes ends place one pass are.1 know.1 there in_passes in
     record { link = later.link; known = later.known; its_ends = later.its_ends; there = later.there; ports = later.ports }
 
-ends_in_one_run : (readers : ℕ) (steps : List (Net × Step)) (settings : Settings) (ends : List (LinkEnds PartitionEnd)) (place : ℕ) (first : Passes) (last : Passes) (links : List LiveLink)
+ends_in_one_run : (readers : Port → ℕ) (steps : List (Net × Step)) (settings : Settings) (ends : List (LinkEnds PartitionEnd)) (place : ℕ) (first : Passes) (last : Passes) (links : List LiveLink)
     → (a : AtLink first.a place (calls_in A settings.vl steps) last.a) → (b : AtLink first.b place (calls_in B settings.vl steps) last.b)
     → EndsAt readers settings place a.opened ends → (at : SettledAt settings place a.pass b.pass links) → EndsInOneRun readers steps settings ends place at.link
 ends_in_one_run readers steps settings ends place first last links a b its at =
@@ -276,28 +276,11 @@ ends_in_one_run readers steps settings ends place first last links a b its at =
 
 -- ---- what a pass counted
 
-same_first : (net : Net) (vl : LinkNo) (locks : List LockId) (links : List Settings) (passes : List KnownLink) → ArePasses net locks links passes
-    → position_or_len (λ (pass : KnownLink). has_number vl pass.counts) passes ≡ position_or_len (has_link_number vl.0) links
-same_first net vl [] [] [] are = refl
-same_first net vl (lock ∷ locks) (settings ∷ links) (pass ∷ passes) are =
-    let numbers : pass.counts.vl.0 ≡ settings.vl.0 = ap (λ (n : LinkNo). n.0) are.0.with_number in
-    rw (numbers, same_first net vl locks links passes are.1) refl
-same_first net vl (lock ∷ locks) (settings ∷ links) [] are = absurd are
-same_first net vl (lock ∷ locks) [] passes are = absurd are
-same_first net vl [] (settings ∷ links) passes are = absurd are
-same_first net vl [] [] (pass ∷ passes) are = absurd are
-
-found_pass : (net : Net) (vl : LinkNo) (locks : List LockId) (links : List Settings) (passes : List KnownLink) (place : ℕ) (pass : KnownLink) → ArePasses net locks links passes → link_of links vl ≡ Some place
-    → slice_get passes place ≡ Some pass → pass_on vl passes ≡ Some pass
-found_pass net vl locks links passes place pass are first at =
-    let here : position (λ (k : KnownLink). has_number vl k.counts) passes ≡ Some place = rw (same_first net vl locks links passes are, as_many net locks links passes are) first in
-    found_at (λ (k : KnownLink). has_number vl k.counts) passes place here ∙ at
-
 counts_calls : (system : System) (first : KnownNet) (net : Net) (steps : List (Net × Step)) (last : KnownNet) (counts : KnownCounts) → Knows system first net steps last → IsCounted last counts → CountsCalls system steps net counts
 counts_calls system first net steps last counts knows counted vl place named =
     let at = knows.each vl place named in
-    let found = found_pass last.net vl system.locks system.config.links last.links place at.pass knows.own named at.there in
-    let calls : shown_calls (calls_on vl last.links) ≡ calls_in net vl steps = ap (λ (pass : Option KnownLink). shown_calls (calls_of pass)) found ∙ at.has_calls in
+    let found = found_pass on_link settings_in last.net vl system.locks system.config.links last.links place at.pass knows.own named at.there in
+    let calls : shown_calls (calls_on vl last.links) ≡ calls_in net vl steps = ap (λ (pass : Option KnownLink). shown_calls (calls_of on_link pass)) found ∙ at.has_calls in
     let many : length (calls_on vl last.links) ≡ length (calls_in net vl steps) = sym (length-map (calls_on vl last.links) shown_call) ∙ ap (λ (cs : List Call). length cs) calls in (
       counted.calls vl ∙ ap shown many,
       λ kind is. counted.kinds vl kind is ∙ ap shown (sym (count_shown kind (calls_on vl last.links)) ∙ ap (count_calls kind) calls),
@@ -309,7 +292,7 @@ counts_filtered system first net steps last counts knows counted kind is = rw (c
 
 -- ---- altogether
 
-pub ended : (readers : ℕ) (system : System) (first last : Passes) (ends : List (LinkEnds PartitionEnd)) (steps : List (Net × Step)) (links : List LiveLink) (a b : KnownCounts) → AreOpened readers system first ends
+pub ended : (readers : Port → ℕ) (system : System) (first last : Passes) (ends : List (LinkEnds PartitionEnd)) (steps : List (Net × Step)) (links : List LiveLink) (a b : KnownCounts) → AreOpened readers system first ends
     → Ran system first steps last → HasSettled system last links a b → HasEnded readers system steps ends links a b
 ended readers system first last ends steps links a b opened ran has_settled =
     let know = both_know readers system first last ends steps opened ran in
@@ -321,7 +304,7 @@ ended readers system first last ends steps links a b opened ran has_settled =
           let of_b = know.b.each link.settings.vl place named_so in
           let at = settled_at system.config.links last.a.links last.b.links links place link.settings of_a.pass of_b.pass has_settled.links link.there of_a.there of_b.there in
           let new = opened.links.new in
-          let in_config : AreNewLinks ShowsPort (ReadsPort readers) system.config.links opened.links.opened.links ends = new.links in
+          let in_config : AreNewLinks ShowsPort (reads_by ReadsPort readers) system.config.links opened.links.opened.links ends = new.links in
           let its = ends_at readers system.config.links opened.links.opened.links first.a.links ends place link.settings of_a.opened in_config opened.links.known_a link.there of_a.was_there in
           (link.settings, at.link, link.there, link.numbered, at.there, ends_in_one_run readers steps link.settings ends place first last links of_a of_b its at);
       calls_a = counts_calls system first.a A steps last.a a know.a has_settled.counted_a;

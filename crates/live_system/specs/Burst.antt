@@ -1,5 +1,5 @@
 -- Frames that are given at once.
-use Rattle.std.specs.Prelude.{◌≡◌, ℕ, List, [], ◌∷◌, ◌++◌, map}
+use Rattle.std.specs.Prelude.{◌≡◌, ℕ, List, [], ◌∷◌, ◌++◌}
 use Rattle.std.specs.Borrow.{Bor}
 use Rattle.std.specs.List.{All}
 use Rattle.es_base.specs.declared.place.LinkNo.{LinkNo}
@@ -15,8 +15,8 @@ use Rattle.es_base.specs.Verdict.{kind_of}
 use Rattle.link_core.specs.Counted.{shown}
 use Rattle.network_calls.specs.declared.reply.Reply.{Reply}
 use Rattle.network_calls.specs.declared.reply.Reply.TheVariants as replies
+use Rattle.network_calls.specs.declared.counts.LinkCounts.{LinkCounts}
 use Rattle.network_calls.specs.Calls.{call}
-use Rattle.live_system.specs.declared.counts.LinkCounts.{LinkCounts}
 use Rattle.live_system.specs.Calls.{LiveLink}
 use Rattle.live_system.specs.Pass.{Calls, Did, KnownLink}
 use Rattle.live_system.specs.Run.{Step, came}
@@ -35,7 +35,7 @@ steps_in_turn (f ∷ fs) (r ∷ rs) = steps_in_turn fs rs ++ came f.0 f.1.now r 
 
 -- at most so many are given in one visit
 abbrev pub most_in_row : ℕ
-most_in_row = 32
+most_in_row = 8
 
 -- each comes to the link at this place of the configuration
 abbrev pub ComeToPlace : Configuration → ℕ → Frames → Type 0

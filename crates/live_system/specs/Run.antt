@@ -10,6 +10,7 @@ use Rattle.es_base.specs.FilterTally.{filtered_count}
 use Rattle.es_base.specs.Integrity.{is_same_net}
 use Rattle.es_base.specs.Limits.{filter_causes, verdict_kinds}
 use Rattle.es_base.specs.Past.{arrived}
+use Rattle.es_base.specs.Port.{Port}
 use Rattle.es_base.specs.Settings.{Settings}
 use Rattle.es_base.specs.Tally.{IsKind, count_in, count_of}
 use Rattle.link_core.specs.Counted.{shown}
@@ -17,14 +18,16 @@ use Rattle.receiver.specs.declared.ends.LinkEnds.{LinkEnds}
 use Rattle.receiver.specs.declared.partition.PartitionEnd.{PartitionEnd}
 use Rattle.receiver.specs.Ends.{AreOpened as AreOpenedPorts}
 use Rattle.receiver.specs.Link.{IsPorted}
+use Rattle.receiver.specs.Outlet.{reads_by}
 use Rattle.receiver.specs.Port.{ReadsPort, ShowsPort}
 use Rattle.network_calls.specs.declared.call.Call.{Call}
 use Rattle.network_calls.specs.declared.reply.Reply.{Reply}
 use Rattle.network_calls.specs.declared.reply.Reply.TheVariants as replies
 use Rattle.network_calls.specs.Calls.{call, calls_from, count_calls}
+use Rattle.network_calls.specs.Counts.{count_on, number_on}
 use Rattle.network_calls.specs.Places.{StandInTheRun}
 use Rattle.live_system.specs.Calls.{LiveLink, events_of, new_outlet}
-use Rattle.live_system.specs.LookUps.{IsCounted, count_on, number_on}
+use Rattle.live_system.specs.LookUps.{IsCounted}
 use Rattle.live_system.specs.System.{AreOfNewLinks, AreSettled, IsNewPassOf, IsPassOf, KnownCounts, KnownNet, Replies, System}
 
 -- ---- calls
@@ -75,8 +78,8 @@ RanAlone system first [] last = last ≡ first
 RanAlone system first (step ∷ earlier) last =
     (before : KnownNet) × RanAlone system first earlier before × IsPassOf system last × (last.net ≡ before.net) × Does system step before last
 
--- as `LiveSystem::open` hands them out; each sampling port has so many readers
-pub record AreOpened (readers : ℕ) (system : System) (passes : Passes) (ends : List (LinkEnds PartitionEnd)) : Type 0 where
+-- as `LiveSystem::open` hands them out; each sampling port has as many readers as this says
+pub record AreOpened (readers : Port → ℕ) (system : System) (passes : Passes) (ends : List (LinkEnds PartitionEnd)) : Type 0 where
   pub own_a : IsPassOf system passes.a
   pub own_b : IsPassOf system passes.b
   pub new_a : IsNewPassOf A passes.a
@@ -119,7 +122,7 @@ shown_call c = call (shown c.place) c.time c.frame c.verdict
 -- A link with these settings after these calls. Its past is one run, and each of its ports was given what that delivers; what
 -- each network's frames came to, as it was replied, are the events of that network in this run, each at its place; each kind
 -- of verdict is counted; and the ends that were handed out at the opening are those of its ports.
-pub record EndsInOneRun (readers : ℕ) (steps : List (Net × Step)) (settings : Settings) (ends : List (LinkEnds PartitionEnd)) (place : ℕ) (link : LiveLink) : Type 0 where
+pub record EndsInOneRun (readers : Port → ℕ) (steps : List (Net × Step)) (settings : Settings) (ends : List (LinkEnds PartitionEnd)) (place : ℕ) (link : LiveLink) : Type 0 where
   pub with_settings : link.core.settings ≡ settings
   pub ported : IsPorted ShowsPort link
   pub replied : (net : Net) → calls_in net settings.vl steps ≡ map shown_call (calls_from 0 net (events_of link))
@@ -127,7 +130,7 @@ pub record EndsInOneRun (readers : ℕ) (steps : List (Net × Step)) (settings :
   pub counted : (net : Net) (kind : ℕ) → IsKind verdict_kinds kind → count_of link.core.past net kind ≡ count_calls kind (calls_in net settings.vl steps)
   pub its_ends : LinkEnds PartitionEnd
   pub there : slice_get ends place ≡ Some its_ends
-  pub of_its_ports : AreOpenedPorts ShowsPort (ReadsPort readers) 0 settings.ports (map new_outlet link.outlets) its_ends.ports.items
+  pub of_its_ports : AreOpenedPorts ShowsPort (reads_by ReadsPort readers) 0 settings.ports (map new_outlet link.outlets) its_ends.ports.items
 
 -- a network's filtered frames are counted
 abbrev pub CountsFiltered : System → List (Net × Step) → Net → KnownCounts → Type 0
@@ -142,7 +145,7 @@ CountsCalls system steps net counts =
     × ((kind : ℕ) → IsKind verdict_kinds kind → count_on vl kind counts.net counts.links ≡ shown (count_calls kind (calls_in net vl steps)))
 
 -- each link of the configuration ends in one run
-pub record HasEnded (readers : ℕ) (system : System) (steps : List (Net × Step)) (ends : List (LinkEnds PartitionEnd)) (links : List LiveLink) (a b : KnownCounts) : Type 0 where
+pub record HasEnded (readers : Port → ℕ) (system : System) (steps : List (Net × Step)) (ends : List (LinkEnds PartitionEnd)) (links : List LiveLink) (a b : KnownCounts) : Type 0 where
   pub each : (vl : LinkNo) (place : ℕ) → link_of system.config.links vl ≡ Some place
       → (settings : Settings) × (link : LiveLink) × (slice_get system.config.links place ≡ Some settings) × (settings.vl ≡ vl) × (slice_get links place ≡ Some link)
       × EndsInOneRun readers steps settings ends place link

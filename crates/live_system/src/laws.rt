@@ -10,6 +10,7 @@ ghost use Rattle.message_ring.specs.Queue.{Known};
 ghost use Rattle.receiver.specs.declared.ends.LinkEnds.{LinkEnds};
 ghost use Rattle.receiver.specs.declared.partition.PartitionEnd.{PartitionEnd};
 ghost use Rattle.receiver.specs.declared.port.PortOutlet.{PortOutlet};
+ghost use Rattle.es_base.specs.Port.{Port};
 ghost use Rattle.receiver.specs.Meetings.{HasOutlet};
 ghost use Rattle.receiver.specs.Port.{IsPortOf, IsQueueOf};
 ghost use Rattle.receiver.specs.Receiver.{Links};
@@ -56,6 +57,6 @@ pub fn threads_run_together()
 /// that delivers; what was replied on each network are the events of that network, each at its place; and the counts are
 /// those of the calls.
 pub fn from_the_opening_to_the_end()
-    ensures { (readers : ℕ) (system : System) (first last : Passes) (ends : List (LinkEnds PartitionEnd)) (steps : List (Net × Step)) (links : List LiveLink) (a b : KnownCounts) →
+    ensures { (readers : Port → ℕ) (system : System) (first last : Passes) (ends : List (LinkEnds PartitionEnd)) (steps : List (Net × Step)) (links : List LiveLink) (a b : KnownCounts) →
         AreOpened readers system first ends → Ran system first steps last → HasSettled system last links a b → HasEnded readers system steps ends links a b }
 {}

@@ -11,7 +11,6 @@
 #![tactic(auto)]
 
 mod burst;
-mod counts;
 mod crossing;
 pub mod laws;
 mod link_pass;
@@ -25,10 +24,10 @@ mod system;
 
 pub use crossing::may_cross;
 pub use net_pass::NetPass;
-pub use network_calls::{Call, Reply};
+pub use network_calls::{Call, PassCounts, Reply};
 pub use opened::Opened;
 pub use receiver::{
     LinkEnds, MailboxReader, OpenLink, PartitionEnd, PortOutlet, ReaderCount, RingTaker,
 };
-pub use settled::{PassCounts, Settled};
+pub use settled::Settled;
 pub use system::LiveSystem;

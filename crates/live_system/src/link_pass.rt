@@ -1,5 +1,5 @@
 //! One network's pass on one link.
-ghost use Rattle.std.specs.Prelude.{◌≡◌, ◌<◌, ◌≤◌, ℕ, Some, IfOk, length, take};
+ghost use Rattle.std.specs.Prelude.{◌≡◌, ◌<◌, ◌≤◌, ℕ, Some, IfNone, IfOk, IfSome, length, take};
 ghost use Rattle.es_base.specs.Frame.{IsFrame, link_number_of};
 ghost use Rattle.es_base.specs.declared.place.Net.TheVariants.{A, B};
 ghost use Rattle.es_base.specs.Limits.{verdict_kinds};
@@ -8,6 +8,7 @@ ghost use Rattle.es_base.specs.Tally.{IsKind};
 ghost use Rattle.link_core.specs.Counted.{shown};
 ghost use Rattle.receiver.specs.Link.{IsNewLink};
 ghost use Rattle.receiver.specs.Meetings.{HasOutletAt};
+ghost use Rattle.receiver.specs.Outlet.{reads_by};
 ghost use Rattle.receiver.specs.Port.{IsPortOf, IsQueueOf, ReadsPort, ShowsPort};
 ghost use Rattle.network_calls.specs.Calls.{call, count_calls, user_of};
 ghost use Rattle.live_system.specs.Burst.{AreFramesFor, CallsInTurn, TookInTurn, most_in_row};
@@ -15,16 +16,15 @@ ghost use Rattle.live_system.specs.Calls.{LiveLink, no_calls};
 ghost use Rattle.live_system.specs.Meetings.{MeetsReader, MeetsTaker};
 ghost use Rattle.live_system.specs.Pass.{AreCountsOf, Calls, Did, IsNewPass, IsNoCall, IsSettled, Visits};
 
-use crate::counts::LinkCounts;
 use crate::locked::Locked;
 use crate::meetings::{meet_reader, meet_taker};
 use crate::row::{Answers, take, take_row, tell};
 use es_base::{LinkNo, LinkSettings, Memory, Net, PortNo, Verdict};
 use frame_reader::Frame;
 use link_lock::{Lock, Opened, PassOf};
-use network_calls::Reply;
+use network_calls::{LinkCounts, Reply};
 use receiver::{
-    MailboxReader, OpenLink, PartitionEnd, PortEnd, PortOutlet, ReaderCount, RingTaker,
+    MailboxReader, OpenLink, PartitionEnd, PortEnd, PortOutlet, Readers, RingTaker,
 };
 use std::alloc::Global;
 use std::marker::Model;
@@ -92,6 +92,33 @@ impl LinkPass {
         );
         self.counts.add(net, answer.1);
         answer
+    }
+
+    /// As [`receive`](LinkPass::receive) if nobody has the link at this moment. `None` if the other network has it: the
+    /// link didn't take the frame, and the pass is as it was. Waits for nobody, takes no memory, and can't fail.
+    pub(crate) fn try_receive(
+        &mut self,
+        lock: &Lock<Locked>,
+        now: u64,
+        frame: &Frame<'_>,
+    ) -> Option<(u64, Verdict)>
+        requires lock { self.old.lock ≡ lock.now }
+        requires link { (link : LiveLink) × (self.old.link ≡ Some link) × (link_number_of frame.now.whole.now ≡ link.core.settings.vl.0) }
+        ensures calls { IfSome result (λ answer. (place : ℕ) × (answer.0 ≡ shown place) × Calls self.old (call place now frame.now.whole.now answer.1) self.new) }
+        ensures away { IfNone result (self.new ≡ self.old) }
+    {
+        let net = self.net;
+        let octets = frame.whole;
+        let (place, verdict) = lock.try_visit(
+            &mut self.pass,
+            move |locked: &mut Locked| -> (u64, Verdict)
+                requires frame { IsFrame octets.now }
+                requires link { link_number_of octets.now ≡ locked.old.core.settings.vl.0 }
+                ensures { Did (arrived net now octets.entry.now) locked.old locked.new result }
+            { take(locked, net, now, octets) },
+        )?;
+        self.counts.add(net, verdict);
+        Some((place, verdict))
     }
 
     /// Gives the link frames that came on the pass's network, each at its time, in microseconds: waits until the link is
@@ -204,13 +231,13 @@ pub(crate) struct OpenedLink {
     pub ends: Vec<PortEnd<PartitionEnd>>,
 }
 
-/// Opens a link with these settings. Each of its sampling ports has so many readers.
-pub(crate) fn open_link(
+/// Opens a link with these settings. Each of its sampling ports has as many readers as `readers` says.
+pub(crate) fn open_link<R: Readers>(
     alloc: Global,
     settings: &LinkSettings,
-    readers: ReaderCount,
+    readers: &R,
 ) -> Result<OpenedLink, Memory>
-    ensures { IfOk result (λ o. (link : LiveLink) × IsNewLink ShowsPort (ReadsPort readers) settings.now link o.ends.items
+    ensures { IfOk result (λ o. (link : LiveLink) × IsNewLink ShowsPort (reads_by ReadsPort (R.count readers.now)) settings.now link o.ends.items
         × IsNewPass settings.now link o.lock A o.a × IsNewPass settings.now link o.lock B o.b) }
 {
     let (link, ends) = OpenLink::<PortOutlet>::open(alloc, settings, readers)?;

@@ -2,6 +2,7 @@
 ghost use Rattle.std.specs.Prelude.{◌≡◌, List, IfOk, length};
 ghost use Rattle.es_base.specs.declared.place.Net.TheVariants.{A, B};
 ghost use Rattle.receiver.specs.Named.{port_named};
+ghost use Rattle.receiver.specs.Outlet.{reads_by};
 ghost use Rattle.receiver.specs.Port.{ReadsPort, ShowsPort};
 ghost use Rattle.receiver.specs.Receiver.{AreNewLinks};
 ghost use Rattle.receiver.specs.Taking.{HandsNamed, HandsReader, HandsTaker};
@@ -14,7 +15,7 @@ use crate::net_pass::NetPass;
 use crate::system::LiveSystem;
 use es_base::{Config, FilterTally, LinkSettings, Memory, Net, PortNo};
 use link_lock::Lock;
-use receiver::{LinkEnds, MailboxReader, PartitionEnd, ReaderCount, RingTaker, place_named};
+use receiver::{LinkEnds, MailboxReader, PartitionEnd, ReaderCount, Readers, RingTaker, place_named};
 use std::alloc::Global;
 
 /// A new system, the passes of its two networks, and the ends of all ports, in the order of the links.
@@ -38,11 +39,15 @@ struct Links {
     ends: Vec<LinkEnds<PartitionEnd>>,
 }
 
-/// Opens links with these settings. Each sampling port has so many readers.
-fn open_links(alloc: Global, links: &[LinkSettings], readers: ReaderCount) -> Result<Links, Memory>
+/// Opens links with these settings. Each sampling port has as many readers as `readers` says.
+fn open_links<R: Readers>(
+    alloc: Global,
+    links: &[LinkSettings],
+    readers: &R,
+) -> Result<Links, Memory>
     ensures a { IfOk result (λ o. ArePasses A o.locks.items links.now o.a.items × AreWithoutCalls o.a.items) }
     ensures b { IfOk result (λ o. ArePasses B o.locks.items links.now o.b.items × AreWithoutCalls o.b.items) }
-    ensures links { IfOk result (λ o. (opened : List LiveLink) × AreNewLinks ShowsPort (ReadsPort readers) links.now opened o.ends.items
+    ensures links { IfOk result (λ o. (opened : List LiveLink) × AreNewLinks ShowsPort (reads_by ReadsPort (R.count readers.now)) links.now opened o.ends.items
         × KnowLinks o.a.items opened × KnowLinks o.b.items opened) }
     ensures many { IfOk result (λ o. (length o.a.items ≡ length links.now) × (length o.b.items ≡ length links.now)) }
 {
@@ -108,7 +113,21 @@ impl LiveSystem {
         ensures config { IfOk result (λ o. o.system.config ≡ config.now) }
         ensures a { IfOk result (λ o. IsPassOf o.system o.a × IsNewPassOf A o.a) }
         ensures b { IfOk result (λ o. IsPassOf o.system o.b × IsNewPassOf B o.b) }
-        ensures links { IfOk result (λ o. AreOfNewLinks readers config.now o.a o.b o.ends.items) }
+        ensures links { IfOk result (λ o. AreOfNewLinks (λ _. readers) config.now o.a o.b o.ends.items) }
+    {
+        LiveSystem::open_with(alloc, config, &readers)
+    }
+
+    /// The same, where each sampling port has as many readers as `readers` says.
+    pub fn open_with<R: Readers>(
+        alloc: Global,
+        config: &Config,
+        readers: &R,
+    ) -> Result<Opened, Memory>
+        ensures config { IfOk result (λ o. o.system.config ≡ config.now) }
+        ensures a { IfOk result (λ o. IsPassOf o.system o.a × IsNewPassOf A o.a) }
+        ensures b { IfOk result (λ o. IsPassOf o.system o.b × IsNewPassOf B o.b) }
+        ensures links { IfOk result (λ o. AreOfNewLinks (R.count readers.now) config.now o.a o.b o.ends.items) }
     {
         let links = config.links();
         let many = links.len();

@@ -43,4 +43,4 @@ pub record IsWhole (config : Configuration) (a : List ℕ) (b : Frames) (settled
   pub ends : List (LinkEnds PartitionEnd)
   pub to_a : Reply
   pub to_b : List Reply
-  pub ended : HasEnded most_readers system (frame_and_burst a b to_a to_b) ends settled.links.items settled.a settled.b
+  pub ended : HasEnded (λ _. most_readers) system (frame_and_burst a b to_a to_b) ends settled.links.items settled.a settled.b

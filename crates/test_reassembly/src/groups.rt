@@ -1,8 +1,8 @@
 //! Which pieces belong together, and which are given up.
-use crate::steps::Fate::{Alone, Completed, Held};
-use crate::steps::{Step, check};
+use crate::steps::Fate::{Alone, Bad, Completed, Held};
+use crate::steps::{Step, check, check_given_up};
 use test_inputs::fragments::PacketName::{
-    First, First3, First4, First5, First6, Last, LastFromAnother, LastToAnother, Whole,
+    First, First3, First4, First5, First6, FirstTo11, Last, LastFromAnother, LastToAnother, Whole,
 };
 
 fn five_begin() -> [Step; 6] {
@@ -122,4 +122,51 @@ fn a_key_has_both_addresses(rt: HostRuntime) {
 #[test]
 fn a_whole_datagram_gives_up_the_group_of_its_key(rt: HostRuntime) {
     check(&rt, rt.alloc(), &whole_between());
+}
+
+/// Each of the three ways, one after another: 3 are given up.
+fn given_up_in_each_way() -> [Step; 10] {
+    let alone = "1389138a001900000102030405060708090a0b0c0d0e0f1011";
+    [
+        (First3, 1000, Held),
+        (First, 1100, Held),
+        // its time is over
+        (Last, 51_101, Held),
+        (First4, 51_200, Held),
+        (First5, 51_300, Held),
+        // a fifth: that of `First3` began first
+        (First6, 51_400, Held),
+        (FirstTo11, 51_500, Bad),
+        // whole, with the key of `Last`
+        (Whole, 51_600, Alone(alone)),
+        (First, 51_700, Held),
+        (Last, 51_800, Completed),
+    ]
+}
+
+/// The time of the first of four is over as its next piece comes: that makes room, too.
+fn over_where_four_stand() -> [Step; 5] {
+    [
+        (First, 1000, Held),
+        (First3, 1100, Held),
+        (First4, 1200, Held),
+        (First5, 1300, Held),
+        (Last, 51_001, Held),
+    ]
+}
+
+#[test]
+fn partial_datagrams_that_are_given_up_are_counted(rt: HostRuntime) {
+    check_given_up(&rt, rt.alloc(), &five_begin(), 2);
+    check_given_up(&rt, rt.alloc(), &after_the_limit(), 1);
+    check_given_up(&rt, rt.alloc(), &whole_between(), 1);
+    check_given_up(&rt, rt.alloc(), &given_up_in_each_way(), 3);
+    check_given_up(&rt, rt.alloc(), &over_where_four_stand(), 1);
+}
+
+#[test]
+fn one_that_is_completed_or_waits_is_not_counted_as_given_up(rt: HostRuntime) {
+    check_given_up(&rt, rt.alloc(), &four_begin(), 0);
+    check_given_up(&rt, rt.alloc(), &at_the_limit(), 0);
+    check_given_up(&rt, rt.alloc(), &another_key_between(), 0);
 }

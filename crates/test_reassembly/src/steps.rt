@@ -44,6 +44,13 @@ pub(crate) fn check(rt: &impl Abort, alloc: Global, steps: &[Step]) {
     check_steps(rt, alloc, &mut reassembly, steps);
 }
 
+/// A new Reassembly does this with these packets, and has given up so many partial datagrams then.
+pub(crate) fn check_given_up(rt: &impl Abort, alloc: Global, steps: &[Step], given_up: u64) {
+    let mut reassembly = Reassembly::new(alloc, LIMIT).expect(rt, "memory");
+    check_steps(rt, alloc, &mut reassembly, steps);
+    assert!(rt; reassembly.given_up() == given_up);
+}
+
 /// A Reassembly is copied after the steps of `before`, and another goes on from the pieces that wait then. It, its copy
 /// and that other each do the steps of `after`.
 pub(crate) fn check_copied(rt: &impl Abort, alloc: Global, before: &[Step], after: &[Step]) {
@@ -55,6 +62,8 @@ pub(crate) fn check_copied(rt: &impl Abort, alloc: Global, before: &[Step], afte
     check_steps(rt, alloc, &mut copy, after);
     check_steps(rt, alloc, &mut other, after);
     check_steps(rt, alloc, &mut first, after);
+    assert!(rt; copy.given_up() == first.given_up());
+    assert!(rt; other.given_up() == first.given_up());
 }
 
 fn check_steps(rt: &impl Abort, alloc: Global, reassembly: &mut Reassembly, steps: &[Step]) {

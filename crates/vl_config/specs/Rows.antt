@@ -34,6 +34,14 @@ name_if (Some text) = name_from text
 abbrev pub name_of_row : PortRow → Result (List ℕ) ConfigFault
 name_of_row row = if nat_le row.name_len 16 then name_if (text_of (take row.name_len row.name)) else Err (Range keys.Name)
 
+abbrev pub is_this : List ℕ → Result (List ℕ) ConfigFault → Bool
+is_this name (Ok own) = bytes_eq own name
+is_this name (Err fault) = false
+
+-- whether this is the name of the row's port
+abbrev pub has_name : List ℕ → PortRow → Bool
+has_name name row = is_this name (name_of_row row)
+
 abbrev pub service_of_row : PortRow → Result Service ConfigFault
 service_of_row row = if row.service == 1 then Ok Sampling else if row.service == 2 then Ok Queuing else Err (Range keys.Kind)
 

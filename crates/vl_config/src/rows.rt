@@ -58,6 +58,20 @@ pub struct PortRow {
     pub name_len: usize,
     /// Its name, at the beginning.
     pub name: [u8; 16],
+    /// How many readers it has if it samples, 1 to 8; 0: as many as the opening is told. The configuration doesn't have it.
+    pub readers: u32,
+}
+
+impl PortRow {
+    /// Whether this is its name.
+    pub fn has_name(&self, name: &str) -> bool
+        ensures { result ≡ has_name name.now self.now }
+    {
+        match name_of_row(self) {
+            Ok(own) => own.as_str() == name,
+            Err(_) => false,
+        }
+    }
 }
 
 /// A number from `least` to `greatest`.

@@ -26,7 +26,7 @@ returns g c =
     let calls_b = steps_in_turn c.args.on_b.now to_b in
     let call_a = came 1000 c.args.on_a.now c.join-a.result.0.1 in
     let steps : List (Net × Step) = frame_and_burst c.args.on_a.now c.args.on_b.now c.join-a.result.0.1 to_b in
-    let opened : AreOpened most_readers system first ends = record {
+    let opened : AreOpened (λ _. most_readers) system first ends = record {
       own_a = c.in_ok-system.ensures.a.0;
       own_b = c.in_ok-system.ensures.b.0;
       new_a = c.in_ok-system.ensures.a.1;
@@ -47,5 +47,5 @@ returns g c =
       ends = ends;
       to_a = c.join-a.result.0.1;
       to_b = to_b;
-      ended = ended most_readers system first last ends steps c.settle.result.links.items c.settle.result.a c.settle.result.b opened ran settles;
+      ended = ended (λ _. most_readers) system first last ends steps c.settle.result.links.items c.settle.result.a c.settle.result.b opened ran settles;
     }

@@ -4,9 +4,9 @@ use Rattle.live_system.proofs.Outlets.{new_link}
 use Rattle.live_system.proofs.link_pass.open_link.Goals as goal
 
 pub returns : goal.returns
-returns c =
+returns g c =
     let link : LiveLink = c.in_ok-link.link in
-    let same : as_opened link ≡ link = new_link c.args.readers c.args.settings.now link c.in_ok-link.ends.items c.in_ok-link.ensures in
+    let same : as_opened link ≡ link = new_link (g.R.Readers.count c.args.readers.now) c.args.settings.now link c.in_ok-link.ends.items c.in_ok-link.ensures in
     let a = c.new.ensures in
     let b = c.new-2.ensures in
     let opened = c.in_ok-lock.ensures in (

@@ -20,5 +20,5 @@ returns c =
     (rw (c.in_ok-second.ensures, ← c.deref-2.ensures.0) c.index-deref-1.is)
     (rw (c.in_ok-third.ensures, ← c.deref-3.ensures.0) c.index-deref-2.is)
     (rw (c.in_ok-fourth.ensures, ← c.deref-4.ensures.0) c.index-deref-3.is) in
-    let kept : List Partial → Kept = λ items. record { limit = c.self.inside.limit; partials = take c.self.inside.standing items } in
+    let kept : List Partial → Kept = λ items. record { limit = c.self.inside.limit; given_up = c.self.inside.given_up; partials = take c.self.inside.standing items } in
     ap kept (c.from.ensures.0 ∙ all) ∙ c.self.view_is

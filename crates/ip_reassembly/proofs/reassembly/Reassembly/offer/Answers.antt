@@ -1,6 +1,7 @@
 use Rattle.std.proofs.Common.{◌∙◌, sym, refl}
+use Rattle.std.proofs.Math.Nat.{add-zero}
 use Rattle.frame_reader.specs.Parts.{packet_parts}
-use Rattle.ip_reassembly.proofs.Fates.{whole_fate, bad_fate, begins_fate, joins_fate, whole_groups, bad_groups, begins_groups, joins_groups}
+use Rattle.ip_reassembly.proofs.Fates.{whole_fate, bad_fate, begins_fate, joins_fate, whole_groups, bad_groups, begins_groups, joins_groups, whole_given_up, bad_given_up, begins_given_up, joins_given_up}
 use Rattle.ip_reassembly.proofs.reassembly.Reassembly.offer.Goals as goal
 
 pub returns-then-is_whole : goal.returns-then-is_whole
@@ -12,7 +13,10 @@ returns-then-is_whole c =
         (λ _. tt),
         λ limit groups stand.
             let given_up = rw c.key_of-key.ensures at (c.give_up_key.ensures.stand groups stand.1) in
-            (c.give_up_key.ensures.limit ∙ stand.0, rw (whole_groups limit groups packet c.args.now is) given_up),
+            record {
+              pieces = (c.give_up_key.ensures.limit ∙ stand.0, rw (whole_groups limit groups packet c.args.now is) given_up);
+              count = λ n shows. rw (whole_given_up limit groups packet c.args.now is) (rw c.key_of-key.ensures at (c.give_up_key.ensures.given_up groups n stand.1 shows));
+            },
       ),
       record { answer = λ limit groups stand. sym (whole_fate limit groups packet c.args.now is); after = tt },
     )
@@ -22,7 +26,14 @@ returns-then-is_bad c =
     let packet = packet_parts c.args.packet.now in
     let part = sym c.is_whole.ensures ∙ c.if-is_whole.false in
     let is = sym c.is_bad.ensures ∙ c.if-is_bad.true in (
-      (refl, (λ _. tt), λ limit groups stand. rw (bad_groups limit groups packet c.args.now part is) stand),
+      (
+        refl,
+        (λ _. tt),
+        λ limit groups stand. record {
+          pieces = rw (bad_groups limit groups packet c.args.now part is) stand;
+          count = λ n shows. rw (bad_given_up limit groups packet c.args.now part is, add-zero) shows;
+        },
+      ),
       record { answer = λ limit groups stand. sym (bad_fate limit groups packet c.args.now part is); after = tt },
     )
 
@@ -37,7 +48,10 @@ returns-in-None c =
         λ limit groups stand.
             let found = rw (stand.0, c.key_of-key.ensures) at (c.in-None.ensures.group groups stand.1) in
             let begun = rw c.key_of-key.ensures at (c.begin_anew.ensures.stand groups stand.1) in
-            (c.begin_anew.ensures.limit ∙ stand.0, rw (begins_groups limit groups packet c.args.now _ part good found) begun),
+            record {
+              pieces = (c.begin_anew.ensures.limit ∙ stand.0, rw (begins_groups limit groups packet c.args.now _ part good found) begun);
+              count = λ n shows. rw (begins_given_up limit groups packet c.args.now _ part good found) (rw c.key_of-key.ensures at (c.begin_anew.ensures.given_up groups n stand.1 shows));
+            },
       ),
       record {
         answer = λ limit groups stand.
@@ -59,7 +73,10 @@ returns-in-Some c =
         λ limit groups stand.
             let (group, joined, there) = c.in-Some.ensures.group groups stand.1 in
             let found = rw (stand.0, c.key_of-key.ensures) at joined in
-            (lender.0 ∙ stand.0, rw (joins_groups limit groups packet c.args.now _ group part good found) (lender.1 groups group c.args.now stand.1 there)),
+            record {
+              pieces = (lender.0 ∙ stand.0, rw (joins_groups limit groups packet c.args.now _ group part good found) (lender.2 groups group c.args.now stand.1 there));
+              count = λ n shows. rw (joins_given_up limit groups packet c.args.now _ group part good found, add-zero) (lender.1 ∙ shows);
+            },
       ),
       record {
         answer = λ limit groups stand.

@@ -14,6 +14,7 @@ returns-in-None c = (
     (λ _. tt),
     (
       c.join_at.ensures.limit,
+      c.join_at.ensures.given_up,
       λ groups group time stand at.
           let partial = stand_is _ groups _ _ group stand c.partial_at.ensures at in
           rw (none_of _ (c.in-None.ensures.joined group.pieces time partial.holds)) (c.join_at.ensures.stand groups group time stand at),
@@ -35,11 +36,12 @@ returns-in-Some c =
         (λ _. tt),
         (
           lender.0 ∙ c.join_at.ensures.limit,
+          lender.1 ∙ c.join_at.ensures.given_up,
           λ groups group time stand at.
               let partial = stand_is _ groups _ _ group stand c.partial_at.ensures at in
               let (d, made, long) = some_of _ c.in-Some.len (c.in-Some.ensures.joined group.pieces time partial.holds) in
               let joined = group_with group (piece_of (packet_parts c.args.packet.now) time) in
-              rw (made, ← remove_set groups c.args.place joined) (lender.1 _ (c.join_at.ensures.stand groups group time stand at)),
+              rw (made, ← remove_set groups c.args.place joined) (lender.2 _ (c.join_at.ensures.stand groups group time stand at)),
         ),
       ),
       record {

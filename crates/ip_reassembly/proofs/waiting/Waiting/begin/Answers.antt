@@ -16,5 +16,5 @@ returns c =
     (rw c.deref.ensures.0 at c.in_ok-third.ensures)
     (rw c.deref.ensures.0 at c.in_ok-fourth.ensures)
     in
-    let kept : List Partial → Kept = λ partials. record { limit = s.limit; partials = partials } in
+    let kept : List Partial → Kept = λ partials. record { limit = s.limit; given_up = s.given_up; partials = partials } in
     c.of.ensures ∙ rw c.from-four.ensures.0 (ap kept all) ∙ c.self.view_is

@@ -1,0 +1,29 @@
+-- What a program may ask of a link's past, and no rule reads.
+use Rattle.std.specs.Prelude.{ℕ, ◌+◌, List, [], ◌∷◌, Option, None, Some, if◌then◌else◌}
+use Rattle.es_base.specs.declared.place.Net.{Net}
+use Rattle.es_base.specs.declared.event.Event.{Event}
+use Rattle.es_base.specs.Packet.{PacketParts}
+use Rattle.es_base.specs.Settings.{Settings}
+use Rattle.es_base.specs.Past.{arrival_of}
+use Rattle.es_base.specs.Integrity.{is_same_net}
+use Rattle.es_base.specs.Redundancy.{is_forwarded}
+use Rattle.es_base.specs.Groups.{Group}
+use Rattle.es_base.specs.Reassembly.{groups_in, offered}
+use Rattle.ip_reassembly.specs.GivenUp.{given_up}
+
+-- when the latest frame came on a network, in microseconds, whatever became of it
+abbrev pub latest_on : List Event → Net → Option ℕ
+latest_on [] net = None
+latest_on (e ∷ past) net = if is_same_net e.net net then Some e.time else latest_on past net
+
+-- how many of these groups are given up at a time at which reassembly is offered this
+abbrev pub given_up_by : ℕ → List Group → Option PacketParts → ℕ → ℕ
+given_up_by limit groups None time = 0
+given_up_by limit groups (Some packet) time = given_up limit groups packet time
+
+-- how many groups of pieces were given up at a link
+abbrev pub number_given_up : Settings → List Event → ℕ
+number_given_up settings [] = 0
+number_given_up settings (e ∷ past) =
+    number_given_up settings past
+    + given_up_by settings.reassembly (groups_in settings past) (offered (is_forwarded settings past (arrival_of e)) e.frame) e.time
