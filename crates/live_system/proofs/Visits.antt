@@ -9,15 +9,17 @@ use Rattle.es_base.specs.Past.{arrived, event_of}
 use Rattle.link_core.specs.Counted.{port_no, shown}
 use Rattle.link_core.specs.Link.{Link as Core, delivered_after}
 use Rattle.link_lock.specs.declared.user.User.{User}
-use Rattle.link_lock.specs.Pass.{Known, MayFind, MayLeave, with_list_of}
+use Rattle.link_lock.specs.Pass.{Known, MayFind, MayLeave, Visited, with_list_of}
 use Rattle.network_calls.specs.declared.call.Call.{Call}
 use Rattle.network_calls.specs.Calls.{call, call_of, calls_from, net_of, user_of}
 use Rattle.network_calls.proofs.Events.{calls_append}
-use Rattle.network_calls.proofs.Networks.{same_net}
+use Rattle.network_calls.proofs.Networks.{back, same_net}
 use Rattle.network_calls.proofs.Visiting.{after_visit, of_one}
 use Rattle.live_system.specs.declared.counts.LinkCounts.{LinkCounts}
+use Rattle.live_system.specs.Burst.{CountsOne}
 use Rattle.live_system.specs.Calls.{Agrees, LiveLink, as_opened, events_of, goes_on, new_outlet}
-use Rattle.live_system.specs.Pass.{Calls, Did, known_link}
+use Rattle.live_system.specs.Pass.{AreCountsOf, Calls, Did, known_link}
+use Rattle.live_system.proofs.Counting.{counts_more}
 use Rattle.live_system.proofs.Outlets.{same_outlets}
 
 abbrev LinkUser : Type 0
@@ -102,3 +104,36 @@ module _ (pass : LinkUser) (lists : User → List Call) (found : LiveLink) (find
             does = (refl, does);
           };
         })
+
+-- ---- a visit in which the link took a frame
+
+-- what was done with what the lock handed out was done with what was found
+pub took : {shown found before left : LiveLink} (a : Arrival) (answer : ℕ × Verdict) → shown ≡ found → before ≡ left → Did a shown before answer → Did a found left answer
+took {shown} {found} {before} {left} a answer shows leaves did =
+    subst (λ (l : LiveLink). Did a l left answer) shows (subst (λ (l : LiveLink). Did a shown l answer) leaves did)
+
+pub leaves_taken : (net : Net) (pass : LinkUser) (lists : User → List Call) (found left : LiveLink) (now : ℕ) (octets : List ℕ) (answer : ℕ × Verdict) → pass.user ≡ user_of net → MayFind as_opened Agrees pass lists found
+    → Did (arrived net now octets) found left answer → MayLeave as_opened Agrees goes_on pass lists found left
+leaves_taken net pass lists found left now octets answer user finds did = leaves pass lists found finds (arrived net now octets) answer left did (sym (ap net_of user ∙ back net))
+
+-- the call is counted
+module _ (net : Net) (pass last : LinkUser) (did : LiveLink → LiveLink → Type 0) (visit : Visited as_opened Agrees goes_on did pass last) (now : ℕ) (octets : List ℕ) (answer : ℕ × Verdict)
+    (done : Did (arrived net now octets) visit.found visit.left answer) (user : pass.user ≡ user_of net) (old new : LinkCounts) (one : CountsOne net old answer.1 new) where
+  abbrev place_found : ℕ
+  place_found = length visit.found.core.past
+
+  mine : net_of pass.user ≡ net
+  mine = ap net_of user ∙ back net
+
+  last_is : last ≡ with_list_of pass (pass.list ++ call place_found now octets answer.1 ∷ [])
+  last_is = visit.knows ∙ ap (λ (l : List Call). with_list_of pass l) (one_call pass visit.lists visit.found visit.finds (arrived net now octets) answer visit.left done (sym mine))
+
+  pub still_counted : AreCountsOf net pass.list old → (last.user ≡ user_of net) × AreCountsOf net last.list new
+  still_counted are = rw last_is (user, counts_more net pass.list (call place_found now octets answer.1) old new are one.number one.tally)
+
+  pub called : (place : ℕ) × (answer.0 ≡ shown place) × Calls (known_link net pass old) (call place now octets answer.1) (known_link net last new)
+  called = (
+    place_found,
+    done.0.placed,
+    is_call pass visit.lists visit.found visit.finds (arrived net now octets) answer visit.left done net old mine (sym user) last visit.knows new one.vl (λ i. net),
+  )

@@ -1,5 +1,5 @@
 //! One network's pass on one link.
-ghost use Rattle.std.specs.Prelude.{◌≡◌, ◌<◌, ◌≤◌, ℕ, Some, IfOk, length, take};
+ghost use Rattle.std.specs.Prelude.{◌≡◌, ◌<◌, ◌≤◌, ℕ, Some, IfNone, IfOk, IfSome, length, take};
 ghost use Rattle.es_base.specs.Frame.{IsFrame, link_number_of};
 ghost use Rattle.es_base.specs.declared.place.Net.TheVariants.{A, B};
 ghost use Rattle.es_base.specs.Limits.{verdict_kinds};
@@ -92,6 +92,33 @@ impl LinkPass {
         );
         self.counts.add(net, answer.1);
         answer
+    }
+
+    /// As [`receive`](LinkPass::receive) if nobody has the link at this moment. `None` if the other network has it: the
+    /// link didn't take the frame, and the pass is as it was. Waits for nobody, takes no memory, and can't fail.
+    pub(crate) fn try_receive(
+        &mut self,
+        lock: &Lock<Locked>,
+        now: u64,
+        frame: &Frame<'_>,
+    ) -> Option<(u64, Verdict)>
+        requires lock { self.old.lock ≡ lock.now }
+        requires link { (link : LiveLink) × (self.old.link ≡ Some link) × (link_number_of frame.now.whole.now ≡ link.core.settings.vl.0) }
+        ensures calls { IfSome result (λ answer. (place : ℕ) × (answer.0 ≡ shown place) × Calls self.old (call place now frame.now.whole.now answer.1) self.new) }
+        ensures away { IfNone result (self.new ≡ self.old) }
+    {
+        let net = self.net;
+        let octets = frame.whole;
+        let (place, verdict) = lock.try_visit(
+            &mut self.pass,
+            move |locked: &mut Locked| -> (u64, Verdict)
+                requires frame { IsFrame octets.now }
+                requires link { link_number_of octets.now ≡ locked.old.core.settings.vl.0 }
+                ensures { Did (arrived net now octets.entry.now) locked.old locked.new result }
+            { take(locked, net, now, octets) },
+        )?;
+        self.counts.add(net, verdict);
+        Some((place, verdict))
     }
 
     /// Gives the link frames that came on the pass's network, each at its time, in microseconds: waits until the link is

@@ -1,5 +1,5 @@
 //! All links, each under a lock of its own.
-ghost use Rattle.std.specs.Prelude.{◌≡◌};
+ghost use Rattle.std.specs.Prelude.{◌≡◌, ℕ, IfNone, IfSome};
 ghost use Rattle.es_base.specs.Addressing.{ComesToPlace};
 ghost use Rattle.live_system.specs.System.{IsPassOf, Replies};
 
@@ -49,6 +49,25 @@ impl LiveSystem {
         }
     }
 
+    /// As [`receive`](LiveSystem::receive) if nobody has the frame's link at this moment; a filtered frame takes no lock,
+    /// and is always answered. `None` if the other network has the link: the frame comes to a link, which didn't take it,
+    /// and the pass is as it was, so that the same frame may be given again. Calls that were answered are as those of
+    /// `receive`, with which they may be mixed. Waits for nobody, takes no memory, and can't fail.
+    ///
+    /// That `None` comes only while the other network has the link isn't proved.
+    pub fn try_receive(&self, pass: &mut NetPass, now: u64, bytes: &[u8]) -> Option<Reply>
+        requires { IsPassOf self.now pass.old }
+        ensures own { IsPassOf self.now pass.new }
+        ensures net { pass.new.net ≡ pass.old.net }
+        ensures replies { IfSome result (λ reply. Replies self.now.config pass.old now bytes.now reply pass.new) }
+        ensures away { IfNone result ((pass.new ≡ pass.old) × ((at : ℕ) × ComesToPlace self.now.config bytes.now at)) }
+    {
+        match read_addressed(&self.config, bytes) {
+            Ok((at, frame)) => self.try_receive_at(pass, at, now, &frame),
+            Err(cause) => Some(pass.filter(cause)),
+        }
+    }
+
     /// Gives a frame to the link that it comes to, which has this place.
     pub(crate) fn receive_at<R: Wait>(
         &self,
@@ -71,5 +90,29 @@ impl LiveSystem {
             place,
             verdict,
         }
+    }
+
+    /// Gives a frame to the link that it comes to, which has this place, if nobody has the link at this moment.
+    fn try_receive_at(
+        &self,
+        pass: &mut NetPass,
+        at: usize,
+        now: u64,
+        frame: &Frame<'_>,
+    ) -> Option<Reply>
+        requires own { IsPassOf self.now pass.old }
+        requires place { ComesToPlace self.now.config frame.now.whole.now at }
+        ensures own { IsPassOf self.now pass.new }
+        ensures net { pass.new.net ≡ pass.old.net }
+        ensures replies { IfSome result (λ reply. Replies self.now.config pass.old now frame.now.whole.now reply pass.new) }
+        ensures away { IfNone result (pass.new ≡ pass.old) }
+    {
+        let lock = &self.locks[at];
+        let (place, verdict) = pass.links[at].try_receive(lock, now, frame)?;
+        Some(Reply::Link {
+            vl: frame.vl,
+            place,
+            verdict,
+        })
     }
 }

@@ -54,12 +54,15 @@ module _ (pass : Known Pages (List ℕ)) (lists : User → List ℕ) (found : Pa
   by_one : (user : User) (number : ℕ) → AreBy user (line user number ∷ [])
   by_one user number n apart = ap (λ b. if b then number ∷ [] else []) apart
 
+  pub leaves_same : (left : Pages) → left ≡ found → MayLeave without_lines AreLists goes_on pass lists found left
+  leaves_same left is =
+      let same : grown [] ≡ left = (λ i. record found { lines = append-nil found.lines i }) ∙ sym is in
+      subst (MayLeave without_lines AreLists goes_on pass lists found) same (leaves_grown [] (λ n apart. refl))
+
   pub leaves_written : (number : ℕ) (left : Pages) (answer : Result (Unit {0}) AllocError) → OnOk answer (left ≡ with_line found (line pass.user number)) → OnErr answer (left ≡ found)
       → MayLeave without_lines AreLists goes_on pass lists found left
   leaves_written number left (Ok x) ok err = subst (MayLeave without_lines AreLists goes_on pass lists found) (sym ok) (leaves_grown (line pass.user number ∷ []) (by_one pass.user number))
-  leaves_written number left (Err e) ok err =
-      let same : grown [] ≡ left = (λ i. record found { lines = append-nil found.lines i }) ∙ sym err in
-      subst (MayLeave without_lines AreLists goes_on pass lists found) same (leaves_grown [] (λ n apart. refl))
+  leaves_written number left (Err e) ok err = leaves_same left err
 
   pub leaves_empty : (left : Pages) → left ≡ without_lines found → MayLeave without_lines AreLists goes_on pass lists found left
   leaves_empty left is = subst (MayLeave without_lines AreLists goes_on pass lists found) (sym is)

@@ -1,6 +1,6 @@
 //! An example of a value under a lock: a book in which two users write numbers, and whose written pages may be
 //! taken out.
-ghost use Rattle.std.specs.Prelude.{◌≡◌, [], ◌∷◌, ◌++◌, length, OnOk, OnErr, IfOk};
+ghost use Rattle.std.specs.Prelude.{◌≡◌, [], ◌∷◌, ◌++◌, length, OnOk, OnErr, IfNone, IfOk, IfSome};
 ghost use Rattle.link_lock.specs.declared.user.User.TheVariants.{First, Second};
 ghost use Rattle.link_lock.specs.Lists.{both_lists};
 ghost use Rattle.link_lock.specs.Pass.{known, with_list_of};
@@ -108,6 +108,50 @@ pub fn write<R: Wait>(
 {
     let by = pass.user();
     lock.visit(rt, pass, |book: &mut Book| book.write(by, number))
+}
+
+/// The user writes a number if nobody has the book at this moment. `None` if another user has it, and nothing is written.
+pub fn try_write(
+    lock: &Lock<Book>,
+    pass: &mut PassOf<Book>,
+    number: u64,
+) -> Option<Result<(), AllocError>>
+    requires { pass.old.lock ≡ lock.now }
+    ensures ok { IfSome result (λ wrote. OnOk wrote (pass.new ≡ with_list_of pass.old (pass.old.list ++ number ∷ []))) }
+    ensures err { IfSome result (λ wrote. OnErr wrote (pass.new ≡ pass.old)) }
+    ensures away { IfNone result (pass.new ≡ pass.old) }
+{
+    let by = pass.user();
+    lock.try_visit(pass, |book: &mut Book| book.write(by, number))
+}
+
+/// While this user has the book, the other one tries to write a number. Returns the other one's pass, and whether it came
+/// to the book.
+pub fn try_inside<R: Wait>(
+    rt: &R,
+    lock: &Lock<Book>,
+    pass: &mut PassOf<Book>,
+    other: PassOf<Book>,
+    number: u64,
+) -> (PassOf<Book>, bool)
+    requires own { pass.old.lock ≡ lock.now }
+    requires other { other.lock ≡ lock.now }
+    ensures same { pass.new ≡ pass.old }
+    ensures other { (result.0.lock ≡ other.lock) × (result.0.user ≡ other.user) }
+{
+    lock.visit(
+        rt,
+        pass,
+        move |book: &mut Book| -> (PassOf<Book>, bool)
+            requires { other.lock ≡ lock.now }
+            ensures book { book.new ≡ book.old }
+            ensures other { (result.0.lock ≡ other.entry.lock) × (result.0.user ≡ other.entry.user) }
+        {
+            let mut other = other;
+            let wrote = try_write(lock, &mut other, number);
+            (other, wrote.is_some())
+        },
+    )
 }
 
 /// The user takes all written pages out, whoever wrote them. Returns how many lines they have.

@@ -2,7 +2,7 @@
 ghost use Rattle.std.specs.Prelude.{◌≡◌};
 ghost use Rattle.link_lock.specs.declared.user.User.TheVariants.{First, Second};
 
-use crate::book::{Book, open, settle, take_out, write};
+use crate::book::{Book, open, settle, take_out, try_inside, try_write, write};
 use link_lock::{Lock, Opened, PassOf, User};
 use std::alloc::Global;
 use std::process::Abort;
@@ -101,4 +101,42 @@ fn check_taken_out<R: Abort + Wait>(rt: &R, opened: Opened<Book>)
 #[test]
 fn pages_that_were_taken_out_are_not_in_the_settled_book(rt: HostRuntime) {
     check_taken_out(&rt, opened(&rt, rt.alloc()));
+}
+
+/// The user tries to write a number, for which there is memory. Returns whether it came to the book.
+fn tried(rt: &impl Abort, lock: &Lock<Book>, pass: &mut PassOf<Book>, number: u64) -> bool
+    requires { pass.old.lock ≡ lock.now }
+    ensures { (pass.new.lock ≡ pass.old.lock) × (pass.new.user ≡ pass.old.user) }
+{
+    match try_write(lock, pass, number) {
+        Some(wrote) => {
+            wrote.expect(rt, "memory");
+            true
+        }
+        None => false,
+    }
+}
+
+fn check_tries<R: Abort + Wait>(rt: &R, opened: Opened<Book>)
+    requires first { (opened.first.lock ≡ opened.lock) × (opened.first.user ≡ First) }
+    requires second { (opened.second.lock ≡ opened.lock) × (opened.second.user ≡ Second) }
+{
+    let Opened {
+        lock,
+        mut first,
+        second,
+    } = opened;
+    let (mut second, inside) = try_inside(rt, &lock, &mut first, second, 20);
+    assert!(rt; !inside);
+    assert!(rt; tried(rt, &lock, &mut second, 21));
+    assert!(rt; tried(rt, &lock, &mut first, 10));
+    written(rt, &lock, &mut second, 22);
+    let book = settle(lock, first, second);
+    let wanted = [(User::Second, 21), (User::First, 10), (User::Second, 22)];
+    check_lines(rt, &book, &wanted);
+}
+
+#[test]
+fn a_try_gives_up_while_the_other_user_has_the_book_and_only_then(rt: HostRuntime) {
+    check_tries(&rt, opened(&rt, rt.alloc()));
 }
