@@ -15,11 +15,13 @@
 //! ```
 #![tactic(auto)]
 
+mod crossing;
 mod pass_slot;
 mod passing;
 mod running;
 mod system_slot;
 
+pub use crossing::may_cross;
 pub use pass_slot::PassSlot;
 pub use receiver_slots::codes;
 pub use system_slot::SystemSlot;
