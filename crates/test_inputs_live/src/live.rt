@@ -63,6 +63,15 @@ impl Live {
         }
     }
 
+    /// The system receives a frame on this network, if nobody has the frame's link at this moment.
+    pub fn try_receive(&mut self, net: Net, now: u64, octets: &[u8]) -> Option<Reply> {
+        let Opened { system, a, b, .. } = &mut self.opened;
+        match net {
+            Net::A => system.try_receive(a, now, octets),
+            Net::B => system.try_receive(b, now, octets),
+        }
+    }
+
     /// The system receives frames on this network at once.
     pub fn receive_all<R: Wait>(
         &mut self,

@@ -11,6 +11,7 @@ use receiver::{MailboxReader, Reading};
 use std::alloc::Global;
 use std::process::Abort;
 use std::sync::Wait;
+use std::thread;
 use std::thread::{Threads, join};
 use test_inputs::smallest;
 
@@ -29,12 +30,60 @@ fn place_of(rt: &impl Abort, reply: Reply) -> u64 {
     }
 }
 
+/// How a thread gives its frames: one by one, and waits for the link of each, or tries until it is free; or in bursts.
+#[derive(Clone, Copy, PartialEq, Eq)]
+enum How {
+    Each,
+    ByTries,
+    AtOnce,
+}
+
+/// Tries to give a frame until nobody has its link.
+fn give_by_tries<R: Wait>(
+    rt: &R,
+    system: &LiveSystem,
+    pass: &mut NetPass,
+    now: u64,
+    octets: &[u8],
+) -> Reply
+    requires { IsPassOf system.now pass.old }
+    ensures { IsPassOf system.now pass.new × (pass.new.net ≡ pass.old.net) }
+{
+    for _ in rt.forever() {
+        if let Some(reply) = system.try_receive(pass, now, octets) {
+            return reply;
+        }
+        thread::yield_now();
+    }
+    unreachable!()
+}
+
+/// Gives a frame, by tries or not.
+fn give_one<R: Wait>(
+    rt: &R,
+    system: &LiveSystem,
+    pass: &mut NetPass,
+    now: u64,
+    octets: &[u8],
+    how: How,
+) -> Reply
+    requires { IsPassOf system.now pass.old }
+    ensures { IsPassOf system.now pass.new × (pass.new.net ≡ pass.old.net) }
+{
+    if how == How::ByTries {
+        give_by_tries(rt, system, pass, now, octets)
+    } else {
+        system.receive(rt, pass, now, octets)
+    }
+}
+
 /// Gives the smallest frames with the sequence numbers from 1 on, one each 10 microseconds, one by one. Returns their places.
 fn give_each<R: Abort + Wait>(
     rt: &R,
     alloc: Global,
     system: &LiveSystem,
     mut pass: NetPass,
+    how: How,
 ) -> (NetPass, Vec<u64>)
     requires { IsPassOf system.now pass }
     ensures { IsPassOf system.now result.0 × (result.0.net ≡ pass.net) }
@@ -42,7 +91,7 @@ fn give_each<R: Abort + Wait>(
     let mut places = Vec::new(alloc);
     for number in 1..=MANY {
         let frame = smallest(alloc, number).expect(rt, "octets");
-        let reply = system.receive(rt, &mut pass, u64::from(number) * 10, &frame);
+        let reply = give_one(rt, system, &mut pass, u64::from(number) * 10, &frame, how);
         places.push(place_of(rt, reply)).expect(rt, "memory");
     }
     (pass, places)
@@ -88,21 +137,21 @@ fn give_bursts<R: Abort + Wait>(
     (pass, places)
 }
 
-/// Gives the frames, one by one or in bursts.
+/// Gives the frames in one of these ways.
 fn give<R: Abort + Wait>(
     rt: &R,
     alloc: Global,
     system: &LiveSystem,
     pass: NetPass,
-    at_once: bool,
+    how: How,
 ) -> (NetPass, Vec<u64>)
     requires { IsPassOf system.now pass }
     ensures { IsPassOf system.now result.0 × (result.0.net ≡ pass.net) }
 {
-    if at_once {
+    if how == How::AtOnce {
         give_bursts(rt, alloc, system, pass)
     } else {
-        give_each(rt, alloc, system, pass)
+        give_each(rt, alloc, system, pass, how)
     }
 }
 
@@ -123,7 +172,7 @@ fn reader_of(rt: &impl Abort, ends: &mut [LinkEnds<PartitionEnd>]) -> MailboxRea
 }
 
 /// Both networks give their frames, each on a thread of its own.
-fn on_two_threads<R: Abort + Threads + Wait + Sync>(rt: &R, alloc: Global, at_once: bool) -> Ended {
+fn on_two_threads<R: Abort + Threads + Wait + Sync>(rt: &R, alloc: Global, how: How) -> Ended {
     let Opened {
         system,
         a,
@@ -137,11 +186,11 @@ fn on_two_threads<R: Abort + Threads + Wait + Sync>(rt: &R, alloc: Global, at_on
         move ||
             requires { IsPassOf shared.now a × (a.net ≡ A) }
             ensures { IsPassOf shared.entry.now result.0 × (result.0.net ≡ A) }
-        { give(rt, alloc, shared, a, at_once) },
+        { give(rt, alloc, shared, a, how) },
         move ||
             requires { IsPassOf shared.now b × (b.net ≡ B) }
             ensures { IsPassOf shared.entry.now result.0 × (result.0.net ≡ B) }
-        { give(rt, alloc, shared, b, at_once) },
+        { give(rt, alloc, shared, b, how) },
     );
     let settled = system.settle(a, b);
     Ended {
@@ -161,8 +210,8 @@ fn on_one_thread<R: Abort + Wait>(rt: &R, alloc: Global) -> Ended {
         mut ends,
     } = open(rt, alloc).apart();
     let reader = reader_of(rt, &mut ends);
-    let (a, first) = give(rt, alloc, &system, a, false);
-    let (b, second) = give(rt, alloc, &system, b, true);
+    let (a, first) = give(rt, alloc, &system, a, How::Each);
+    let (b, second) = give(rt, alloc, &system, b, How::AtOnce);
     let settled = system.settle(a, b);
     Ended {
         settled,
@@ -226,10 +275,15 @@ fn one_thread_samples_each_frame_once(rt: HostRuntime) {
 
 #[test]
 fn two_threads_end_as_one_does(rt: HostRuntime) {
-    check_ended(&rt, on_two_threads(&rt, rt.alloc(), false));
+    check_ended(&rt, on_two_threads(&rt, rt.alloc(), How::Each));
 }
 
 #[test]
 fn two_threads_with_bursts_end_as_one_does(rt: HostRuntime) {
-    check_ended(&rt, on_two_threads(&rt, rt.alloc(), true));
+    check_ended(&rt, on_two_threads(&rt, rt.alloc(), How::AtOnce));
+}
+
+#[test]
+fn two_threads_that_try_end_as_one_does(rt: HostRuntime) {
+    check_ended(&rt, on_two_threads(&rt, rt.alloc(), How::ByTries));
 }
