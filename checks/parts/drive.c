@@ -1,15 +1,19 @@
 /* drive < SCRIPT: what the library for C answers to the calls of a script, a line each: the code, and what was told with DONE.
    Octets are in hexadecimal, `-` if there are none. Each buffer has just the room that the call is told, and was filled with
-   0xa5. Ends stand in slots by number. At the end a line says how many blocks of memory weren't given back. */
+   0xa5. Ends stand in slots by number. At the end a line says how many blocks of memory weren't given back. With SYSTEM the calls
+   are those of a system and of both its passes. */
 #include "yelunnavi.h"
 #include <inttypes.h>
 #include <stdio.h>
 #include <stdlib.h>
 #include <string.h>
+#ifdef SYSTEM
+#include "as_receiver.h"
+#endif
 
 enum { SLOTS = 64, FILL = 0xa5 };
 
-static uint64_t receiver_room[64], reader_rooms[SLOTS][64], taker_rooms[SLOTS][64];
+static uint64_t receiver_room[128], reader_rooms[SLOTS][64], taker_rooms[SLOTS][64];
 static struct yelunnavi_receiver receiver;
 static struct yelunnavi_reader readers[SLOTS];
 static struct yelunnavi_taker takers[SLOTS];

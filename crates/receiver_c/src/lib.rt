@@ -1,6 +1,7 @@
-//! The receiver for one task, for programs in C: three kinds of handles, each of a slot in room of the caller's. What a
-//! call does is said at the slots ([`receiver_slots`]) and, for C, in `examples/c/yelunnavi.h`. Of all calls
-//! the two openings alone take memory, and none waits. What C has to keep, and nothing checks: the room is as
+//! The receiver for one task and the end system of two threads, for programs in C: five kinds of handles, each of a slot in
+//! room of the caller's; those of the end system stand in [`system_calls`] and [`pass_calls`]. What a call does is said at the
+//! slots ([`receiver_slots`], [`system_slots`]) and, for C, in `examples/c/yelunnavi.h`. Of all calls the openings alone take
+//! memory, and none waits. What C has to keep, and nothing checks: the room is as
 //! large as `.._room()` says, aligned to 8, made by `.._init` once and used through one handle; one call at a time is
 //! made on a handle; what a call is passed doesn't overlap.
 #![tactic(auto)]
@@ -37,18 +38,24 @@ use std::alloc::Global;
 
 pub mod held_octets;
 pub mod marked;
+pub mod pass_calls;
+pub mod pass_handle;
 pub mod reader_handle;
 pub mod receiver_handle;
+pub mod system_calls;
+pub mod system_handle;
 pub mod taker_handle;
 
 use held_octets::{HeldOctets, octets_at};
 use marked::{MarkedReader, MarkedReceiver, MarkedTaker, READER, RECEIVER, TAKER};
+use pass_handle::PassHandle;
 use reader_handle::ReaderHandle;
 use receiver_handle::ReceiverHandle;
+use system_handle::SystemHandle;
 use taker_handle::TakerHandle;
 
 /// The number of the interface: raised with each change of a struct, a call or a number.
-pub const ABI: u32 = 3;
+pub const ABI: u32 = 4;
 
 /// The number of the interface of this library. A program compares it with that of the header that it was compiled with.
 #[unsafe(no_mangle)]
@@ -556,6 +563,8 @@ fn may_cross() {
     crosses::<ReceiverHandle>();
     crosses::<ReaderHandle>();
     crosses::<TakerHandle>();
+    crosses::<SystemHandle>();
+    crosses::<PassHandle>();
 }
 
 fn crosses<T: Send>() {}

@@ -1,4 +1,5 @@
-//! The slots that programs in C have of the receiver for one task: each call once, and each of its answers.
+//! The slots that programs in C have of the receiver for one task, and of the end system of two threads: each call once, and
+//! each of its answers.
 #![tactic(auto)]
 
 #[cfg(test)]
@@ -13,5 +14,7 @@ mod greatest;
 mod opening;
 #[cfg(test)]
 mod places;
+#[cfg(test)]
+mod systems;
 #[cfg(test)]
 mod tables;
