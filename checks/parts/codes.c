@@ -379,9 +379,9 @@ static void of_lines(void) {
 
 static const struct yelunnavi_link_row LINKS[2] = {{17, 1, 1000, 50000, 2, 2}, {18, 0, 0, 0, 4, 1}};
 static const struct yelunnavi_port_row PORTS[3] = {
-    {YELUNNAVI_SERVICE_SAMPLING, 0xe0e00011, 5000, 1471, 20000, 3, {'p', 'o', 's'}},
-    {YELUNNAVI_SERVICE_QUEUING, 0xe0e00011, 5002, 8192, 64, 3, {'n', 'a', 'v'}},
-    {YELUNNAVI_SERVICE_QUEUING, 0xe0e00011, 5002, 0, 1, 16, "abcdefghijklmno-"},
+    {YELUNNAVI_SERVICE_SAMPLING, 0xe0e00011, 5000, 1471, 20000, 3, {'p', 'o', 's'}, 0},
+    {YELUNNAVI_SERVICE_QUEUING, 0xe0e00011, 5002, 8192, 64, 3, {'n', 'a', 'v'}, 0},
+    {YELUNNAVI_SERVICE_QUEUING, 0xe0e00011, 5002, 0, 1, 16, "abcdefghijklmno-", 0},
 };
 static struct yelunnavi_link_row links_of[65];
 static struct yelunnavi_port_row ports_of[66];

@@ -101,6 +101,7 @@ static struct yelunnavi_port_row port_row(void) {
     uint8_t *name = octets(&row.name_len);
     memcpy(row.name, name, row.name_len);
     free(name);
+    row.readers = (uint32_t)number();
     return row;
 }
 

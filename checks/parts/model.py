@@ -230,15 +230,16 @@ class Receiver:
     def __init__(self):
         self.links = None
 
-    def open(self, settings, readers):
+    def open(self, settings, readers, each=()):
+        """`each` has the readers of ports by their names, where a table says them."""
         if self.links is not None:
             return (ALREADY_OPEN,)
-        if not 1 <= readers <= READERS:
+        if not 1 <= readers <= READERS or any(own > READERS for own in dict(each).values()):
             return (OUT_OF_RANGE,)
         self.links = [Link(link) for link in settings]
         self.counts, self.filtered_counts = {}, {}
         for port in self.ports():
-            port.left = readers if port.samples else 1
+            port.left = (dict(each).get(port.name) or readers) if port.samples else 1
         return (DONE,)
 
     def ports(self):

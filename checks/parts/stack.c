@@ -152,7 +152,7 @@ static void open_table(void) {
 
 static void of_tables(void) {
     for (uint32_t at = 0; at < YELUNNAVI_MOST_LINKS * YELUNNAVI_MOST_PORTS; at++) {
-        port_rows[at] = (struct yelunnavi_port_row){YELUNNAVI_SERVICE_SAMPLING, 0xe0e00001, at, 1, 1000, 5, {'p'}};
+        port_rows[at] = (struct yelunnavi_port_row){YELUNNAVI_SERVICE_SAMPLING, 0xe0e00001, at, 1, 1000, 5, {'p'}, 0};
         for (uint32_t place = 1, rest = at; place < 5; place++, rest /= 10) port_rows[at].name[place] = (uint8_t)('0' + rest % 10);
         link_rows[at / YELUNNAVI_MOST_PORTS] = (struct yelunnavi_link_row){at / YELUNNAVI_MOST_PORTS, 1, 0, 0, 1, YELUNNAVI_MOST_PORTS};
     }

@@ -136,6 +136,7 @@ package Yelunnavi is
    end record with Convention => C;
    type Port_Row is record
       Service, Address, Udp, Max : Unsigned_32; Limit : Unsigned_64; Name_Length : size_t; Name : Name_Octets;
+      Readers : Unsigned_32;
    end record with Convention => C;
    type Link_Rows is array (size_t range <>) of aliased Link_Row with Convention => C;
    type Port_Rows is array (size_t range <>) of aliased Port_Row with Convention => C;

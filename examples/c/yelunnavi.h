@@ -307,7 +307,7 @@ struct yelunnavi_fault {
 uint32_t yelunnavi_receiver_open(struct yelunnavi_receiver *h, const uint8_t *text, size_t len, size_t readers,
                                  struct yelunnavi_fault *fault);
 
-/* A configuration without a text: a table of its links, and of their ports one after another, as examples/c/table.c writes one
+/* A configuration without a text: a table of its links, and of their ports one after another, as tools/c_table.py writes one
    of a text. A program that opens no text and is linked with --gc-sections has none of the library's reading of TOML. */
 struct yelunnavi_link_row {
     uint32_t vl;         /* its link number, 0 to 65,535 */
@@ -326,6 +326,7 @@ struct yelunnavi_port_row {
     uint64_t limit;    /* the refresh period, up to 1,000,000,000; or the depth of the queue, 1 to 64 messages */
     size_t name_len;   /* how many octets its name has, 1 to 16 */
     uint8_t name[16];  /* of a-z 0-9 _ -, at the beginning */
+    uint32_t readers;    /* of a sampling port: how many readers it gets, 1 to 8; 0: as many as the opening is told */
 };
 
 /* Opens the receiver of a table, whose constant field has the 4 octets at `constant`, as the call above opens that of a text:

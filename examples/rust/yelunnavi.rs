@@ -132,7 +132,7 @@ replies! {
     /// A link of a table: its settings, and how many of the table's ports, the next ones, are its own.
     LinkRow { vl: u32, redundancy: u32, skew_max: u64, reassembly: u64, window: u32, ports: usize }
     /// A port of a table.
-    PortRow { service: Service, address: u32, udp: u32, max: u32, limit: u64, name_len: usize, name: [u8; 16] }
+    PortRow { service: Service, address: u32, udp: u32, max: u32, limit: u64, name_len: usize, name: [u8; 16], readers: u32 }
     /// What a partition has to know of its port.
     Limits { max: usize, refresh: u64 }
 }

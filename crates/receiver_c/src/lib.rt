@@ -22,6 +22,7 @@ ghost use Rattle.receiver_slots.specs.Codes.{already_open, done, faulty, no_memo
 ghost use Rattle.receiver_slots.specs.Handing.{HandsOut, hand_reader_code, hand_taker_code};
 ghost use Rattle.receiver_slots.specs.Naming.{CountsLinks, TellsLink, TellsPlace, TellsPort, link_code, links_code, place_code, port_code};
 ghost use Rattle.receiver_slots.specs.Reading.{Copies, DidHold, DidRead, TellsReader, copy_code, held_octets, read_code, release_code, released};
+ghost use Rattle.receiver_slots.specs.Readers.{are_all_counts};
 ghost use Rattle.receiver_slots.specs.Receiving.{CountsFrames, CountsFiltered, HasFault, HasTableFault, Opens, OpensTable, Receives, count_code, filtered_code, receive_code};
 ghost use Rattle.receiver_slots.specs.Taking.{DidTake, TellsTaker, take_code, taker_code};
 ghost use Rattle.receiver_slots.specs.declared.reader_slot.ReaderState.TheVariants.{Closed, Reads};
@@ -129,7 +130,7 @@ pub extern "C" fn yelunnavi_receiver_open_table(
     ensures fault { result ≡ faulty → HasTableFault constant.now links.now ports.now fault.new }
     ensures made { (result ≡ not_made) ↔ (is_made receiver_mark h.old.room.mark ≡ false) }
     ensures already { is_made receiver_mark h.old.room.mark ≡ true → (result ≡ already_open) ↔ IsSome h.old.room.slot }
-    ensures range { is_made receiver_mark h.old.room.mark ≡ true → h.old.room.slot ≡ None → (result ≡ out_of_range) ↔ (is_reader_count readers ≡ false) }
+    ensures range { is_made receiver_mark h.old.room.mark ≡ true → h.old.room.slot ≡ None → (result ≡ out_of_range) ↔ (are_all_counts readers ports.now ≡ false) }
     ensures same { 0 < result → h.new.room.slot ≡ h.old.room.slot }
     ensures others { result ≢ faulty → fault.new ≡ fault.old }
     ensures codes { (result ≤ no_memory) ⊎ ((result ≡ out_of_range) ⊎ (result ≡ not_made)) }

@@ -10,6 +10,7 @@ ghost use Rattle.mailbox_port.specs.Port.{is_reader_count};
 ghost use Rattle.receiver_c.specs.Made.{made_system};
 ghost use Rattle.receiver_c.specs.Marks.{after_close, if_made, is_made, pass_mark, reader_mark, system_mark, taker_mark};
 ghost use Rattle.receiver_slots.specs.Codes.{already_open, done, faulty, no_memory, none_left, not_made, not_open, out_of_range};
+ghost use Rattle.receiver_slots.specs.Readers.{are_all_counts};
 ghost use Rattle.receiver_slots.specs.Receiving.{HasFault, HasTableFault};
 ghost use Rattle.receiver_slots.specs.declared.reader_slot.ReaderState.TheVariants.{Reads};
 ghost use Rattle.system_slots.specs.Facts.{CountsLinks, TellsLink, TellsPlace, TellsPort, link_code, links_code, place_code, port_code};
@@ -87,7 +88,7 @@ pub extern "C" fn yelunnavi_system_open_table(
     ensures fault { result ≡ faulty → HasTableFault constant.now links.now ports.now fault.new }
     ensures made { (result ≡ not_made) ↔ (is_made system_mark h.old.room.mark ≡ false) }
     ensures already { is_made system_mark h.old.room.mark ≡ true → (result ≡ already_open) ↔ IsSome h.old.room.slot }
-    ensures range { is_made system_mark h.old.room.mark ≡ true → h.old.room.slot ≡ None → (result ≡ out_of_range) ↔ (is_reader_count readers ≡ false) }
+    ensures range { is_made system_mark h.old.room.mark ≡ true → h.old.room.slot ≡ None → (result ≡ out_of_range) ↔ (are_all_counts readers ports.now ≡ false) }
     ensures same { 0 < result → h.new.room.slot ≡ h.old.room.slot }
     ensures others { result ≢ faulty → fault.new ≡ fault.old }
     ensures codes { (result ≤ no_memory) ⊎ ((result ≡ out_of_range) ⊎ (result ≡ not_made)) }

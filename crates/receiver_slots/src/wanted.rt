@@ -1,12 +1,14 @@
 //! What an opening is asked for: a configuration, in a text or in a table, and how many readers each sampling port has.
-ghost use Rattle.std.specs.Prelude.{◌≡◌, ◌≢◌, ◌↔◌, ◌⊎◌, Err, IfErr, IfOk, Ok, false};
+ghost use Rattle.std.specs.Prelude.{◌≡◌, ◌≢◌, ◌↔◌, ◌⊎◌, Err, IfErr, IfOk, Ok, [], false};
 ghost use Rattle.mailbox_port.specs.Port.{is_reader_count};
 ghost use Rattle.vl_config.specs.Octets.{config_of};
 ghost use Rattle.vl_config.specs.Rows.{table_of};
 ghost use Rattle.receiver_slots.specs.Codes.{faulty, no_memory, out_of_range};
+ghost use Rattle.receiver_slots.specs.Readers.{are_all_counts};
 ghost use Rattle.receiver_slots.specs.Receiving.{HasFault, HasTableFault};
 
 use crate::codes::{FAULTY, NO_MEMORY, OUT_OF_RANGE};
+use crate::port_readers::{PortReaders, are_reader_counts};
 use crate::replies::{FaultReply, fault_reply_of};
 use es_base::{Config, Memory};
 use receiver::ReaderCount;
@@ -17,9 +19,9 @@ use vl_config::{
 
 /// A configuration, and how many readers each of its sampling ports has.
 #[derive(Drop)]
-pub struct Wanted {
+pub struct Wanted<'a> {
     pub config: Config,
-    pub readers: ReaderCount,
+    pub readers: PortReaders<'a>,
 }
 
 /// What is told of this fault of the configuration in these octets.
@@ -38,14 +40,14 @@ pub fn wanted_in_text(
     text: &[u8],
     readers: usize,
     fault: &mut FaultReply,
-) -> Result<Wanted, u32>
-    ensures ok { IfOk result (λ wanted. (config_of text.now ≡ Ok wanted.config) × (wanted.readers ≡ readers)) }
+) -> Result<Wanted<'static>, u32>
+    ensures ok { IfOk result (λ wanted. (config_of text.now ≡ Ok wanted.config) × (wanted.readers.others ≡ readers) × (wanted.readers.rows.now ≡ [])) }
     ensures fault { result ≡ Err faulty → HasFault text.now fault.new }
     ensures range { (result ≡ Err out_of_range) ↔ (is_reader_count readers ≡ false) }
     ensures others { result ≢ Err faulty → fault.new ≡ fault.old }
     ensures codes { IfErr result (λ code. (code ≡ faulty) ⊎ ((code ≡ no_memory) ⊎ (code ≡ out_of_range))) }
 {
-    let Some(readers) = ReaderCount::new(readers) else {
+    let Some(others) = ReaderCount::new(readers) else {
         return Err(OUT_OF_RANGE);
     };
     let config = match read_octets(alloc, text) {
@@ -59,29 +61,33 @@ pub fn wanted_in_text(
             return Err(FAULTY);
         }
     };
+    let readers = PortReaders { rows: &[], others };
     Ok(Wanted { config, readers })
 }
 
-/// The configuration of a table: the constant field, the links, and their ports one after another; with so many readers at
-/// each sampling port, 1 to 8, else OUT_OF_RANGE. FAULTY, and the fault of [`wanted_in_text`] of a text that says the same,
+/// The configuration of a table: the constant field, the links, and their ports one after another; with as many readers at
+/// each sampling port as its row says, 1 to 8, or `readers` where it says 0; another number is OUT_OF_RANGE. FAULTY, and the fault of [`wanted_in_text`] of a text that says the same,
 /// but for its line.
-pub fn wanted_in_table(
+pub fn wanted_in_table<'a>(
     alloc: Global,
     constant: &[u8; 4],
     links: &[LinkRow],
-    ports: &[PortRow],
+    ports: &'a [PortRow],
     readers: usize,
     fault: &mut FaultReply,
-) -> Result<Wanted, u32>
-    ensures ok { IfOk result (λ wanted. (table_of constant.now links.now ports.now ≡ Ok wanted.config) × (wanted.readers ≡ readers)) }
+) -> Result<Wanted<'a>, u32>
+    ensures ok { IfOk result (λ wanted. (table_of constant.now links.now ports.now ≡ Ok wanted.config) × (wanted.readers.others ≡ readers) × (wanted.readers.rows.now ≡ ports.now)) }
     ensures fault { result ≡ Err faulty → HasTableFault constant.now links.now ports.now fault.new }
-    ensures range { (result ≡ Err out_of_range) ↔ (is_reader_count readers ≡ false) }
+    ensures range { (result ≡ Err out_of_range) ↔ (are_all_counts readers ports.now ≡ false) }
     ensures others { result ≢ Err faulty → fault.new ≡ fault.old }
     ensures codes { IfErr result (λ code. (code ≡ faulty) ⊎ ((code ≡ no_memory) ⊎ (code ≡ out_of_range))) }
 {
-    let Some(readers) = ReaderCount::new(readers) else {
+    let Some(others) = ReaderCount::new(readers) else {
         return Err(OUT_OF_RANGE);
     };
+    if !are_reader_counts(ports) {
+        return Err(OUT_OF_RANGE);
+    }
     let config = match config_of_table(alloc, *constant, links, ports) {
         Ok(config) => config,
         Err(found) => {
@@ -91,6 +97,10 @@ pub fn wanted_in_table(
             *fault = fault_reply_of(found.fault, found.place, 0);
             return Err(FAULTY);
         }
+    };
+    let readers = PortReaders {
+        rows: ports,
+        others,
     };
     Ok(Wanted { config, readers })
 }

@@ -3,6 +3,7 @@ use Rattle.std.specs.Prelude.{◌≡◌, ℕ, List, is_some, Option, None, Some,
 use Rattle.es_base.specs.declared.place.Net.{Net}
 use Rattle.es_base.specs.declared.place.Net.TheVariants.{A, B}
 use Rattle.es_base.specs.Config.{Configuration}
+use Rattle.es_base.specs.Port.{Port}
 use Rattle.message_ring.specs.Queue.{Known}
 use Rattle.receiver.specs.declared.ends.LinkEnds.{LinkEnds}
 use Rattle.receiver.specs.declared.partition.PartitionEnd.{PartitionEnd}
@@ -16,6 +17,7 @@ use Rattle.vl_config.specs.Rows.{table_of}
 use Rattle.receiver_slots.specs.Codes.{already_open, done, no_network, none_left, not_open}
 use Rattle.receiver_slots.specs.Handing.{has_reader, has_taker, name_code}
 use Rattle.receiver_slots.specs.Numbers.{net_of}
+use Rattle.receiver_slots.specs.Readers.{readers_in}
 use Rattle.receiver_slots.specs.declared.reader_slot.ReaderState.{ReaderState}
 use Rattle.receiver_slots.specs.declared.reader_slot.ReaderState.TheVariants.{Closed, Reads, Holds}
 use Rattle.system_slots.specs.Passing.{Passing}
@@ -32,26 +34,26 @@ pub record Running : Type 0 where
 abbrev pub passing : System → KnownNet → Passing
 passing system pass = record { system = system; pass = pass }
 
--- a new system of this configuration, with the passes of both networks and the ends of all ports; each sampling port has so
--- many readers
-pub record IsNewSystem (readers : ℕ) (config : Configuration) (new : Running) : Type 0 where
+-- a new system of this configuration, with the passes of both networks and the ends of all ports; each sampling port has as
+-- many readers as this says
+pub record IsNewSystem (readers : Port → ℕ) (config : Configuration) (new : Running) : Type 0 where
   pub of_config : new.system.config ≡ config
   pub passes : Passes
   pub of_a : new.a ≡ Some (passing new.system passes.a)
   pub of_b : new.b ≡ Some (passing new.system passes.b)
   pub opened : AreOpened readers new.system passes new.ends
 
-abbrev pub OpensConfig : ℕ → Configuration → Option Running → Type 0
+abbrev pub OpensConfig : (Port → ℕ) → Configuration → Option Running → Type 0
 OpensConfig readers config None = ⊥
 OpensConfig readers config (Some new) = IsNewSystem readers config new
 
 -- so it is of the configuration in these octets
 abbrev pub Opens : ℕ → List ℕ → Option Running → Type 0
-Opens readers octets new = (config : Configuration) × (config_of octets ≡ Ok config) × OpensConfig readers config new
+Opens readers octets new = (config : Configuration) × (config_of octets ≡ Ok config) × OpensConfig (λ _. readers) config new
 
 -- so it is of the configuration of a table
 abbrev pub OpensTable : ℕ → List ℕ → List LinkRow → List PortRow → Option Running → Type 0
-OpensTable readers constant links ports new = (config : Configuration) × (table_of constant links ports ≡ Ok config) × OpensConfig readers config new
+OpensTable readers constant links ports new = (config : Configuration) × (table_of constant links ports ≡ Ok config) × OpensConfig (readers_in readers ports) config new
 
 -- ---- the passes
 

@@ -1,5 +1,6 @@
 //! A system with the passes and the ends of its ports that are left to hand out.
 ghost use Rattle.std.specs.Prelude.{◌≡◌, IfOk};
+ghost use Rattle.receiver_slots.specs.Readers.{readers_in};
 ghost use Rattle.system_slots.specs.Running.{IsNewSystem, pass_left, without_pass};
 
 use crate::passing::Passing;
@@ -20,7 +21,8 @@ pub(crate) struct Running {
 
 impl Model for Running {
     ghost use Rattle.std.specs.Arc.{arc_value};
-    ghost use Rattle.system_slots.specs.Running.{Running as Seen};
+    ghost use Rattle.receiver_slots.specs.Readers.{readers_in};
+ghost use Rattle.system_slots.specs.Running.{Running as Seen};
 
     ghost Value = { Seen };
 
@@ -29,11 +31,11 @@ impl Model for Running {
 
 impl Running {
     /// Opens the system of this configuration.
-    pub fn open(alloc: Global, wanted: &Wanted) -> Result<Running, Memory>
-        ensures { IfOk result (IsNewSystem wanted.now.readers wanted.now.config) }
+    pub fn open(alloc: Global, wanted: &Wanted<'_>) -> Result<Running, Memory>
+        ensures { IfOk result (IsNewSystem (readers_in wanted.now.readers.others wanted.now.readers.rows.now) wanted.now.config) }
     {
         let Opened { system, a, b, ends } =
-            LiveSystem::open(alloc, &wanted.config, wanted.readers)?;
+            LiveSystem::open_with(alloc, &wanted.config, &wanted.readers)?;
         let system = Arc::new(alloc, system)?;
         let of_a = Arc::try_clone(&system)?;
         let of_b = Arc::try_clone(&system)?;

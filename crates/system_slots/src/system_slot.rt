@@ -8,6 +8,7 @@ ghost use Rattle.receiver_slots.specs.Codes.{already_open, done, faulty, no_memo
 ghost use Rattle.receiver_slots.specs.Receiving.{HasFault, HasTableFault};
 ghost use Rattle.receiver_slots.specs.declared.reader_slot.ReaderState.TheVariants.{Reads};
 ghost use Rattle.system_slots.specs.Facts.{CountsLinks, TellsLink, TellsPlace, TellsPort, link_code, links_code, place_code, port_code};
+ghost use Rattle.receiver_slots.specs.Readers.{are_all_counts, readers_in};
 ghost use Rattle.system_slots.specs.Running.{HandsOut, HandsPass, Opens, OpensConfig, OpensTable, hand_pass_code, hand_reader_code, hand_taker_code};
 
 use crate::pass_slot::PassSlot;
@@ -74,8 +75,8 @@ impl SystemSlot {
     }
 
     /// Opens the system of the configuration of a table: the constant field, the links, and their ports one after another. Each
-    /// sampling port has so many readers, 1 to 8, else OUT_OF_RANGE. All memory is taken here. FAULTY, and the fault of
-    /// [`open_text`](SystemSlot::open_text) of a text that says the same, but for its line.
+    /// sampling port has as many readers as its row says, 1 to 8, or `readers` where it says 0; another number is OUT_OF_RANGE.
+    /// All memory is taken here. FAULTY, and the fault of [`open_text`](SystemSlot::open_text) of a text that says the same, but for its line.
     pub fn open_table(
         &mut self,
         alloc: Global,
@@ -88,7 +89,7 @@ impl SystemSlot {
         ensures opened { result ≡ done → OpensTable readers constant.now links.now ports.now self.new }
         ensures fault { result ≡ faulty → HasTableFault constant.now links.now ports.now fault.new }
         ensures already { (result ≡ already_open) ↔ IsSome self.old }
-        ensures range { self.old ≡ None → (result ≡ out_of_range) ↔ (is_reader_count readers ≡ false) }
+        ensures range { self.old ≡ None → (result ≡ out_of_range) ↔ (are_all_counts readers ports.now ≡ false) }
         ensures same { 0 < result → self.new ≡ self.old }
         ensures others { result ≢ faulty → fault.new ≡ fault.old }
         ensures codes { (result ≤ no_memory) ⊎ (result ≡ out_of_range) }
@@ -104,8 +105,8 @@ impl SystemSlot {
     }
 
     /// Opens the system of this configuration in a slot that has none.
-    fn open(&mut self, alloc: Global, wanted: &Wanted) -> u32
-        ensures opened { result ≡ done → OpensConfig wanted.now.readers wanted.now.config self.new }
+    fn open(&mut self, alloc: Global, wanted: &Wanted<'_>) -> u32
+        ensures opened { result ≡ done → OpensConfig (readers_in wanted.now.readers.others wanted.now.readers.rows.now) wanted.now.config self.new }
         ensures same { 0 < result → self.new ≡ self.old }
         ensures codes { (result ≡ done) ⊎ (result ≡ no_memory) }
     {
