@@ -30,7 +30,7 @@ def rows_of(links, each):
             limit = port.refresh if samples else port.depth
             address = int.from_bytes(bytes([224, 224, link.place, 1]), "big")
             yield from (1 if samples else 2, address, port.udp, longest, limit, hexed(port.name.encode()),
-                        each[port.name])
+                        each[port.name.encode()])
 
 
 class Script:
@@ -83,7 +83,7 @@ class Script:
             self.call(answer, "open", readers, hexed(text))
         else:
             odd = 9 if self.r.random() < 0.05 else 0
-            each = {port.name: self.r.choice([0, 0, 1, 3, 8, odd]) for link in self.links for port in link.ports}
+            each = {port.name.encode(): self.r.choice([0, 0, 1, 3, 8, odd]) for link in self.links for port in link.ports}
             answer = self.receiver.open(self.links, readers, each)
             self.call(answer, "open_table", readers, *rows_of(self.links, each))
         for _ in range(self.r.choice([0, 2, 6, 10]) if answer == (model.DONE,) else 0):
