@@ -1,8 +1,8 @@
 -- A part of a list that was written anew.
-use Rattle.std.proofs.Common.{◌≡◌, ◌∙◌, ap, arith, refl, sym, ℕ, zero, suc, ◌+◌, ◌-◌, ◌≤◌, List, [], ◌∷◌, ◌++◌, drop, length, length-append, take}
+use Rattle.std.proofs.Common.{◌≡◌, ◌∙◌, ap, arith, sym, ℕ, ◌+◌, ◌≤◌, List, ◌++◌, drop, length, take}
 use Rattle.std.proofs.Math.Seq.{take-add}
 use borrow.Rule.Slice.PartMut.{put_mid}
-use Rattle.std.proofs.lemmas.List.{drop-append-le, drop-drop, drop_all, drop_at, length-drop, length-take, length-take-le, take_at, take-append-drop, take-append-le}
+use Rattle.std.proofs.lemmas.List.{drop-append-le, drop-drop, drop_at, length-take-le, take_at, take-append-drop, take-append-le}
 
 -- the part from the place a on, of k elements, is written: as far as its first n elements, and after them
 module _ {X : Type 0} (a k n : ℕ) (xs ys : List X) (low : a ≤ length xs) (many : length ys ≡ k) (few : n ≤ k) where

@@ -1,7 +1,6 @@
 -- Frames of one network that a link takes one after another, in one visit.
 use Rattle.std.proofs.Common.{◌≡◌, ℕ, ◌+◌, ◌<◌, List, [], ◌∷◌, ◌++◌, drop, length, map, Some, refl, sym, ap, ◌∙◌, subst, arith, append-nil, append_assoc, length-append}
 use Rattle.std.specs.Borrow.{Bor}
-use Rattle.std.specs.List.{All}
 use Rattle.std.proofs.lemmas.List.{drop_at, length-reverse, reverse-append}
 use Rattle.std.proofs.lemmas.List.Elements.{All-head, All-tail}
 use Rattle.es_base.specs.declared.place.LinkNo.{LinkNo}
@@ -11,7 +10,6 @@ use Rattle.es_base.specs.declared.event.Event.{Event}
 use Rattle.es_base.specs.Addressing.{addressee_of}
 use Rattle.es_base.specs.Frame.{IsFrame}
 use Rattle.es_base.specs.Past.{arrived, event_of}
-use Rattle.es_base.specs.Settings.{Settings}
 use Rattle.link_core.specs.Counted.{shown}
 use Rattle.link_core.specs.Link.{Link as Core}
 use Rattle.link_lock.specs.declared.user.User.{User}
@@ -19,14 +17,13 @@ use Rattle.link_lock.specs.declared.user.User.TheVariants.{First, Second}
 use Rattle.link_lock.specs.Lists.{with_list}
 use Rattle.link_lock.specs.Pass.{Known, MayFind, MayLeave, with_list_of}
 use Rattle.network_calls.specs.declared.call.Call.{Call}
-use Rattle.network_calls.specs.declared.reply.Reply.{Reply}
 use Rattle.network_calls.specs.declared.reply.Reply.TheVariants as replies
 use Rattle.network_calls.specs.Calls.{call, calls_from, net_of, user_of}
 use Rattle.network_calls.proofs.Events.{calls_append}
 use Rattle.live_system.specs.declared.counts.LinkCounts.{LinkCounts}
 use Rattle.live_system.specs.Burst.{AreFramesFor, CallsInTurn, CountsInTurn, CountsOne, Frames, TookInTurn, reply_of}
 use Rattle.live_system.specs.Calls.{Agrees, LiveLink, as_opened, events_of, goes_on}
-use Rattle.live_system.specs.Pass.{AreCountsOf, Did, KnownLink, known_link}
+use Rattle.live_system.specs.Pass.{AreCountsOf, Did, known_link}
 use Rattle.live_system.proofs.Counting.{counts_more}
 use Rattle.live_system.proofs.Meets.{leaves_reader, no_call_of_reader}
 use Rattle.live_system.proofs.Visits.{is_call, leaves, one_call}

@@ -1,5 +1,5 @@
 -- Frames that are given at once.
-use Rattle.std.specs.Prelude.{◌≡◌, ℕ, List, [], ◌∷◌, ◌++◌, map}
+use Rattle.std.specs.Prelude.{◌≡◌, ℕ, List, [], ◌∷◌, ◌++◌}
 use Rattle.std.specs.Borrow.{Bor}
 use Rattle.std.specs.List.{All}
 use Rattle.es_base.specs.declared.place.LinkNo.{LinkNo}

@@ -145,7 +145,7 @@ pub fn try_inside<R: Wait>(
         move |book: &mut Book| -> (PassOf<Book>, bool)
             requires { other.lock ≡ lock.now }
             ensures book { book.new ≡ book.old }
-            ensures other { (result.0.lock ≡ other.entry.lock) × (result.0.user ≡ other.entry.user) }
+            ensures other { (result.0.lock ≡ other.lock) × (result.0.user ≡ other.user) }
         {
             let mut other = other;
             let wrote = try_write(lock, &mut other, number);
