@@ -14,19 +14,20 @@ use Rattle.es_base.specs.Config.{Configuration}
 use Rattle.es_base.specs.Frame.{IsFrame}
 use Rattle.es_base.specs.Settings.{Settings}
 use Rattle.es_base.proofs.Addressed.{link_at}
-use Rattle.es_base.proofs.Elements.{slice_get-set_same}
+use Rattle.es_base.proofs.Elements.{set_same, slice_get-set_same}
 use Rattle.link_core.specs.Counted.{shown}
 use Rattle.link_lock.specs.Pass.{LockId}
 use Rattle.network_calls.specs.declared.reply.Reply.{Reply}
 use Rattle.network_calls.specs.declared.reply.Reply.TheVariants as replies
 use Rattle.network_calls.specs.Calls.{call}
+use Rattle.network_calls.proofs.Rows.{still_passes}
 use Rattle.live_system.specs.Burst.{AreFramesFor, CallsInTurn, ComeToPlace, Frames, steps_in_turn}
 use Rattle.live_system.specs.Calls.{LiveLink}
 use Rattle.live_system.specs.Pass.{KnownLink}
 use Rattle.live_system.specs.Run.{RanAlone, Step, came}
-use Rattle.live_system.specs.System.{IsPassAt, IsPassOf, KnownNet, Replies, System}
+use Rattle.live_system.specs.System.{IsPassAt, IsPassOf, KnownNet, Replies, System, on_link, settings_in}
 use Rattle.live_system.proofs.Parts.{take_written}
-use Rattle.live_system.proofs.Rows.{same_after, still_passes, unchanged}
+use Rattle.live_system.proofs.Knowing.{same_after}
 
 abbrev Timed : Type 0
 Timed = ℕ × Bor (List ℕ)
@@ -88,7 +89,7 @@ frames_of_link config at lock settings net pass fs is there come =
 pub ran_row : (system : System) (old : KnownNet) (at : ℕ) (pass last : KnownLink) (fs : Frames) (rs : List Reply) → IsPassOf system old → slice_get old.links at ≡ Some pass → ComeToPlace system.config at fs
     → CallsInTurn pass fs rs last → RanAlone system old (steps_in_turn fs rs) (with_link old at last) × IsPassOf system (with_link old at last)
 ran_row system old at pass last [] [] own there come calls =
-    let same : set old.links at last ≡ old.links = unchanged old.links at pass last there calls in
+    let same : set old.links at last ≡ old.links = set_same old.links at pass last there calls in
     let still : with_link old at last ≡ old = (λ i. record old { links = same i }) in
     (still, subst (IsPassOf system) (sym still) own)
 ran_row system old at pass last (f ∷ fs) (r ∷ rs) own there come calls =
@@ -98,7 +99,7 @@ ran_row system old at pass last (f ∷ fs) (r ∷ rs) own there come calls =
     let does = calls.4 in
     let first = All-head (λ (g : Timed). IsFrame g.1.now × ComesToPlace system.config g.1.now at) f fs come in
     let next = with_link old at mid in
-    let own_next : IsPassOf system next = still_passes old.net system.locks system.config.links old.links at pass mid own there (same_after pass mid (call place f.0 f.1.now verdict) does) in
+    let own_next : IsPassOf system next = still_passes on_link settings_in old.net system.locks system.config.links old.links at pass mid own there (same_after pass mid (call place f.0 f.1.now verdict) does) in
     let reply : Replies system.config old f.0 f.1.now (replies.Link (addressee_of f.1.now) (shown place) verdict) next =
     (at, first.1, refl, refl, place, refl, record { before = pass; after = mid; there = there; calls = does; only = refl }) in
     let one : RanAlone system old (came f.0 f.1.now r ∷ []) next = (old, refl, own_next, refl, subst (λ (x : Reply). Replies system.config old f.0 f.1.now x next) (sym calls.3) reply) in

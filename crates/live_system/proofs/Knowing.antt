@@ -7,12 +7,14 @@ use Rattle.es_base.specs.Config.{Configuration}
 use Rattle.receiver.specs.declared.port.PortOutlet.{PortOutlet}
 use Rattle.receiver.specs.Meetings.{HasOutlet}
 use Rattle.receiver.specs.Receiver.{Links}
+use Rattle.network_calls.specs.declared.call.Call.{Call}
 use Rattle.network_calls.specs.declared.reply.Reply.{Reply}
 use Rattle.network_calls.specs.declared.reply.Reply.TheVariants as replies
+use Rattle.network_calls.proofs.Rows.{IsSame}
 use Rattle.live_system.specs.Calls.{LiveLink}
 use Rattle.live_system.specs.Meetings.{KnowsOutlet}
-use Rattle.live_system.specs.Pass.{KnownLink}
-use Rattle.live_system.specs.System.{KnowLinks, KnownNet, Replies}
+use Rattle.live_system.specs.Pass.{Calls, KnownLink}
+use Rattle.live_system.specs.System.{KnowLinks, KnownNet, Replies, on_link, settings_in}
 
 knows_at : (passes : List KnownLink) (links : List LiveLink) (place : ℕ) (link : LiveLink) → KnowLinks passes links → slice_get links place ≡ Some link
     → (pass : KnownLink) × (slice_get passes place ≡ Some pass) × (pass.link ≡ Some link)
@@ -39,3 +41,7 @@ knows_still config old new now octets (replies.Filtered cause) links does know =
 knows_still config old new now octets (replies.Link number shows verdict) links does know =
     let calls = does.6 in
     rw calls.only (know_set old.links links does.0 calls.before calls.after know calls.there calls.calls.link)
+
+-- it leaves the pass on its link that of this link
+pub same_after : (old new : KnownLink) (c : Call) → Calls old c new → IsSame on_link settings_in old new
+same_after old new c is = (is.lock, is.net, is.link, is.vl)

@@ -1,11 +1,8 @@
 pub mod Outlets
 pub mod Visits
 pub mod Counting
-pub mod Rows
 pub mod Tallies
 pub mod Opens
-pub mod Settling
-pub mod Looking
 pub mod Running
 pub mod Threads
 pub mod Meets

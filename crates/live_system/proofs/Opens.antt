@@ -1,20 +1,11 @@
 -- One link more, at the end of the row.
-use Rattle.std.proofs.Common.{◌≡◌, ap, refl, suc, length, Some, List, [], ◌∷◌, ◌++◌}
+use Rattle.std.proofs.Common.{◌≡◌, Some, List, [], ◌∷◌, ◌++◌}
 use Rattle.es_base.specs.declared.place.Net.{Net}
 use Rattle.es_base.specs.Settings.{Settings}
 use Rattle.link_lock.specs.Pass.{LockId}
 use Rattle.live_system.specs.Calls.{LiveLink}
 use Rattle.live_system.specs.Pass.{IsNewPass, KnownLink}
-use Rattle.live_system.specs.System.{ArePasses, AreWithoutCalls, IsPassAt, KnowLinks}
-
-pub passes_push : (net : Net) (locks : List LockId) (links : List Settings) (passes : List KnownLink) (lock : LockId) (settings : Settings) (pass : KnownLink)
-    → ArePasses net locks links passes → IsPassAt lock settings net pass → ArePasses net (locks ++ lock ∷ []) (links ++ settings ∷ []) (passes ++ pass ∷ [])
-passes_push net [] [] [] lock settings pass are is = (is, tt)
-passes_push net (l ∷ locks) (s ∷ links) (p ∷ passes) lock settings pass are is = (are.0, passes_push net locks links passes lock settings pass are.1 is)
-passes_push net (l ∷ locks) (s ∷ links) [] lock settings pass are is = absurd are
-passes_push net (l ∷ locks) [] passes lock settings pass are is = absurd are
-passes_push net [] (s ∷ links) passes lock settings pass are is = absurd are
-passes_push net [] [] (p ∷ passes) lock settings pass are is = absurd are
+use Rattle.live_system.specs.System.{AreWithoutCalls, IsPassAt, KnowLinks}
 
 pub none_push : (passes : List KnownLink) (pass : KnownLink) → AreWithoutCalls passes → pass.calls ≡ [] → AreWithoutCalls (passes ++ pass ∷ [])
 none_push [] pass are is = (is, tt)
@@ -25,15 +16,6 @@ know_push [] [] pass link know is = (is, tt)
 know_push (p ∷ passes) (l ∷ links) pass link know is = (know.0, know_push passes links pass link know.1 is)
 know_push (p ∷ passes) [] pass link know is = absurd know
 know_push [] (l ∷ links) pass link know is = absurd know
-
--- there are as many passes as links
-pub as_many : (net : Net) (locks : List LockId) (links : List Settings) (passes : List KnownLink) → ArePasses net locks links passes → length passes ≡ length links
-as_many net [] [] [] are = refl
-as_many net (l ∷ locks) (s ∷ links) (p ∷ passes) are = ap suc (as_many net locks links passes are.1)
-as_many net (l ∷ locks) (s ∷ links) [] are = absurd are
-as_many net (l ∷ locks) [] passes are = absurd are
-as_many net [] (s ∷ links) passes are = absurd are
-as_many net [] [] (p ∷ passes) are = absurd are
 
 -- a pass that was opened with its link
 pub opened_pass : (settings : Settings) (link : LiveLink) (lock : LockId) (net : Net) (pass : KnownLink) → link.core.settings ≡ settings → IsNewPass settings link lock net pass → IsPassAt lock settings net pass

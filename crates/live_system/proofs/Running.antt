@@ -1,13 +1,13 @@
 -- From the opening of a system to its end.
-use Rattle.std.proofs.Common.{◌≡◌, ◌∙◌, ap, sym, subst, refl, ℕ, zero, suc, ◌+◌, ◌==◌, Bool, true, false, List, [], ◌∷◌, ◌++◌, length, map, if◌then◌else◌, append-nil, Option, Some, position}
-use Rattle.std.specs.List.{position_or_len, slice_get, slice_set}
+use Rattle.std.proofs.Common.{◌≡◌, ◌∙◌, ap, sym, subst, refl, ℕ, zero, suc, ◌+◌, ◌==◌, Bool, true, false, List, [], ◌∷◌, ◌++◌, length, map, if◌then◌else◌, append-nil, Option, Some}
+use Rattle.std.specs.List.{slice_get, slice_set}
 use Rattle.std.proofs.lemmas.List.{length-map, map-append, reverse-reverse}
 use Rattle.std.proofs.lemmas.Option.{same_Some, slice_get_within}
 use Rattle.es_base.specs.declared.place.LinkNo.{LinkNo}
 use Rattle.es_base.specs.declared.place.Net.{Net}
 use Rattle.es_base.specs.declared.place.Net.TheVariants.{A, B}
 use Rattle.es_base.specs.declared.event.Arrival.{Arrival}
-use Rattle.es_base.specs.Config.{has_link_number, link_of}
+use Rattle.es_base.specs.Config.{link_of}
 use Rattle.es_base.specs.FilterTally.{HasFiltered}
 use Rattle.es_base.specs.Integrity.{is_same_net}
 use Rattle.es_base.specs.Limits.{verdict_kinds}
@@ -19,9 +19,7 @@ use Rattle.es_base.specs.Verdict.{kind_of}
 use Rattle.es_base.proofs.Addressed.{link_at}
 use Rattle.es_base.proofs.Counted.{one_frame_more}
 use Rattle.es_base.proofs.Elements.{slice_get-set_other, slice_get-set_same}
-use Rattle.es_base.proofs.Firsts.{found_at}
 use Rattle.link_core.specs.Counted.{shown}
-use Rattle.link_lock.specs.Pass.{LockId}
 use Rattle.link_lock.specs.declared.user.User.TheVariants.{First, Second}
 use Rattle.receiver.specs.declared.ends.LinkEnds.{LinkEnds}
 use Rattle.receiver.specs.declared.partition.PartitionEnd.{PartitionEnd}
@@ -32,16 +30,16 @@ use Rattle.receiver.specs.Receiver.{AreNewLinks}
 use Rattle.network_calls.specs.declared.call.Call.{Call}
 use Rattle.network_calls.specs.declared.reply.Reply.TheVariants as replies
 use Rattle.network_calls.specs.Calls.{call, calls_from, count_calls}
+use Rattle.network_calls.specs.Passes.{calls_of}
 use Rattle.network_calls.proofs.Filtered.{not_filtered}
 use Rattle.network_calls.proofs.Named.{named_at, other_place, this_place}
 use Rattle.network_calls.proofs.Standing.{stand}
+use Rattle.network_calls.proofs.Rows.{at_place, found_pass}
 use Rattle.live_system.specs.Calls.{LiveLink, as_opened, events_of, new_outlet}
-use Rattle.live_system.specs.LookUps.{IsCounted, calls_of, calls_on, has_number, pass_on}
+use Rattle.live_system.specs.LookUps.{IsCounted, calls_on}
 use Rattle.live_system.specs.Pass.{IsSettled, KnownLink}
-use Rattle.live_system.specs.System.{ArePasses, AreSettled, AreWithoutCalls, CallsAt, IsNewPassOf, IsPassOf, KnowLinks, KnownCounts, KnownNet, System}
+use Rattle.live_system.specs.System.{AreSettled, AreWithoutCalls, CallsAt, IsNewPassOf, IsPassOf, KnowLinks, KnownCounts, KnownNet, System, on_link, settings_in}
 use Rattle.live_system.specs.Run.{AreOpened, CountsCalls, CountsFiltered, Does, EndsInOneRun, HasEnded, HasSettled, Makes, Passes, Ran, Step, call_in, came, calls_in, frame_in, frames_in, met, shown_call}
-use Rattle.live_system.proofs.Opens.{as_many}
-use Rattle.live_system.proofs.Rows.{at_place}
 
 -- ---- calls as replies show them
 
@@ -172,7 +170,7 @@ knows_none system first net own new = record {
   filtered = new.none_filtered;
   each = λ vl place named.
       let link = named_at system.config.links vl place named in
-      let at = at_place first.net system.locks system.config.links first.links place link.settings own link.there in
+      let at = at_place on_link settings_in first.net system.locks system.config.links first.links place link.settings own link.there in
       record {
         pass = at.pass;
         there = at.pass_there;
@@ -278,28 +276,11 @@ ends_in_one_run readers steps settings ends place first last links a b its at =
 
 -- ---- what a pass counted
 
-same_first : (net : Net) (vl : LinkNo) (locks : List LockId) (links : List Settings) (passes : List KnownLink) → ArePasses net locks links passes
-    → position_or_len (λ (pass : KnownLink). has_number vl pass.counts) passes ≡ position_or_len (has_link_number vl.0) links
-same_first net vl [] [] [] are = refl
-same_first net vl (lock ∷ locks) (settings ∷ links) (pass ∷ passes) are =
-    let numbers : pass.counts.vl.0 ≡ settings.vl.0 = ap (λ (n : LinkNo). n.0) are.0.with_number in
-    rw (numbers, same_first net vl locks links passes are.1) refl
-same_first net vl (lock ∷ locks) (settings ∷ links) [] are = absurd are
-same_first net vl (lock ∷ locks) [] passes are = absurd are
-same_first net vl [] (settings ∷ links) passes are = absurd are
-same_first net vl [] [] (pass ∷ passes) are = absurd are
-
-found_pass : (net : Net) (vl : LinkNo) (locks : List LockId) (links : List Settings) (passes : List KnownLink) (place : ℕ) (pass : KnownLink) → ArePasses net locks links passes → link_of links vl ≡ Some place
-    → slice_get passes place ≡ Some pass → pass_on vl passes ≡ Some pass
-found_pass net vl locks links passes place pass are first at =
-    let here : position (λ (k : KnownLink). has_number vl k.counts) passes ≡ Some place = rw (same_first net vl locks links passes are, as_many net locks links passes are) first in
-    found_at (λ (k : KnownLink). has_number vl k.counts) passes place here ∙ at
-
 counts_calls : (system : System) (first : KnownNet) (net : Net) (steps : List (Net × Step)) (last : KnownNet) (counts : KnownCounts) → Knows system first net steps last → IsCounted last counts → CountsCalls system steps net counts
 counts_calls system first net steps last counts knows counted vl place named =
     let at = knows.each vl place named in
-    let found = found_pass last.net vl system.locks system.config.links last.links place at.pass knows.own named at.there in
-    let calls : shown_calls (calls_on vl last.links) ≡ calls_in net vl steps = ap (λ (pass : Option KnownLink). shown_calls (calls_of pass)) found ∙ at.has_calls in
+    let found = found_pass on_link settings_in last.net vl system.locks system.config.links last.links place at.pass knows.own named at.there in
+    let calls : shown_calls (calls_on vl last.links) ≡ calls_in net vl steps = ap (λ (pass : Option KnownLink). shown_calls (calls_of on_link pass)) found ∙ at.has_calls in
     let many : length (calls_on vl last.links) ≡ length (calls_in net vl steps) = sym (length-map (calls_on vl last.links) shown_call) ∙ ap (λ (cs : List Call). length cs) calls in (
       counted.calls vl ∙ ap shown many,
       λ kind is. counted.kinds vl kind is ∙ ap shown (sym (count_shown kind (calls_on vl last.links)) ∙ ap (count_calls kind) calls),

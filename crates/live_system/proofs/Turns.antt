@@ -20,7 +20,7 @@ use Rattle.network_calls.specs.declared.call.Call.{Call}
 use Rattle.network_calls.specs.declared.reply.Reply.TheVariants as replies
 use Rattle.network_calls.specs.Calls.{call, calls_from, net_of, user_of}
 use Rattle.network_calls.proofs.Events.{calls_append}
-use Rattle.live_system.specs.declared.counts.LinkCounts.{LinkCounts}
+use Rattle.network_calls.specs.declared.counts.LinkCounts.{LinkCounts}
 use Rattle.live_system.specs.Burst.{AreFramesFor, CallsInTurn, CountsInTurn, CountsOne, Frames, TookInTurn, reply_of}
 use Rattle.live_system.specs.Calls.{Agrees, LiveLink, as_opened, events_of, goes_on}
 use Rattle.live_system.specs.Pass.{AreCountsOf, Did, known_link}

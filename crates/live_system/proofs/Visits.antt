@@ -15,7 +15,7 @@ use Rattle.network_calls.specs.Calls.{call, call_of, calls_from, net_of, user_of
 use Rattle.network_calls.proofs.Events.{calls_append}
 use Rattle.network_calls.proofs.Networks.{back, same_net}
 use Rattle.network_calls.proofs.Visiting.{after_visit, of_one}
-use Rattle.live_system.specs.declared.counts.LinkCounts.{LinkCounts}
+use Rattle.network_calls.specs.declared.counts.LinkCounts.{LinkCounts}
 use Rattle.live_system.specs.Burst.{CountsOne}
 use Rattle.live_system.specs.Calls.{Agrees, LiveLink, as_opened, events_of, goes_on, new_outlet}
 use Rattle.live_system.specs.Pass.{AreCountsOf, Calls, Did, known_link}

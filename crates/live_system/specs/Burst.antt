@@ -15,8 +15,8 @@ use Rattle.es_base.specs.Verdict.{kind_of}
 use Rattle.link_core.specs.Counted.{shown}
 use Rattle.network_calls.specs.declared.reply.Reply.{Reply}
 use Rattle.network_calls.specs.declared.reply.Reply.TheVariants as replies
+use Rattle.network_calls.specs.declared.counts.LinkCounts.{LinkCounts}
 use Rattle.network_calls.specs.Calls.{call}
-use Rattle.live_system.specs.declared.counts.LinkCounts.{LinkCounts}
 use Rattle.live_system.specs.Calls.{LiveLink}
 use Rattle.live_system.specs.Pass.{Calls, Did, KnownLink}
 use Rattle.live_system.specs.Run.{Step, came}

@@ -7,7 +7,7 @@ use Rattle.es_base.specs.declared.verdict.Verdict.{Verdict}
 use Rattle.es_base.specs.Limits.{verdict_kinds}
 use Rattle.es_base.specs.Past.{arrived}
 use Rattle.es_base.specs.Settings.{Settings}
-use Rattle.es_base.specs.Tally.{IsKind, count_in, count_of}
+use Rattle.es_base.specs.Tally.{IsKind, count_of}
 use Rattle.link_core.specs.Counted.{shown}
 use Rattle.link_lock.specs.declared.user.User.{User}
 use Rattle.link_lock.specs.Lists.{both_lists}
@@ -15,8 +15,9 @@ use Rattle.link_lock.specs.Pass.{Known, LockId}
 use Rattle.receiver.specs.Link.{Takes, TakesIfKnown}
 use Rattle.receiver.specs.Port.{AnswersPort, GivesPort, HasSpacePort, ShowsPort}
 use Rattle.network_calls.specs.declared.call.Call.{Call}
+use Rattle.network_calls.specs.declared.counts.LinkCounts.{LinkCounts}
 use Rattle.network_calls.specs.Calls.{count_calls, user_of}
-use Rattle.live_system.specs.declared.counts.LinkCounts.{LinkCounts}
+use Rattle.network_calls.specs.Counts.{AreCounts}
 use Rattle.live_system.specs.Calls.{Agrees, LiveLink, as_opened}
 
 -- under which lock its link stands, its network, the link as it was opened, its calls, and their counts
@@ -31,9 +32,8 @@ abbrev pub known_link : Net → Known LiveLink (List Call) → LinkCounts → Kn
 known_link net pass counts = record { lock = pass.lock; net = net; link = pass.fixed; calls = pass.list; counts = counts }
 
 -- the counts are those of the calls; each stops at the greatest number of 64 bits
-pub record AreCountsOf (net : Net) (calls : List Call) (counts : LinkCounts) : Type 0 where
-  pub all : counts.number ≡ shown (length calls)
-  pub kinds : (kind : ℕ) → IsKind verdict_kinds kind → count_in counts.tally net kind ≡ shown (count_calls kind calls)
+abbrev pub AreCountsOf : Net → List Call → LinkCounts → Type 0
+AreCountsOf net calls counts = AreCounts shown net calls counts
 
 -- One visit of its link by a pass: the link that it found, which is the one that was opened, with what both networks
 -- had done by then, and what became of the link.

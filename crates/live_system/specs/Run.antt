@@ -24,9 +24,10 @@ use Rattle.network_calls.specs.declared.call.Call.{Call}
 use Rattle.network_calls.specs.declared.reply.Reply.{Reply}
 use Rattle.network_calls.specs.declared.reply.Reply.TheVariants as replies
 use Rattle.network_calls.specs.Calls.{call, calls_from, count_calls}
+use Rattle.network_calls.specs.Counts.{count_on, number_on}
 use Rattle.network_calls.specs.Places.{StandInTheRun}
 use Rattle.live_system.specs.Calls.{LiveLink, events_of, new_outlet}
-use Rattle.live_system.specs.LookUps.{IsCounted, count_on, number_on}
+use Rattle.live_system.specs.LookUps.{IsCounted}
 use Rattle.live_system.specs.System.{AreOfNewLinks, AreSettled, IsNewPassOf, IsPassOf, KnownCounts, KnownNet, Replies, System}
 
 -- ---- calls

@@ -19,10 +19,12 @@ use Rattle.receiver.specs.Receiver.{IsNew, Links}
 use Rattle.network_calls.specs.declared.call.Call.{Call}
 use Rattle.network_calls.specs.declared.reply.Reply.{Reply}
 use Rattle.network_calls.specs.declared.reply.Reply.TheVariants as replies
+use Rattle.network_calls.specs.declared.counts.LinkCounts.{LinkCounts}
 use Rattle.network_calls.specs.Calls.{call}
+use Rattle.network_calls.specs.Counts.{KnownCounts as CountsKnown}
+use Rattle.network_calls.specs.Passes.{AreCountedBy, ArePassesOn, AreSettledBy, IsPassOn, OnLink}
 use Rattle.live_system.specs.Calls.{LiveLink}
-use Rattle.live_system.specs.declared.counts.LinkCounts.{LinkCounts}
-use Rattle.live_system.specs.Pass.{AreCountsOf, Calls, IsSettled, KnownLink}
+use Rattle.live_system.specs.Pass.{Calls, IsSettled, KnownLink}
 
 -- the configuration, and the lock of each link, in the order of the links
 pub record System : Type 0 where
@@ -37,23 +39,20 @@ pub record KnownNet : Type 0 where
 
 -- ---- a pass of the system
 
+-- what both kinds of end systems know of a pass
+abbrev pub on_link : KnownLink → OnLink LiveLink
+on_link pass = record { lock = pass.lock; net = pass.net; link = pass.link; calls = pass.calls; counts = pass.counts }
+
+abbrev pub settings_in : LiveLink → Settings
+settings_in link = link.core.settings
+
 -- a pass of this network on a link with these settings, under this lock
-pub record IsPassAt (lock : LockId) (settings : Settings) (net : Net) (pass : KnownLink) : Type 0 where
-  pub at_lock : pass.lock ≡ lock
-  pub of_net : pass.net ≡ net
-  pub link : LiveLink
-  pub known : pass.link ≡ Some link
-  pub with_settings : link.core.settings ≡ settings
-  pub with_number : pass.counts.vl ≡ settings.vl
+abbrev pub IsPassAt : LockId → Settings → Net → KnownLink → Type 0
+IsPassAt lock settings net pass = IsPassOn on_link settings_in lock settings net pass
 
 -- passes of this network, one on each of these links, under these locks
 abbrev pub ArePasses : Net → List LockId → List Settings → List KnownLink → Type 0
-ArePasses net [] [] [] = Unit {0}
-ArePasses net (lock ∷ locks) (settings ∷ links) (pass ∷ passes) = IsPassAt lock settings net pass × ArePasses net locks links passes
-ArePasses net (lock ∷ locks) (settings ∷ links) [] = ⊥
-ArePasses net (lock ∷ locks) [] passes = ⊥
-ArePasses net [] (settings ∷ links) passes = ⊥
-ArePasses net [] [] (pass ∷ passes) = ⊥
+ArePasses net locks links passes = ArePassesOn on_link settings_in net locks links passes
 
 -- the pass comes from the opening of this system
 abbrev pub IsPassOf : System → KnownNet → Type 0
@@ -105,27 +104,18 @@ Replies c old now octets (replies.Link vl shows verdict) new =
 
 -- ---- the end
 
+-- as a link is settled that both passes know, which made these calls
+abbrev pub AreLetGo : KnownLink → KnownLink → LiveLink → Type 0
+AreLetGo a b link = IsSettled a.link a.calls b.calls link
+
 -- each link: with its settings, and with the calls of both passes on it
 abbrev pub AreSettled : List Settings → List KnownLink → List KnownLink → List LiveLink → Type 0
-AreSettled [] [] [] [] = Unit {0}
-AreSettled (settings ∷ links) (a ∷ ones) (b ∷ others) (link ∷ settled) =
-    (link.core.settings ≡ settings) × IsSettled a.link a.calls b.calls link × AreSettled links ones others settled
-AreSettled (settings ∷ links) (a ∷ ones) (b ∷ others) [] = ⊥
-AreSettled (settings ∷ links) (a ∷ ones) [] settled = ⊥
-AreSettled (settings ∷ links) [] others settled = ⊥
-AreSettled [] (a ∷ ones) others settled = ⊥
-AreSettled [] [] (b ∷ others) settled = ⊥
-AreSettled [] [] [] (link ∷ settled) = ⊥
+AreSettled links ones others settled = AreSettledBy settings_in AreLetGo links ones others settled
 
 -- what a pass counted: its network, the counts on each link, and those of filtered frames
-pub record KnownCounts : Type 0 where
-  pub net : Net
-  pub links : List LinkCounts
-  pub filtered : Counts
+abbrev pub KnownCounts : Type 0
+KnownCounts = CountsKnown
 
 -- the counts of each pass on a link
 abbrev pub AreCounted : Net → List KnownLink → List LinkCounts → Type 0
-AreCounted net [] [] = Unit {0}
-AreCounted net (pass ∷ passes) (counts ∷ more) = (counts ≡ pass.counts) × AreCountsOf net pass.calls counts × AreCounted net passes more
-AreCounted net (pass ∷ passes) [] = ⊥
-AreCounted net [] (counts ∷ more) = ⊥
+AreCounted net passes counts = AreCountedBy on_link shown net passes counts

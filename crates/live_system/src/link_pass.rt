@@ -16,14 +16,13 @@ ghost use Rattle.live_system.specs.Calls.{LiveLink, no_calls};
 ghost use Rattle.live_system.specs.Meetings.{MeetsReader, MeetsTaker};
 ghost use Rattle.live_system.specs.Pass.{AreCountsOf, Calls, Did, IsNewPass, IsNoCall, IsSettled, Visits};
 
-use crate::counts::LinkCounts;
 use crate::locked::Locked;
 use crate::meetings::{meet_reader, meet_taker};
 use crate::row::{Answers, take, take_row, tell};
 use es_base::{LinkNo, LinkSettings, Memory, Net, PortNo, Verdict};
 use frame_reader::Frame;
 use link_lock::{Lock, Opened, PassOf};
-use network_calls::Reply;
+use network_calls::{LinkCounts, Reply};
 use receiver::{
     MailboxReader, OpenLink, PartitionEnd, PortEnd, PortOutlet, Readers, RingTaker,
 };

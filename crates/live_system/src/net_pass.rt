@@ -9,10 +9,9 @@ ghost use Rattle.network_calls.specs.declared.reply.Reply.TheVariants.{Filtered}
 ghost use Rattle.network_calls.specs.Calls.{count_calls};
 ghost use Rattle.live_system.specs.LookUps.{calls_on, pass_on};
 
-use crate::counts::LinkCounts;
 use crate::link_pass::LinkPass;
 use es_base::{FilterCause, FilterTally, LinkNo, Net};
-use network_calls::Reply;
+use network_calls::{LinkCounts, Reply};
 use receiver::{OpenLink, PortOutlet};
 use std::marker::Model;
 

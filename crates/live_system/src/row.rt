@@ -5,11 +5,10 @@ ghost use Rattle.es_base.specs.Past.{arrived};
 ghost use Rattle.live_system.specs.Burst.{AreFramesFor, CountsInTurn, TookInTurn, most_in_row, reply_of};
 ghost use Rattle.live_system.specs.Pass.{Did};
 
-use crate::counts::LinkCounts;
 use crate::locked::Locked;
 use es_base::{Net, Verdict};
 use frame_reader::frame_in;
-use network_calls::Reply;
+use network_calls::{LinkCounts, Reply};
 
 /// How many frames are given in one visit at most.
 pub(crate) const MOST_IN_ROW: usize = 8;

@@ -1,83 +1,15 @@
 //! A system that has ended: its links, and the counts of both passes.
 ghost use Rattle.std.specs.Prelude.{◌≡◌};
-ghost use Rattle.std.specs.Option.{option_copied};
 ghost use Rattle.es_base.specs.declared.place.Net.TheVariants.{A, B};
-ghost use Rattle.es_base.specs.FilterTally.{cause_kind};
-ghost use Rattle.es_base.specs.Limits.{verdict_kinds};
-ghost use Rattle.es_base.specs.Tally.{IsKind, count_in};
-ghost use Rattle.live_system.specs.LookUps.{IsCounted, count_on, counts_on, number_on};
+ghost use Rattle.live_system.specs.LookUps.{IsCounted};
 ghost use Rattle.live_system.specs.System.{AreSettled, IsPassOf};
 
-use crate::counts::LinkCounts;
 use crate::link_pass::{SettledLink, settle_link};
 use crate::net_pass::NetPass;
 use crate::system::LiveSystem;
-use es_base::{FilterCause, FilterTally, LinkNo, Net};
+use es_base::Net;
+use network_calls::PassCounts;
 use receiver::{OpenLink, PortOutlet};
-use std::marker::Model;
-
-/// What one network's pass counted. To a contract it is the network, the counts on each link, in the order of the
-/// links, and those of the frames that were filtered.
-#[derive(Drop)]
-pub struct PassCounts {
-    net: Net,
-    links: Vec<LinkCounts>,
-    filtered: FilterTally,
-}
-
-impl Model for PassCounts {
-    ghost use Rattle.live_system.specs.System.{KnownCounts};
-
-    ghost Value = { KnownCounts };
-
-    ghost view = { λ p. record { net = p.net; links = p.links.items; filtered = p.filtered } };
-}
-
-impl PassCounts {
-    /// The network.
-    pub fn net(&self) -> Net
-        ensures { result ≡ self.now.net }
-    {
-        self.net
-    }
-
-    /// How many frames were given to the link with this number, up to the greatest number of 64 bits. 0 for a link that
-    /// isn't configured.
-    pub fn calls(&self, vl: LinkNo) -> u64
-        ensures { result ≡ number_on vl self.now.links }
-    {
-        match counts_on(&self.links, vl) {
-            Some(counts) => counts.number,
-            None => 0,
-        }
-    }
-
-    /// How many frames that were given to the link with this number had a verdict of this kind, 1 to 13, up to the
-    /// greatest number of 64 bits. 0 for a link that isn't configured.
-    pub fn count(&self, vl: LinkNo, kind: usize) -> u64
-        requires { IsKind verdict_kinds kind }
-        ensures { result ≡ count_on vl kind self.now.net self.now.links }
-    {
-        match counts_on(&self.links, vl) {
-            Some(counts) => counts.tally.count(self.net, kind),
-            None => 0,
-        }
-    }
-
-    /// How many frames were filtered for this cause, up to the greatest number of 64 bits.
-    pub fn filtered(&self, cause: FilterCause) -> u64
-        ensures { result ≡ count_in self.now.filtered self.now.net (cause_kind cause) }
-    {
-        self.filtered.count(self.net, cause.kind())
-    }
-}
-
-/// The counts on the link with this number.
-fn counts_on(links: &[LinkCounts], vl: LinkNo) -> Option<&LinkCounts>
-    ensures { option_copied result ≡ counts_on vl links.now }
-{
-    links.iter().find(|link| link.vl == vl)
-}
 
 /// The links, in their order, and what the passes of networks A and B counted.
 #[derive(Drop)]
@@ -129,16 +61,8 @@ impl LiveSystem {
         counts_b.reverse();
         Settled {
             links,
-            a: PassCounts {
-                net: Net::A,
-                links: counts_a,
-                filtered: filtered_a,
-            },
-            b: PassCounts {
-                net: Net::B,
-                links: counts_b,
-                filtered: filtered_b,
-            },
+            a: PassCounts::new(Net::A, counts_a, filtered_a),
+            b: PassCounts::new(Net::B, counts_b, filtered_b),
         }
     }
 }

@@ -1,13 +1,17 @@
 -- How many calls have a verdict of a kind.
-use Rattle.std.proofs.Common.{◌≡◌, ◌∙◌, ap, refl, ℕ, ◌+◌, ◌≤◌, ◌==◌, Bool, true, false, ◌&&◌, List, [], ◌∷◌, ◌++◌, length, reverse, if◌then◌else◌, arith}
+use Rattle.std.proofs.Common.{◌≡◌, ◌∙◌, ap, refl, sym, ℕ, ◌+◌, ◌≤◌, ◌==◌, Bool, true, false, ◌&&◌, List, [], ◌∷◌, ◌++◌, length, length-append, reverse, if◌then◌else◌, arith}
 use Rattle.std.proofs.lemmas.List.{reverse-append}
 use Rattle.es_base.specs.declared.place.Net.{Net}
 use Rattle.es_base.specs.declared.event.Event.{Event}
 use Rattle.es_base.specs.Integrity.{is_same_net}
-use Rattle.es_base.specs.Tally.{count_of, is_counted}
+use Rattle.es_base.specs.Limits.{verdict_kinds}
+use Rattle.es_base.specs.Tally.{AddsOne, count_in, count_of, is_counted, one_more}
 use Rattle.es_base.specs.Verdict.{kind_of}
 use Rattle.network_calls.specs.declared.call.Call.{Call}
+use Rattle.network_calls.specs.declared.counts.LinkCounts.{LinkCounts}
 use Rattle.network_calls.specs.Calls.{call_of, calls_from, count_calls}
+use Rattle.network_calls.specs.Counts.{AreCounts}
+use Rattle.network_calls.proofs.Networks.{same_net}
 
 count_if : (b : Bool) (n : ℕ) → (if b then n + 1 else n) ≤ n + 1
 count_if true n = omega arith
@@ -48,3 +52,27 @@ counted place net kind (e ∷ es) =
     ap (λ (past : List Event). count_of past net kind) (reverse-append (e ∷ []) es)
     ∙ (count_first (reverse es) e net kind
     ∙ call_if (is_same_net e.net net) kind (call_of place e) (calls_from (place + 1) net es) (count_of (reverse es) net kind) (counted (place + 1) net kind es))
+
+-- so these are the calls of the events of a past
+pub counted_calls : (past events : List Event) (net : Net) (kind : ℕ) (calls : List Call) → reverse events ≡ past → calls ≡ calls_from 0 net events → count_of past net kind ≡ count_calls kind calls
+counted_calls past events net kind calls turned are = ap (λ (es : List Event). count_of es net kind) (sym turned) ∙ (counted 0 net kind events ∙ ap (count_calls kind) (sym are))
+
+-- ---- one call more, counted
+
+shows_step : (shows : ℕ → ℕ) (adds : Bool) (n : ℕ) → shows (n + 1) ≡ one_more (shows n) → (if adds then one_more (shows n) else shows n) ≡ shows (if adds then n + 1 else n)
+shows_step shows true n step = sym step
+shows_step shows false n step = refl
+
+-- as long as each count shows that it is one more
+pub counts_one_more : (shows : ℕ → ℕ) (net : Net) (calls : List Call) (c : Call) (old new : LinkCounts) → ((n : ℕ) → n ≤ length calls → shows (n + 1) ≡ one_more (shows n)) → AreCounts shows net calls old
+    → new.number ≡ one_more old.number → AddsOne verdict_kinds old.tally new.tally net (kind_of c.verdict) → AreCounts shows net (calls ++ c ∷ []) new
+counts_one_more shows net calls c old new steps are one adds = record {
+  all = one ∙ (ap one_more are.all ∙ (sym (steps (length calls) (omega arith)) ∙ ap shows (sym (length-append calls (c ∷ [])))));
+  kinds = λ kind is.
+      let is_one : Bool = kind_of c.verdict == kind in
+      let mine : count_in new.tally net kind ≡ (if is_one then one_more (count_in old.tally net kind) else count_in old.tally net kind) =
+      adds net kind is ∙ ap (λ (b : Bool). if b && kind_of c.verdict == kind then one_more (count_in old.tally net kind) else count_in old.tally net kind) (same_net net) in
+      mine
+      ∙ (ap (λ (n : ℕ). if is_one then one_more n else n) (are.kinds kind is)
+      ∙ (shows_step shows is_one (count_calls kind calls) (steps (count_calls kind calls) (count_at_most kind calls)) ∙ ap shows (sym (count_push kind calls c))));
+}

@@ -5,3 +5,6 @@ pub mod Visiting
 pub mod Standing
 pub mod Named
 pub mod Filtered
+pub mod Rows
+pub mod Looking
+pub mod Settling

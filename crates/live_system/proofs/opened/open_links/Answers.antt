@@ -4,7 +4,9 @@ use Rattle.es_base.specs.declared.place.Net.TheVariants.{A, B}
 use Rattle.receiver.specs.Outlet.{reads_by}
 use Rattle.receiver.specs.Port.{ReadsPort, ShowsPort}
 use Rattle.receiver.proofs.Opens.{links_push}
-use Rattle.live_system.proofs.Opens.{as_many, know_push, none_push, opened_pass, passes_push}
+use Rattle.network_calls.proofs.Rows.{as_many, passes_push}
+use Rattle.live_system.specs.System.{on_link, settings_in}
+use Rattle.live_system.proofs.Opens.{know_push, none_push, opened_pass}
 use Rattle.live_system.proofs.opened.open_links.Goals as goal
 
 pub links-preserved : goal.links-preserved
@@ -18,11 +20,11 @@ links-preserved g c =
     let longer : take (place + 1) links ≡ take place links ++ settings ∷ [] = take_more links place settings c.links-test.true ∙ ap (λ s. take place links ++ s ∷ []) (sym c.link-item.is) in
     rw (longer, c.in_ok-push.ensures.items, c.in_ok-push-2.ensures.items, c.in_ok-push-3.ensures.items, c.in_ok-push-4.ensures.items) (record {
       a = (
-        passes_push A _ (take place links) _ _ settings _ so_far.a.0 (opened_pass settings link _ A _ one.1.with_settings one.2),
+        passes_push on_link settings_in A _ (take place links) _ _ settings _ so_far.a.0 (opened_pass settings link _ A _ one.1.with_settings one.2),
         none_push _ _ so_far.a.1 one.2.calls,
       );
       b = (
-        passes_push B _ (take place links) _ _ settings _ so_far.b.0 (opened_pass settings link _ B _ one.1.with_settings one.3),
+        passes_push on_link settings_in B _ (take place links) _ _ settings _ so_far.b.0 (opened_pass settings link _ B _ one.1.with_settings one.3),
         none_push _ _ so_far.b.1 one.3.calls,
       );
       links = (
@@ -40,6 +42,6 @@ returns-clause-many g c =
     let within : place ≤ length links = c.links.auto.link-index-end in
     let all = length-take-le place links within in
     let past = c.links-test.false in
-    let a = as_many A _ (take place links) _ c.links.invariant.a.0 in
-    let b = as_many B _ (take place links) _ c.links.invariant.b.0 in
+    let a = as_many on_link settings_in A _ (take place links) _ c.links.invariant.a.0 in
+    let b = as_many on_link settings_in B _ (take place links) _ c.links.invariant.b.0 in
     (omega (arith, within, all, past, a), omega (arith, within, all, past, b))
