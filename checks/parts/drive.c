@@ -210,6 +210,18 @@ static void filtered(void) {
     if (code(yelunnavi_receiver_filtered(&receiver, net, (uint32_t)number(), &told))) printf(" %" PRIu64, told);
 }
 
+static void health(void) {
+    struct yelunnavi_health told;
+    if (code(yelunnavi_receiver_health(&receiver, number(), &told)))
+        printf(" %" PRIu32 " %" PRIu32 " %" PRIu64 " %" PRIu64 " %" PRIu64, told.came_a, told.came_b, told.latest_a, told.latest_b,
+               told.given_up);
+}
+
+static void waiting(void) {
+    size_t told, link = number();
+    if (code(yelunnavi_receiver_waiting(&receiver, link, number(), &told))) printf(" %zu", told);
+}
+
 static void place(void) {
     struct yelunnavi_place told;
     size_t len;
@@ -234,6 +246,8 @@ static void call(const char *name) {
     else if (!strcmp(name, "longest")) longest();
     else if (!strcmp(name, "count")) count();
     else if (!strcmp(name, "filtered")) filtered();
+    else if (!strcmp(name, "health")) health();
+    else if (!strcmp(name, "waiting")) waiting();
     else if (!strcmp(name, "place")) place();
     else if (!strcmp(name, "close")) yelunnavi_receiver_close(&receiver);
     else if (!strcmp(name, "close_reader")) yelunnavi_reader_close(&readers[number()]);

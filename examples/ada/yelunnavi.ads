@@ -120,6 +120,9 @@ package Yelunnavi is
    type Link_Reply is record
       Vl, Redundancy : Unsigned_32; Skew_Max, Reassembly : Unsigned_64; Window : Unsigned_32; Ports : size_t;
    end record with Convention => C;
+   type Health_Reply is record
+      Came_A, Came_B : Unsigned_32; Latest_A, Latest_B, Given_Up : Unsigned_64;
+   end record with Convention => C;
    type Port_Reply is record
       Service, Address, Udp, Max : Unsigned_32; Limit : Unsigned_64; Name_Length : size_t;
    end record with Convention => C;
@@ -177,6 +180,10 @@ package Yelunnavi is
      with Import, Convention => C, External_Name => "yelunnavi_receiver_count";
    function Filtered (H : in out Receiver; Net, Cause : Unsigned_32; Count : in out Unsigned_64) return Code
      with Import, Convention => C, External_Name => "yelunnavi_receiver_filtered";
+   function Health (H : in out Receiver; Link : size_t; Reply : in out Health_Reply) return Code
+     with Import, Convention => C, External_Name => "yelunnavi_receiver_health";
+   function Waiting (H : in out Receiver; Link, Port : size_t; Waiting : in out size_t) return Code
+     with Import, Convention => C, External_Name => "yelunnavi_receiver_waiting";
    function Links (H : in out Receiver; Links : in out size_t) return Code
      with Import, Convention => C, External_Name => "yelunnavi_receiver_links";
    function Link (H : in out Receiver; Link : size_t; Reply : in out Link_Reply) return Code

@@ -367,6 +367,21 @@ uint32_t yelunnavi_receiver_count(struct yelunnavi_receiver *h, size_t link, uin
 /* Tells how many frames were filtered on this network for this cause. NOT_OPEN, NO_NETWORK, NO_KIND. */
 uint32_t yelunnavi_receiver_filtered(struct yelunnavi_receiver *h, uint32_t net, uint32_t cause, uint64_t *count);
 
+struct yelunnavi_health {
+    uint32_t came_a;   /* 1: a frame came on network A. 0: none did */
+    uint32_t came_b;   /* the same of network B */
+    uint64_t latest_a; /* when the latest frame came on network A, as it was given; 0 if none came */
+    uint64_t latest_b; /* the same of network B */
+    uint64_t given_up; /* how many datagrams of which fragments came were given up before they were complete */
+};
+
+/* Tells how the link at this place is. Each of its frames counts as one that came, whatever became of it. NOT_OPEN, NO_PLACE. */
+uint32_t yelunnavi_receiver_health(struct yelunnavi_receiver *h, size_t link, struct yelunnavi_health *reply);
+
+/* Tells how many messages wait in the queue of this port of a link: those that were delivered to it and that weren't taken
+   when it was looked. Its time grows with them. NOT_OPEN, NO_PLACE; NONE_LEFT: the port samples. */
+uint32_t yelunnavi_receiver_waiting(struct yelunnavi_receiver *h, size_t link, size_t port, size_t *waiting);
+
 /* ---- the receiver: links and ports */
 
 struct yelunnavi_link {

@@ -125,6 +125,9 @@ replies! {
     Taken { found: u32, time: u64, len: usize }
     /// The settings of a link, its times in microseconds. `redundancy` is 1 if redundancy management is on, else 0.
     Link { vl: u32, redundancy: u32, skew_max: u64, reassembly: u64, window: u32, ports: usize }
+    /// How a link is: whether a frame came on each network, 1 or 0, when the latest did, in microseconds, and how many
+    /// datagrams of which fragments came were given up.
+    Health { came_a: u32, came_b: u32, latest_a: u64, latest_b: u64, given_up: u64 }
     /// A port.
     Port { service: Service, address: u32, udp: u32, max: u32, limit: u64, name_len: usize }
     /// Where a port is.
@@ -194,6 +197,8 @@ calls! {
     yelunnavi_receiver_receive(h: *mut Handle, net: Network, now: u64, frame: *const u8, len: usize, reply: *mut Frame) -> Code;
     yelunnavi_receiver_count(h: *mut Handle, link: usize, net: Network, kind: Verdict, count: *mut u64) -> Code;
     yelunnavi_receiver_filtered(h: *mut Handle, net: Network, cause: FilterCause, count: *mut u64) -> Code;
+    yelunnavi_receiver_health(h: *mut Handle, link: usize, reply: *mut Health) -> Code;
+    yelunnavi_receiver_waiting(h: *mut Handle, link: usize, port: usize, waiting: *mut usize) -> Code;
     yelunnavi_receiver_links(h: *mut Handle, links: *mut usize) -> Code;
     yelunnavi_receiver_link(h: *mut Handle, link: usize, reply: *mut Link) -> Code;
     yelunnavi_receiver_port(h: *mut Handle, link: usize, port: usize, reply: *mut Port, name: *mut [u8; 16]) -> Code;
@@ -322,6 +327,15 @@ impl Receiver<'_> {
 
     pub fn filtered(&mut self, net: Network, cause: FilterCause) -> Result<u64, Code> {
         told(|count| unsafe { yelunnavi_receiver_filtered(&mut self.handle, net, cause, count) })
+    }
+
+    pub fn health(&mut self, link: usize) -> Result<Health, Code> {
+        told(|reply| unsafe { yelunnavi_receiver_health(&mut self.handle, link, reply) })
+    }
+
+    /// How many messages wait in the queue of a port. NONE_LEFT if it samples.
+    pub fn waiting(&mut self, link: usize, port: usize) -> Result<usize, Code> {
+        told(|waiting| unsafe { yelunnavi_receiver_waiting(&mut self.handle, link, port, waiting) })
     }
 
     pub fn links(&mut self) -> Result<usize, Code> {

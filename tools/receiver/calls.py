@@ -58,6 +58,13 @@ class Link(NamedTuple):
     window: int
 
 
+class Health(NamedTuple):
+    """When the latest frame of a link came on each network, in microseconds, by the network: none if none came. And how many
+    datagrams of which fragments came were given up."""
+    latest: dict
+    given_up: int
+
+
 class Port(NamedTuple):
     """A port's settings. `limit` is the refresh period in microseconds, or the depth of the queue."""
     name: str
@@ -192,6 +199,16 @@ class Receiver(Links, Frames):
         return {(link.vl, net): self.counted(self.verdicts, "count", place, number) for place, link in enumerate(self.links)
                 for number, net in enumerate(NETWORKS)} | {
                     (None, net): self.counted(self.filters, "filtered", number) for number, net in enumerate(NETWORKS)}
+
+    def health(self, link):
+        """How the link at a place of the configuration is."""
+        found = self.answer("struct yelunnavi_health", "health", link)
+        came, latest = (found.came_a, found.came_b), (found.latest_a, found.latest_b)
+        return Health({net: latest[number] if came[number] else None for number, net in enumerate(NETWORKS)}, found.given_up)
+
+    def waiting(self, link, place):
+        """How many messages wait in the queue of the port at a place of a link."""
+        return self.answer("size_t", "waiting", link, place)[0]
 
 
 class System(Links):

@@ -13,6 +13,7 @@
 
 mod ends;
 mod head;
+mod wait;
 
 ghost use Rattle.std.specs.Prelude.{◌≡◌, ◌+◌, ◌*◌, ◌<◌, ◌≤◌, length, take, drop, slice_get, Some, IfOk, OnOk, OnErr, IfSome, IfNone, IsOk, IsSome, IsTrue, IsFalse};
 ghost use Rattle.message_ring.specs.Ends.{width};
@@ -20,6 +21,7 @@ ghost use Rattle.message_ring.specs.Queue.{BeginsWith, Holds, MayBeEmpty, MayBeF
 
 use crate::ends::{has_room, next_head, pop_octets, push_message};
 use crate::head::{HEAD, Head, most_at_once};
+use crate::wait::last_with;
 use circular_buffer::HeapCircularBuffer;
 use rtrb::{Consumer, Producer, RingBuffer};
 use std::alloc::{AllocError, Global};
@@ -153,6 +155,18 @@ impl RingPutter {
         ensures room_is_known { length self.old.put < length self.old.taken + self.old.depth → IsTrue result }
     {
         has_room(&mut self.ring, self.needed)
+    }
+
+    /// How many messages wait: those that were put and that this end doesn't know to be taken, after it looked what the
+    /// other end took. A message is taken once all of its octets are. It costs a step for each message that waits.
+    pub fn waiting(&mut self) -> usize
+        ensures end { self.new ≡ record self.old { taken = self.new.taken } }
+        ensures told { BeginsWith self.new.taken self.old.taken }
+        ensures count { result + length self.new.taken ≡ length self.new.put }
+        ensures depth { result ≤ self.new.depth }
+    {
+        let free = self.ring.slots();
+        last_with(&self.latest, self.ring.capacity() - free)
     }
 
     /// Puts a message at the end of the queue. `Err`: as many messages as the queue holds were put that this end doesn't

@@ -19,6 +19,7 @@ ghost use Rattle.receiver_c.specs.HeldOctets.{TellsOctets};
 ghost use Rattle.receiver_c.specs.Made.{made_reader, made_receiver, made_taker};
 ghost use Rattle.receiver_c.specs.Marks.{after_close, if_made, is_made, reader_mark, receiver_mark, taker_mark};
 ghost use Rattle.receiver_slots.specs.Codes.{already_open, done, faulty, no_memory, none_left, not_made, not_open, out_of_range};
+ghost use Rattle.receiver_slots.specs.Health.{TellsHealth, TellsWaiting, health_code, waiting_code};
 ghost use Rattle.receiver_slots.specs.Handing.{HandsOut, hand_reader_code, hand_taker_code};
 ghost use Rattle.receiver_slots.specs.Naming.{CountsLinks, TellsLink, TellsPlace, TellsPort, link_code, links_code, place_code, port_code};
 ghost use Rattle.receiver_slots.specs.Reading.{Copies, DidHold, DidRead, TellsReader, copy_code, held_octets, read_code, release_code, released};
@@ -32,8 +33,8 @@ ghost use Rattle.receiver_c.specs.contracts.marked.MarkedTaker.{the_row as taker
 
 use receiver_slots::codes::{DONE, HOLDS_NONE, NOT_MADE};
 use receiver_slots::{
-    FaultReply, FrameReply, LimitReply, LinkReply, LinkRow, PlaceReply, PortReply, PortRow,
-    ReadReply, TakeReply,
+    FaultReply, FrameReply, HealthReply, LimitReply, LinkReply, LinkRow, PlaceReply, PortReply,
+    PortRow, ReadReply, TakeReply,
 };
 use std::alloc::Global;
 
@@ -269,6 +270,48 @@ pub extern "C" fn yelunnavi_receiver_filtered(
         return NOT_MADE;
     }
     made.slot.filtered(net, cause, count)
+}
+
+/// Tells of the link at this place when its latest frame came on each network, whatever became of it, and how many
+/// partial datagrams were given up.
+#[unsafe(no_mangle)]
+pub extern "C" fn yelunnavi_receiver_health(
+    h: &mut ReceiverHandle,
+    link: usize,
+    reply: &mut HealthReply,
+) -> u32
+    ensures place { (h.new.at ≡ h.old.at) × (h.new.room.mark ≡ h.old.room.mark) }
+    ensures code { result ≡ if_made receiver_mark h.old.room.mark (health_code h.old.room.slot link) }
+    ensures told { result ≡ done → TellsHealth h.old.room.slot link reply.new }
+    ensures same { 0 < result → reply.new ≡ reply.old }
+    ensures kept { h.new.room.slot ≡ h.old.room.slot }
+{
+    let made = h.lend();
+    if made.mark != RECEIVER {
+        return NOT_MADE;
+    }
+    made.slot.health(link, reply)
+}
+
+/// Tells how many messages wait in the queue of a port, by the places of its link and of the port in it: those that were
+/// delivered to it and that nobody took, as far as the receiver knows after it looked. NONE_LEFT if the port samples.
+#[unsafe(no_mangle)]
+pub extern "C" fn yelunnavi_receiver_waiting(
+    h: &mut ReceiverHandle,
+    link: usize,
+    port: usize,
+    waiting: &mut usize,
+) -> u32
+    ensures place { (h.new.at ≡ h.old.at) × (h.new.room.mark ≡ h.old.room.mark) }
+    ensures code { result ≡ if_made receiver_mark h.old.room.mark (waiting_code h.old.room.slot link port) }
+    ensures told { result ≡ done → TellsWaiting h.old.room.slot h.new.room.slot link port waiting.new }
+    ensures same { 0 < result → (h.new.room.slot ≡ h.old.room.slot) × (waiting.new ≡ waiting.old) }
+{
+    let made = h.lend();
+    if made.mark != RECEIVER {
+        return NOT_MADE;
+    }
+    made.slot.waiting(link, port, waiting)
 }
 
 /// Tells how many links the configuration has.

@@ -11,6 +11,8 @@ mod given;
 #[cfg(test)]
 mod greatest;
 #[cfg(test)]
+mod health;
+#[cfg(test)]
 mod opening;
 #[cfg(test)]
 mod places;

@@ -1,0 +1,39 @@
+//! How many messages wait in the queues of a link's ports.
+ghost use Rattle.std.specs.Prelude.{◌≡◌, ℕ, [], slice_get};
+ghost use Rattle.receiver.specs.Outlet.{GivesAt};
+ghost use Rattle.receiver.specs.Port.{GivesPort};
+ghost use Rattle.receiver.specs.Receiver.{LinksStay};
+ghost use Rattle.receiver.specs.Waiting.{AreWaitingAt, AreWaitingIn};
+
+use crate::link::OpenLink;
+use crate::port::PortOutlet;
+use crate::receiver::Receiver;
+use es_base::PortNo;
+
+impl OpenLink<PortOutlet> {
+    /// How many messages wait in the queue of a port: those that were delivered to it and that nobody took, as far as its
+    /// end of the queue knows after it looked. None if the port samples, or the link has no such port. Takes no memory,
+    /// and waits for nobody; it costs a step for each message that waits.
+    pub fn waiting(&mut self, port: PortNo) -> Option<usize>
+        ensures core { self.new.core ≡ self.old.core }
+        ensures came { self.new.came ≡ self.old.came }
+        ensures outlets { (at : ℕ) → GivesAt GivesPort (slice_get self.old.outlets at) (slice_get self.new.outlets at) [] }
+        ensures waiting { AreWaitingAt self.new port result }
+    {
+        let outlet = self.outlets.get_mut(port.0 as usize)?;
+        outlet.waiting()
+    }
+}
+
+impl Receiver<PortOutlet> {
+    /// How many messages wait in the queue of a port of the link at this place: those that were delivered to it and that
+    /// nobody took, as far as its end of the queue knows after it looked. None if the port samples, or there is no such
+    /// port. Takes no memory, and waits for nobody; it costs a step for each message that waits.
+    pub fn waiting(&mut self, place: usize, port: PortNo) -> Option<usize>
+        ensures stays { LinksStay GivesPort self.old self.new }
+        ensures waiting { AreWaitingIn (slice_get self.new.links place) port result }
+    {
+        let link = self.links.get_mut(place)?;
+        link.waiting(port)
+    }
+}
