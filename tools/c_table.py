@@ -3,7 +3,8 @@
 
     tools/c_table.py CONFIG     the table of a configuration that the program takes (docs/FORMATS.md), on the standard output
 
-Whether the program takes it is asked of the library when the table is opened. Keys that have no meaning are left out.
+Whether the program takes it is asked of the library when the table is opened. Keys that have no meaning are left out, but
+for `readers` at a sampling port: how many readers it gets, 1 to 8; without it as many as the opening is told.
 """
 import ipaddress
 import sys
@@ -33,7 +34,8 @@ def port_row(port):
     address = int(ipaddress.IPv4Address(port["address"]))
     words = number(port["udp"]), number(port.get("max", LARGEST[kind])), number(port[LIMITS[kind]], 64), len(name)
     octets = ", ".join(f"'{letter}'" for letter in name)
-    return f"    {{YELUNNAVI_SERVICE_{kind.upper()}, 0x{address:08x}, {', '.join(map(str, words))}, {{{octets}}}}},"
+    readers = number(port.get("readers", 0)) if kind == "sampling" else 0
+    return f"    {{YELUNNAVI_SERVICE_{kind.upper()}, 0x{address:08x}, {', '.join(map(str, words))}, {{{octets}}}, {readers}}},"
 
 
 def table(config):
@@ -45,7 +47,7 @@ def table(config):
         f"static const uint8_t table_constant[4] = {{{constant}}};",
         "/* vl, redundancy, skew_max, reassembly, window, ports */",
         "static const struct yelunnavi_link_row table_links[] = {", *map(link_row, config["link"]), "};",
-        "/* service, address, udp, max, limit, name_len, name */",
+        "/* service, address, udp, max, limit, name_len, name, readers */",
         f"static const struct yelunnavi_port_row table_ports[{len(ports) or 1}] = {{", *map(port_row, ports), "};",
         f"enum {{ TABLE_LINKS = {len(config['link'])}, TABLE_PORTS = {len(ports)} }};",
     ]

@@ -269,6 +269,7 @@ static void want_no_receiver(struct yelunnavi_receiver *h) {
     struct yelunnavi_link link;
     struct yelunnavi_port port;
     struct yelunnavi_place place;
+    struct yelunnavi_health health;
     uint8_t name[YELUNNAVI_LONGEST_NAME];
     uint64_t count;
     size_t links;
@@ -277,6 +278,8 @@ static void want_no_receiver(struct yelunnavi_receiver *h) {
     WANT(NOT_MADE, yelunnavi_receiver_receive(h, YELUNNAVI_A, 0, FRAME, sizeof FRAME, &frame));
     WANT(NOT_MADE, yelunnavi_receiver_count(h, 0, YELUNNAVI_A, YELUNNAVI_VERDICT_SAMPLED, &count));
     WANT(NOT_MADE, yelunnavi_receiver_filtered(h, YELUNNAVI_A, YELUNNAVI_FILTER_TOO_SHORT, &count));
+    WANT(NOT_MADE, yelunnavi_receiver_health(h, 0, &health));
+    WANT(NOT_MADE, yelunnavi_receiver_waiting(h, 0, 0, &links));
     WANT(NOT_MADE, yelunnavi_receiver_links(h, &links));
     WANT(NOT_MADE, yelunnavi_receiver_link(h, 0, &link));
     WANT(NOT_MADE, yelunnavi_receiver_port(h, 0, 0, &port, &name));
@@ -379,9 +382,9 @@ static void of_lines(void) {
 
 static const struct yelunnavi_link_row LINKS[2] = {{17, 1, 1000, 50000, 2, 2}, {18, 0, 0, 0, 4, 1}};
 static const struct yelunnavi_port_row PORTS[3] = {
-    {YELUNNAVI_SERVICE_SAMPLING, 0xe0e00011, 5000, 1471, 20000, 3, {'p', 'o', 's'}},
-    {YELUNNAVI_SERVICE_QUEUING, 0xe0e00011, 5002, 8192, 64, 3, {'n', 'a', 'v'}},
-    {YELUNNAVI_SERVICE_QUEUING, 0xe0e00011, 5002, 0, 1, 16, "abcdefghijklmno-"},
+    {YELUNNAVI_SERVICE_SAMPLING, 0xe0e00011, 5000, 1471, 20000, 3, {'p', 'o', 's'}, 0},
+    {YELUNNAVI_SERVICE_QUEUING, 0xe0e00011, 5002, 8192, 64, 3, {'n', 'a', 'v'}, 0},
+    {YELUNNAVI_SERVICE_QUEUING, 0xe0e00011, 5002, 0, 1, 16, "abcdefghijklmno-", 0},
 };
 static struct yelunnavi_link_row links_of[65];
 static struct yelunnavi_port_row ports_of[66];

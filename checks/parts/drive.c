@@ -1,15 +1,19 @@
 /* drive < SCRIPT: what the library for C answers to the calls of a script, a line each: the code, and what was told with DONE.
    Octets are in hexadecimal, `-` if there are none. Each buffer has just the room that the call is told, and was filled with
-   0xa5. Ends stand in slots by number. At the end a line says how many blocks of memory weren't given back. */
+   0xa5. Ends stand in slots by number. At the end a line says how many blocks of memory weren't given back. With SYSTEM the calls
+   are those of a system and of both its passes. */
 #include "yelunnavi.h"
 #include <inttypes.h>
 #include <stdio.h>
 #include <stdlib.h>
 #include <string.h>
+#ifdef SYSTEM
+#include "as_receiver.h"
+#endif
 
 enum { SLOTS = 64, FILL = 0xa5 };
 
-static uint64_t receiver_room[64], reader_rooms[SLOTS][64], taker_rooms[SLOTS][64];
+static uint64_t receiver_room[128], reader_rooms[SLOTS][64], taker_rooms[SLOTS][64];
 static struct yelunnavi_receiver receiver;
 static struct yelunnavi_reader readers[SLOTS];
 static struct yelunnavi_taker takers[SLOTS];
@@ -97,6 +101,7 @@ static struct yelunnavi_port_row port_row(void) {
     uint8_t *name = octets(&row.name_len);
     memcpy(row.name, name, row.name_len);
     free(name);
+    row.readers = (uint32_t)number();
     return row;
 }
 
@@ -205,6 +210,18 @@ static void filtered(void) {
     if (code(yelunnavi_receiver_filtered(&receiver, net, (uint32_t)number(), &told))) printf(" %" PRIu64, told);
 }
 
+static void health(void) {
+    struct yelunnavi_health told;
+    if (code(yelunnavi_receiver_health(&receiver, number(), &told)))
+        printf(" %" PRIu32 " %" PRIu32 " %" PRIu64 " %" PRIu64 " %" PRIu64, told.came_a, told.came_b, told.latest_a, told.latest_b,
+               told.given_up);
+}
+
+static void waiting(void) {
+    size_t told, link = number();
+    if (code(yelunnavi_receiver_waiting(&receiver, link, number(), &told))) printf(" %zu", told);
+}
+
 static void place(void) {
     struct yelunnavi_place told;
     size_t len;
@@ -229,6 +246,8 @@ static void call(const char *name) {
     else if (!strcmp(name, "longest")) longest();
     else if (!strcmp(name, "count")) count();
     else if (!strcmp(name, "filtered")) filtered();
+    else if (!strcmp(name, "health")) health();
+    else if (!strcmp(name, "waiting")) waiting();
     else if (!strcmp(name, "place")) place();
     else if (!strcmp(name, "close")) yelunnavi_receiver_close(&receiver);
     else if (!strcmp(name, "close_reader")) yelunnavi_reader_close(&readers[number()]);

@@ -17,7 +17,7 @@ def line_of(answer):
     return " ".join(hexed(part) if isinstance(part, bytes) else str(part) for part in answer)
 
 
-def rows_of(links):
+def rows_of(links, each):
     """The words of a table."""
     yield len(links)
     for link in links:
@@ -29,7 +29,8 @@ def rows_of(links):
             longest = (1471 if samples else 8192) if port.max is None else port.max
             limit = port.refresh if samples else port.depth
             address = int.from_bytes(bytes([224, 224, link.place, 1]), "big")
-            yield from (1 if samples else 2, address, port.udp, longest, limit, hexed(port.name.encode()))
+            yield from (1 if samples else 2, address, port.udp, longest, limit, hexed(port.name.encode()),
+                        each[port.name.encode()])
 
 
 class Script:
@@ -69,19 +70,22 @@ class Script:
 
     def between(self):
         ends = [self.read] * 4 + [self.hold, self.hold, self.copy, self.octets, self.release, self.take, self.take, self.take]
-        return [*ends, self.hand_reader, self.hand_taker, self.count, self.filtered, self.limits, self.longest, self.place,
-                self.chance_of_closing]
+        return [*ends, self.hand_reader, self.hand_taker, self.count, self.filtered, self.health, self.waiting, self.limits,
+                self.longest, self.place, self.chance_of_closing]
 
     # ---- the receiver
 
     def open(self):
         readers = self.r.choice([1, 1, 2, 4, 8, 8, 0, 9])
         text = config_text(self.r, self.links, False)
-        answer = self.receiver.open(self.links, readers)
         if self.r.random() < 0.5:
+            answer = self.receiver.open(self.links, readers)
             self.call(answer, "open", readers, hexed(text))
         else:
-            self.call(answer, "open_table", readers, *rows_of(self.links))
+            odd = 9 if self.r.random() < 0.05 else 0
+            each = {port.name.encode(): self.r.choice([0, 0, 1, 3, 8, odd]) for link in self.links for port in link.ports}
+            answer = self.receiver.open(self.links, readers, each)
+            self.call(answer, "open_table", readers, *rows_of(self.links, each))
         for _ in range(self.r.choice([0, 2, 6, 10]) if answer == (model.DONE,) else 0):
             self.chosen(self.hand_reader, self.hand_taker)
 
@@ -122,6 +126,14 @@ class Script:
     def filtered(self):
         words = self.r.choice([0, 0, 1, 1, 2]), self.r.randrange(7)
         self.call(self.receiver.filtered(*words), "filtered", *words)
+
+    def health(self):
+        link = self.r.choice([0, 0, 0, 1, 2, 3, WRONG])
+        self.call(self.receiver.health(link), "health", link)
+
+    def waiting(self):
+        words = self.r.choice([0, 0, 0, 1, 2, 3, WRONG]), self.r.choice([0, 0, 1, 1, 2, 3, 32, 256, WRONG])
+        self.call(self.receiver.waiting(*words), "waiting", *words)
 
     def place(self):
         name = self.name(self.r.random() < 0.5)

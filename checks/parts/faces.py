@@ -10,7 +10,8 @@ from typing import NamedTuple
 import parts.options  # noqa: F401  (the tools are on the path then)
 from verdict_words import ALLOWED, FILTER_CAUSES, HEADER_CAUSES, KINDS, NETWORKS
 
-CALLS, HANDLES = "crates/receiver_c/src/lib.rt", "crates/receiver_c/src/{}_handle.rt"
+CALLS = tuple(f"crates/receiver_c/src/{name}.rt" for name in ("lib", "system_calls", "pass_calls"))
+HANDLES = "crates/receiver_c/src/{}_handle.rt"
 HELD = "crates/receiver_c/src/held_octets.rt"
 REPLIES, CODES, NUMBERS = (f"crates/receiver_slots/src/{name}.rt" for name in ("replies", "codes", "numbers"))
 FAULTS, ROWS = "crates/vl_config/src/fault.rt", "crates/vl_config/src/rows.rt"
@@ -18,7 +19,9 @@ BOUNDS = ("crates/es_base/src/config.rt", "crates/es_base/src/settings.rt", "cra
           "crates/es_base/src/name.rt", "crates/mailbox_port/src/count.rt")
 C, RUST, ADA = "examples/c/yelunnavi.h", "examples/rust/yelunnavi.rs", "examples/ada/yelunnavi.ads"
 WORDS = "examples/c/yelunnavi_words.h"
-KINDS_OF_HANDLES = ("Receiver", "Reader", "Taker")
+KINDS_OF_HANDLES = ("Receiver", "System", "Pass", "Reader", "Taker")
+# The handles that Ada calls otherwise: System is a package of its own there.
+HANDLES_OF_ADA = {"End_System": "System"}
 
 # What the faces call otherwise: the period of a sampling port, and where the room of a handle is.
 FIELDS = {("LimitReply", "limit"): "refresh"}
@@ -28,11 +31,13 @@ STRUCTS_OF_C = {
     "FaultReply": "yelunnavi_fault", "FrameReply": "yelunnavi_frame", "ReadReply": "yelunnavi_read",
     "TakeReply": "yelunnavi_taken", "LinkReply": "yelunnavi_link", "PortReply": "yelunnavi_port",
     "PlaceReply": "yelunnavi_place", "LimitReply": "yelunnavi_limits", "HeldOctets": "yelunnavi_octets",
+    "HealthReply": "yelunnavi_health",
     "LinkRow": "yelunnavi_link_row", "PortRow": "yelunnavi_port_row",
     **{f"{kind}Handle": f"yelunnavi_{kind.lower()}" for kind in KINDS_OF_HANDLES},
 }
 STRUCTS_OF_RUST = {
     "FaultReply": "Fault", "FrameReply": "Frame", "ReadReply": "Read", "TakeReply": "Taken", "LinkReply": "Link",
+    "HealthReply": "Health",
     "PortReply": "Port", "PlaceReply": "Place", "LimitReply": "Limits", "LinkRow": "LinkRow", "PortRow": "PortRow", "HeldOctets": "Held",
 }
 # What a number's name begins with in C, after YELUNNAVI_, and in Ada. In Rust it is a constant of a type of its group.
@@ -170,7 +175,7 @@ def bounds(tree):
 
 def numbers_of_source(tree):
     """The numbers by their groups and names."""
-    read = ((tree / path).read_text(encoding="utf-8") for path in (CALLS, CODES, NUMBERS, REPLIES))
+    read = ((tree / path).read_text(encoding="utf-8") for path in (CALLS[0], CODES, NUMBERS, REPLIES))
     calls, codes, numbers, replies = read
     filtered = found(r"Reply::Filtered\(cause\) => FrameReply \{\s*kind: (\d+),", replies, "a filtered frame's kind")
     no_key = found(r"ConfigFault::Memory => (\d+)", function(numbers, "fault_key"), "no key")
@@ -206,7 +211,8 @@ def words_of_source(tree, numbers):
 
 
 def source(tree):
-    calls, numbers = exports((tree / CALLS).read_text(encoding="utf-8")), numbers_of_source(tree)
+    text = "\n".join((tree / path).read_text(encoding="utf-8") for path in CALLS)
+    calls, numbers = exports(text), numbers_of_source(tree)
     return Interface(structs_of_source(tree), calls, numbers, words_of_source(tree, numbers))
 
 
@@ -385,6 +391,7 @@ def type_of_ada(words, subtypes):
     name = subtypes.get(name, name)
     plain = {"Unsigned_32": "u32", "Unsigned_64": "u64", "size_t": "usize", "System.Address": ROOM,
              "access constant Unsigned_8": "octets"}
+    name = HANDLES_OF_ADA.get(name, name)
     if name in KINDS_OF_HANDLES:
         return f"{name}Handle" if mode else name
     if name.endswith(" octets"):
@@ -415,6 +422,7 @@ def face_of_ada(tree):
     subtypes = subtypes_of_ada(text)
     structs = {}
     for name, body in re.findall(r"type (\w+) is (?:limited )?record(.*?)end record with Convention => C;", text, re.S):
+        name = HANDLES_OF_ADA.get(name, name)
         name = f"{name}Handle" if name in KINDS_OF_HANDLES else name.replace("_", "")
         structs[name] = pairs_of_ada(body, subtypes)
     pattern = (r"(?:function|procedure) \w+\s*(?:\(([^)]*)\))?\s*(?:return (\w+))?\s*"

@@ -96,10 +96,12 @@ class Link:
         self.redundancy, self.window = settings.redundancy, settings.window or 2
         self.ports = [Port(port, settings.place) for port in settings.ports]
         self.came, self.latest, self.forwarded, self.groups, self.frames = [None, None], None, None, [], 0
+        self.heard, self.given_up = [None, None], 0
 
     def receive(self, net, now, frame):
         """Kind, cause, place of the port and number of the message."""
         number, before, self.came[net] = frame[-1], self.came[net], frame[-1]
+        self.heard[net] = now
         if before is not None and not follows(number, before, self.window):
             return OUT_OF_SEQUENCE, 0, 0, 0
         if self.redundancy and not self.forwards(number, now):
@@ -117,7 +119,7 @@ class Link:
         word, octets, key = int.from_bytes(packet[6:8], "big"), packet[20:], (packet[12:20], packet[4:6])
         more, offset = bool(word & 0x2000), 8 * (word & 0x1FFF)
         if not more and offset == 0:
-            self.groups = [group for group in self.groups if group.key != key]
+            self.give_up([group for group in self.groups if group.key == key])
             return self.datagram(now, packet[16:20], octets, False)
         if more and (not octets or len(octets) % 8) or offset + len(octets) > LAST_OCTET:
             return BAD_FRAGMENT, 0, 0, 0
@@ -129,12 +131,16 @@ class Link:
         self.groups.remove(group)
         return self.datagram(now, packet[16:20], whole, True)
 
+    def give_up(self, groups):
+        self.given_up += len(groups)
+        self.groups = [group for group in self.groups if group not in groups]
+
     def group(self, key, now):
-        self.groups = [group for group in self.groups if group.key != key or passed(now, group.began) <= self.limit]
+        self.give_up([group for group in self.groups if group.key == key and passed(now, group.began) > self.limit])
         found = [group for group in self.groups if group.key == key]
         if not found:
             found = [Group(key, now)]
-            self.groups = self.groups[-MOST_GROUPS + 1:] if len(self.groups) == MOST_GROUPS else self.groups
+            self.give_up(self.groups[:1] if len(self.groups) == MOST_GROUPS else [])
             self.groups.append(found[0])
         return found[0]
 
@@ -230,15 +236,16 @@ class Receiver:
     def __init__(self):
         self.links = None
 
-    def open(self, settings, readers):
+    def open(self, settings, readers, each=()):
+        """`each` has the readers of ports by their names, where a table says them."""
         if self.links is not None:
             return (ALREADY_OPEN,)
-        if not 1 <= readers <= READERS:
+        if not 1 <= readers <= READERS or any(own > READERS for own in dict(each).values()):
             return (OUT_OF_RANGE,)
         self.links = [Link(link) for link in settings]
         self.counts, self.filtered_counts = {}, {}
         for port in self.ports():
-            port.left = readers if port.samples else 1
+            port.left = (dict(each).get(port.name) or readers) if port.samples else 1
         return (DONE,)
 
     def ports(self):
@@ -281,6 +288,18 @@ class Receiver:
         if self.links is None or net > 1:
             return (NOT_OPEN if self.links is None else NO_NETWORK,)
         return (DONE, self.filtered_counts.get((net, cause), 0)) if 1 <= cause <= CAUSES else (NO_KIND,)
+
+    def health(self, link):
+        if self.links is None or link >= len(self.links):
+            return (NOT_OPEN if self.links is None else NO_PLACE,)
+        found = self.links[link]
+        return DONE, *(int(time is not None) for time in found.heard), *(time or 0 for time in found.heard), found.given_up
+
+    def waiting(self, link, place):
+        if self.links is None or link >= len(self.links) or place >= len(self.links[link].ports):
+            return (NOT_OPEN if self.links is None else NO_PLACE,)
+        port = self.links[link].ports[place]
+        return (NONE_LEFT,) if port.samples else (DONE, len(port.waiting))
 
     def place(self, name):
         if self.links is None:

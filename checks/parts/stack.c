@@ -1,6 +1,7 @@
 /* stack CONFIG A B: how many octets of stack each call of the library takes, the most that was seen, as lines of a name and a
    number: of openings, of this configuration, of the largest one, of those with a fault at their end, and of texts that are
    nested as deep as they may be; of each frame of two traces, by the kind of its verdict; of all other calls, after the frames.
+   With SYSTEM the calls are those of a system and of both its passes.
    A call runs on a stack that was painted before, and what it has written to is counted, less what a call that does nothing
    writes to. */
 #define _XOPEN_SOURCE 700
@@ -8,6 +9,9 @@
 #include "trace.h"
 #include <string.h>
 #include <ucontext.h>
+#ifdef SYSTEM
+#include "as_receiver.h"
+#endif
 
 enum { PAINT = 0xa5, SHORT = 1 << 16, LONG = 1 << 22, TEXT = 1 << 20, NAMES = 64 };
 /* What TOML is read to: so many levels of a value, and parts of a key. */
@@ -48,7 +52,7 @@ static void call(const char *name, void (*it)(void)) { note(name, written_by(it,
 
 /* ---- the calls, and what they are passed */
 
-static uint64_t room[64], end_rooms[YELUNNAVI_MOST_PORTS][64];
+static uint64_t room[128], end_rooms[YELUNNAVI_MOST_PORTS][64];
 static struct yelunnavi_receiver receiver;
 static struct yelunnavi_reader reader;
 static struct yelunnavi_taker taker;
@@ -148,7 +152,7 @@ static void open_table(void) {
 
 static void of_tables(void) {
     for (uint32_t at = 0; at < YELUNNAVI_MOST_LINKS * YELUNNAVI_MOST_PORTS; at++) {
-        port_rows[at] = (struct yelunnavi_port_row){YELUNNAVI_SERVICE_SAMPLING, 0xe0e00001, at, 1, 1000, 5, {'p'}};
+        port_rows[at] = (struct yelunnavi_port_row){YELUNNAVI_SERVICE_SAMPLING, 0xe0e00001, at, 1, 1000, 5, {'p'}, 0};
         for (uint32_t place = 1, rest = at; place < 5; place++, rest /= 10) port_rows[at].name[place] = (uint8_t)('0' + rest % 10);
         link_rows[at / YELUNNAVI_MOST_PORTS] = (struct yelunnavi_link_row){at / YELUNNAVI_MOST_PORTS, 1, 0, 0, 1, YELUNNAVI_MOST_PORTS};
     }

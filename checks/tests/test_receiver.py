@@ -8,7 +8,7 @@ import pytest
 import test_captures
 from conftest import CAPTURES, CONFIG, PROGRAM
 from parts.random_traces import write_case
-from receiver import A, B, ConfigFault, Receiver, Refused
+from receiver import A, B, ConfigFault, Receiver, Refused, System
 from workbench import hex_traces, playing
 from workbench.faults import Fault
 
@@ -72,6 +72,21 @@ def test_a_reader_and_a_taker():
         queued = sum(reply.kind == "queued" for reply in replies)
         assert len(list(iter(taker.take, None))) == queued > 0
         assert sum(sum(counts.values()) for counts in receiver.counts().values()) == len(FRAMES)
+
+
+def test_passes_of_a_system_reply_as_a_receiver_does():
+    with Receiver(CONFIG.read_text()) as receiver, System(CONFIG.read_text()) as system:
+        reader, passes = system.reader("pos"), [system.hand_pass(net) for net in (A, B)]
+        with pytest.raises(Refused, match="B: none-left"):
+            system.hand_pass(B)
+        for place, octets in enumerate(FRAMES):
+            for net in (A, B):
+                assert passes[net].receive(1000 * place + net, octets) == receiver.receive(net, 1000 * place + net, octets)
+        assert passes[A].counts() | passes[B].counts() == receiver.counts()
+        system.close()
+        assert passes[A].receive(0, FRAMES[0]).vl == 17 and reader.read(0).number
+        for end in (*passes, reader):
+            end.close()
 
 
 def test_what_is_refused():

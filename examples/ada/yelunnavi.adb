@@ -18,6 +18,22 @@ package body Yelunnavi is
       return Answer;
    end Init;
 
+   function Init (H : out End_System; Room : System.Address; Length : size_t) return Code is
+      Answer : constant Code := Room_Code (Room, Length, End_System_Room);
+   begin
+      H.Room := (if Answer = Done then Room else Nowhere'Address);
+      if Answer = Done then End_System_Make (Room); end if;
+      return Answer;
+   end Init;
+
+   function Init (H : out Pass; Room : System.Address; Length : size_t) return Code is
+      Answer : constant Code := Room_Code (Room, Length, Pass_Room);
+   begin
+      H.Room := (if Answer = Done then Room else Nowhere'Address);
+      if Answer = Done then Pass_Make (Room); end if;
+      return Answer;
+   end Init;
+
    function Init (H : out Reader; Room : System.Address; Length : size_t) return Code is
       Answer : constant Code := Room_Code (Room, Length, Reader_Room);
    begin

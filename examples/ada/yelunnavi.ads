@@ -6,11 +6,13 @@ with System;
 
 package Yelunnavi is
    type Receiver is limited record Room : System.Address; end record with Convention => C;
+   type End_System is limited record Room : System.Address; end record with Convention => C;
+   type Pass is limited record Room : System.Address; end record with Convention => C;
    type Reader is limited record Room : System.Address; end record with Convention => C;
    type Taker is limited record Room : System.Address; end record with Convention => C;
 
    --  The number of this interface: raised with each change of a struct, a call or a number. Library_Abi has the library's.
-   Abi : constant Unsigned_32 := 3;
+   Abi : constant Unsigned_32 := 4;
 
    subtype Code is Unsigned_32;
    Done : constant Code := 0;
@@ -29,6 +31,7 @@ package Yelunnavi is
    Too_Short : constant Code := 13;
    Not_Made : constant Code := 14;
    No_Room : constant Code := 15;
+   Busy : constant Code := 16;
 
    Network_A : constant Unsigned_32 := 0;
    Network_B : constant Unsigned_32 := 1;
@@ -117,6 +120,9 @@ package Yelunnavi is
    type Link_Reply is record
       Vl, Redundancy : Unsigned_32; Skew_Max, Reassembly : Unsigned_64; Window : Unsigned_32; Ports : size_t;
    end record with Convention => C;
+   type Health_Reply is record
+      Came_A, Came_B : Unsigned_32; Latest_A, Latest_B, Given_Up : Unsigned_64;
+   end record with Convention => C;
    type Port_Reply is record
       Service, Address, Udp, Max : Unsigned_32; Limit : Unsigned_64; Name_Length : size_t;
    end record with Convention => C;
@@ -133,21 +139,28 @@ package Yelunnavi is
    end record with Convention => C;
    type Port_Row is record
       Service, Address, Udp, Max : Unsigned_32; Limit : Unsigned_64; Name_Length : size_t; Name : Name_Octets;
+      Readers : Unsigned_32;
    end record with Convention => C;
    type Link_Rows is array (size_t range <>) of aliased Link_Row with Convention => C;
    type Port_Rows is array (size_t range <>) of aliased Port_Row with Convention => C;
 
    function Library_Abi return Unsigned_32 with Import, Convention => C, External_Name => "yelunnavi_abi";
    function Receiver_Room return size_t with Import, Convention => C, External_Name => "yelunnavi_receiver_room";
+   function End_System_Room return size_t with Import, Convention => C, External_Name => "yelunnavi_system_room";
+   function Pass_Room return size_t with Import, Convention => C, External_Name => "yelunnavi_pass_room";
    function Reader_Room return size_t with Import, Convention => C, External_Name => "yelunnavi_reader_room";
    function Taker_Room return size_t with Import, Convention => C, External_Name => "yelunnavi_taker_room";
    procedure Receiver_Make (Room : System.Address) with Import, Convention => C, External_Name => "yelunnavi_receiver_make";
+   procedure End_System_Make (Room : System.Address) with Import, Convention => C, External_Name => "yelunnavi_system_make";
+   procedure Pass_Make (Room : System.Address) with Import, Convention => C, External_Name => "yelunnavi_pass_make";
    procedure Reader_Make (Room : System.Address) with Import, Convention => C, External_Name => "yelunnavi_reader_make";
    procedure Taker_Make (Room : System.Address) with Import, Convention => C, External_Name => "yelunnavi_taker_make";
 
    --  Makes a slot in which nothing is open in a room of so many octets, and the handle to it. No_Room if the room is null or
    --  isn't aligned to 8, Too_Short if a slot needs more octets; then each further call on the handle answers Not_Made.
    function Init (H : out Receiver; Room : System.Address; Length : size_t) return Code;
+   function Init (H : out End_System; Room : System.Address; Length : size_t) return Code;
+   function Init (H : out Pass; Room : System.Address; Length : size_t) return Code;
    function Init (H : out Reader; Room : System.Address; Length : size_t) return Code;
    function Init (H : out Taker; Room : System.Address; Length : size_t) return Code;
 
@@ -167,6 +180,10 @@ package Yelunnavi is
      with Import, Convention => C, External_Name => "yelunnavi_receiver_count";
    function Filtered (H : in out Receiver; Net, Cause : Unsigned_32; Count : in out Unsigned_64) return Code
      with Import, Convention => C, External_Name => "yelunnavi_receiver_filtered";
+   function Health (H : in out Receiver; Link : size_t; Reply : in out Health_Reply) return Code
+     with Import, Convention => C, External_Name => "yelunnavi_receiver_health";
+   function Waiting (H : in out Receiver; Link, Port : size_t; Waiting : in out size_t) return Code
+     with Import, Convention => C, External_Name => "yelunnavi_receiver_waiting";
    function Links (H : in out Receiver; Links : in out size_t) return Code
      with Import, Convention => C, External_Name => "yelunnavi_receiver_links";
    function Link (H : in out Receiver; Link : size_t; Reply : in out Link_Reply) return Code
@@ -179,6 +196,39 @@ package Yelunnavi is
      with Import, Convention => C, External_Name => "yelunnavi_receiver_hand_reader";
    function Hand_Taker (H : in out Receiver; To : in out Taker; Name : Octets; Length : size_t) return Code
      with Import, Convention => C, External_Name => "yelunnavi_receiver_hand_taker";
+
+   --  A receiver for two threads, and the pass of each network: see BUSY in the header.
+   function Open
+     (H : in out End_System; Text : Octets; Length, Readers : size_t; Fault : in out Fault_Reply) return Code
+     with Import, Convention => C, External_Name => "yelunnavi_system_open";
+   function Open_Table
+     (H : in out End_System; Constant_Field : Octets; Links : Link_Rows; Links_Length : size_t; Ports : Port_Rows;
+      Ports_Length, Readers : size_t; Fault : in out Fault_Reply) return Code
+     with Import, Convention => C, External_Name => "yelunnavi_system_open_table";
+   procedure Close (H : in out End_System) with Import, Convention => C, External_Name => "yelunnavi_system_close";
+   function Hand_Pass (H : in out End_System; Net : Unsigned_32; To : in out Pass) return Code
+     with Import, Convention => C, External_Name => "yelunnavi_system_hand_pass";
+   function Links (H : in out End_System; Links : in out size_t) return Code
+     with Import, Convention => C, External_Name => "yelunnavi_system_links";
+   function Link (H : in out End_System; Link : size_t; Reply : in out Link_Reply) return Code
+     with Import, Convention => C, External_Name => "yelunnavi_system_link";
+   function Port (H : in out End_System; Link, Port : size_t; Reply : in out Port_Reply; Name : in out Name_Octets) return Code
+     with Import, Convention => C, External_Name => "yelunnavi_system_port";
+   function Place (H : in out End_System; Name : Octets; Length : size_t; Reply : in out Place_Reply) return Code
+     with Import, Convention => C, External_Name => "yelunnavi_system_place";
+   function Hand_Reader (H : in out End_System; To : in out Reader; Name : Octets; Length : size_t) return Code
+     with Import, Convention => C, External_Name => "yelunnavi_system_hand_reader";
+   function Hand_Taker (H : in out End_System; To : in out Taker; Name : Octets; Length : size_t) return Code
+     with Import, Convention => C, External_Name => "yelunnavi_system_hand_taker";
+
+   function Receive
+     (H : in out Pass; Now : Unsigned_64; Frame : Octets; Length : size_t; Reply : in out Frame_Reply) return Code
+     with Import, Convention => C, External_Name => "yelunnavi_pass_receive";
+   function Count (H : in out Pass; Link : size_t; Kind : Unsigned_32; Count : in out Unsigned_64) return Code
+     with Import, Convention => C, External_Name => "yelunnavi_pass_count";
+   function Filtered (H : in out Pass; Cause : Unsigned_32; Count : in out Unsigned_64) return Code
+     with Import, Convention => C, External_Name => "yelunnavi_pass_filtered";
+   procedure Close (H : in out Pass) with Import, Convention => C, External_Name => "yelunnavi_pass_close";
 
    function Read
      (H : in out Reader; Now : Unsigned_64; Into : in out Octets; Length : size_t; Reply : in out Read_Reply) return Code

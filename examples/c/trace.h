@@ -1,4 +1,6 @@
 /* The frames of two traces (docs/FORMATS.md, trace), one of each network, in order of time: in the place of a driver. */
+#ifndef TRACE_H
+#define TRACE_H
 #include <stdbool.h>
 #include <stdint.h>
 #include <stdio.h>
@@ -23,7 +25,7 @@ static int digit_of(int c) {
 }
 
 static void read_frame(FILE *file, struct frame *to) {
-    static char line[8194];
+    char line[8194];
     to->is_there = false;
     while (!to->is_there && fgets(line, sizeof line, file)) {
         char *at = line;
@@ -62,3 +64,4 @@ static size_t read_file(const char *name, uint8_t *to, size_t size) {
     fclose(file);
     return len;
 }
+#endif

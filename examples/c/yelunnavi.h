@@ -1,8 +1,10 @@
-/* Yelunnavi for C: an AFDX receiver for one task that polls both networks, and ends of its ports for partitions.
+/* Yelunnavi for C: an AFDX receiver for one task that polls both networks, or for two threads, one a network; and ends of its
+   ports for partitions.
 
-   THREE KINDS OF HANDLES, each of a slot in room of the caller's: a receiver, a reader of a sampling port, and a taker of
-   a queuing port, the end of its queue from which messages are taken. Readers and takers are handed out of a receiver, by
-   the names of their ports, into slots of their own.
+   FIVE KINDS OF HANDLES, each of a slot in room of the caller's: a receiver, for one task; a system, for two threads, and a pass
+   for each of its networks; a reader of a sampling port, and a taker of a queuing port, the end of its queue from which messages
+   are taken. Readers and takers are handed out of a receiver or of a system, by the names of their ports, into slots of their
+   own, and so is each network's pass out of a system.
 
    Static room:   static uint64_t room[64];
                   static struct yelunnavi_receiver receiver;
@@ -13,12 +15,24 @@
    NOT_MADE, or does nothing if it answers no code, and neither reads nor writes the rest of the room.
 
    WHO MAY CALL. Each handle may be used by any one thread at a time, and handed on to another. Different handles may be
-   used by different threads at once, those of one receiver too. No call waits for another thread, none blocks, and none
-   tries again: each reader of a sampling port has a copy of the newest message to itself. A reader that stops in the midst
+   used by different threads at once, those of one receiver or of one system too. No call waits for another thread, none blocks,
+   and none tries again: each reader of a sampling port has a copy of the newest message to itself. A reader that stops in the midst
    of a call, that holds a message for ever or that nobody uses any more holds up neither the receiver nor another reader.
 
-   MEMORY. yelunnavi_receiver_open and .._open_table ask for memory, by rattle_alloc, rattle_realloc and rattle_dealloc below; .._close
-   give some back. No other call asks for any or gives any back. For each sampling port it keeps 376 octets, and for each
+   BUSY. Each link of a system stands under a lock, since both networks bring its frames. No call waits for it:
+   yelunnavi_pass_receive answers BUSY if the thread of the other network has the link just then, and nothing has happened: the
+   thread gives the same frame again, and before the next one. The other thread has a link as long as one receive of its own takes,
+   and no longer. What that asks of the program:
+   - Each pass has one thread. Between two calls with one frame a thread yields (sched_yield, or the pause of a driver's loop).
+   - The thread that has the link has to get its turn. So where both threads run on one processor by strict priorities, the higher
+     one doesn't call again and again: it sleeps, or both have one priority, or one task has both passes and never finds BUSY.
+   - A thread that is stopped for good in the midst of a receive leaves its link taken: then every frame of that link is BUSY for
+     the other network. The other links go on.
+   Which of two threads finds BUSY isn't said, nor how often: no order of turns is promised. Nothing else of a system is shared by
+   its passes: frames of different links, filtered frames, counts and the ends of ports never meet.
+
+   MEMORY. yelunnavi_receiver_open and .._open_table, and those of a system, ask for memory, by rattle_alloc, rattle_realloc and rattle_dealloc below; .._close
+   give some back. No other call asks for any or gives any back. For each sampling port they keep 376 octets, and for each
    of its readers 376 and three times the longest message of the port. Beside these three the library needs memcpy,
    memmove and memset, and nothing else: no operating system, no C library's start-up. It never prints, never ends the
    process, and has no state of its own outside of the rooms and of what it asked for.
@@ -35,7 +49,8 @@
    AFTER A CLOSE the room holds nothing: it may be given up, or used again for a handle of the same kind, without .._init. Ends
    live on when their receiver is closed, and a second opening doesn't reach them: an old reader finds the last message of the
    old receiver for ever, with `valid` 0 once it is too old, and an old taker what is left in its queue. So close them too, and
-   hand out new ones. An end that is closed doesn't come back: the queue of a closed taker fills up, and then overflows for good.
+   hand out new ones. A pass lives on, too, when its system is closed: its frames go to the same links and ports still. The links'
+   memory goes back with the last of the system and its two passes that is closed, on that thread. An end that is closed doesn't come back: the queue of a closed taker fills up, and then overflows for good.
 
    STACK. An opening takes up to 20 KiB if the text is a configuration with no keys but its own, or is none for a fault that
    stands in one of its ports. Other keys whose values are nested take more: 2.6 MB for 80 levels of tables, each by a key of
@@ -82,7 +97,7 @@ extern "C" {
 typedef char yelunnavi_is_of_64_bits[sizeof(size_t) == 8 && sizeof(void *) == 8 ? 1 : -1];
 
 /* The number of this interface: raised with each change of a struct, a call or a number. */
-#define YELUNNAVI_ABI 3
+#define YELUNNAVI_ABI 4
 
 /* The number of the library's interface. A program compares both before its first opening: if they differ, the header that
    it was compiled with is of another library. */
@@ -107,7 +122,8 @@ enum yelunnavi_code {
     YELUNNAVI_OUT_OF_RANGE = 12, /* the message has no such octets, or a sampling port can't have so many readers */
     YELUNNAVI_TOO_SHORT = 13,   /* there may be messages for which there is no room; or the room of a slot is too short */
     YELUNNAVI_NOT_MADE = 14,    /* the room holds no slot of this kind: none was made there, or one of another kind */
-    YELUNNAVI_NO_ROOM = 15      /* the room can't hold a slot: it is null, or isn't aligned to 8 */
+    YELUNNAVI_NO_ROOM = 15,     /* the room can't hold a slot: it is null, or isn't aligned to 8 */
+    YELUNNAVI_BUSY = 16         /* the thread of the other network has the frame's link just now: see BUSY above */
 };
 
 /* The networks. */
@@ -201,16 +217,22 @@ enum yelunnavi_bound {
 /* ---- handles: where the room is */
 
 struct yelunnavi_receiver { void *room; };
+struct yelunnavi_system { void *room; };
+struct yelunnavi_pass { void *room; };
 struct yelunnavi_reader { void *room; };
 struct yelunnavi_taker { void *room; };
 
 /* How many octets of room a slot takes. */
 size_t yelunnavi_receiver_room(void);
+size_t yelunnavi_system_room(void);
+size_t yelunnavi_pass_room(void);
 size_t yelunnavi_reader_room(void);
 size_t yelunnavi_taker_room(void);
 
 /* Makes a slot in a room as large as .._room() says, aligned to 8: for .._init. */
 void yelunnavi_receiver_make(void *room);
+void yelunnavi_system_make(void *room);
+void yelunnavi_pass_make(void *room);
 void yelunnavi_reader_make(void *room);
 void yelunnavi_taker_make(void *room);
 
@@ -232,6 +254,20 @@ static inline uint32_t yelunnavi_receiver_init(struct yelunnavi_receiver *h, voi
     uint32_t code = yelunnavi_room_code(room, octets, yelunnavi_receiver_room());
     h->room = code == YELUNNAVI_DONE ? room : yelunnavi_nowhere();
     if (code == YELUNNAVI_DONE) yelunnavi_receiver_make(room);
+    return code;
+}
+
+static inline uint32_t yelunnavi_system_init(struct yelunnavi_system *h, void *room, size_t octets) {
+    uint32_t code = yelunnavi_room_code(room, octets, yelunnavi_system_room());
+    h->room = code == YELUNNAVI_DONE ? room : yelunnavi_nowhere();
+    if (code == YELUNNAVI_DONE) yelunnavi_system_make(room);
+    return code;
+}
+
+static inline uint32_t yelunnavi_pass_init(struct yelunnavi_pass *h, void *room, size_t octets) {
+    uint32_t code = yelunnavi_room_code(room, octets, yelunnavi_pass_room());
+    h->room = code == YELUNNAVI_DONE ? room : yelunnavi_nowhere();
+    if (code == YELUNNAVI_DONE) yelunnavi_pass_make(room);
     return code;
 }
 
@@ -271,7 +307,7 @@ struct yelunnavi_fault {
 uint32_t yelunnavi_receiver_open(struct yelunnavi_receiver *h, const uint8_t *text, size_t len, size_t readers,
                                  struct yelunnavi_fault *fault);
 
-/* A configuration without a text: a table of its links, and of their ports one after another, as examples/c/table.c writes one
+/* A configuration without a text: a table of its links, and of their ports one after another, as tools/c_table.py writes one
    of a text. A program that opens no text and is linked with --gc-sections has none of the library's reading of TOML. */
 struct yelunnavi_link_row {
     uint32_t vl;         /* its link number, 0 to 65,535 */
@@ -290,6 +326,7 @@ struct yelunnavi_port_row {
     uint64_t limit;    /* the refresh period, up to 1,000,000,000; or the depth of the queue, 1 to 64 messages */
     size_t name_len;   /* how many octets its name has, 1 to 16 */
     uint8_t name[16];  /* of a-z 0-9 _ -, at the beginning */
+    uint32_t readers;    /* of a sampling port: how many readers it gets, 1 to 8; 0: as many as the opening is told */
 };
 
 /* Opens the receiver of a table, whose constant field has the 4 octets at `constant`, as the call above opens that of a text:
@@ -329,6 +366,21 @@ uint32_t yelunnavi_receiver_count(struct yelunnavi_receiver *h, size_t link, uin
 
 /* Tells how many frames were filtered on this network for this cause. NOT_OPEN, NO_NETWORK, NO_KIND. */
 uint32_t yelunnavi_receiver_filtered(struct yelunnavi_receiver *h, uint32_t net, uint32_t cause, uint64_t *count);
+
+struct yelunnavi_health {
+    uint32_t came_a;   /* 1: a frame came on network A. 0: none did */
+    uint32_t came_b;   /* the same of network B */
+    uint64_t latest_a; /* when the latest frame came on network A, as it was given; 0 if none came */
+    uint64_t latest_b; /* the same of network B */
+    uint64_t given_up; /* how many datagrams of which fragments came were given up before they were complete */
+};
+
+/* Tells how the link at this place is. Each of its frames counts as one that came, whatever became of it. NOT_OPEN, NO_PLACE. */
+uint32_t yelunnavi_receiver_health(struct yelunnavi_receiver *h, size_t link, struct yelunnavi_health *reply);
+
+/* Tells how many messages wait in the queue of this port of a link: those that were delivered to it and that weren't taken
+   when it was looked. Its time grows with them. NOT_OPEN, NO_PLACE; NONE_LEFT: the port samples. */
+uint32_t yelunnavi_receiver_waiting(struct yelunnavi_receiver *h, size_t link, size_t port, size_t *waiting);
 
 /* ---- the receiver: links and ports */
 
@@ -375,6 +427,51 @@ uint32_t yelunnavi_receiver_place(struct yelunnavi_receiver *h, const uint8_t *n
 
 uint32_t yelunnavi_receiver_hand_reader(struct yelunnavi_receiver *h, struct yelunnavi_reader *to, const uint8_t *name, size_t len);
 uint32_t yelunnavi_receiver_hand_taker(struct yelunnavi_receiver *h, struct yelunnavi_taker *to, const uint8_t *name, size_t len);
+
+/* ---- a system: a receiver for two threads, one a network. It keeps no frame either, and its links, ports, verdicts and limits
+   are those of a receiver: the same frames in the same order come to the same. See BUSY above */
+
+/* Opens the system of a configuration: as yelunnavi_receiver_open, and with its answers. */
+uint32_t yelunnavi_system_open(struct yelunnavi_system *h, const uint8_t *text, size_t len, size_t readers, struct yelunnavi_fault *fault);
+
+/* Opens the system of a table: as yelunnavi_receiver_open_table. */
+uint32_t yelunnavi_system_open_table(struct yelunnavi_system *h, const uint8_t *constant, const struct yelunnavi_link_row *links,
+                                     size_t links_len, const struct yelunnavi_port_row *ports, size_t ports_len, size_t readers,
+                                     struct yelunnavi_fault *fault);
+
+/* Gives the system away, if one is open, with the passes and ends that weren't handed out. Those that were live on. */
+void yelunnavi_system_close(struct yelunnavi_system *h);
+
+/* Moves the pass of a network into a slot in which nothing is open: once; one that was closed doesn't come back. NOT_OPEN (the
+   system), ALREADY_OPEN (`to`), NO_NETWORK, NONE_LEFT, tested in this order. */
+uint32_t yelunnavi_system_hand_pass(struct yelunnavi_system *h, uint32_t net, struct yelunnavi_pass *to);
+
+/* Move an end of the port with this name: as those of a receiver, and with their answers. */
+uint32_t yelunnavi_system_hand_reader(struct yelunnavi_system *h, struct yelunnavi_reader *to, const uint8_t *name, size_t len);
+uint32_t yelunnavi_system_hand_taker(struct yelunnavi_system *h, struct yelunnavi_taker *to, const uint8_t *name, size_t len);
+
+/* Tell of its links and ports: as those of a receiver, and with their answers. */
+uint32_t yelunnavi_system_links(struct yelunnavi_system *h, size_t *links);
+uint32_t yelunnavi_system_link(struct yelunnavi_system *h, size_t link, struct yelunnavi_link *reply);
+uint32_t yelunnavi_system_port(struct yelunnavi_system *h, size_t link, size_t port, struct yelunnavi_port *reply, uint8_t (*name)[16]);
+uint32_t yelunnavi_system_place(struct yelunnavi_system *h, const uint8_t *name, size_t len, struct yelunnavi_place *reply);
+
+/* ---- a network's pass of a system, for the thread of that network */
+
+/* Takes a frame that came on the network of the pass at `now`, as yelunnavi_receiver_receive does. The place that is told is
+   among the frames of both networks on its link. NOT_OPEN; BUSY, and then the same frame is given again: see BUSY above. A frame
+   that is filtered is never BUSY. */
+uint32_t yelunnavi_pass_receive(struct yelunnavi_pass *h, uint64_t now, const uint8_t *frame, size_t len, struct yelunnavi_frame *reply);
+
+/* Tells how many frames of the link at this place came on the network of the pass with a verdict of this kind; VERDICT_FILTERED is
+   none. The pass of the other network tells of that one. NOT_OPEN, NO_KIND, NO_PLACE, tested in this order. */
+uint32_t yelunnavi_pass_count(struct yelunnavi_pass *h, size_t link, uint32_t kind, uint64_t *count);
+
+/* Tells how many frames were filtered on the network of the pass for this cause. NOT_OPEN, NO_KIND. */
+uint32_t yelunnavi_pass_filtered(struct yelunnavi_pass *h, uint32_t cause, uint64_t *count);
+
+/* Gives the pass away, if there is one. The frames of its network reach the system no more; the other pass goes on. */
+void yelunnavi_pass_close(struct yelunnavi_pass *h);
 
 /* ---- a reader of a sampling port (ARINC 664 Part 7, sampling service) */
 

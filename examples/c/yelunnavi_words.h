@@ -22,6 +22,7 @@ static inline const char *yelunnavi_code_word(uint32_t code) {
     case YELUNNAVI_TOO_SHORT: return "too-short";
     case YELUNNAVI_NOT_MADE: return "not-made";
     case YELUNNAVI_NO_ROOM: return "no-room";
+    case YELUNNAVI_BUSY: return "busy";
     default: return "?";
     }
 }

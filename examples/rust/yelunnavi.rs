@@ -34,6 +34,7 @@ numbers! {
         NO_MEMORY = 4 "no-memory", NO_NETWORK = 5 "no-network", NO_KIND = 6 "no-kind", NO_PLACE = 7 "no-place",
         NO_NAME = 8 "no-name", NONE_LEFT = 9 "none-left", HOLDS_ONE = 10 "holds-one", HOLDS_NONE = 11 "holds-none",
         OUT_OF_RANGE = 12 "out-of-range", TOO_SHORT = 13 "too-short", NOT_MADE = 14 "not-made", NO_ROOM = 15 "no-room",
+        BUSY = 16 "busy",
     }
     /// A network.
     Network {
@@ -87,7 +88,7 @@ impl Verdict {
 }
 
 /// The number of this interface: raised with each change of a struct, a call or a number.
-pub const ABI: u32 = 3;
+pub const ABI: u32 = 4;
 pub const MOST_LINKS: usize = 64;
 /// Of a link.
 pub const MOST_PORTS: usize = 32;
@@ -124,6 +125,9 @@ replies! {
     Taken { found: u32, time: u64, len: usize }
     /// The settings of a link, its times in microseconds. `redundancy` is 1 if redundancy management is on, else 0.
     Link { vl: u32, redundancy: u32, skew_max: u64, reassembly: u64, window: u32, ports: usize }
+    /// How a link is: whether a frame came on each network, 1 or 0, when the latest did, in microseconds, and how many
+    /// datagrams of which fragments came were given up.
+    Health { came_a: u32, came_b: u32, latest_a: u64, latest_b: u64, given_up: u64 }
     /// A port.
     Port { service: Service, address: u32, udp: u32, max: u32, limit: u64, name_len: usize }
     /// Where a port is.
@@ -131,7 +135,7 @@ replies! {
     /// A link of a table: its settings, and how many of the table's ports, the next ones, are its own.
     LinkRow { vl: u32, redundancy: u32, skew_max: u64, reassembly: u64, window: u32, ports: usize }
     /// A port of a table.
-    PortRow { service: Service, address: u32, udp: u32, max: u32, limit: u64, name_len: usize, name: [u8; 16] }
+    PortRow { service: Service, address: u32, udp: u32, max: u32, limit: u64, name_len: usize, name: [u8; 16], readers: u32 }
     /// What a partition has to know of its port.
     Limits { max: usize, refresh: u64 }
 }
@@ -178,9 +182,13 @@ macro_rules! calls {
 calls! {
     yelunnavi_abi() -> u32;
     yelunnavi_receiver_room() -> usize;
+    yelunnavi_system_room() -> usize;
+    yelunnavi_pass_room() -> usize;
     yelunnavi_reader_room() -> usize;
     yelunnavi_taker_room() -> usize;
     yelunnavi_receiver_make(room: *mut c_void);
+    yelunnavi_system_make(room: *mut c_void);
+    yelunnavi_pass_make(room: *mut c_void);
     yelunnavi_reader_make(room: *mut c_void);
     yelunnavi_taker_make(room: *mut c_void);
     yelunnavi_receiver_open(h: *mut Handle, text: *const u8, len: usize, readers: usize, fault: *mut Fault) -> Code;
@@ -189,12 +197,28 @@ calls! {
     yelunnavi_receiver_receive(h: *mut Handle, net: Network, now: u64, frame: *const u8, len: usize, reply: *mut Frame) -> Code;
     yelunnavi_receiver_count(h: *mut Handle, link: usize, net: Network, kind: Verdict, count: *mut u64) -> Code;
     yelunnavi_receiver_filtered(h: *mut Handle, net: Network, cause: FilterCause, count: *mut u64) -> Code;
+    yelunnavi_receiver_health(h: *mut Handle, link: usize, reply: *mut Health) -> Code;
+    yelunnavi_receiver_waiting(h: *mut Handle, link: usize, port: usize, waiting: *mut usize) -> Code;
     yelunnavi_receiver_links(h: *mut Handle, links: *mut usize) -> Code;
     yelunnavi_receiver_link(h: *mut Handle, link: usize, reply: *mut Link) -> Code;
     yelunnavi_receiver_port(h: *mut Handle, link: usize, port: usize, reply: *mut Port, name: *mut [u8; 16]) -> Code;
     yelunnavi_receiver_place(h: *mut Handle, name: *const u8, len: usize, reply: *mut Place) -> Code;
     yelunnavi_receiver_hand_reader(h: *mut Handle, to: *mut Handle, name: *const u8, len: usize) -> Code;
     yelunnavi_receiver_hand_taker(h: *mut Handle, to: *mut Handle, name: *const u8, len: usize) -> Code;
+    yelunnavi_system_open(h: *mut Handle, text: *const u8, len: usize, readers: usize, fault: *mut Fault) -> Code;
+    yelunnavi_system_open_table(h: *mut Handle, constant: *const u8, links: *const LinkRow, links_len: usize, ports: *const PortRow, ports_len: usize, readers: usize, fault: *mut Fault) -> Code;
+    yelunnavi_system_close(h: *mut Handle);
+    yelunnavi_system_hand_pass(h: *mut Handle, net: Network, to: *mut Handle) -> Code;
+    yelunnavi_system_hand_reader(h: *mut Handle, to: *mut Handle, name: *const u8, len: usize) -> Code;
+    yelunnavi_system_hand_taker(h: *mut Handle, to: *mut Handle, name: *const u8, len: usize) -> Code;
+    yelunnavi_system_links(h: *mut Handle, links: *mut usize) -> Code;
+    yelunnavi_system_link(h: *mut Handle, link: usize, reply: *mut Link) -> Code;
+    yelunnavi_system_port(h: *mut Handle, link: usize, port: usize, reply: *mut Port, name: *mut [u8; 16]) -> Code;
+    yelunnavi_system_place(h: *mut Handle, name: *const u8, len: usize, reply: *mut Place) -> Code;
+    yelunnavi_pass_receive(h: *mut Handle, now: u64, frame: *const u8, len: usize, reply: *mut Frame) -> Code;
+    yelunnavi_pass_count(h: *mut Handle, link: usize, kind: Verdict, count: *mut u64) -> Code;
+    yelunnavi_pass_filtered(h: *mut Handle, cause: FilterCause, count: *mut u64) -> Code;
+    yelunnavi_pass_close(h: *mut Handle);
     yelunnavi_reader_read(h: *mut Handle, now: u64, out: *mut u8, len: usize, reply: *mut Read) -> Code;
     yelunnavi_reader_hold(h: *mut Handle, now: u64, reply: *mut Read) -> Code;
     yelunnavi_reader_octets(h: *mut Handle, octets: *mut Held) -> Code;
@@ -258,6 +282,10 @@ macro_rules! slots {
 slots! {
     /// The receiver, for one task.
     Receiver, ReceiverRoom, 512, yelunnavi_receiver_room, yelunnavi_receiver_make, yelunnavi_receiver_close;
+    /// A receiver for two threads, one a network.
+    System, SystemRoom, 1024, yelunnavi_system_room, yelunnavi_system_make, yelunnavi_system_close;
+    /// The pass of a network, for its thread.
+    Pass, PassRoom, 512, yelunnavi_pass_room, yelunnavi_pass_make, yelunnavi_pass_close;
     /// A reader of a sampling port, for a partition.
     Reader, ReaderRoom, 128, yelunnavi_reader_room, yelunnavi_reader_make, yelunnavi_reader_close;
     /// The end of a queue, for a partition.
@@ -301,6 +329,15 @@ impl Receiver<'_> {
         told(|count| unsafe { yelunnavi_receiver_filtered(&mut self.handle, net, cause, count) })
     }
 
+    pub fn health(&mut self, link: usize) -> Result<Health, Code> {
+        told(|reply| unsafe { yelunnavi_receiver_health(&mut self.handle, link, reply) })
+    }
+
+    /// How many messages wait in the queue of a port. NONE_LEFT if it samples.
+    pub fn waiting(&mut self, link: usize, port: usize) -> Result<usize, Code> {
+        told(|waiting| unsafe { yelunnavi_receiver_waiting(&mut self.handle, link, port, waiting) })
+    }
+
     pub fn links(&mut self) -> Result<usize, Code> {
         told(|links| unsafe { yelunnavi_receiver_links(&mut self.handle, links) })
     }
@@ -326,6 +363,73 @@ impl Receiver<'_> {
 
     pub fn hand_taker(&mut self, to: &mut Taker, name: &[u8]) -> Result<(), Code> {
         answer(unsafe { yelunnavi_receiver_hand_taker(&mut self.handle, &mut to.handle, name.as_ptr(), name.len()) })
+    }
+}
+
+impl System<'_> {
+    /// Opens the system of a configuration, with so many readers of each sampling port, 1 to 8. All memory is taken here.
+    pub fn open(&mut self, text: &[u8], readers: usize) -> Result<(), (Code, Fault)> {
+        let mut fault = Fault::default();
+        answer(unsafe { yelunnavi_system_open(&mut self.handle, text.as_ptr(), text.len(), readers, &mut fault) })
+            .map_err(|code| (code, fault))
+    }
+
+    /// Opens the system of a table: the constant field, the links, and their ports one after another.
+    pub fn open_table(&mut self, constant: [u8; 4], links: &[LinkRow], ports: &[PortRow], readers: usize) -> Result<(), (Code, Fault)> {
+        let mut fault = Fault::default();
+        let (of_links, of_ports) = (links.as_ptr(), ports.as_ptr());
+        answer(unsafe {
+            yelunnavi_system_open_table(&mut self.handle, constant.as_ptr(), of_links, links.len(), of_ports, ports.len(), readers, &mut fault)
+        })
+        .map_err(|code| (code, fault))
+    }
+
+    /// Hands the pass of a network into a slot, once.
+    pub fn hand_pass(&mut self, net: Network, to: &mut Pass<'_>) -> Result<(), Code> {
+        answer(unsafe { yelunnavi_system_hand_pass(&mut self.handle, net, &mut to.handle) })
+    }
+
+    pub fn links(&mut self) -> Result<usize, Code> {
+        told(|links| unsafe { yelunnavi_system_links(&mut self.handle, links) })
+    }
+
+    pub fn link(&mut self, link: usize) -> Result<Link, Code> {
+        told(|reply| unsafe { yelunnavi_system_link(&mut self.handle, link, reply) })
+    }
+
+    /// A port, and its name, which has `name_len` octets.
+    pub fn port(&mut self, link: usize, port: usize) -> Result<(Port, [u8; 16]), Code> {
+        let mut name = [0; 16];
+        let port = told(|reply| unsafe { yelunnavi_system_port(&mut self.handle, link, port, reply, &mut name) })?;
+        Ok((port, name))
+    }
+
+    pub fn place(&mut self, name: &[u8]) -> Result<Place, Code> {
+        told(|reply| unsafe { yelunnavi_system_place(&mut self.handle, name.as_ptr(), name.len(), reply) })
+    }
+
+    pub fn hand_reader(&mut self, to: &mut Reader, name: &[u8]) -> Result<(), Code> {
+        answer(unsafe { yelunnavi_system_hand_reader(&mut self.handle, &mut to.handle, name.as_ptr(), name.len()) })
+    }
+
+    pub fn hand_taker(&mut self, to: &mut Taker, name: &[u8]) -> Result<(), Code> {
+        answer(unsafe { yelunnavi_system_hand_taker(&mut self.handle, &mut to.handle, name.as_ptr(), name.len()) })
+    }
+}
+
+impl Pass<'_> {
+    /// Takes a frame that came on the network of the pass at `now`, in microseconds. BUSY: the thread of the other network has its
+    /// link just now, and nothing has happened. The same frame is given again, after a yield.
+    pub fn receive(&mut self, now: u64, frame: &[u8]) -> Result<Frame, Code> {
+        told(|reply| unsafe { yelunnavi_pass_receive(&mut self.handle, now, frame.as_ptr(), frame.len(), reply) })
+    }
+
+    pub fn count(&mut self, link: usize, kind: Verdict) -> Result<u64, Code> {
+        told(|count| unsafe { yelunnavi_pass_count(&mut self.handle, link, kind, count) })
+    }
+
+    pub fn filtered(&mut self, cause: FilterCause) -> Result<u64, Code> {
+        told(|count| unsafe { yelunnavi_pass_filtered(&mut self.handle, cause, count) })
     }
 }
 

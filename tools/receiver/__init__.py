@@ -13,10 +13,11 @@
 Nothing is decided here: numbers become words, and lengths octets. `ConfigFault` says what is wrong with a configuration and
 where; `Refused` is a call's code by its word; `NoLibrary` says why none was loaded. It wants Debian's python3-cffi.
 
-One thread at a time uses a Receiver, and so a Reader or a Taker; Python's own lock is given back during a call.
+One thread at a time uses a Receiver, and so a Reader or a Taker; Python's own lock is given back during a call. A System is for two
+threads, one a network: `System(text).hand_pass(A)` is the Pass of one, with `receive(now, octets)` and `counts()`.
 """
-from receiver.calls import A, B, ConfigFault, Link, Port, Read, Reader, Receiver, Refused, Reply, Taken, Taker
+from receiver.calls import A, B, ConfigFault, Link, Pass, Port, Read, Reader, Receiver, Refused, Reply, System, Taken, Taker
 from receiver.library import NoLibrary, find
 
-__all__ = ["A", "B", "ConfigFault", "Link", "NoLibrary", "Port", "Read", "Reader", "Receiver", "Refused", "Reply", "Taken",
-           "Taker", "find"]
+__all__ = ["A", "B", "ConfigFault", "Link", "NoLibrary", "Pass", "Port", "Read", "Reader", "Receiver", "Refused", "Reply", "System",
+           "Taken", "Taker", "find"]

@@ -1,5 +1,6 @@
-"""The handles of the library: a receiver, readers of its sampling ports, takers of its queuing ports."""
+"""The handles of the library: a receiver; a system and the passes of its networks; readers of sampling ports, takers of queuing ports."""
 import struct
+import time
 from typing import NamedTuple, Optional
 
 from receiver.library import load, words
@@ -57,6 +58,13 @@ class Link(NamedTuple):
     window: int
 
 
+class Health(NamedTuple):
+    """When the latest frame of a link came on each network, in microseconds, by the network: none if none came. And how many
+    datagrams of which fragments came were given up."""
+    latest: dict
+    given_up: int
+
+
 class Port(NamedTuple):
     """A port's settings. `limit` is the refresh period in microseconds, or the depth of the queue."""
     name: str
@@ -84,7 +92,7 @@ class Taken(NamedTuple):
 
 
 class Slot:
-    """The room of a handle of a kind, `receiver`, `reader` or `taker`, and its calls by their names in the header."""
+    """The room of a handle of a kind, `receiver`, `system`, `pass`, `reader` or `taker`, and its calls by their names in the header."""
 
     def __init__(self, kind):
         self.ffi, self.library = load()
@@ -117,18 +125,14 @@ class Slot:
         self.close()
 
 
-class Receiver(Slot):
-    """The receiver of a configuration, a TOML text. Each sampling port gets so many readers, 1 to 8."""
+class Links(Slot):
+    """The links of a configuration, a TOML text, and their ports. Each sampling port gets so many readers, 1 to 8."""
 
-    def __init__(self, text, readers=1):
-        super().__init__("receiver")
+    def __init__(self, kind, text, readers):
+        super().__init__(kind)
         octets, fault = text.encode() if isinstance(text, str) else text, self.ffi.new("struct yelunnavi_fault *")
         if code := self.found("open")(self.handle, octets, len(octets), readers, fault):
             raise ConfigFault(fault) if code == self.library.YELUNNAVI_FAULTY else Refused(code)
-        self.frame = self.ffi.new("struct yelunnavi_frame *")
-        self.frame_octets, self.receive_call = self.ffi.buffer(self.frame), self.found("receive")
-        self.verdicts, self.filters, self.faults = (words(f"{name}_word") for name in ("verdict", "filter", "header"))
-        self.named = {number for number, word in self.verdicts.items() if word in PORT_KINDS}
         self.links = [self.link(place) for place in range(self.answer("size_t", "links")[0])]
         self.ports_of = [self.ports_at(place) for place in range(len(self.links))]
         self.ports = [port for ports in self.ports_of for port in ports]
@@ -147,26 +151,6 @@ class Receiver(Slot):
         return Port(bytes(name)[:found.name_len].decode(), link, self.links[link].vl,
                     found.service == self.library.YELUNNAVI_SERVICE_SAMPLING, found.address, found.udp, found.max, found.limit)
 
-    def receive(self, net, now, octets):
-        """Takes a frame without its check sequence that came on a network, A or B, at `now` in microseconds."""
-        if code := self.receive_call(self.handle, net, now, octets, len(octets), self.frame):
-            raise Refused(code)
-        kind, cause, link, vl, port, place, number = FRAME(self.frame_octets)
-        if not kind:
-            return Reply("filtered", self.filters[cause])
-        return Reply(self.verdicts[kind], self.faults[cause] if cause else "", vl, place,
-                     self.ports_of[link][port].name if kind in self.named else "", number)
-
-    def counts(self):
-        """The frames of each link and network by their kinds; those that were filtered by their causes, of link None."""
-        def told(by_number, name, *place):
-            return {word: self.answer("uint64_t", name, *place, number)[0] for number, word in by_number.items()}
-
-        verdicts = {number: word for number, word in self.verdicts.items() if number}
-        return {(link.vl, net): told(verdicts, "count", place, number) for place, link in enumerate(self.links)
-                for number, net in enumerate(NETWORKS)} | {
-                    (None, net): told(self.filters, "filtered", number) for number, net in enumerate(NETWORKS)}
-
     def reader(self, name):
         """A reader of the sampling port of this name."""
         return Reader(self, name)
@@ -174,6 +158,91 @@ class Receiver(Slot):
     def taker(self, name):
         """The one end of the queue of this name."""
         return Taker(self, name)
+
+
+class Frames(Slot):
+    """A slot that takes frames for some links: what became of each, and what was counted."""
+
+    def take_for(self, links):
+        self.of, self.frame = links, self.ffi.new("struct yelunnavi_frame *")
+        self.frame_octets, self.receive_call = self.ffi.buffer(self.frame), self.found("receive")
+        self.verdicts, self.filters, self.faults = (words(f"{name}_word") for name in ("verdict", "filter", "header"))
+        self.named = {number for number, word in self.verdicts.items() if word in PORT_KINDS}
+
+    def reply(self):
+        kind, cause, link, vl, port, place, number = FRAME(self.frame_octets)
+        if not kind:
+            return Reply("filtered", self.filters[cause])
+        return Reply(self.verdicts[kind], self.faults[cause] if cause else "", vl, place,
+                     self.of.ports_of[link][port].name if kind in self.named else "", number)
+
+    def counted(self, by_number, name, *given):
+        """The counts of a call by the words of the numbers that it is asked for last."""
+        return {word: self.answer("uint64_t", name, *given, number)[0] for number, word in by_number.items() if word != "filtered"}
+
+
+class Receiver(Links, Frames):
+    """The receiver of a configuration, for one task."""
+
+    def __init__(self, text, readers=1):
+        super().__init__("receiver", text, readers)
+        self.take_for(self)
+
+    def receive(self, net, now, octets):
+        """Takes a frame without its check sequence that came on a network, A or B, at `now` in microseconds."""
+        if code := self.receive_call(self.handle, net, now, octets, len(octets), self.frame):
+            raise Refused(code)
+        return self.reply()
+
+    def counts(self):
+        """The frames of each link and network by their kinds; those that were filtered by their causes, of link None."""
+        return {(link.vl, net): self.counted(self.verdicts, "count", place, number) for place, link in enumerate(self.links)
+                for number, net in enumerate(NETWORKS)} | {
+                    (None, net): self.counted(self.filters, "filtered", number) for number, net in enumerate(NETWORKS)}
+
+    def health(self, link):
+        """How the link at a place of the configuration is."""
+        found = self.answer("struct yelunnavi_health", "health", link)
+        came, latest = (found.came_a, found.came_b), (found.latest_a, found.latest_b)
+        return Health({net: latest[number] if came[number] else None for number, net in enumerate(NETWORKS)}, found.given_up)
+
+    def waiting(self, link, place):
+        """How many messages wait in the queue of the port at a place of a link."""
+        return self.answer("size_t", "waiting", link, place)[0]
+
+
+class System(Links):
+    """The receiver of a configuration for two threads, one a network, each with the pass of its own."""
+
+    def __init__(self, text, readers=1):
+        super().__init__("system", text, readers)
+
+    def hand_pass(self, net):
+        """The pass of a network, A or B, once: for one thread."""
+        return Pass(self, net)
+
+
+class Pass(Frames):
+    """A network's pass of a system."""
+
+    def __init__(self, system, net):
+        super().__init__("pass")
+        system.call("hand_pass", net, self.handle, about=NETWORKS[net])
+        self.net, self.busy = NETWORKS[net], self.library.YELUNNAVI_BUSY
+        self.take_for(system)
+
+    def receive(self, now, octets):
+        """Takes a frame that came on the pass's network. While the other thread has its link it is given again, after a yield."""
+        while code := self.receive_call(self.handle, now, octets, len(octets), self.frame):
+            if code != self.busy:
+                raise Refused(code)
+            time.sleep(0)
+        return self.reply()
+
+    def counts(self):
+        """The frames of each link by their kinds; those that were filtered by their causes, of link None."""
+        return {(link.vl, self.net): self.counted(self.verdicts, "count", place) for place, link in enumerate(self.of.links)} | {
+            (None, self.net): self.counted(self.filters, "filtered")}
 
 
 class End(Slot):

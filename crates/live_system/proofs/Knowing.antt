@@ -14,7 +14,7 @@ use Rattle.network_calls.proofs.Rows.{IsSame}
 use Rattle.live_system.specs.Calls.{LiveLink}
 use Rattle.live_system.specs.Meetings.{KnowsOutlet}
 use Rattle.live_system.specs.Pass.{Calls, KnownLink}
-use Rattle.live_system.specs.System.{KnowLinks, KnownNet, Replies, on_link}
+use Rattle.live_system.specs.System.{KnowLinks, KnownNet, Replies, on_link, settings_in}
 
 knows_at : (passes : List KnownLink) (links : List LiveLink) (place : ℕ) (link : LiveLink) → KnowLinks passes links → slice_get links place ≡ Some link
     → (pass : KnownLink) × (slice_get passes place ≡ Some pass) × (pass.link ≡ Some link)
@@ -43,5 +43,5 @@ knows_still config old new now octets (replies.Link number shows verdict) links 
     rw calls.only (know_set old.links links does.0 calls.before calls.after know calls.there calls.calls.link)
 
 -- it leaves the pass on its link that of this link
-pub same_after : (old new : KnownLink) (c : Call) → Calls old c new → IsSame on_link old new
+pub same_after : (old new : KnownLink) (c : Call) → Calls old c new → IsSame on_link settings_in old new
 same_after old new c is = (is.lock, is.net, is.link, is.vl)

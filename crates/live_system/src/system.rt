@@ -28,6 +28,13 @@ impl Model for LiveSystem {
 }
 
 impl LiveSystem {
+    /// The configuration.
+    pub fn config(&self) -> &Config
+        ensures { result.now ≡ self.now.config }
+    {
+        &self.config
+    }
+
     /// Gives a frame that came on the pass's network at `now`, in microseconds, to its link, or filters it. Waits for the
     /// link's lock and for nothing else; a filtered frame takes no lock. Takes no memory, and can't fail.
     pub fn receive<R: Wait>(&self, rt: &R, pass: &mut NetPass, now: u64, bytes: &[u8]) -> Reply

@@ -11,6 +11,12 @@ reader_mark = 6827877403514372098
 abbrev pub taker_mark : ℕ
 taker_mark = 6827877403514372099
 
+abbrev pub system_mark : ℕ
+system_mark = 6827877403514372100
+
+abbrev pub pass_mark : ℕ
+pass_mark = 6827877403514372101
+
 -- a slot with this mark is of this kind
 abbrev pub is_made : ℕ → ℕ → Bool
 is_made kind mark = mark == kind

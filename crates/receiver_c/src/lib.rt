@@ -1,6 +1,7 @@
-//! The receiver for one task, for programs in C: three kinds of handles, each of a slot in room of the caller's. What a
-//! call does is said at the slots ([`receiver_slots`]) and, for C, in `examples/c/yelunnavi.h`. Of all calls
-//! the two openings alone take memory, and none waits. What C has to keep, and nothing checks: the room is as
+//! The receiver for one task and the end system of two threads, for programs in C: five kinds of handles, each of a slot in
+//! room of the caller's; those of the end system stand in [`system_calls`] and [`pass_calls`]. What a call does is said at the
+//! slots ([`receiver_slots`], [`system_slots`]) and, for C, in `examples/c/yelunnavi.h`. Of all calls the openings alone take
+//! memory, and none waits. What C has to keep, and nothing checks: the room is as
 //! large as `.._room()` says, aligned to 8, made by `.._init` once and used through one handle; one call at a time is
 //! made on a handle; what a call is passed doesn't overlap.
 #![tactic(auto)]
@@ -18,9 +19,11 @@ ghost use Rattle.receiver_c.specs.HeldOctets.{TellsOctets};
 ghost use Rattle.receiver_c.specs.Made.{made_reader, made_receiver, made_taker};
 ghost use Rattle.receiver_c.specs.Marks.{after_close, if_made, is_made, reader_mark, receiver_mark, taker_mark};
 ghost use Rattle.receiver_slots.specs.Codes.{already_open, done, faulty, no_memory, none_left, not_made, not_open, out_of_range};
+ghost use Rattle.receiver_slots.specs.Health.{TellsHealth, TellsWaiting, health_code, waiting_code};
 ghost use Rattle.receiver_slots.specs.Handing.{HandsOut, hand_reader_code, hand_taker_code};
 ghost use Rattle.receiver_slots.specs.Naming.{CountsLinks, TellsLink, TellsPlace, TellsPort, link_code, links_code, place_code, port_code};
 ghost use Rattle.receiver_slots.specs.Reading.{Copies, DidHold, DidRead, TellsReader, copy_code, held_octets, read_code, release_code, released};
+ghost use Rattle.receiver_slots.specs.Readers.{are_all_counts};
 ghost use Rattle.receiver_slots.specs.Receiving.{CountsFrames, CountsFiltered, HasFault, HasTableFault, Opens, OpensTable, Receives, count_code, filtered_code, receive_code};
 ghost use Rattle.receiver_slots.specs.Taking.{DidTake, TellsTaker, take_code, taker_code};
 ghost use Rattle.receiver_slots.specs.declared.reader_slot.ReaderState.TheVariants.{Closed, Reads};
@@ -30,25 +33,31 @@ ghost use Rattle.receiver_c.specs.contracts.marked.MarkedTaker.{the_row as taker
 
 use receiver_slots::codes::{DONE, HOLDS_NONE, NOT_MADE};
 use receiver_slots::{
-    FaultReply, FrameReply, LimitReply, LinkReply, LinkRow, PlaceReply, PortReply, PortRow,
-    ReadReply, TakeReply,
+    FaultReply, FrameReply, HealthReply, LimitReply, LinkReply, LinkRow, PlaceReply, PortReply,
+    PortRow, ReadReply, TakeReply,
 };
 use std::alloc::Global;
 
 pub mod held_octets;
 pub mod marked;
+pub mod pass_calls;
+pub mod pass_handle;
 pub mod reader_handle;
 pub mod receiver_handle;
+pub mod system_calls;
+pub mod system_handle;
 pub mod taker_handle;
 
 use held_octets::{HeldOctets, octets_at};
 use marked::{MarkedReader, MarkedReceiver, MarkedTaker, READER, RECEIVER, TAKER};
+use pass_handle::PassHandle;
 use reader_handle::ReaderHandle;
 use receiver_handle::ReceiverHandle;
+use system_handle::SystemHandle;
 use taker_handle::TakerHandle;
 
 /// The number of the interface: raised with each change of a struct, a call or a number.
-pub const ABI: u32 = 3;
+pub const ABI: u32 = 4;
 
 /// The number of the interface of this library. A program compares it with that of the header that it was compiled with.
 #[unsafe(no_mangle)]
@@ -122,7 +131,7 @@ pub extern "C" fn yelunnavi_receiver_open_table(
     ensures fault { result ≡ faulty → HasTableFault constant.now links.now ports.now fault.new }
     ensures made { (result ≡ not_made) ↔ (is_made receiver_mark h.old.room.mark ≡ false) }
     ensures already { is_made receiver_mark h.old.room.mark ≡ true → (result ≡ already_open) ↔ IsSome h.old.room.slot }
-    ensures range { is_made receiver_mark h.old.room.mark ≡ true → h.old.room.slot ≡ None → (result ≡ out_of_range) ↔ (is_reader_count readers ≡ false) }
+    ensures range { is_made receiver_mark h.old.room.mark ≡ true → h.old.room.slot ≡ None → (result ≡ out_of_range) ↔ (are_all_counts readers ports.now ≡ false) }
     ensures same { 0 < result → h.new.room.slot ≡ h.old.room.slot }
     ensures others { result ≢ faulty → fault.new ≡ fault.old }
     ensures codes { (result ≤ no_memory) ⊎ ((result ≡ out_of_range) ⊎ (result ≡ not_made)) }
@@ -261,6 +270,48 @@ pub extern "C" fn yelunnavi_receiver_filtered(
         return NOT_MADE;
     }
     made.slot.filtered(net, cause, count)
+}
+
+/// Tells of the link at this place when its latest frame came on each network, whatever became of it, and how many
+/// partial datagrams were given up.
+#[unsafe(no_mangle)]
+pub extern "C" fn yelunnavi_receiver_health(
+    h: &mut ReceiverHandle,
+    link: usize,
+    reply: &mut HealthReply,
+) -> u32
+    ensures place { (h.new.at ≡ h.old.at) × (h.new.room.mark ≡ h.old.room.mark) }
+    ensures code { result ≡ if_made receiver_mark h.old.room.mark (health_code h.old.room.slot link) }
+    ensures told { result ≡ done → TellsHealth h.old.room.slot link reply.new }
+    ensures same { 0 < result → reply.new ≡ reply.old }
+    ensures kept { h.new.room.slot ≡ h.old.room.slot }
+{
+    let made = h.lend();
+    if made.mark != RECEIVER {
+        return NOT_MADE;
+    }
+    made.slot.health(link, reply)
+}
+
+/// Tells how many messages wait in the queue of a port, by the places of its link and of the port in it: those that were
+/// delivered to it and that nobody took, as far as the receiver knows after it looked. NONE_LEFT if the port samples.
+#[unsafe(no_mangle)]
+pub extern "C" fn yelunnavi_receiver_waiting(
+    h: &mut ReceiverHandle,
+    link: usize,
+    port: usize,
+    waiting: &mut usize,
+) -> u32
+    ensures place { (h.new.at ≡ h.old.at) × (h.new.room.mark ≡ h.old.room.mark) }
+    ensures code { result ≡ if_made receiver_mark h.old.room.mark (waiting_code h.old.room.slot link port) }
+    ensures told { result ≡ done → TellsWaiting h.old.room.slot h.new.room.slot link port waiting.new }
+    ensures same { 0 < result → (h.new.room.slot ≡ h.old.room.slot) × (waiting.new ≡ waiting.old) }
+{
+    let made = h.lend();
+    if made.mark != RECEIVER {
+        return NOT_MADE;
+    }
+    made.slot.waiting(link, port, waiting)
 }
 
 /// Tells how many links the configuration has.
@@ -556,6 +607,8 @@ fn may_cross() {
     crosses::<ReceiverHandle>();
     crosses::<ReaderHandle>();
     crosses::<TakerHandle>();
+    crosses::<SystemHandle>();
+    crosses::<PassHandle>();
 }
 
 fn crosses<T: Send>() {}

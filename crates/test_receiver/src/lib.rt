@@ -5,6 +5,8 @@
 #[cfg(test)]
 mod frames;
 #[cfg(test)]
+mod health;
+#[cfg(test)]
 mod kept;
 #[cfg(test)]
 mod meetings;

@@ -1,7 +1,7 @@
 //! A receiver is opened from a table, without a text.
 use crate::given::{NO_FAULT, opened_with};
-use receiver_slots::codes::{ALREADY_OPEN, DONE, FAULTY, OUT_OF_RANGE};
-use receiver_slots::{FaultReply, LinkReply, LinkRow, PortReply, PortRow, ReceiverSlot};
+use receiver_slots::codes::{ALREADY_OPEN, DONE, FAULTY, NONE_LEFT, OUT_OF_RANGE};
+use receiver_slots::{FaultReply, LinkReply, LinkRow, PortReply, PortRow, ReaderSlot, ReceiverSlot};
 use std::alloc::Global;
 use std::process::Abort;
 use vl_config::BUILT_IN;
@@ -26,6 +26,7 @@ const POS: PortRow = PortRow {
     limit: 20_000,
     name_len: 3,
     name: *b"pos.............",
+    readers: 0,
 };
 
 const NAV: PortRow = PortRow {
@@ -36,6 +37,7 @@ const NAV: PortRow = PortRow {
     limit: 4,
     name_len: 3,
     name: *b"nav.............",
+    readers: 0,
 };
 
 /// What is told of the link, and of a port of it with its name.
@@ -119,4 +121,60 @@ fn check_faults(rt: &impl Abort, alloc: Global) {
 #[test]
 fn the_fault_of_a_table_is_that_of_a_text_without_a_line(rt: HostRuntime) {
     check_faults(&rt, rt.alloc());
+}
+
+/// How many readers of this port can be handed out of a receiver that is opened from these ports, with this number for those
+/// that have none of their own.
+fn handed(
+    rt: &impl Abort,
+    alloc: Global,
+    ports: &[PortRow],
+    readers: usize,
+    name: &[u8],
+) -> usize {
+    let mut slot = ReceiverSlot::empty();
+    let mut fault = NO_FAULT;
+    let link = LinkRow {
+        ports: ports.len(),
+        ..LINK
+    };
+    assert!(rt; slot.open_table(alloc, &CONSTANT, &[link], ports, readers, &mut fault) == DONE);
+    let mut count = 0;
+    for _ in 0..9 {
+        let mut reader = ReaderSlot::empty();
+        match slot.hand_reader(&mut reader, name) {
+            DONE => count += 1,
+            code => assert!(rt; code == NONE_LEFT),
+        }
+    }
+    count
+}
+
+fn check_readers(rt: &impl Abort, alloc: Global) {
+    let one = PortRow {
+        name: *b"one.............",
+        udp: 5001,
+        readers: 1,
+        ..POS
+    };
+    let eight = PortRow {
+        name: *b"big.............",
+        udp: 5003,
+        readers: 8,
+        ..POS
+    };
+    let ports = [POS, one, eight, NAV];
+    assert!(rt; handed(rt, alloc, &ports, 3, b"pos") == 3);
+    assert!(rt; handed(rt, alloc, &ports, 3, b"one") == 1);
+    assert!(rt; handed(rt, alloc, &ports, 3, b"big") == 8);
+    let nine = PortRow { readers: 9, ..POS };
+    let mut slot = ReceiverSlot::empty();
+    let mut fault = NO_FAULT;
+    let links = &[LINK][..];
+    assert!(rt; slot.open_table(alloc, &CONSTANT, links, &[nine, NAV], 3, &mut fault) == OUT_OF_RANGE);
+}
+
+#[test]
+fn each_port_of_a_table_has_as_many_readers_as_its_row_says(rt: HostRuntime) {
+    check_readers(&rt, rt.alloc());
 }

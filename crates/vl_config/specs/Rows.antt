@@ -4,6 +4,7 @@ use Rattle.es_base.specs.declared.port.PortKind.{PortKind}
 use Rattle.es_base.specs.declared.port.PortKind.TheVariants as kinds
 use Rattle.es_base.specs.Returns.{◌>>=◌}
 use Rattle.std.specs.List.{list_any}
+use Rattle.std.specs.Str.{bytes_eq}
 use Rattle.es_base.specs.Limits.{deepest_queue, longest_reassembly, longest_refresh, longest_skew, most_links, most_ports, widest_window}
 use Rattle.es_base.specs.Config.{Configuration, has_link_number, ports_in}
 use Rattle.es_base.specs.Settings.{Settings}

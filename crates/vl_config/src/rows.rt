@@ -8,7 +8,7 @@ ghost use Rattle.es_base.specs.Returns.{Gives};
 ghost use Rattle.vl_config.specs.Place.{nowhere};
 ghost use Rattle.vl_config.specs.Names.{AreNamesOf, is_among};
 ghost use Rattle.vl_config.specs.Port.{largest_message};
-ghost use Rattle.vl_config.specs.Rows.{GivesLink, GivesRow, GivesTable, bounded, head_of_row, if_none_left, kind_of_row, link_number_of_row, link_of_row, links_of_rows, name_of_row, port_of_row, ports_of_rows, redundancy_of_row, rows_of_link, service_of_row, table_of};
+ghost use Rattle.vl_config.specs.Rows.{GivesLink, GivesRow, GivesTable, bounded, has_name, head_of_row, if_none_left, kind_of_row, link_number_of_row, link_of_row, links_of_rows, name_of_row, port_of_row, ports_of_rows, redundancy_of_row, rows_of_link, service_of_row, table_of};
 
 use crate::link::has_link_number;
 use crate::names::Names;

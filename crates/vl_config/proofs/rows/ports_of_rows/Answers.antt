@@ -8,7 +8,7 @@ use Rattle.vl_config.proofs.rows.ports_of_rows.Goals as goal
 
 -- what stands for a row past the end
 abbrev no_row : PortRow
-no_row = record { service = 0; address = 0; udp = 0; max = 0; limit = 0; name_len = 0; name = [] }
+no_row = record { service = 0; address = 0; udp = 0; max = 0; limit = 0; name_len = 0; name = []; readers = 0 }
 
 pub loop-row-preserved : goal.loop-row-preserved
 loop-row-preserved c =

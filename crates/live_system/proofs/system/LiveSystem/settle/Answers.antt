@@ -70,10 +70,10 @@ pub returns-clause-a : goal.returns-clause-a
 returns-clause-a c =
     let no_locks : c.locks.locks.items ≡ [] = search rules in
     let done = ends on_link settings_in shown AreLetGo _ _ _ _ _ _ _ _ _ no_locks c.locks.invariant.so_far in
-    is_counted on_link shown refl c.args.a.net c.args.a.filtered c.args.a.links _ (sym c.requires.nets.0) (ap (λ (pass : KnownNet). pass.filtered) c.a.view_is) (rw c.reverse-2.ensures.items done.1)
+    rw c.new.ensures (is_counted on_link shown refl c.args.a.net c.args.a.filtered c.args.a.links _ (sym c.requires.nets.0) (ap (λ (pass : KnownNet). pass.filtered) c.a.view_is) (rw c.reverse-2.ensures.items done.1))
 
 pub returns-clause-b : goal.returns-clause-b
 returns-clause-b c =
     let no_locks : c.locks.locks.items ≡ [] = search rules in
     let done = ends on_link settings_in shown AreLetGo _ _ _ _ _ _ _ _ _ no_locks c.locks.invariant.so_far in
-    is_counted on_link shown refl c.args.b.net c.args.b.filtered c.args.b.links _ (sym c.requires.nets.1) (ap (λ (pass : KnownNet). pass.filtered) c.b.view_is) (rw c.reverse-3.ensures.items done.2)
+    rw c.new-2.ensures (is_counted on_link shown refl c.args.b.net c.args.b.filtered c.args.b.links _ (sym c.requires.nets.1) (ap (λ (pass : KnownNet). pass.filtered) c.b.view_is) (rw c.reverse-3.ensures.items done.2))

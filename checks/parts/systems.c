@@ -1,0 +1,242 @@
+/* The answers of a system and of its passes (examples/c/yelunnavi.h, BUSY): each comes from the library where the header says so; an
+   opening with its Nth request for memory refused answers NO_MEMORY, for each N, and gives everything back; passes and ends outlive
+   the system, and the last of them gives its memory back. Two threads that give frames of one link at once find BUSY now and then,
+   and no frame is lost or taken twice. Fails with the line of the first call that answers something else, or with a status. */
+#include "yelunnavi.h"
+#include <pthread.h>
+#include <sched.h>
+#include <stdatomic.h>
+#include <stdio.h>
+#include <stdlib.h>
+#include <string.h>
+
+#define WANT(code, call)                                                                  \
+    do {                                                                                  \
+        uint32_t found = (call);                                                          \
+        if (found != YELUNNAVI_##code) {                                                  \
+            fprintf(stderr, "line %d: %s, and not %u\n", __LINE__, #code, (unsigned)found); \
+            exit(1);                                                                      \
+        }                                                                                 \
+    } while (0)
+#define TEXT(text) (const uint8_t *)(text), sizeof(text) - 1
+
+static const char CONFIG[] =
+    "[[link]]\nvl = 17\nskew_max_us = 1000\nreassembly_us = 50000\n"
+    "[[link.port]]\nname = \"pos\"\nkind = \"sampling\"\naddress = \"224.224.0.17\"\nudp = 5000\nrefresh_us = 20000\n"
+    "[[link.port]]\nname = \"nav\"\nkind = \"queuing\"\naddress = \"224.224.0.17\"\nudp = 5002\nmax = 64\ndepth = 2\n";
+/* A sample of 17 octets for `pos`. */
+static const uint8_t FRAME[60] = {3, 0, 0, 0, 0, 17, 2, 0, 0, 0, 1, 32, 8, 0, 69, 0, 0, 45, 0, 1, 0, 0, 1, 17, 205, 204, 10, 1, 1, 1,
+    224, 224, 0, 17, 19, 137, 19, 136, 0, 25, 0, 0, 1, 2, 3};
+
+enum { TURNS = 100000 };
+
+static uint64_t rooms[5][128];
+static struct yelunnavi_system both;
+static struct yelunnavi_pass passes[2];
+static struct yelunnavi_reader reader;
+static struct yelunnavi_taker taker;
+static struct yelunnavi_fault fault;
+
+/* ---- memory: the request with this number is refused, and blocks that weren't given back are counted */
+
+static unsigned long requests, refused, blocks;
+
+static bool is_refused(void) { return ++requests == refused; }
+
+struct rattle_tried rattle_alloc(size_t octets, size_t align) {
+    (void)align;
+    if (is_refused()) return (struct rattle_tried){false, rooms};
+    blocks++;
+    return (struct rattle_tried){true, malloc(octets ? octets : 1)};
+}
+
+struct rattle_tried rattle_realloc(void *at, size_t kept, size_t octets, size_t align) {
+    (void)kept, (void)align;
+    if (is_refused()) return (struct rattle_tried){false, rooms};
+    return (struct rattle_tried){true, realloc(at, octets ? octets : 1)};
+}
+
+void rattle_dealloc(void *at) {
+    blocks--;
+    free(at);
+}
+
+static void of_memory(void) {
+    uint32_t code = YELUNNAVI_NO_MEMORY;
+    for (refused = 1; code == YELUNNAVI_NO_MEMORY; refused++) {
+        requests = 0;
+        code = yelunnavi_system_open(&both, TEXT(CONFIG), 2, &fault);
+        if (code == YELUNNAVI_NO_MEMORY && (blocks || requests < refused)) exit(10);
+    }
+    if (code != YELUNNAVI_DONE || refused < 20 || requests >= refused) exit(11);
+    refused = 0;
+    yelunnavi_system_close(&both);
+    if (blocks) exit(12);
+}
+
+/* ---- rooms in which no slot of the kind was made */
+
+static void want_no_system(struct yelunnavi_system *h) {
+    struct yelunnavi_link link;
+    struct yelunnavi_port port;
+    struct yelunnavi_place place;
+    uint8_t name[YELUNNAVI_LONGEST_NAME];
+    size_t links;
+    WANT(NOT_MADE, yelunnavi_system_open(h, TEXT(CONFIG), 1, &fault));
+    WANT(NOT_MADE, yelunnavi_system_open_table(h, FRAME, NULL, 0, NULL, 0, 1, &fault));
+    WANT(NOT_MADE, yelunnavi_system_hand_pass(h, YELUNNAVI_A, &passes[0]));
+    WANT(NOT_MADE, yelunnavi_system_hand_reader(h, &reader, TEXT("pos")));
+    WANT(NOT_MADE, yelunnavi_system_hand_taker(h, &taker, TEXT("nav")));
+    WANT(NOT_MADE, yelunnavi_system_links(h, &links));
+    WANT(NOT_MADE, yelunnavi_system_link(h, 0, &link));
+    WANT(NOT_MADE, yelunnavi_system_port(h, 0, 0, &port, &name));
+    WANT(NOT_MADE, yelunnavi_system_place(h, TEXT("pos"), &place));
+    yelunnavi_system_close(h);
+}
+
+static void want_no_pass(struct yelunnavi_pass *h) {
+    struct yelunnavi_frame told;
+    uint64_t count;
+    WANT(NOT_MADE, yelunnavi_pass_receive(h, 0, FRAME, sizeof FRAME, &told));
+    WANT(NOT_MADE, yelunnavi_pass_count(h, 0, YELUNNAVI_VERDICT_SAMPLED, &count));
+    WANT(NOT_MADE, yelunnavi_pass_filtered(h, YELUNNAVI_FILTER_TOO_SHORT, &count));
+    yelunnavi_pass_close(h);
+}
+
+/* A room that is none, or is too short, or has another kind of slot; it isn't written. */
+static void of_rooms(void) {
+    uint64_t before[128];
+    struct yelunnavi_system none = {0}, of_pass = {passes[0].room};
+    struct yelunnavi_pass no_pass = {0}, of_system = {both.room}, of_reader = {reader.room};
+    WANT(NO_ROOM, yelunnavi_system_init(&none, NULL, 1024)); want_no_system(&none);
+    WANT(TOO_SHORT, yelunnavi_system_init(&none, rooms[4], yelunnavi_system_room() - 1)); want_no_system(&none);
+    WANT(NO_ROOM, yelunnavi_pass_init(&no_pass, NULL, 1024)); want_no_pass(&no_pass);
+    WANT(TOO_SHORT, yelunnavi_pass_init(&no_pass, rooms[4], yelunnavi_pass_room() - 1)); want_no_pass(&no_pass);
+    memcpy(before, passes[0].room, yelunnavi_pass_room());
+    want_no_system(&of_pass);
+    if (memcmp(before, passes[0].room, yelunnavi_pass_room()) != 0) exit(13);
+    memcpy(before, both.room, yelunnavi_system_room());
+    want_no_pass(&of_system), want_no_pass(&of_reader);
+    if (memcmp(before, both.room, yelunnavi_system_room()) != 0) exit(14);
+    WANT(DONE, yelunnavi_system_open(&both, TEXT(CONFIG), 1, &fault));
+    WANT(NOT_MADE, yelunnavi_system_hand_pass(&both, YELUNNAVI_A, &of_reader));
+    yelunnavi_system_close(&both);
+}
+
+/* ---- one thread has both passes */
+
+static void of_passes(void) {
+    struct yelunnavi_frame told;
+    uint64_t count = 77;
+    WANT(NOT_OPEN, yelunnavi_system_hand_pass(&both, YELUNNAVI_A, &passes[0]));
+    WANT(NOT_OPEN, yelunnavi_pass_receive(&passes[0], 0, FRAME, sizeof FRAME, &told));
+    WANT(FAULTY, yelunnavi_system_open(&both, TEXT("[[link]]\nvl = 1\nskew_max_us = -1"), 1, &fault));
+    if (fault.fault != YELUNNAVI_FAULT_RANGE || fault.key != YELUNNAVI_KEY_SKEW_MAX_US || fault.line != 3) exit(15);
+    WANT(DONE, yelunnavi_system_open(&both, TEXT(CONFIG), 1, &fault));
+    WANT(ALREADY_OPEN, yelunnavi_system_open(&both, TEXT(CONFIG), 1, &fault));
+    WANT(NO_NETWORK, yelunnavi_system_hand_pass(&both, 2, &passes[0]));
+    WANT(DONE, yelunnavi_system_hand_pass(&both, YELUNNAVI_A, &passes[0]));
+    WANT(ALREADY_OPEN, yelunnavi_system_hand_pass(&both, YELUNNAVI_B, &passes[0]));
+    WANT(NONE_LEFT, yelunnavi_system_hand_pass(&both, YELUNNAVI_A, &passes[1]));
+    WANT(DONE, yelunnavi_system_hand_pass(&both, YELUNNAVI_B, &passes[1]));
+    WANT(DONE, yelunnavi_pass_receive(&passes[0], 1000, FRAME, sizeof FRAME, &told));
+    if (told.kind != YELUNNAVI_VERDICT_SAMPLED || told.vl != 17 || told.number != 1 || told.place != 0) exit(16);
+    WANT(DONE, yelunnavi_pass_receive(&passes[1], 1000, FRAME, sizeof FRAME, &told));
+    if (told.kind != YELUNNAVI_VERDICT_REDUNDANT || told.place != 1) exit(17);
+    WANT(DONE, yelunnavi_pass_receive(&passes[1], 1000, NULL, 0, &told));
+    if (told.kind != YELUNNAVI_VERDICT_FILTERED || told.cause != YELUNNAVI_FILTER_TOO_SHORT) exit(18);
+    WANT(DONE, yelunnavi_pass_count(&passes[1], 0, YELUNNAVI_VERDICT_REDUNDANT, &count));
+    if (count != 1) exit(19);
+    WANT(DONE, yelunnavi_pass_filtered(&passes[1], YELUNNAVI_FILTER_TOO_SHORT, &count));
+    WANT(NO_KIND, yelunnavi_pass_count(&passes[1], 1, YELUNNAVI_VERDICT_FILTERED, &count));
+    WANT(NO_PLACE, yelunnavi_pass_count(&passes[1], 1, YELUNNAVI_VERDICT_SAMPLED, &count));
+    WANT(NO_KIND, yelunnavi_pass_filtered(&passes[1], 6, &count));
+    if (count != 1) exit(20);
+}
+
+/* Passes and ends outlive the system, and each other. */
+static void of_a_closed_system(void) {
+    struct yelunnavi_frame told;
+    struct yelunnavi_read read;
+    uint8_t next[sizeof FRAME], out[64];
+    WANT(DONE, yelunnavi_system_hand_reader(&both, &reader, TEXT("pos")));
+    WANT(DONE, yelunnavi_system_hand_taker(&both, &taker, TEXT("nav")));
+    yelunnavi_system_close(&both);
+    WANT(NOT_OPEN, yelunnavi_system_hand_pass(&both, YELUNNAVI_A, &passes[0]));
+    memcpy(next, FRAME, sizeof next);
+    next[59] = next[42] = 1;
+    WANT(DONE, yelunnavi_pass_receive(&passes[1], 2000, next, sizeof next, &told));
+    if (told.kind != YELUNNAVI_VERDICT_SAMPLED || told.number != 2) exit(21);
+    yelunnavi_pass_close(&passes[0]), yelunnavi_pass_close(&passes[0]);
+    next[59] = next[42] = 2;
+    WANT(DONE, yelunnavi_pass_receive(&passes[1], 3000, next, sizeof next, &told));
+    WANT(NOT_OPEN, yelunnavi_pass_receive(&passes[0], 3000, next, sizeof next, &told));
+    yelunnavi_pass_close(&passes[1]);
+    WANT(DONE, yelunnavi_reader_read(&reader, 3000, out, sizeof out, &read));
+    if (read.number != 3 || out[0] != 2) exit(22);
+    yelunnavi_reader_close(&reader), yelunnavi_taker_close(&taker);
+    if (blocks) exit(23);
+}
+
+/* ---- two threads, at one link at once */
+
+static unsigned long again[2];
+
+/* Frames with the numbers of one sender, which each network brings: whichever is first is a sample, and the other one redundant. The
+   clock of both is how many frames were given. */
+static void *give_all(void *of_pass) {
+    size_t net = (size_t)((struct yelunnavi_pass *)of_pass - passes);
+    static _Atomic unsigned at[2];
+    struct yelunnavi_frame told;
+    uint8_t next[sizeof FRAME];
+    memcpy(next, FRAME, sizeof next);
+    for (unsigned turn = 0; turn < TURNS; turn++) {
+        uint32_t code;
+        while (atomic_load(&at[!net]) + 64 < turn) sched_yield();
+        next[59] = (uint8_t)(turn ? (turn - 1) % 255 + 1 : 0);
+        while ((code = yelunnavi_pass_receive(of_pass, 10 * turn, next, sizeof next, &told)) == YELUNNAVI_BUSY) again[net]++, sched_yield();
+        if (code != YELUNNAVI_DONE) exit(24);
+        if (told.kind != YELUNNAVI_VERDICT_SAMPLED && told.kind != YELUNNAVI_VERDICT_REDUNDANT) exit(25);
+        atomic_store(&at[net], turn + 1);
+    }
+    return NULL;
+}
+
+static void of_two_threads(void) {
+    pthread_t threads[2];
+    uint64_t sampled[2], redundant[2];
+    struct yelunnavi_read read;
+    uint8_t out[64];
+    WANT(DONE, yelunnavi_system_open(&both, TEXT(CONFIG), 1, &fault));
+    WANT(DONE, yelunnavi_system_hand_reader(&both, &reader, TEXT("pos")));
+    for (uint32_t net = 0; net < 2; net++) WANT(DONE, yelunnavi_system_hand_pass(&both, net, &passes[net]));
+    for (int net = 0; net < 2; net++) if (pthread_create(&threads[net], NULL, give_all, &passes[net])) exit(26);
+    for (int net = 0; net < 2; net++) pthread_join(threads[net], NULL);
+    for (int net = 0; net < 2; net++) {
+        WANT(DONE, yelunnavi_pass_count(&passes[net], 0, YELUNNAVI_VERDICT_SAMPLED, &sampled[net]));
+        WANT(DONE, yelunnavi_pass_count(&passes[net], 0, YELUNNAVI_VERDICT_REDUNDANT, &redundant[net]));
+        if (sampled[net] + redundant[net] != TURNS) exit(27);
+    }
+    if (sampled[0] + sampled[1] != TURNS) exit(28);
+    WANT(DONE, yelunnavi_reader_read(&reader, 0, out, sizeof out, &read));
+    if (read.number != TURNS) exit(29);
+    fprintf(stderr, "of %d frames a network %lu and %lu times BUSY\n", TURNS, again[0], again[1]);
+    yelunnavi_reader_close(&reader);
+    for (int net = 0; net < 2; net++) yelunnavi_pass_close(&passes[net]);
+    yelunnavi_system_close(&both);
+    if (blocks) exit(30);
+}
+
+int main(void) {
+    if (yelunnavi_abi() != YELUNNAVI_ABI) return 2;
+    WANT(DONE, yelunnavi_system_init(&both, rooms[0], sizeof rooms[0]));
+    for (int net = 0; net < 2; net++) WANT(DONE, yelunnavi_pass_init(&passes[net], rooms[1 + net], sizeof rooms[0]));
+    WANT(DONE, yelunnavi_reader_init(&reader, rooms[3], sizeof rooms[3] / 2));
+    WANT(DONE, yelunnavi_taker_init(&taker, rooms[3] + 64, sizeof rooms[3] / 2));
+    of_rooms();
+    of_memory();
+    of_passes();
+    of_a_closed_system();
+    of_two_threads();
+    return 0;
+}

@@ -1,0 +1,64 @@
+-- How a link is, and how many messages wait at a port.
+use Rattle.std.specs.Prelude.{◌≡◌, ℕ, slice_get, length, nat_lt, Option, None, Some, if◌then◌else◌}
+use Rattle.es_base.specs.declared.place.Net.TheVariants as nets
+use Rattle.es_base.specs.Port.{Port, is_sampling}
+use Rattle.link_core.specs.Counted.{port_no, shown}
+use Rattle.link_core.specs.Past.{latest_on, number_given_up}
+use Rattle.receiver.specs.declared.port.PortOutlet.{PortOutlet}
+use Rattle.receiver.specs.Link.{Ported}
+use Rattle.receiver.specs.Port.{GivesPort}
+use Rattle.receiver.specs.Receiver.{LinksStay}
+use Rattle.receiver.specs.Waiting.{AreWaitingAt}
+use Rattle.receiver_slots.specs.Codes.{done, no_place, none_left, not_open}
+use Rattle.receiver_slots.specs.Receiving.{Receiving}
+use Rattle.receiver_slots.specs.Replies.{or_0}
+use Rattle.receiver_slots.specs.declared.replies.HealthReply.{HealthReply}
+
+-- 0: no frame came; 1: one came
+abbrev pub came_number : Option ℕ → ℕ
+came_number None = 0
+came_number (Some time) = 1
+
+abbrev pub health_reply_of : Ported PortOutlet → HealthReply
+health_reply_of link = record {
+  came_a = came_number (latest_on link.core.past nets.A);
+  came_b = came_number (latest_on link.core.past nets.B);
+  latest_a = or_0 (latest_on link.core.past nets.A);
+  latest_b = or_0 (latest_on link.core.past nets.B);
+  given_up = shown (number_given_up link.core.settings link.core.past);
+}
+
+abbrev pub health_code : Option Receiving → ℕ → ℕ
+health_code None place = not_open
+health_code (Some now) place = if nat_lt place (length now.receiver.links) then done else no_place
+
+-- so is the link at this place
+abbrev pub TellsHealth : Option Receiving → ℕ → HealthReply → Type 0
+TellsHealth None place reply = ⊥
+TellsHealth (Some now) place reply = (link : Ported PortOutlet) × (slice_get now.receiver.links place ≡ Some link) × (reply ≡ health_reply_of link)
+
+-- ---- how many messages wait
+
+-- a port that samples has no queue
+abbrev pub queue_code : Option Port → ℕ
+queue_code None = no_place
+queue_code (Some port) = if is_sampling port.kind then none_left else done
+
+abbrev pub link_queue_code : Option (Ported PortOutlet) → ℕ → ℕ
+link_queue_code None port = no_place
+link_queue_code (Some link) port = queue_code (slice_get link.core.settings.ports port)
+
+abbrev pub waiting_code : Option Receiving → ℕ → ℕ → ℕ
+waiting_code None place port = not_open
+waiting_code (Some now) place port = link_queue_code (slice_get now.receiver.links place) port
+
+-- so many wait at this port, after its end of the queue looked
+abbrev pub TellsWaitingOn : Receiving → Receiving → ℕ → ℕ → ℕ → Type 0
+TellsWaitingOn old new place port waiting =
+    LinksStay GivesPort old.receiver new.receiver × (new.ends ≡ old.ends)
+    × ((link : Ported PortOutlet) × (slice_get new.receiver.links place ≡ Some link) × AreWaitingAt link (port_no port) (Some waiting))
+
+abbrev pub TellsWaiting : Option Receiving → Option Receiving → ℕ → ℕ → ℕ → Type 0
+TellsWaiting (Some old) (Some new) place port waiting = TellsWaitingOn old new place port waiting
+TellsWaiting (Some old) None place port waiting = ⊥
+TellsWaiting None new place port waiting = ⊥

@@ -1,0 +1,51 @@
+//! How many readers the ports of a table have.
+ghost use Rattle.std.specs.Prelude.{◌≡◌};
+ghost use Rattle.std.specs.List.{find};
+ghost use Rattle.std.specs.Option.{option_copied};
+ghost use Rattle.vl_config.specs.Rows.{has_name};
+ghost use Rattle.receiver_slots.specs.Readers.{are_reader_counts, count_or};
+
+use es_base::PortSettings;
+use receiver::{MOST_READERS, ReaderCount, Readers};
+use vl_config::PortRow;
+
+/// As many readers as a port's row says; where it says 0, and without rows, as many as `others`.
+#[derive(Clone, Copy, Drop)]
+pub struct PortReaders<'a> {
+    pub rows: &'a [PortRow],
+    pub others: ReaderCount,
+}
+
+impl Readers for PortReaders<'_> {
+    ghost use Rattle.receiver_slots.specs.Readers.{readers_in};
+
+    ghost count = { λ r. readers_in r.others r.rows.now };
+
+    fn of(&self, port: &PortSettings) -> ReaderCount {
+        count_or(self.others, row_named(self.rows, port.name().as_str()))
+    }
+}
+
+/// The row of the port with this name.
+fn row_named<'a>(rows: &'a [PortRow], name: &str) -> Option<&'a PortRow>
+    ensures { option_copied result ≡ find (has_name name.now) rows.now }
+{
+    rows.iter().find(|row| row.has_name(name))
+}
+
+/// As many readers as this row says, if there is one and it says a number.
+fn count_or(others: ReaderCount, row: Option<&PortRow>) -> ReaderCount
+    ensures { result ≡ count_or others (option_copied row.entry) }
+{
+    match row {
+        Some(row) => ReaderCount::new(row.readers as usize).unwrap_or(others),
+        None => others,
+    }
+}
+
+/// Whether each row says 0, or a number of readers that a port can have.
+pub(crate) fn are_reader_counts(rows: &[PortRow]) -> bool
+    ensures { result ≡ are_reader_counts rows.now }
+{
+    rows.iter().all(|row| row.readers as usize <= MOST_READERS)
+}

@@ -1,0 +1,73 @@
+-- A network's pass in a slot.
+use Rattle.std.specs.Prelude.{◌≡◌, ℕ, List, slice_get, length, nat_lt, Option, None, Some, Ok, if◌then◌else◌}
+use Rattle.es_base.specs.declared.fault.FilterCause.{FilterCause}
+use Rattle.es_base.specs.Addressing.{ComesToPlace}
+use Rattle.es_base.specs.Config.{Configuration, link_of}
+use Rattle.es_base.specs.FilterTally.{cause_kind}
+use Rattle.es_base.specs.Limits.{filter_causes, verdict_kinds}
+use Rattle.es_base.specs.Settings.{Settings}
+use Rattle.es_base.specs.Tally.{count_in}
+use Rattle.link_core.specs.Counted.{shown}
+use Rattle.network_calls.specs.Calls.{count_calls}
+use Rattle.network_calls.specs.declared.reply.Reply.{Reply}
+use Rattle.network_calls.specs.declared.reply.Reply.TheVariants as replies
+use Rattle.receiver.specs.declared.receiver.Reply.{Reply as ReceiverReply}
+use Rattle.receiver.specs.declared.receiver.Reply.TheVariants as answers
+use Rattle.live_system.specs.LookUps.{calls_on}
+use Rattle.live_system.specs.System.{IsPassOf, KnownNet, Replies, System}
+use Rattle.receiver_slots.specs.Codes.{done, no_kind, no_place, not_open}
+use Rattle.receiver_slots.specs.Numbers.{is_kind}
+use Rattle.receiver_slots.specs.Replies.{frame_reply_of, or_0}
+use Rattle.receiver_slots.specs.declared.replies.FrameReply.{FrameReply}
+
+-- the pass of one network, and the system that it is of
+pub record Passing : Type 0 where
+  pub system : System
+  pub pass : KnownNet
+
+-- ---- a frame
+
+-- A reply with the place of the link in the configuration.
+abbrev pub with_place : Configuration → Reply → ReceiverReply
+with_place config (replies.Filtered cause) = answers.Filtered cause
+with_place config (replies.Link vl place verdict) = answers.Link (or_0 (link_of config.links vl)) vl place verdict
+
+-- the frame came at this time on the network of the pass; what the system replied is told, and the pass has one call more
+pub record ReceivesBy (old new : Passing) (now : ℕ) (octets : List ℕ) (told : FrameReply) : Type 0 where
+  pub system : new.system ≡ old.system
+  pub own : IsPassOf new.system new.pass
+  pub net : new.pass.net ≡ old.pass.net
+  pub reply : Reply
+  pub replies : Replies old.system.config old.pass now octets reply new.pass
+  pub tells : told ≡ frame_reply_of (with_place old.system.config reply)
+
+abbrev pub Receives : Option Passing → Option Passing → ℕ → List ℕ → FrameReply → Type 0
+Receives (Some old) (Some new) now octets told = ReceivesBy old new now octets told
+Receives (Some old) None now octets told = ⊥
+Receives None new now octets told = ⊥
+
+-- the frame comes to a link
+abbrev pub ComesToLink : Option Passing → List ℕ → Type 0
+ComesToLink None octets = ⊥
+ComesToLink (Some now) octets = (place : ℕ) × ComesToPlace now.system.config octets place
+
+-- ---- counts
+
+abbrev pub count_code : Option Passing → ℕ → ℕ → ℕ
+count_code None link kind = not_open
+count_code (Some now) link kind = if is_kind verdict_kinds kind then (if nat_lt link (length now.system.config.links) then done else no_place) else no_kind
+
+-- so many frames of the link at this place came on the network of the pass with a verdict of this kind
+abbrev pub CountsFrames : Option Passing → ℕ → ℕ → ℕ → Type 0
+CountsFrames None link kind count = ⊥
+CountsFrames (Some now) link kind count =
+    (settings : Settings) × (slice_get now.system.config.links link ≡ Some settings) × (count ≡ shown (count_calls kind (calls_on settings.vl now.pass.links)))
+
+abbrev pub filtered_code : Option Passing → ℕ → ℕ
+filtered_code None cause = not_open
+filtered_code (Some now) cause = if is_kind filter_causes cause then done else no_kind
+
+-- so many frames were filtered on the network of the pass for this cause
+abbrev pub CountsFiltered : Option Passing → ℕ → ℕ → Type 0
+CountsFiltered None cause count = ⊥
+CountsFiltered (Some now) cause count = count ≡ count_in now.pass.filtered now.pass.net cause

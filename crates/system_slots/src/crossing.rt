@@ -1,0 +1,12 @@
+//! What crosses threads: each slot may be sent. Nothing calls this; that it is proved is its use: it refuses a field that
+//! can't be sent where the field is added.
+use crate::pass_slot::PassSlot;
+use crate::system_slot::SystemSlot;
+
+fn may_be_sent<T: Send>(_: &T) {}
+
+/// The slot of a pass goes to the thread of its network, and that of the system to the thread that closes it.
+pub fn may_cross(pass: &PassSlot, system: &SystemSlot) {
+    may_be_sent(pass);
+    may_be_sent(system);
+}

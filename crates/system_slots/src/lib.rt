@@ -1,0 +1,27 @@
+//! What a program in C has of an end system of two threads that keeps no frame: a slot for the system, and one for the pass
+//! of each network, which the thread of that network has. Readers and takers stand in the slots of `receiver_slots`. Both
+//! passes share the system by counted references: a pass touches no other slot, and outlives the closing of the system's; the
+//! memory goes back with the last of the three. Each call answers one of the [`codes`], and tells what else there is to tell
+//! by numbers, in a reply. Of the calls only the two openings take memory, and none waits: where the other network's thread
+//! has a frame's link just then, [`PassSlot::receive`] answers [`BUSY`](codes::BUSY), and nothing has happened. `receiver_c`
+//! exports them.
+//!
+//! ```text
+//! let mut system = SystemSlot::empty();
+//! let mut a = PassSlot::empty();
+//! system.open_text(alloc, toml, 1, &mut fault)            // DONE
+//! system.hand_pass(0, &mut a)                             // DONE: from now on `a` is of network A's thread
+//! a.receive(1000, octets, &mut frame)                     // DONE, and `frame` has the kind of the verdict
+//! ```
+#![tactic(auto)]
+
+mod crossing;
+mod pass_slot;
+mod passing;
+mod running;
+mod system_slot;
+
+pub use crossing::may_cross;
+pub use pass_slot::PassSlot;
+pub use receiver_slots::codes;
+pub use system_slot::SystemSlot;

@@ -1,0 +1,95 @@
+//! How a link is, and how many messages wait at a port.
+use crate::given::{bring, frame, opened, reply};
+use receiver_slots::codes::{DONE, NO_PLACE, NONE_LEFT, NOT_OPEN};
+use receiver_slots::{HealthReply, ReceiverSlot};
+use std::alloc::Global;
+use std::process::Abort;
+use test_inputs::fragments::{PacketName, padding_after};
+use test_inputs::{ETHERNET, frame_of};
+
+/// To a link no frame came.
+const SILENT: HealthReply = HealthReply {
+    came_a: 0,
+    came_b: 0,
+    latest_a: 0,
+    latest_b: 0,
+    given_up: 0,
+};
+
+/// What no call tells of a link.
+const UNTOLD: HealthReply = HealthReply {
+    came_a: 9,
+    came_b: 9,
+    latest_a: 99,
+    latest_b: 99,
+    given_up: 99,
+};
+
+/// How the link at this place is, and what is answered.
+fn health(slot: &ReceiverSlot, link: usize) -> (u32, HealthReply) {
+    let mut reply = UNTOLD;
+    let code = slot.health(link, &mut reply);
+    (code, reply)
+}
+
+/// How many messages wait at a port, and what is answered.
+fn waiting(slot: &mut ReceiverSlot, link: usize, port: usize) -> (u32, usize) {
+    let mut waiting = 99;
+    let code = slot.waiting(link, port, &mut waiting);
+    (code, waiting)
+}
+
+/// The frame of a fragment comes on A.
+fn bring_fragment(
+    rt: &impl Abort,
+    alloc: Global,
+    slot: &mut ReceiverSlot,
+    (name, number, time): (PacketName, u8, u64),
+) {
+    let (ip, octets) = name.texts();
+    let texts = [ETHERNET, ip, octets, padding_after(octets)];
+    let octets = frame_of(alloc, &texts, number).expect(rt, "octets");
+    assert!(rt; reply(rt, slot, (0, time), &octets).kind == 5);
+}
+
+fn check_health(rt: &impl Abort, alloc: Global) {
+    let mut slot = opened(rt, alloc);
+    assert!(rt; health(&slot, 0) == (DONE, SILENT));
+    let octets = frame(rt, alloc, false, 1);
+    let _ = reply(rt, &mut slot, (1, 0), &octets);
+    let mut wanted = SILENT;
+    wanted.came_b = 1;
+    assert!(rt; health(&slot, 0) == (DONE, wanted));
+    bring_fragment(rt, alloc, &mut slot, (PacketName::First, 2, 2000));
+    // the first one's time is over
+    bring_fragment(rt, alloc, &mut slot, (PacketName::Last, 3, 52_001));
+    (wanted.came_a, wanted.latest_a, wanted.given_up) = (1, 52_001, 1);
+    assert!(rt; health(&slot, 0) == (DONE, wanted));
+    assert!(rt; health(&slot, 1) == (DONE, SILENT));
+    assert!(rt; health(&slot, 2) == (NO_PLACE, UNTOLD));
+    slot.close();
+    assert!(rt; health(&slot, 0) == (NOT_OPEN, UNTOLD));
+}
+
+#[test]
+fn when_frames_came_and_what_was_given_up_is_told(rt: HostRuntime) {
+    check_health(&rt, rt.alloc());
+}
+
+fn check_waiting(rt: &impl Abort, alloc: Global) {
+    let mut slot = opened(rt, alloc);
+    assert!(rt; waiting(&mut slot, 0, 1) == (DONE, 0));
+    let _ = bring(rt, alloc, &mut slot, true, 1);
+    let _ = bring(rt, alloc, &mut slot, true, 2);
+    assert!(rt; waiting(&mut slot, 0, 1) == (DONE, 2));
+    assert!(rt; waiting(&mut slot, 0, 0) == (NONE_LEFT, 99));
+    assert!(rt; waiting(&mut slot, 0, 2) == (NO_PLACE, 99));
+    assert!(rt; waiting(&mut slot, 2, 0) == (NO_PLACE, 99));
+    slot.close();
+    assert!(rt; waiting(&mut slot, 0, 1) == (NOT_OPEN, 99));
+}
+
+#[test]
+fn the_messages_that_wait_at_a_port_are_told(rt: HostRuntime) {
+    check_waiting(&rt, rt.alloc());
+}
