@@ -6,9 +6,7 @@ use receiver::PortNo;
 use receiver::Verdict::{OutOfSequence, Overflow, Queued, Redundant, Sampled};
 use std::alloc::Global;
 use std::process::Abort;
-use test_inputs::rows::{
-    NAV, POS, SmallestRow, five_begin, in_order, packet_row, smallest_row,
-};
+use test_inputs::rows::{NAV, POS, SmallestRow, five_begin, in_order, packet_row, smallest_row};
 
 /// A sample comes on A, its copy on B, one with a number too far ahead on A, and the next one on B, with an earlier time.
 fn heard() -> [SmallestRow; 4] {
@@ -50,7 +48,12 @@ fn check_given_up(rt: &impl Abort, given: &Given, wanted: u64) {
 
 fn check_pieces(rt: &impl Abort, alloc: Global) {
     let mut given = opened(rt, alloc);
-    check_frames(rt, alloc, &mut given.receiver, &five_begin().map(packet_row));
+    check_frames(
+        rt,
+        alloc,
+        &mut given.receiver,
+        &five_begin().map(packet_row),
+    );
     check_given_up(rt, &given, 2);
     let mut other = opened(rt, alloc);
     check_frames(rt, alloc, &mut other.receiver, &in_order().map(packet_row));

@@ -75,7 +75,13 @@ fn check_empty(rt: &impl Abort, taker: &mut RingTaker) {
 }
 
 /// A datagram for `nav`, a millisecond after the one before.
-pub(crate) fn bring(rt: &impl Abort, alloc: Global, given: &mut Given, number: u8, verdict: Verdict) {
+pub(crate) fn bring(
+    rt: &impl Abort,
+    alloc: Global,
+    given: &mut Given,
+    number: u8,
+    verdict: Verdict,
+) {
     let time = u64::from(number) * 1000;
     let row: FrameRow<'static> = (A, time, number, IP, NAV_UDP, PAYLOAD, verdict);
     check_frames(rt, alloc, &mut given.receiver, &[row]);
