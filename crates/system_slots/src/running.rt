@@ -32,8 +32,11 @@ impl Running {
     pub fn open(alloc: Global, wanted: &Wanted) -> Result<Running, Memory>
         ensures { IfOk result (IsNewSystem wanted.now.readers wanted.now.config) }
     {
-        let Opened { system, a, b, ends } =
-            LiveSystem::open(alloc, &wanted.config, wanted.readers)?;
+        let Opened { system, a, b, ends } = LiveSystem::open(
+            alloc,
+            &wanted.config,
+            wanted.readers,
+        )?;
         let system = Arc::new(alloc, system)?;
         let of_a = Arc::try_clone(&system)?;
         let of_b = Arc::try_clone(&system)?;
