@@ -80,11 +80,7 @@ pub extern "C" fn yelunnavi_pass_count(
 /// Tells how many frames were filtered on the pass's network for this cause, 1 to 5. A count stops at the greatest number of
 /// 64 bits.
 #[unsafe(no_mangle)]
-pub extern "C" fn yelunnavi_pass_filtered(
-    h: &mut PassHandle,
-    cause: u32,
-    count: &mut u64,
-) -> u32
+pub extern "C" fn yelunnavi_pass_filtered(h: &mut PassHandle, cause: u32, count: &mut u64) -> u32
     ensures place { (h.new.at ≡ h.old.at) × (h.new.room.mark ≡ h.old.room.mark) }
     ensures code { result ≡ if_made pass_mark h.old.room.mark (filtered_code h.old.room.slot cause) }
     ensures counted { result ≡ done → CountsFiltered h.old.room.slot cause count.new }

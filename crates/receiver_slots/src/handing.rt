@@ -37,10 +37,7 @@ fn taker_named(ends: &mut [LinkEnds<PartitionEnd>], name: &str) -> Option<RingTa
 }
 
 /// Moves out a reader of the sampling port with this name, or says why there is none: NO_NAME, NONE_LEFT.
-pub fn take_reader(
-    ends: &mut [LinkEnds<PartitionEnd>],
-    name: &[u8],
-) -> Result<MailboxReader, u32>
+pub fn take_reader(ends: &mut [LinkEnds<PartitionEnd>], name: &[u8]) -> Result<MailboxReader, u32>
     ensures ok { IfOk result (λ reader. HandsNamed HandsReader name.now ends.old ends.new (Some reader)) }
     ensures code { code_of result ≡ name_code has_reader (text_of name.now) ends.old }
     ensures left { IfErr result (λ code. code ≡ none_left → HandsNamed HandsReader name.now ends.old ends.new None) }

@@ -138,7 +138,9 @@ fn what_becomes_of_a_frame_is_told_by_its_pass(rt: HostRuntime) {
 /// Each network's pass is handed out once.
 fn check_passes(rt: &impl Abort, alloc: Global) {
     let Running {
-        mut system, mut a, ..
+        mut system,
+        mut a,
+        ..
     } = opened(rt, alloc);
     let mut other = PassSlot::empty();
     assert!(rt; system.hand_pass(A, &mut a) == ALREADY_OPEN);
@@ -201,7 +203,9 @@ fn check_facts(rt: &impl Abort, alloc: Global) {
     assert!(rt; system.place(b"nav", &mut place) == DONE && place.link == 0 && place.port == 1);
     assert!(rt; system.place(b"none", &mut place) == NO_NAME && place.port == 1);
     system.close();
-    assert!(rt; system.links(&mut links) == NOT_OPEN && system.place(b"nav", &mut place) == NOT_OPEN);
+    assert!(rt;
+        system.links(&mut links) == NOT_OPEN && system.place(b"nav", &mut place) == NOT_OPEN
+    );
 }
 
 #[test]

@@ -1,7 +1,9 @@
-use Rattle.std.proofs.Common.{◌≡◌, ◌∙◌, ap, Some}
+use Rattle.std.proofs.Common.{◌≡◌, ◌∙◌, ap, Some, ℕ}
 use Rattle.std.specs.Arc.{arc_value}
+use Rattle.es_base.specs.Port.{Port}
 use Rattle.live_system.specs.Run.{AreOpened, Passes}
 use Rattle.live_system.specs.System.{AreOfNewLinks, System}
+use Rattle.receiver_slots.specs.Readers.{readers_in}
 use Rattle.system_slots.specs.Running.{passing}
 use Rattle.system_slots.proofs.running.Running.open.Goals as goal
 
@@ -10,10 +12,11 @@ returns c =
     let o = c.in_ok-system.field-0 in
     let shared = arc_value c.in_ok-system-2.system in
     let same : shared ≡ o.system = c.in_ok-system-2.ensures.ok in
+    let readers : Port → ℕ = readers_in c.args.wanted.now.readers.others c.args.wanted.now.readers.rows.now in
     let passes : Passes = record { a = o.a; b = o.b } in
     let of_config : o.system.config ≡ c.args.wanted.now.config = c.in_ok-system.ensures.config in
-    let links : AreOfNewLinks c.args.wanted.now.readers o.system.config o.a o.b o.ends.items = rw of_config c.in_ok-system.ensures.links in
-    let opened : AreOpened c.args.wanted.now.readers o.system passes o.ends.items = record {
+    let links : AreOfNewLinks readers o.system.config o.a o.b o.ends.items = rw of_config c.in_ok-system.ensures.links in
+    let opened : AreOpened readers o.system passes o.ends.items = record {
       own_a = c.in_ok-system.ensures.a.0;
       own_b = c.in_ok-system.ensures.b.0;
       new_a = c.in_ok-system.ensures.a.1;
