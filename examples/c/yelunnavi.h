@@ -55,7 +55,7 @@
    STACK. An opening takes up to 20 KiB if the text is a configuration with no keys but its own, or is none for a fault that
    stands in one of its ports. Other keys whose values are nested take more: 2.6 MB for 80 levels of tables, each by a key of
    80 parts, the most that is read. So a task with a short stack opens no text of a stranger's. An opening of a table takes up to
-   20 KiB. Every other call takes up to 1 KiB. What the program's own functions take comes on top (docs/EMBEDDING.md has each
+   20 KiB, a close up to 4 KiB, and every other call up to 1 KiB. What the program's own functions take comes on top (docs/EMBEDDING.md has each
    call).
 
    REGISTERS. The library uses the vector registers of its processor (SSE2, Advanced SIMD), in a receive and in nearly every

@@ -34,6 +34,7 @@ const NO_PORT: PortReply = PortReply {
 };
 
 /// A system of the built-in configuration and a second link, and the passes of both networks.
+#[derive(Drop)]
 struct Running {
     system: SystemSlot,
     a: PassSlot,
