@@ -7,7 +7,8 @@ import subprocess
 from proving import PROGRAM, ROOT, lines_of_crates, with_those_below
 
 OUT = ROOT / "out"
-LIBRARY = "receiver_c"
+# The library is of two parts, each compiled apart, so that the way of a frame is laid into each: their archives make one.
+LIBRARY = ["receiver_c", "system_c"]
 HERE = "x86_64-unknown-linux-gnu"
 # The C compiler of each target.
 TARGETS = {HERE: "cc", "aarch64-unknown-linux-gnu": "aarch64-linux-gnu-gcc"}
@@ -29,14 +30,14 @@ def kit():
 
 
 class Product:
-    """The program, or the library for a target: its crate, the crates that it stands on, and its folder."""
+    """The program, or the library for a target: its crates, those that they stand on, and its folder."""
 
     def __init__(self, what, target=HERE):
         self.target = target
         self.is_library = what == "library"
-        self.crate = LIBRARY if self.is_library else PROGRAM
+        self.crates = LIBRARY if self.is_library else [PROGRAM]
         self.folder = OUT / "library" / target if self.is_library else OUT / "program"
-        self.names = with_those_below([self.crate])
+        self.names = with_those_below(self.crates)
 
     def sources_below(self, top):
         """The files of its crates in a tree: this one, or a copy."""

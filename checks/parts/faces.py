@@ -1,4 +1,4 @@
-"""The interface of the library for C, read as text: what crates/receiver_c exports, and its faces for C, Rust and Ada.
+"""The interface of the library for C, read as text: what crates/receiver_c and crates/system_c export, and its faces for C, Rust and Ada.
 
 An interface has structs, with their fields in order; calls, each with its result and its parameters in order; numbers by
 their names, and a word for each. Each is in the source's words, whatever the face calls it: a field or a parameter is a
@@ -10,8 +10,7 @@ from typing import NamedTuple
 import parts.options  # noqa: F401  (the tools are on the path then)
 from verdict_words import ALLOWED, FILTER_CAUSES, HEADER_CAUSES, KINDS, NETWORKS
 
-CALLS = tuple(f"crates/receiver_c/src/{name}.rt" for name in ("lib", "system_calls", "pass_calls"))
-HANDLES = "crates/receiver_c/src/{}_handle.rt"
+CALLS = ("crates/receiver_c/src/lib.rt", *(f"crates/system_c/src/{name}_calls.rt" for name in ("system", "pass")))
 HELD = "crates/receiver_c/src/held_octets.rt"
 REPLIES, CODES, NUMBERS = (f"crates/receiver_slots/src/{name}.rt" for name in ("replies", "codes", "numbers"))
 FAULTS, ROWS = "crates/vl_config/src/fault.rt", "crates/vl_config/src/rows.rt"
@@ -20,6 +19,8 @@ BOUNDS = ("crates/es_base/src/config.rt", "crates/es_base/src/settings.rt", "cra
 C, RUST, ADA = "examples/c/yelunnavi.h", "examples/rust/yelunnavi.rs", "examples/ada/yelunnavi.ads"
 WORDS = "examples/c/yelunnavi_words.h"
 KINDS_OF_HANDLES = ("Receiver", "System", "Pass", "Reader", "Taker")
+HANDLES = {kind: f"crates/{'system_c' if kind in ('System', 'Pass') else 'slot_handles'}/src/{kind.lower()}_handle.rt"
+           for kind in KINDS_OF_HANDLES}
 # The handles that Ada calls otherwise: System is a package of its own there.
 HANDLES_OF_ADA = {"End_System": "System"}
 
@@ -133,7 +134,7 @@ def structs_of_source(tree):
     if len(made) != text.count("pub struct "):
         raise Unread("a struct of replies")
     for kind in KINDS_OF_HANDLES:
-        text = (tree / HANDLES.format(kind.lower())).read_text(encoding="utf-8")
+        text = (tree / HANDLES[kind]).read_text(encoding="utf-8")
         found(r"^#\[repr\(C\)\]\npub struct \w+Handle \{\n    at: \*mut u8,\n    pub ghost .*\n\}", text, f"{kind}Handle")
         made[f"{kind}Handle"] = [(ROOM, ROOM)]
     text = (tree / HELD).read_text(encoding="utf-8")

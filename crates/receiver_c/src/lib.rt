@@ -1,7 +1,6 @@
-//! The receiver for one task and the end system of two threads, for programs in C: five kinds of handles, each of a slot in
-//! room of the caller's; those of the end system stand in [`system_calls`] and [`pass_calls`]. What a call does is said at the
-//! slots ([`receiver_slots`], [`system_slots`]) and, for C, in `examples/c/yelunnavi.h`. Of all calls the openings alone take
-//! memory, and none waits. What C has to keep, and nothing checks: the room is as
+//! The receiver for one task, for programs in C: three kinds of handles, each of a slot in room of the caller's. What a
+//! call does is said at the slots ([`receiver_slots`]) and, for C, in `examples/c/yelunnavi.h`. Of all calls the two
+//! openings alone take memory, and none waits. What C has to keep, and nothing checks: the room is as
 //! large as `.._room()` says, aligned to 8, made by `.._init` once and used through one handle; one call at a time is
 //! made on a handle; what a call is passed doesn't overlap.
 #![tactic(auto)]
@@ -16,8 +15,8 @@ ghost use Rattle.receiver.specs.Taking.{HandsReader, HandsTaker};
 ghost use Rattle.mailbox_port.specs.Port.{is_reader_count};
 ghost use Rattle.receiver_c.specs.Abi.{abi};
 ghost use Rattle.receiver_c.specs.HeldOctets.{TellsOctets};
-ghost use Rattle.receiver_c.specs.Made.{made_reader, made_receiver, made_taker};
-ghost use Rattle.receiver_c.specs.Marks.{after_close, if_made, is_made, reader_mark, receiver_mark, taker_mark};
+ghost use Rattle.slot_handles.specs.Made.{made_reader, made_receiver, made_taker};
+ghost use Rattle.slot_handles.specs.Marks.{after_close, if_made, is_made, reader_mark, receiver_mark, taker_mark};
 ghost use Rattle.receiver_slots.specs.Codes.{already_open, done, faulty, no_memory, none_left, not_made, not_open, out_of_range};
 ghost use Rattle.receiver_slots.specs.Health.{TellsHealth, TellsWaiting, health_code, waiting_code};
 ghost use Rattle.receiver_slots.specs.Handing.{HandsOut, hand_reader_code, hand_taker_code};
@@ -27,9 +26,9 @@ ghost use Rattle.receiver_slots.specs.Readers.{are_all_counts};
 ghost use Rattle.receiver_slots.specs.Receiving.{CountsFrames, CountsFiltered, HasFault, HasTableFault, Opens, OpensTable, Receives, count_code, filtered_code, receive_code};
 ghost use Rattle.receiver_slots.specs.Taking.{DidTake, TellsTaker, take_code, taker_code};
 ghost use Rattle.receiver_slots.specs.declared.reader_slot.ReaderState.TheVariants.{Closed, Reads};
-ghost use Rattle.receiver_c.specs.contracts.marked.MarkedReceiver.{the_row as receiver_row};
-ghost use Rattle.receiver_c.specs.contracts.marked.MarkedReader.{the_row as reader_row};
-ghost use Rattle.receiver_c.specs.contracts.marked.MarkedTaker.{the_row as taker_row};
+ghost use Rattle.slot_handles.specs.contracts.marked.MarkedReceiver.{the_row as receiver_row};
+ghost use Rattle.slot_handles.specs.contracts.marked.MarkedReader.{the_row as reader_row};
+ghost use Rattle.slot_handles.specs.contracts.marked.MarkedTaker.{the_row as taker_row};
 
 use receiver_slots::codes::{DONE, HOLDS_NONE, NOT_MADE};
 use receiver_slots::{
@@ -39,22 +38,12 @@ use receiver_slots::{
 use std::alloc::Global;
 
 pub mod held_octets;
-pub mod marked;
-pub mod pass_calls;
-pub mod pass_handle;
-pub mod reader_handle;
-pub mod receiver_handle;
-pub mod system_calls;
-pub mod system_handle;
-pub mod taker_handle;
 
 use held_octets::{HeldOctets, octets_at};
-use marked::{MarkedReader, MarkedReceiver, MarkedTaker, READER, RECEIVER, TAKER};
-use pass_handle::PassHandle;
-use reader_handle::ReaderHandle;
-use receiver_handle::ReceiverHandle;
-use system_handle::SystemHandle;
-use taker_handle::TakerHandle;
+use slot_handles::marked::{MarkedReader, MarkedReceiver, MarkedTaker, READER, RECEIVER, TAKER};
+use slot_handles::reader_handle::ReaderHandle;
+use slot_handles::receiver_handle::ReceiverHandle;
+use slot_handles::taker_handle::TakerHandle;
 
 /// The number of the interface: raised with each change of a struct, a call or a number.
 pub const ABI: u32 = 4;
@@ -607,8 +596,6 @@ fn may_cross() {
     crosses::<ReceiverHandle>();
     crosses::<ReaderHandle>();
     crosses::<TakerHandle>();
-    crosses::<SystemHandle>();
-    crosses::<PassHandle>();
 }
 
 fn crosses<T: Send>() {}

@@ -1,18 +1,18 @@
 -- `yelunnavi_receiver_make` meets its contract: what `empty` gives goes into the room.
-use Rattle.receiver_c.proofs.Steps.{◌≡◌, [], ◌∷◌, refl, proved, full_share, id⊢, ftrue, vunit, fact, tables, ‵, raw, ◌⊛◌, some, later, prop, ◌$◌, ◌∵◌, !, qed, done, move, keep, drop, use1, use2, split, join, feq_i, pick, await, rewrite, regoal, suffices, group, enter, of_opd, unit_lit, stop, no_more, assigns, returns, alloc_all, pass_all, free_all, look_at, get, through, sets, lands_as, yes, shows, Ptr, RawPtr, block_ptr, in_a_block, rawptr_vals, rawptr_Tells, plain, nothing, heard, peeks, calls_at, lasts, on_entry, triple_of, Stays, walk_of, stay_dropped, Goes-dropped, ends_at, framed, WpFn, part_at, uninit_at}
+use Rattle.slot_handles.proofs.Steps.{◌≡◌, [], ◌∷◌, refl, proved, full_share, id⊢, ftrue, vunit, fact, tables, ‵, raw, ◌⊛◌, some, later, prop, ◌$◌, ◌∵◌, !, qed, done, move, keep, drop, use1, use2, split, join, feq_i, pick, await, rewrite, regoal, suffices, group, enter, of_opd, unit_lit, stop, no_more, assigns, returns, alloc_all, pass_all, free_all, look_at, get, through, sets, lands_as, yes, shows, Ptr, RawPtr, block_ptr, in_a_block, rawptr_vals, rawptr_Tells, plain, nothing, heard, peeks, calls_at, lasts, on_entry, triple_of, Stays, walk_of, stay_dropped, Goes-dropped, ends_at, framed, WpFn, part_at, uninit_at}
 use base.Fml.{froom}
 use types.Run.{init}
 use denote.Memory.{lone}
 use borrow.Table.OneValue.{part_in}
-use Rattle.receiver_c.specs.Made.{made_receiver}
-use Rattle.receiver_c.specs.declared.marked.MarkedReceiver.{MarkedReceiver}
-use Rattle.receiver_c.specs.contracts.marked.MarkedReceiver.{the_row as R}
-use Rattle.receiver_c.proofs.marked.MarkedReceiver.TheLaws as laws
+use Rattle.slot_handles.specs.Made.{made_receiver}
+use Rattle.slot_handles.specs.declared.marked.MarkedReceiver.{MarkedReceiver}
+use Rattle.slot_handles.specs.contracts.marked.MarkedReceiver.{the_row as R}
+use Rattle.slot_handles.proofs.marked.MarkedReceiver.TheLaws as laws
 use Rattle.receiver_c.specs.contracts.yelunnavi_receiver_make as f
 use Rattle.receiver_c.proofs.yelunnavi_receiver_make.Statement.{statement}
 use Rattle.receiver_c.proofs.yelunnavi_receiver_make.Code as code
-use Rattle.receiver_c.specs.contracts.marked.MarkedReceiver.empty as g
-use Rattle.receiver_c.proofs.marked.MarkedReceiver.empty.Met.{met}
+use Rattle.slot_handles.specs.contracts.marked.MarkedReceiver.empty as g
+use Rattle.slot_handles.proofs.marked.MarkedReceiver.empty.Met.{met}
 
 abbrev stayed : Stays f.ended.signature.params f.ended.kept
 stayed = (stay_dropped _ yes, tt)

@@ -1,5 +1,5 @@
 -- `octets_at` meets its contract: the address of the octets and their count go into the result.
-use Rattle.receiver_c.proofs.Steps.{◌≡◌, ℕ, List, [], ◌∷◌, refl, w64, proved, full_share, id⊢, ftrue, flft, named, Val, vint, tables, ‵, raw, ◌⊛◌, ◌$◌, ◌∵◌, !, qed, done, move, keep, drop, split, join, fsplit, fjoin, feq_i, suffices, frame, group, enter, of_opd, addr, stop, fld, hop, no_more, and_then, returns, alloc_all, pass_all, free_all, look_at, get, sets, u8, Ptr, RawPtr, block_ptr, plain, nothing, on_entry, Stays, walk_of, says, stay_dropped, Goes-dropped, ends_at, yes}
+use Rattle.slot_handles.proofs.Steps.{◌≡◌, ℕ, List, [], ◌∷◌, refl, w64, proved, full_share, id⊢, ftrue, flft, named, Val, vint, tables, ‵, raw, ◌⊛◌, ◌$◌, ◌∵◌, !, qed, done, move, keep, drop, split, join, fsplit, fjoin, feq_i, suffices, frame, group, enter, of_opd, addr, stop, fld, hop, no_more, and_then, returns, alloc_all, pass_all, free_all, look_at, get, sets, u8, Ptr, RawPtr, block_ptr, plain, nothing, on_entry, Stays, walk_of, says, stay_dropped, Goes-dropped, ends_at, yes}
 use Rattle.std.specs.Prelude.{length}
 use Rattle.receiver_c.specs.contracts.held_octets.HeldOctets.{the_type}
 use Rattle.receiver_c.specs.declared.held_octets.HeldOctets.{HeldOctets}

@@ -1,0 +1,12 @@
+-- What the handle of a receiver is once what stands in its room was lent.
+use Rattle.std.specs.Borrow.{Lends, MutBor, Fml}
+use Rattle.slot_handles.specs.declared.marked.MarkedReceiver.{MarkedReceiver}
+use Rattle.slot_handles.specs.contracts.marked.MarkedReceiver.{the_row as room_row}
+use Rattle.slot_handles.specs.declared.receiver_handle.ReceiverHandle.{ReceiverHandle as Handle}
+use Rattle.slot_handles.specs.contracts.receiver_handle.ReceiverHandle.{the_row}
+
+abbrev pub with_room : Handle → MarkedReceiver → Handle
+with_room h w = record h { room = w }
+
+abbrev pub LendsRoom : MutBor Handle → MutBor MarkedReceiver → Fml
+LendsRoom h r = Lends the_row room_row h r (with_room h.now)

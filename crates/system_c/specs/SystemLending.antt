@@ -1,0 +1,12 @@
+-- What the handle of a system is once what stands in its room was lent.
+use Rattle.std.specs.Borrow.{Lends, MutBor, Fml}
+use Rattle.system_c.specs.declared.marked.MarkedSystem.{MarkedSystem}
+use Rattle.system_c.specs.contracts.marked.MarkedSystem.{the_row as room_row}
+use Rattle.system_c.specs.declared.system_handle.SystemHandle.{SystemHandle as Handle}
+use Rattle.system_c.specs.contracts.system_handle.SystemHandle.{the_row}
+
+abbrev pub with_room : Handle → MarkedSystem → Handle
+with_room h w = record h { room = w }
+
+abbrev pub LendsRoom : MutBor Handle → MutBor MarkedSystem → Fml
+LendsRoom h r = Lends the_row room_row h r (with_room h.now)

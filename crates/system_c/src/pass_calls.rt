@@ -1,0 +1,107 @@
+//! The calls of a network's pass.
+ghost use Rattle.std.specs.Prelude.{◌≡◌, ◌<◌, ◌↔◌, ◌⊎◌, None, false, true};
+ghost use Rattle.std.specs.Borrow.{sem};
+ghost use Rattle.std.specs.Mem.{type_size};
+ghost use Rattle.std.specs.Ptr.{points_to, uninit_at};
+ghost use Rattle.system_c.specs.Made.{made_pass};
+ghost use Rattle.slot_handles.specs.Marks.{after_close, if_made, is_made, pass_mark};
+ghost use Rattle.receiver_slots.specs.Codes.{busy, done, not_made, not_open};
+ghost use Rattle.system_slots.specs.Passing.{ComesToLink, CountsFiltered, CountsFrames, Receives, count_code, filtered_code};
+ghost use Rattle.system_c.specs.contracts.marked.MarkedPass.{the_row as pass_row};
+
+use crate::marked::{MarkedPass, PASS};
+use crate::pass_handle::PassHandle;
+use receiver_slots::FrameReply;
+use receiver_slots::codes::NOT_MADE;
+
+/// How many octets of room the slot of a network's pass takes. The room is aligned to 8.
+#[unsafe(no_mangle)]
+pub extern "C" fn yelunnavi_pass_room() -> usize
+    ensures { result ≡ type_size pass_row }
+{
+    std::mem::size_of::<MarkedPass>()
+}
+
+/// Makes a slot in the caller's room in which nothing is open.
+#[unsafe(no_mangle)]
+pub unsafe extern "C" fn yelunnavi_pass_make(at: *mut u8)
+    requires* { sem 𝓛 (uninit_at pass_row at) }
+    ensures* { sem 𝓛 (points_to pass_row at made_pass) }
+{
+    std::ptr::write(at as *mut MarkedPass, MarkedPass::empty())
+}
+
+/// Takes the octets of a frame that came on the pass's network at `now` microseconds, and tells what became of it. BUSY if the
+/// other network's thread has the frame's link just then: nothing has happened, and the program gives the same frame again.
+#[unsafe(no_mangle)]
+pub extern "C" fn yelunnavi_pass_receive(
+    h: &mut PassHandle,
+    now: u64,
+    frame: &[u8],
+    reply: &mut FrameReply,
+) -> u32
+    ensures place { (h.new.at ≡ h.old.at) × (h.new.room.mark ≡ h.old.room.mark) }
+    ensures made { (result ≡ not_made) ↔ (is_made pass_mark h.old.room.mark ≡ false) }
+    ensures open { is_made pass_mark h.old.room.mark ≡ true → (result ≡ not_open) ↔ (h.old.room.slot ≡ None) }
+    ensures received { result ≡ done → Receives h.old.room.slot h.new.room.slot now frame.now reply.new }
+    ensures busy { result ≡ busy → ComesToLink h.old.room.slot frame.now }
+    ensures same { 0 < result → (h.new.room.slot ≡ h.old.room.slot) × (reply.new ≡ reply.old) }
+    ensures codes { (result ≡ done) ⊎ ((result ≡ not_open) ⊎ ((result ≡ busy) ⊎ (result ≡ not_made))) }
+{
+    let made = h.lend();
+    if made.mark != PASS {
+        return NOT_MADE;
+    }
+    made.slot.receive(now, frame, reply)
+}
+
+/// Tells how many frames of the link at this place came on the pass's network with a verdict of this kind, 1 to 13. A count
+/// stops at the greatest number of 64 bits.
+#[unsafe(no_mangle)]
+pub extern "C" fn yelunnavi_pass_count(
+    h: &mut PassHandle,
+    link: usize,
+    kind: u32,
+    count: &mut u64,
+) -> u32
+    ensures place { (h.new.at ≡ h.old.at) × (h.new.room.mark ≡ h.old.room.mark) }
+    ensures code { result ≡ if_made pass_mark h.old.room.mark (count_code h.old.room.slot link kind) }
+    ensures counted { result ≡ done → CountsFrames h.old.room.slot link kind count.new }
+    ensures same { 0 < result → count.new ≡ count.old }
+    ensures kept { h.new.room.slot ≡ h.old.room.slot }
+{
+    let made = h.lend();
+    if made.mark != PASS {
+        return NOT_MADE;
+    }
+    made.slot.count(link, kind, count)
+}
+
+/// Tells how many frames were filtered on the pass's network for this cause, 1 to 5. A count stops at the greatest number of
+/// 64 bits.
+#[unsafe(no_mangle)]
+pub extern "C" fn yelunnavi_pass_filtered(h: &mut PassHandle, cause: u32, count: &mut u64) -> u32
+    ensures place { (h.new.at ≡ h.old.at) × (h.new.room.mark ≡ h.old.room.mark) }
+    ensures code { result ≡ if_made pass_mark h.old.room.mark (filtered_code h.old.room.slot cause) }
+    ensures counted { result ≡ done → CountsFiltered h.old.room.slot cause count.new }
+    ensures same { 0 < result → count.new ≡ count.old }
+    ensures kept { h.new.room.slot ≡ h.old.room.slot }
+{
+    let made = h.lend();
+    if made.mark != PASS {
+        return NOT_MADE;
+    }
+    made.slot.filtered(cause, count)
+}
+
+/// Gives the pass away. Its network's frames reach the system no more.
+#[unsafe(no_mangle)]
+pub extern "C" fn yelunnavi_pass_close(h: &mut PassHandle)
+    ensures place { (h.new.at ≡ h.old.at) × (h.new.room.mark ≡ h.old.room.mark) }
+    ensures value { h.new.room.slot ≡ after_close pass_mark h.old.room.mark None h.old.room.slot }
+{
+    let made = h.lend();
+    if made.mark == PASS {
+        made.slot.close();
+    }
+}
