@@ -33,7 +33,7 @@ yelunnavi_taker_make_spec 𝓤 𝓛 𝓜 𝓡 wired =
     let G = triple_of 𝓛 g.signature (g.spec 𝓛 𝓜.mem 𝓡.returns) in
     let z : G.Ghost = ((tt, tt, tt, tt, tt), tt) in
     nothing ! $ nothing ! $ join ! $ nothing ! $ move ! (1 ∷ 0 ∷ []) $ use2 𝓛 (raw (G.pre z)) (id⊢ 𝓤 _) $
-    calls_at ! (framed 𝓤 𝓛.H 𝓜 𝓣) G (met 𝓤 𝓛 𝓜 𝓡 (code.calls-receiver_c::marked::MarkedTaker::empty 𝓡.env wired)) z
+    calls_at ! (framed 𝓤 𝓛.H 𝓜 𝓣) G (met 𝓤 𝓛 𝓜 𝓡 (code.calls-slot_handles::marked::MarkedTaker::empty 𝓡.env wired)) z
     (no_more !) (λ v.
     use1 𝓛 (later (some (λ (t : MarkedTaker). (‵ ftrue ⊛ ‵ (R.own_val t (v ∷ []))) ⊛
     some (λ (ws : Unit {0}). ‵ (lasts g.ended tt tt ws) ⊛ raw (fact 𝓤 (t ≡ made_taker)))))) (id⊢ 𝓤 _) $
