@@ -54,7 +54,8 @@ pub fn threads_run_together()
 /// However many frames the threads of both networks gave to a system since its opening, in whatever order, and whatever ends
 /// of its ports met them in between: when it is settled, each link's past is one run, and each of its ports was given what
 /// that delivers; what was replied on each network are the events of that network, each at its place; and the counts are
-/// those of the calls.
+/// those of the calls. A frame that a try answered is one of these calls, as one that waited for its link is; a try that gave
+/// up is none.
 pub fn from_the_opening_to_the_end()
     ensures { (readers : ℕ) (system : System) (first last : Passes) (ends : List (LinkEnds PartitionEnd)) (steps : List (Net × Step)) (links : List LiveLink) (a b : KnownCounts) →
         AreOpened readers system first ends → Ran system first steps last → HasSettled system last links a b → HasEnded readers system steps ends links a b }
