@@ -1,9 +1,7 @@
 -- A network's pass in a slot.
-use Rattle.std.specs.Prelude.{◌≡◌, ℕ, List, slice_get, length, nat_lt, Option, None, Some, Ok, if◌then◌else◌}
-use Rattle.es_base.specs.declared.fault.FilterCause.{FilterCause}
+use Rattle.std.specs.Prelude.{◌≡◌, ℕ, List, slice_get, length, nat_lt, Option, None, Some, if◌then◌else◌}
 use Rattle.es_base.specs.Addressing.{ComesToPlace}
 use Rattle.es_base.specs.Config.{Configuration, link_of}
-use Rattle.es_base.specs.FilterTally.{cause_kind}
 use Rattle.es_base.specs.Limits.{filter_causes, verdict_kinds}
 use Rattle.es_base.specs.Settings.{Settings}
 use Rattle.es_base.specs.Tally.{count_in}
