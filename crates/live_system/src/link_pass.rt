@@ -23,9 +23,7 @@ use es_base::{LinkNo, LinkSettings, Memory, Net, PortNo, Verdict};
 use frame_reader::Frame;
 use link_lock::{Lock, Opened, PassOf};
 use network_calls::{LinkCounts, Reply};
-use receiver::{
-    MailboxReader, OpenLink, PartitionEnd, PortEnd, PortOutlet, Readers, RingTaker,
-};
+use receiver::{MailboxReader, OpenLink, PartitionEnd, PortEnd, PortOutlet, Readers, RingTaker};
 use std::alloc::Global;
 use std::marker::Model;
 use std::sync::Wait;

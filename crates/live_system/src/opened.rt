@@ -15,7 +15,9 @@ use crate::net_pass::NetPass;
 use crate::system::LiveSystem;
 use es_base::{Config, FilterTally, LinkSettings, Memory, Net, PortNo};
 use link_lock::Lock;
-use receiver::{LinkEnds, MailboxReader, PartitionEnd, ReaderCount, Readers, RingTaker, place_named};
+use receiver::{
+    LinkEnds, MailboxReader, PartitionEnd, ReaderCount, Readers, RingTaker, place_named,
+};
 use std::alloc::Global;
 
 /// A new system, the passes of its two networks, and the ends of all ports, in the order of the links.

@@ -21,8 +21,7 @@ pub(crate) struct Running {
 
 impl Model for Running {
     ghost use Rattle.std.specs.Arc.{arc_value};
-    ghost use Rattle.receiver_slots.specs.Readers.{readers_in};
-ghost use Rattle.system_slots.specs.Running.{Running as Seen};
+    ghost use Rattle.system_slots.specs.Running.{Running as Seen};
 
     ghost Value = { Seen };
 
@@ -34,8 +33,11 @@ impl Running {
     pub fn open(alloc: Global, wanted: &Wanted<'_>) -> Result<Running, Memory>
         ensures { IfOk result (IsNewSystem (readers_in wanted.now.readers.others wanted.now.readers.rows.now) wanted.now.config) }
     {
-        let Opened { system, a, b, ends } =
-            LiveSystem::open_with(alloc, &wanted.config, &wanted.readers)?;
+        let Opened { system, a, b, ends } = LiveSystem::open_with(
+            alloc,
+            &wanted.config,
+            &wanted.readers,
+        )?;
         let system = Arc::new(alloc, system)?;
         let of_a = Arc::try_clone(&system)?;
         let of_b = Arc::try_clone(&system)?;

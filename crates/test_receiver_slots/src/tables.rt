@@ -1,7 +1,9 @@
 //! A receiver is opened from a table, without a text.
 use crate::given::{NO_FAULT, opened_with};
 use receiver_slots::codes::{ALREADY_OPEN, DONE, FAULTY, NONE_LEFT, OUT_OF_RANGE};
-use receiver_slots::{FaultReply, LinkReply, LinkRow, PortReply, PortRow, ReaderSlot, ReceiverSlot};
+use receiver_slots::{
+    FaultReply, LinkReply, LinkRow, PortReply, PortRow, ReaderSlot, ReceiverSlot,
+};
 use std::alloc::Global;
 use std::process::Abort;
 use vl_config::BUILT_IN;
@@ -125,13 +127,7 @@ fn the_fault_of_a_table_is_that_of_a_text_without_a_line(rt: HostRuntime) {
 
 /// How many readers of this port can be handed out of a receiver that is opened from these ports, with this number for those
 /// that have none of their own.
-fn handed(
-    rt: &impl Abort,
-    alloc: Global,
-    ports: &[PortRow],
-    readers: usize,
-    name: &[u8],
-) -> usize {
+fn handed(rt: &impl Abort, alloc: Global, ports: &[PortRow], readers: usize, name: &[u8]) -> usize {
     let mut slot = ReceiverSlot::empty();
     let mut fault = NO_FAULT;
     let link = LinkRow {
@@ -171,7 +167,9 @@ fn check_readers(rt: &impl Abort, alloc: Global) {
     let mut slot = ReceiverSlot::empty();
     let mut fault = NO_FAULT;
     let links = &[LINK][..];
-    assert!(rt; slot.open_table(alloc, &CONSTANT, links, &[nine, NAV], 3, &mut fault) == OUT_OF_RANGE);
+    assert!(rt;
+        slot.open_table(alloc, &CONSTANT, links, &[nine, NAV], 3, &mut fault) == OUT_OF_RANGE
+    );
 }
 
 #[test]
