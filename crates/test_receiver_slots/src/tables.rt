@@ -135,15 +135,15 @@ fn handed(rt: &impl Abort, alloc: Global, ports: &[PortRow], readers: usize, nam
         ..LINK
     };
     assert!(rt; slot.open_table(alloc, &CONSTANT, &[link], ports, readers, &mut fault) == DONE);
-    let mut count = 0;
-    for _ in 0..9 {
+    for count in 0..9 {
         let mut reader = ReaderSlot::empty();
-        match slot.hand_reader(&mut reader, name) {
-            DONE => count += 1,
-            code => assert!(rt; code == NONE_LEFT),
+        let code = slot.hand_reader(&mut reader, name);
+        if code != DONE {
+            assert!(rt; code == NONE_LEFT);
+            return count;
         }
     }
-    count
+    9
 }
 
 fn check_readers(rt: &impl Abort, alloc: Global) {
