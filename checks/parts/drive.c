@@ -210,6 +210,7 @@ static void filtered(void) {
     if (code(yelunnavi_receiver_filtered(&receiver, net, (uint32_t)number(), &told))) printf(" %" PRIu64, told);
 }
 
+#ifndef SYSTEM /* which tells no health */
 static void health(void) {
     struct yelunnavi_health told;
     if (code(yelunnavi_receiver_health(&receiver, number(), &told)))
@@ -221,6 +222,7 @@ static void waiting(void) {
     size_t told, link = number();
     if (code(yelunnavi_receiver_waiting(&receiver, link, number(), &told))) printf(" %zu", told);
 }
+#endif
 
 static void place(void) {
     struct yelunnavi_place told;
@@ -246,8 +248,10 @@ static void call(const char *name) {
     else if (!strcmp(name, "longest")) longest();
     else if (!strcmp(name, "count")) count();
     else if (!strcmp(name, "filtered")) filtered();
+#ifndef SYSTEM
     else if (!strcmp(name, "health")) health();
     else if (!strcmp(name, "waiting")) waiting();
+#endif
     else if (!strcmp(name, "place")) place();
     else if (!strcmp(name, "close")) yelunnavi_receiver_close(&receiver);
     else if (!strcmp(name, "close_reader")) yelunnavi_reader_close(&readers[number()]);

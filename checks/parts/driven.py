@@ -1,5 +1,6 @@
 """Calls of the library for C at random moments, and what the model answers to each."""
 import collections
+import copy
 
 from parts import model
 from parts.random_traces import Link, config_text, sent
@@ -49,6 +50,13 @@ class Script:
     def call(self, answer, name, *words):
         self.calls.append(" ".join([name, *map(str, words)]))
         self.answers.append(line_of(answer) if answer else "")
+
+    def without(self, *names):
+        """The same case without the calls of these names, which change nothing."""
+        pairs = [pair for pair in zip(self.calls, self.answers) if pair[0].split()[0] not in names]
+        script = copy.copy(self)
+        script.calls, script.answers = ([*part] for part in zip(*pairs))
+        return script
 
     def make(self):
         """The whole case: openings, closings and calls between the frames, some of which come out of their order."""
