@@ -1,5 +1,6 @@
 //! Ends of ports are had by name, and meet their ports.
 ghost use Rattle.std.specs.Prelude.{◌≡◌, ℕ};
+ghost use Rattle.es_base.specs.Port.{Port};
 ghost use Rattle.live_system.specs.System.{AreOfNewLinks, IsPassOf};
 
 use crate::running::{built_in, octets_of};
@@ -21,7 +22,7 @@ fn datagram(rt: &impl Abort, alloc: Global, is_sample: bool) -> Vec<u8> {
 
 fn opened(rt: &impl Abort, alloc: Global) -> Opened
     ensures own { IsPassOf result.system result.a }
-    ensures links { (readers : ℕ) × AreOfNewLinks readers result.system.config result.a result.b result.ends.items }
+    ensures links { (readers : Port → ℕ) × AreOfNewLinks readers result.system.config result.a result.b result.ends.items }
 {
     let config = built_in(rt, alloc);
     LiveSystem::open(alloc, &config, ReaderCount::most()).expect(rt, "memory")
