@@ -1,6 +1,6 @@
 """Wrong definitions that a law refuses: wrong_bodies/by_laws/CRATE/NAME.edit, each in the definitions of its crate.
 
-They have the form of all wrong bodies, after a first line `law: LAWCRATE::laws::NAME`, the law that isn't proved then. What
+They have the form of all wrong bodies, and a line `law: LAWCRATE::laws::NAME`, the law that isn't proved then. What
 stands below the law's crate has to be proved all the same: where its own proofs refuse the definition, no law was asked.
 """
 import re

@@ -1,13 +1,13 @@
 """Wrong bodies that are tried by tests alone, without proof.
 
 Those that the prover lets through, or would if the definition had the same mistake, stand in
-wrong_bodies/by_tests/CRATE/NAME.edit. They have the form of all wrong bodies, after a first line
-`test: TESTCRATE::MODULE::NAME`, the test that has to fail. A second line `by: checks/growths` says that the test fails
+wrong_bodies/by_tests/CRATE/NAME.edit. They have the form of all wrong bodies, and a line
+`test: TESTCRATE::MODULE::NAME`, the test that has to fail. A line `by: checks/growths` says that the test fails
 only where that check runs it, so that it isn't tried here. So it is with the program in C that `checks/c_interface` runs,
 `test: checks/parts/codes.c`.
 
-Of each other wrong body docs/TRACEABILITY.md cites the tests, in its row. The cell says `the proof alone: NAME.edit`
-where none of them sees it.
+Each other wrong body has the tests that carry one of its rules (checks/parts/tree.py). A line `# told by: the proof alone`
+says that none of them sees it.
 """
 import hashlib
 import os
@@ -16,13 +16,13 @@ import subprocess
 from dataclasses import dataclass, field
 
 from parts.options import ROOT
+from parts.tree import bodies, functions
 from proving import build_folder, lay_crates, lines_of_crates, with_those_below
 
 CRATES = ROOT / "crates"
 OUTSIDE = ROOT / "wrong_bodies"
 FOLDER = OUTSIDE / "by_tests"
-PAGE = ROOT / "docs" / "TRACEABILITY.md"
-ALONE = "the proof alone: "
+ALONE = ("# told by", "the proof alone")
 # What is kept of a try in which all tests passed.
 PASSED = "-"
 ANSWER = r"^test (\S+) \.\.\. (ok|FAILED)$"
@@ -49,7 +49,7 @@ def wanted(crates):
 
 
 def name_of(edit):
-    """The name by which TRACEABILITY cites a wrong body."""
+    """The name by which checks/book knows a wrong body."""
     return str(edit.relative_to(CRATES if edit.is_relative_to(CRATES) else ROOT))
 
 
@@ -72,36 +72,23 @@ def check_of(edit):
 
 @dataclass
 class Cited:
-    """What TRACEABILITY says of a wrong body: the tests of its rows, and whether a row says that none sees it."""
+    """The tests that carry a rule of a wrong body, and whether it says that none sees it."""
     tests: list = field(default_factory=list)
     is_alone: bool = False
 
 
-def quoted(cell):
-    return re.findall(r"`([^`]*)`", cell)
-
-
-def alone_in(cell):
-    """The wrong bodies that a row's last cell says no test of it sees, by the last parts of their names."""
-    return [name for words in re.findall(ALONE + r"([^<|]*)", cell) for name in re.findall(r"\w+\.edit", words)]
-
-
 def cited():
-    """What TRACEABILITY says of each wrong body, by its name."""
-    found = {}
-    for line in PAGE.read_text(encoding="utf-8").splitlines():
-        cells = line.strip("| ").split(" | ")
-        if line.startswith("| ") and len(cells) == 5:
-            tests = [name for name in quoted(cells[4]) if "::" in name]
-            for name in quoted(cells[3]):
-                one = found.setdefault(name, Cited())
-                one.tests += [test for test in tests if test not in one.tests]
-                one.is_alone |= name.rsplit("/", 1)[-1] in alone_in(cells[4])
-    return found
+    """What is to be tried of each wrong body, by its name."""
+    tests = {}
+    for it in functions():
+        for rule in it.rules if it.is_test else ():
+            tests.setdefault(rule, []).append(it.name)
+    return {body.name: Cited(list(dict.fromkeys(test for rule in body.rules for test in tests.get(rule, ()))), ALONE in lines_of(body.path))
+            for body in bodies()}
 
 
 def cited_for(edit, of_all):
-    """The tests that have to tell a wrong body: the one that it names, or those of its rows."""
+    """The tests that have to tell a wrong body: the one that it names, or those of its rules."""
     test = dict(lines_of(edit)).get("test")
     return Cited([test]) if test else of_all.get(name_of(edit), Cited())
 
@@ -213,8 +200,7 @@ class Trial:
         return None
 
     def try_wrong(self, edit, said):
-        """Tries a wrong body of which TRACEABILITY says this. Prints its line, and returns the word by which it is
-        counted."""
+        """Tries a wrong body with these tests. Prints its line, and returns the word by which it is counted."""
         try:
             word, line = judged(self.first_failing(edit, said.tests), said)
         except NotTried as reason:
@@ -230,7 +216,7 @@ def judged(test, said):
     if test:
         return ("not told", f"NOT BY THE PROOF ALONE, told by {test}") if said.is_alone else ("told", f"told by {test}")
     if said.is_alone:
-        return "seen by the proof alone", "seen by the proof alone, as its row says"
+        return "seen by the proof alone", "seen by the proof alone, as it says"
     return "not told", f"NOT TOLD, seen by the proof alone: {', '.join(said.tests)}"
 
 

@@ -7,7 +7,6 @@ import tarfile
 import pytest
 import release
 from conftest import ROOT
-from evidence import matrix
 from marks import Product, sum_of
 
 CONFIG = ROOT / "examples" / "two_links.toml"
@@ -62,13 +61,8 @@ def test_a_release_of_one_commit_is_always_the_same_octets(tmp_path):
     sums = dict(reversed(line.split("  ", 1)) for line in files.pop(release.SUMS)[1].decode().splitlines())
     assert sums == {name: sum_of(octets) for name, (_, octets) in files.items()}
     assert files["evidence/gate"][1] == b"12 passed, 0 failed\n"
-
-
-def test_the_matrix_has_every_row_of_the_page():
-    rows = list(csv.DictReader(io.StringIO(matrix())))
-    page = (ROOT / "docs" / "TRACEABILITY.md").read_text(encoding="utf-8").splitlines()
-    headings = sum(line.startswith("| rule |") for line in page)
-    assert len(rows) == sum(line.startswith("| ") for line in page) - headings and all(row["rule"] for row in rows)
+    rows = csv.DictReader(io.StringIO(files["evidence/TRACEABILITY.csv"][1].decode()))
+    assert {row["part"] for row in rows} == {"definition", "contract", "wrong body", "test"}
 
 
 @pytest.mark.parametrize("words, told", [

@@ -17,12 +17,14 @@ is_same_port a b = a.0 == b.0
 
 -- whether a port of this kind takes one message more, after this number of others: a sampling port as
 -- long as it has message numbers (own), a queuing port if its queue had room
+-- rule: PORT-5, PORT-9
 abbrev pub takes_one_more : PortKind → Bool → ℕ → Bool
 takes_one_more (Sampling refresh) room before = nat_lt before most_samples
 takes_one_more (Queuing depth) room before = room
 
 -- what a frame with this outcome, which came at this time, delivers to a port, after this number of
 -- messages
+-- rule: PORT-6
 abbrev pub delivered : Outcome → Bool → ℕ → PortNo → ℕ → List Message
 delivered (brings payload) room time port before =
     if is_same_port payload.port port && takes_one_more payload.kind room before
@@ -33,6 +35,7 @@ delivered redundant room time port before = []
 delivered (refused verdict) room time port before = []
 
 -- the messages that a past delivered to a port, in order
+-- rule: PORT-4
 abbrev pub deliveries : Settings → List Event → PortNo → List Message
 deliveries settings [] port = []
 deliveries settings (e ∷ past) port =
@@ -43,6 +46,7 @@ abbrev pub number_delivered : Settings → List Event → PortNo → ℕ
 number_delivered settings past port = length (deliveries settings past port)
 
 -- the newest of a port's messages, and its message number
+-- rule: PORT-4
 abbrev pub newest_of : List Message → Option (ℕ × Message)
 newest_of messages = option_map (λ message. (length messages, message)) (slice_get messages (length messages - 1))
 

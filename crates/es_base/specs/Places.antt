@@ -1,3 +1,4 @@
+-- rule: none (where links and ports stand in the lists of a configuration)
 -- The places of links by their numbers: first a directory, which says for each upper octet of a link number its page, from 1 on,
 -- or 0 for none; and then the pages, which have an entry for each lower octet.
 use Rattle.std.specs.Prelude.{◌≡◌, ℕ, zero, suc, ◌+◌, ◌-◌, ◌*◌, ◌/◌, ◌%◌, ◌<◌, ◌≤◌, min, Bool, false, List, length, map, Option, None, Some, slice_get, slice_index_or}

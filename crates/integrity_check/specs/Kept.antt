@@ -7,5 +7,6 @@ pub record Kept : Type 0 where
   pub last : Option ℕ
 
 -- what is kept is the window, and the latest of these sequence numbers
+-- rule: INT-3
 abbrev pub StandsFor : Kept → ℕ → List ℕ → Type 0
 StandsFor kept window sequence_numbers = (kept.window ≡ window) × (kept.last ≡ latest sequence_numbers)

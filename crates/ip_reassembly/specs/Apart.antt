@@ -10,6 +10,7 @@ HaveDistinctKeys [] = Unit {0}
 HaveDistinctKeys (group ∷ later) = (list_any (has_key group.key) later ≡ false) × HaveDistinctKeys later
 
 -- at most four stand, and no two of them have one key
+-- rule: REAS-4
 pub record AreApart (groups : List Group) : Type 0 where
   pub few : length groups ≤ most_partials
   pub distinct : HaveDistinctKeys groups

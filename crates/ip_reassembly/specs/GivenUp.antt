@@ -24,6 +24,7 @@ given_up_for groups key (begins others) = one_at (place_of key groups) + one_for
 
 -- how many a packet gives up that comes now, where these groups stand: a whole datagram the group of its key, a bad
 -- fragment none; a group whose datagram is complete ends, and isn't given up
+-- rule: REAS-15
 unfoldable pub given_up : ℕ → List Group → PacketParts → ℕ → ℕ
 given_up limit groups packet now =
     if is_whole packet then one_at (place_of (key_of packet) groups)

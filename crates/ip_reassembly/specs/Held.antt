@@ -13,11 +13,13 @@ abbrev pub held_at : Held → ℕ → Option ℕ
 held_at held i = if slice_index_or held.marks i false then Some (slice_index held.octets i) else None
 
 -- these pieces are what is held
+-- rule: REAS-8
 pub record Holds (held : Held) (pieces : List Piece) : Type 0 where
   pub total_is : total_of pieces ≡ held.total
   pub octets_are : (i : ℕ) → octet_at pieces i ≡ held_at held i
 
 -- the octet at a place, where a piece is written over what was there
+-- rule: REAS-8
 abbrev pub written_at : List ℕ → ℕ → List ℕ → ℕ → ℕ
 written_at octets offset piece i =
     if nat_le offset i && nat_lt i (offset + length piece) then slice_index piece (i - offset) else slice_index octets i

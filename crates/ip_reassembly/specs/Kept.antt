@@ -30,16 +30,19 @@ StandFor partials groups = AllZip IsPartial partials groups
 abbrev pub StandsFor : Kept → ℕ → List Group → Type 0
 StandsFor kept limit groups = (kept.limit ≡ limit) × StandFor kept.partials groups
 
+-- rule: REAS-4
 abbrev pub has_key_of : DatagramKey → Partial → Bool
 has_key_of key partial = is_same_key partial.key key
 
 -- the place of the group that a piece joins; where it joins none, it begins one, without an older group of
 -- its key
+-- rule: REAS-5, REAS-14
 abbrev pub Finds : Option ℕ → List Group → DatagramKey → Found → Type 0
 Finds None groups key found = found ≡ begins (without groups (place_of key groups))
 Finds (Some place) groups key found = (group : Group) × (found ≡ joins place group) × (slice_get groups place ≡ Some group)
 
 -- the groups after a piece that joins the group at a place, and completes its datagram or doesn't
+-- rule: REAS-6
 abbrev pub joined_group : List Group → ℕ → Group → PacketParts → ℕ → List Group
 joined_group groups place group packet time =
     groups_with groups (key_of packet) (piece_of packet time) (joins place group)

@@ -22,6 +22,7 @@ given_up_by limit groups None time = 0
 given_up_by limit groups (Some packet) time = given_up limit groups packet time
 
 -- how many groups of pieces were given up at a link
+-- rule: REAS-15
 abbrev pub number_given_up : Settings → List Event → ℕ
 number_given_up settings [] = 0
 number_given_up settings (e ∷ past) =

@@ -25,11 +25,13 @@ opened queue depth = record { queue = queue; depth = depth; put = []; taken = []
 abbrev pub with_put : Known → Message → Known
 with_put putter message = record putter { put = putter.put ++ message ∷ [] }
 
+-- rule: PORT-11
 abbrev pub with_taken : Known → Message → Known
 with_taken taker message = record taker { taken = taker.taken ++ message ∷ [] }
 
 -- ---- what the queue may hold at one moment of a call, as far as one end knows
 
+-- rule: PORT-11
 abbrev pub BeginsWith : List Message → List Message → Type 0
 BeginsWith messages first = (rest : List Message) × (messages ≡ first ++ rest)
 
@@ -43,10 +45,12 @@ TakerFinds taken known held = (put : List Message) × (put ≡ taken ++ held) ×
 
 -- As far as this putter knows, the queue may be full: as many messages as its depth were put that it
 -- doesn't know to be taken. Whether the queue is full, it can't know.
+-- rule: PORT-10
 abbrev pub MayBeFull : Known → Type 0
 MayBeFull putter = (held : List Message) × (length held ≡ putter.depth) × PutterFinds putter.put putter.taken held
 
 -- As far as this taker knows, the queue may be empty: it took all messages that it knows to be put.
+-- rule: PORT-11
 abbrev pub MayBeEmpty : Known → Type 0
 MayBeEmpty taker = TakerFinds taker.taken taker.put []
 

@@ -42,6 +42,7 @@ abbrev pub FitsBefore : List Message → List Message → ℕ → Log → Type 0
 FitsBefore put taken number view = BeginsWith put view.put_before × BeginsWith taken view.taken_before
 
 -- what was put is what was taken and then what the queue holds
+-- rule: PORT-11, PORT-12
 pub record InOrder (held : List Message) (views : List Log) : Type 0 where
   pub putter : ℕ
   pub taker : ℕ

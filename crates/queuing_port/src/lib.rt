@@ -127,6 +127,7 @@ impl Putter {
     /// this end can know: no message is handed back in the first `depth` puts, nor as long as fewer than
     /// `depth` messages were put that this end doesn't know to be taken. What was taken it learns as the
     /// ends meet.
+    // rule: PORT-17
     pub fn put<R: Wait>(&mut self, rt: &R, message: Message) -> Result<(), Message>
         ensures ok { OnOk result (self.new ≡ with_put self.old message) }
         ensures err { IfErr result (λ back. (back ≡ message) × (self.new ≡ self.old)) }

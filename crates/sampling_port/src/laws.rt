@@ -50,6 +50,7 @@ pub fn a_look_that_finds_0_finds_nothing_published()
 /// What a reader reads that was told all before and has seen no more than that after: the last message, or
 /// none if none was published, and never that it was overtaken. So a thread with both ends, which meets,
 /// reads, and meets again, knows what it read.
+// rule: PORT-18
 pub fn what_is_read_between_two_meetings_is_the_last()
     ensures { (published : List (List ℕ)) (v w : ReaderEnd) (tries : ℕ) (before out : List ℕ) (answer : Read) →
         v.seen ≡ published → 0 < tries → ReadAnswer v w tries before out answer → StartsWith published w.seen →

@@ -30,6 +30,7 @@ abbrev pub HasMessage : ℕ → State → ℕ → List ℕ → Type 0
 HasMessage readers c word message = IsMessage message × Begins readers c.words (slot_of word) message
 
 -- a message can begin in some slot
+-- rule: PORT-8
 abbrev pub HasFreeSlot : ℕ → ℕ → State → Type 0
 HasFreeSlot readers slots c = (slot : ℕ) × ((word : ℕ) → word ≤ longest_message → Allowed readers slots c (StoreWord slot 0 word))
 

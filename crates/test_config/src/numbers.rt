@@ -66,6 +66,7 @@ fn config_of_links(rt: &impl Abort, alloc: Global) -> Config {
     config_of(rt, alloc, document(rt, alloc).as_str())
 }
 
+// rule: FRAME-6
 #[test]
 fn links_of_64_upper_octets_are_found(rt: HostRuntime) {
     check_found(&rt, &config_of_links(&rt, rt.alloc()));
@@ -75,6 +76,7 @@ fn check_copy(rt: &impl Abort, alloc: Global, config: &Config) {
     check_found(rt, &config.copy(alloc).expect(rt, "memory"));
 }
 
+// rule: FRAME-6
 #[test]
 fn a_copy_finds_links_of_64_upper_octets(rt: HostRuntime) {
     check_copy(&rt, rt.alloc(), &config_of_links(&rt, rt.alloc()));

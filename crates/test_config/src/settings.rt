@@ -89,6 +89,7 @@ fn the_constant_may_be_given(rt: HostRuntime) {
     check_constant(&rt, &other, [0xa1, 0xb2, 0xc3, 0xd4]);
 }
 
+// rule: RM-1
 #[test]
 fn redundancy_management_may_be_switched_off(rt: HostRuntime) {
     let off = BUILT_IN.replace(rt.alloc(), "vl = 17", "vl = 17\nredundancy = false");
@@ -114,6 +115,7 @@ fn check_links_found(rt: &impl Abort, config: &Config) {
     check_place(rt, config, 0x1111, None);
 }
 
+// rule: FRAME-6
 #[test]
 fn links_are_found_by_their_numbers(rt: HostRuntime) {
     check_links_found(&rt, &both_links(&rt, rt.alloc()));
@@ -144,6 +146,7 @@ fn check_look_up(rt: &impl Abort, config: &Config, row: LookUp) {
     assert!(rt; config.port_of(link, address, udp) == port, "{vl} {udp}");
 }
 
+// rule: PORT-1
 #[test]
 fn ports_are_found_by_their_addresses_and_udp_ports(rt: HostRuntime) {
     let config = both_links(&rt, rt.alloc());

@@ -33,12 +33,14 @@ fn uneven_after_the_limit() -> [PacketRow; 3] {
     ]
 }
 
+// rule: REAS-3, REAS-13
 #[test]
 fn a_length_between_blocks_is_bad(rt: HostRuntime) {
     check_packet_rows(&rt, rt.alloc(), &[(A, 1000, 1, FirstTo11, BadFragment)]);
     check_packet_rows(&rt, rt.alloc(), &[(A, 1000, 1, EmptyFirst, BadFragment)]);
 }
 
+// rule: REAS-12
 #[test]
 fn an_end_past_the_longest_datagram_is_bad(rt: HostRuntime) {
     check_packet_rows(&rt, rt.alloc(), &[(A, 1000, 1, LastTo8199, FragmentHeld)]);
@@ -46,6 +48,7 @@ fn an_end_past_the_longest_datagram_is_bad(rt: HostRuntime) {
     check_packet_rows(&rt, rt.alloc(), &[(A, 1000, 1, NextFrom65528, BadFragment)]);
 }
 
+// rule: REAS-13
 #[test]
 fn a_bad_fragment_changes_nothing(rt: HostRuntime) {
     check_packet_rows(&rt, rt.alloc(), &bad_between());

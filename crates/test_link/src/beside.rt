@@ -87,6 +87,7 @@ fn check_beside<R: Abort + Wait + Threads + Sync>(rt: &R, alloc: Global) {
     }
 }
 
+// rule: PORT-7, PORT-8
 #[test]
 fn eight_partitions_read_whole_messages_while_the_link_takes_frames(rt: HostRuntime) {
     check_beside(&rt, rt.alloc());

@@ -82,22 +82,26 @@ fn shorter_than_its_header() -> [PacketRow; 2] {
     ]
 }
 
+// rule: REAS-10
 #[test]
 fn fragments_are_joined_in_any_order(rt: HostRuntime) {
     check_packet_rows(&rt, rt.alloc(), &in_order());
     check_packet_rows(&rt, rt.alloc(), &last_first());
 }
 
+// rule: REAS-1
 #[test]
 fn fragments_of_both_networks_are_joined_once(rt: HostRuntime) {
     check_packet_rows(&rt, rt.alloc(), &on_both_networks());
 }
 
+// rule: REAS-8
 #[test]
 fn a_fragment_may_come_twice(rt: HostRuntime) {
     check_packet_rows(&rt, rt.alloc(), &first_twice());
 }
 
+// rule: REAS-7
 #[test]
 fn the_latest_last_fragment_sets_the_end(rt: HostRuntime) {
     check_packet_rows(&rt, rt.alloc(), &end_moves_down());
@@ -105,27 +109,32 @@ fn the_latest_last_fragment_sets_the_end(rt: HostRuntime) {
     check_packet_rows(&rt, rt.alloc(), &end_moves_to_and_fro());
 }
 
+// rule: REAS-7
 #[test]
 fn the_last_fragment_may_end_within_a_block(rt: HostRuntime) {
     check_packet_rows(&rt, rt.alloc(), &end_within_a_block());
 }
 
+// rule: REAS-9
 #[test]
 fn each_octet_has_to_come(rt: HostRuntime) {
     check_packet_rows(&rt, rt.alloc(), &gap_within_a_block());
 }
 
+// rule: REAS-9
 #[test]
 fn a_complete_datagram_ends_its_group(rt: HostRuntime) {
     check_packet_rows(&rt, rt.alloc(), &last_once_more());
 }
 
+// rule: PORT-2
 #[test]
 fn a_sampling_port_refuses_what_was_joined(rt: HostRuntime) {
     check_packet_rows(&rt, rt.alloc(), &joined_for_a_sampling_port());
 }
 
 /// The payload has 24 octets, and the largest of the port is 16: that it was joined decides.
+// rule: PORT-2
 #[test]
 fn what_was_joined_is_refused_before_what_is_too_long(rt: HostRuntime) {
     let link = Link {
@@ -135,6 +144,7 @@ fn what_was_joined_is_refused_before_what_is_too_long(rt: HostRuntime) {
     check_packets_of(&rt, rt.alloc(), link, &joined_for_a_sampling_port());
 }
 
+// rule: UDP-4
 #[test]
 fn what_is_joined_needs_a_good_udp_header(rt: HostRuntime) {
     check_packet_rows(&rt, rt.alloc(), &shorter_than_its_header());

@@ -133,6 +133,7 @@ fn check_copy(rt: &(impl Abort + Wait), alloc: Global) {
     check_delivered(rt, alloc, &state, NAV, &[]);
 }
 
+// rule: HIST-6
 #[test]
 fn a_copy_is_redundant_and_counts_go_on_over_an_epoch(rt: HostRuntime) {
     check_copy(&rt, rt.alloc());
@@ -168,6 +169,7 @@ fn check_joined(rt: &(impl Abort + Wait), alloc: Global) {
     check_joined_by(rt, alloc, &last_fragment_before_an_epoch());
 }
 
+// rule: HIST-3, HIST-4
 #[test]
 fn a_datagram_is_joined_over_an_epoch(rt: HostRuntime) {
     check_joined(&rt, rt.alloc());
@@ -193,11 +195,13 @@ fn epochs_of_nothing() -> [Step; 5] {
     ]
 }
 
+// rule: HIST-3, HIST-4
 #[test]
 fn a_sequence_number_counts_over_two_epochs(rt: HostRuntime) {
     check_steps(&rt, rt.alloc(), &two_epochs());
 }
 
+// rule: HIST-3, HIST-4
 #[test]
 fn an_epoch_of_no_events_is_an_epoch(rt: HostRuntime) {
     check_steps(&rt, rt.alloc(), &epochs_of_nothing());
@@ -225,6 +229,7 @@ fn time_that_falls() -> [Step; 4] {
     ]
 }
 
+// rule: HIST-3, HIST-4
 #[test]
 fn each_network_and_the_greatest_time_count_over_an_epoch(rt: HostRuntime) {
     check_steps(&rt, rt.alloc(), &networks_apart());
@@ -251,6 +256,7 @@ fn after_the_limit() -> [Step; 5] {
     ]
 }
 
+// rule: HIST-3, HIST-4
 #[test]
 fn a_partial_datagram_keeps_its_age_over_an_epoch(rt: HostRuntime) {
     check_steps(&rt, rt.alloc(), &at_the_limit());
@@ -274,6 +280,7 @@ fn check_full_queue(rt: &(impl Abort + Wait), alloc: Global) {
     check_delivered(rt, alloc, &state, NAV, &[]);
 }
 
+// rule: HIST-3, HIST-4
 #[test]
 fn a_queue_is_full_over_an_epoch(rt: HostRuntime) {
     check_full_queue(&rt, rt.alloc());
@@ -289,6 +296,7 @@ fn check_reads(rt: &(impl Abort + Wait), alloc: Global) {
     check_read(rt, &mut readers[0], (2, 2000), &OCTETS);
 }
 
+// rule: HIST-6
 #[test]
 fn message_numbers_go_on_over_an_epoch(rt: HostRuntime) {
     check_reads(&rt, rt.alloc());
@@ -309,6 +317,7 @@ fn check_meetings(rt: &(impl Abort + Wait), alloc: Global) {
     check_meeting(rt, &mut state, &mut taker, 0);
 }
 
+// rule: HIST-6, HIST-7
 #[test]
 fn a_taker_meets_its_link_over_epochs(rt: HostRuntime) {
     check_meetings(&rt, rt.alloc());
@@ -352,6 +361,7 @@ fn check_tried(rt: &(impl Abort + Wait), alloc: Global) {
     check_taken(rt, alloc, &mut taker, 1100, JOINED_PAYLOAD);
 }
 
+// rule: HIST-9
 #[test]
 fn an_epoch_without_memory_changes_nothing(rt: HostRuntime) {
     check_tried(&rt, rt.alloc());

@@ -87,6 +87,7 @@ fn whole_between() -> [PacketRow; 3] {
     ]
 }
 
+// rule: REAS-6
 #[test]
 fn the_one_that_began_first_is_given_up_for_a_fifth(rt: HostRuntime) {
     check_packet_rows(&rt, rt.alloc(), &five_begin());
@@ -94,6 +95,7 @@ fn the_one_that_began_first_is_given_up_for_a_fifth(rt: HostRuntime) {
     check_packet_rows(&rt, rt.alloc(), &first_touched_last());
 }
 
+// rule: REAS-5
 #[test]
 fn the_age_is_that_of_the_first_piece(rt: HostRuntime) {
     check_packet_rows(&rt, rt.alloc(), &at_the_limit());
@@ -101,17 +103,20 @@ fn the_age_is_that_of_the_first_piece(rt: HostRuntime) {
     check_packet_rows(&rt, rt.alloc(), &touched_between());
 }
 
+// rule: REAS-14
 #[test]
 fn no_other_key_is_given_up_for_its_age(rt: HostRuntime) {
     check_packet_rows(&rt, rt.alloc(), &another_key_between());
 }
 
+// rule: REAS-4
 #[test]
 fn a_key_has_both_addresses(rt: HostRuntime) {
     check_packet_rows(&rt, rt.alloc(), &another_source());
     check_packet_rows(&rt, rt.alloc(), &another_destination());
 }
 
+// rule: REAS-11
 #[test]
 fn a_whole_datagram_gives_up_the_group_of_its_key(rt: HostRuntime) {
     check_packet_rows(&rt, rt.alloc(), &whole_between());

@@ -122,6 +122,7 @@ fn check_first(rt: &(impl Abort + Wait), alloc: Global, rows: &[Row]) {
     }
 }
 
+// rule: IP-1, IP-2, IP-3, IP-4, IP-5, IP-6
 #[test]
 fn ip_headers_are_refused_by_their_first_fault(rt: HostRuntime) {
     check_first(&rt, rt.alloc(), &faults_of_the_ip_header());
@@ -143,11 +144,13 @@ fn a_frame_that_was_cut_has_a_bad_header(rt: HostRuntime) {
     }
 }
 
+// rule: IP-7
 #[test]
 fn other_flags_are_ignored(rt: HostRuntime) {
     check_first(&rt, rt.alloc(), &flags_of_the_ip_header());
 }
 
+// rule: IP-7, UDP-3
 #[test]
 fn other_parts_are_ignored(rt: HostRuntime) {
     check_first(&rt, rt.alloc(), &what_is_not_looked_at());
@@ -161,16 +164,19 @@ fn check_from(rt: &(impl Abort + Wait), alloc: Global, ethernet: &str) {
     assert!(rt; verdict == Sampled(POS, 1), "{verdict:?}");
 }
 
+// rule: FRAME-8
 #[test]
 fn the_source_address_is_ignored(rt: HostRuntime) {
     check_from(&rt, rt.alloc(), "0300000000110a1b2c3d4e5f0800");
 }
 
+// rule: UDP-1
 #[test]
 fn the_length_of_a_udp_datagram_has_bounds(rt: HostRuntime) {
     check_first(&rt, rt.alloc(), &lengths_of_udp_datagrams());
 }
 
+// rule: FRAME-7, UDP-1
 #[test]
 fn seven_octets_are_no_udp_datagram(rt: HostRuntime) {
     let ip = "4500001b000100000111cdde0a010101e0e00011";
@@ -179,11 +185,13 @@ fn seven_octets_are_no_udp_datagram(rt: HostRuntime) {
     check_rows(&rt, rt.alloc(), LINK, &[frame]);
 }
 
+// rule: PORT-1
 #[test]
 fn other_destinations_have_no_port(rt: HostRuntime) {
     check_first(&rt, rt.alloc(), &other_destinations());
 }
 
+// rule: PORT-9
 #[test]
 fn datagrams_for_a_queuing_port(rt: HostRuntime) {
     check_first(&rt, rt.alloc(), &[(IP, "1389138a00190000", FOR_NAV)]);

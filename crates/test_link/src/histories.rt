@@ -71,23 +71,27 @@ fn check_deliveries(
     check_messages(rt, alloc, &messages, wanted);
 }
 
+// rule: PORT-4
 #[test]
 fn first_copies_in_sequence_are_delivered(rt: HostRuntime) {
     let wanted = [(1000, PAYLOAD), (2000, NEXT_PAYLOAD)];
     check_deliveries(&rt, rt.alloc(), 4, &samples(), POS, &wanted);
 }
 
+// rule: PORT-4
 #[test]
 fn no_port_has_the_messages_of_another(rt: HostRuntime) {
     check_deliveries(&rt, rt.alloc(), 4, &samples(), NAV, &[]);
     check_deliveries(&rt, rt.alloc(), 4, &samples(), PortNo(2), &[]);
 }
 
+// rule: PORT-4
 #[test]
 fn a_link_without_frames_delivers_nothing(rt: HostRuntime) {
     check_deliveries(&rt, rt.alloc(), 4, &[], POS, &[]);
 }
 
+// rule: PORT-4
 #[test]
 fn a_joined_datagram_is_delivered_once(rt: HostRuntime) {
     let wanted = [
@@ -107,6 +111,7 @@ fn three_queued(second: Verdict, third: Verdict) -> [FrameRow<'static>; 3] {
     ]
 }
 
+// rule: PORT-4
 #[test]
 fn a_lost_message_is_not_delivered(rt: HostRuntime) {
     let wanted = [(1000, PAYLOAD), (1100, NEXT_PAYLOAD)];
@@ -129,6 +134,7 @@ fn check_room(rt: &(impl Abort + Wait), alloc: Global) {
     }
 }
 
+// rule: PORT-9
 #[test]
 fn an_event_says_whether_the_queue_had_room(rt: HostRuntime) {
     check_room(&rt, rt.alloc());

@@ -94,6 +94,7 @@ fn check_window(rt: &(impl Abort + Wait), alloc: Global, window: u8, steps: &[Sm
     check_steps_of(rt, alloc, Link { window, ..LINK }, steps);
 }
 
+// rule: INT-2
 #[test]
 fn as_many_sequence_numbers_pass_as_the_window_says(rt: HostRuntime) {
     check_window(&rt, rt.alloc(), 1, &window_of_1());
@@ -102,22 +103,26 @@ fn as_many_sequence_numbers_pass_as_the_window_says(rt: HostRuntime) {
     check_window(&rt, rt.alloc(), 4, &after_a_window_of_4());
 }
 
+// rule: INT-3, INT-4
 #[test]
 fn a_discarded_sequence_number_counts_as_the_one_before(rt: HostRuntime) {
     check_steps(&rt, rt.alloc(), &window());
 }
 
+// rule: INT-1
 #[test]
 fn sequence_number_1_follows_255(rt: HostRuntime) {
     check_steps(&rt, rt.alloc(), &turn());
     check_steps(&rt, rt.alloc(), &repetition_and_leap());
 }
 
+// rule: INT-2
 #[test]
 fn a_reset_always_passes(rt: HostRuntime) {
     check_steps(&rt, rt.alloc(), &resets());
 }
 
+// rule: INT-2
 #[test]
 fn the_next_sequence_number_but_one_passes(rt: HostRuntime) {
     check_steps(&rt, rt.alloc(), &next_but_one_of_255());

@@ -110,6 +110,7 @@ fn four_that_wait() -> [PacketRow; 4] {
     ]
 }
 
+// rule: HIST-4
 #[test]
 fn a_walk_from_a_copy_and_from_what_waits_come_to_the_same(rt: HostRuntime) {
     let nothing_waits = Nav(A, 1100, 1, FOR_NAV);

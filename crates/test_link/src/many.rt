@@ -45,6 +45,7 @@ fn check_many(rt: &(impl Abort + Wait), alloc: Global, count: u32) {
     check_epochs(rt, alloc, &mut state, count);
 }
 
+// rule: FRAME-9, PORT-4, HIST-3
 #[test]
 fn a_link_takes_a_hundred_thousand_frames(rt: HostRuntime) {
     check_many(&rt, rt.alloc(), 100_000);
@@ -60,6 +61,7 @@ fn check_many_deliveries(rt: &(impl Abort + Wait), alloc: Global, count: u32) {
     }
 }
 
+// rule: PORT-4
 #[test]
 fn a_history_of_a_thousand_frames_delivers_a_thousand_messages(rt: HostRuntime) {
     check_many_deliveries(&rt, rt.alloc(), 1000);

@@ -98,6 +98,7 @@ fn check_meetings(rt: &(impl Abort + Wait), alloc: Global) {
     check_meeting(rt, &mut state, &mut taker, 0);
 }
 
+// rule: PORT-11
 #[test]
 fn a_link_and_its_taker_know_how_many_messages_are_held(rt: HostRuntime) {
     check_meetings(&rt, rt.alloc());
@@ -129,6 +130,7 @@ fn check_counts(rt: &(impl Abort + Wait), alloc: Global) {
     check_count(rt, &state, A, 13, 0);
 }
 
+// rule: COUNT-1
 #[test]
 fn a_link_counts_its_events_by_network_and_kind(rt: HostRuntime) {
     check_counts(&rt, rt.alloc());

@@ -40,11 +40,13 @@ fn check_delivered(
     check_read(rt, &mut readers[0], (1, 1000), &octets);
 }
 
+// rule: PORT-4, PORT-6
 #[test]
 fn the_newest_message_of_a_port_is_read(rt: HostRuntime) {
     check_delivered(&rt, rt.alloc(), (IP, UDP), PAYLOAD, PAYLOAD);
 }
 
+// rule: PORT-3, PORT-4
 #[test]
 fn the_longest_frame_is_delivered_whole(rt: HostRuntime) {
     let payload = fives(rt.alloc(), 1471).expect(&rt, "memory");
@@ -52,6 +54,7 @@ fn the_longest_frame_is_delivered_whole(rt: HostRuntime) {
     check_delivered(&rt, rt.alloc(), headers, payload.as_str(), payload.as_str());
 }
 
+// rule: UDP-2
 #[test]
 fn a_udp_datagram_of_eight_octets_has_an_empty_payload(rt: HostRuntime) {
     let headers = (IP, "1389138800080000");
@@ -119,6 +122,7 @@ fn check_two_ports(
     check_newest(rt, alloc, ends.pop(), (message_number, time), PAYLOAD);
 }
 
+// rule: PORT-16, PORT-6
 #[test]
 fn the_messages_of_each_port_are_numbered_apart(rt: HostRuntime) {
     let frames = frames_for_two_ports();
@@ -146,6 +150,7 @@ fn check_largest(rt: &(impl Abort + Wait), alloc: Global, row: Row) {
     check_rows(rt, alloc, Link { pos_max, ..LINK }, &[frame]);
 }
 
+// rule: PORT-3
 #[test]
 fn payloads_are_compared_with_the_largest(rt: HostRuntime) {
     for row in largest_payloads() {
@@ -153,6 +158,7 @@ fn payloads_are_compared_with_the_largest(rt: HostRuntime) {
     }
 }
 
+// rule: PORT-3
 #[test]
 fn the_largest_payload_of_a_sampling_port_is_1471_octets(rt: HostRuntime) {
     assert!(rt; sampling_port("pos", 5000, 1471).is_some());

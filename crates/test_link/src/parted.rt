@@ -199,6 +199,7 @@ fn check_parted(rt: &(impl Abort + Wait), alloc: Global, every: u64) {
     check_same_taken(rt, &mut whole.taker, &mut parted.taker);
 }
 
+// rule: HIST-3, HIST-4
 #[test]
 fn a_link_in_epochs_is_the_link_played_whole(rt: HostRuntime) {
     check_parted(&rt, rt.alloc(), 1);

@@ -103,6 +103,7 @@ fn check_all_read(rt: &(impl Abort + Wait), alloc: Global) {
     }
 }
 
+// rule: PORT-4, PORT-7
 #[test]
 fn every_reader_of_a_port_reads_the_newest_message(rt: HostRuntime) {
     check_all_read(&rt, rt.alloc());
@@ -137,6 +138,7 @@ fn check_meetings(rt: &(impl Abort + Wait), alloc: Global) {
     check_meeting(rt, &mut state, &mut readers[0], (2, 2000));
 }
 
+// rule: PORT-18
 #[test]
 fn a_reader_that_meets_its_link_reads_the_message_just_taken(rt: HostRuntime) {
     check_meetings(&rt, rt.alloc());
@@ -185,6 +187,7 @@ fn check_held(rt: &(impl Abort + Wait), alloc: Global) {
     check_read(rt, &mut reader, (22, 3000), &OCTETS);
 }
 
+// rule: PORT-8
 #[test]
 fn a_link_takes_frames_while_all_readers_hold_and_after_they_are_dropped(rt: HostRuntime) {
     check_held(&rt, rt.alloc());

@@ -61,6 +61,7 @@ fn three(first: PacketRow, second: PacketRow, third: PacketRow) -> [PacketRow; 3
     [first, second, third]
 }
 
+// rule: PORT-11
 #[test]
 fn a_joined_datagram_is_queued_whole(rt: HostRuntime) {
     let payload = "a0a1a2a3a4a5a6a7b0b1b2b3b4b5b6b7b8b9babbbcbdbebf";
@@ -68,6 +69,7 @@ fn a_joined_datagram_is_queued_whole(rt: HostRuntime) {
     check_joined(&rt, rt.alloc(), &last_first(), 1100, payload);
 }
 
+// rule: REAS-8
 #[test]
 fn a_queued_message_has_the_latest_octets(rt: HostRuntime) {
     let payload = "c0c1c2c3c4c5c6c7b0b1b2b3b4b5b6b7b8b9babbbcbdbebf";
@@ -76,6 +78,7 @@ fn a_queued_message_has_the_latest_octets(rt: HostRuntime) {
 
 /// The last fragment that ends earlier comes later, and the end is its end; and the other way round the
 /// UDP header cuts what was joined.
+// rule: UDP-2
 #[test]
 fn a_queued_message_is_as_long_as_its_udp_header_says(rt: HostRuntime) {
     let down = three(
@@ -94,6 +97,7 @@ fn a_queued_message_is_as_long_as_its_udp_header_says(rt: HostRuntime) {
     check_joined(&rt, rt.alloc(), &up, 1200, payload);
 }
 
+// rule: PORT-9
 #[test]
 fn an_empty_message_is_queued(rt: HostRuntime) {
     let row = (A, 1000, 1, IP, "1389138a00080000", PAYLOAD, FOR_NAV);
@@ -142,6 +146,7 @@ fn check_longest(rt: &(impl Abort + Wait), alloc: Global) {
     check_queued(rt, alloc, &rows, 6, payload.as_str());
 }
 
+// rule: PORT-9
 #[test]
 fn the_longest_message_is_queued_whole(rt: HostRuntime) {
     check_longest(&rt, rt.alloc());

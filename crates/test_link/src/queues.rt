@@ -150,6 +150,7 @@ fn no_taker() -> [Step; 6] {
 }
 
 /// What is decided of a frame is final if no queue is asked.
+// rule: HIST-1
 #[test]
 fn a_queue_is_asked_for_its_own_port_alone(rt: HostRuntime) {
     let sampled = decision_of(&rt, rt.alloc(), UDP);
@@ -158,23 +159,27 @@ fn a_queue_is_asked_for_its_own_port_alone(rt: HostRuntime) {
     assert!(rt; queued == Decision::ByQueue(NAV));
 }
 
+// rule: PORT-9, PORT-10
 #[test]
 fn a_queue_holds_as_many_messages_as_its_depth(rt: HostRuntime) {
     check_steps(&rt, rt.alloc(), with_depth(1), &one_place());
     check_steps(&rt, rt.alloc(), with_depth(3), &three_places());
 }
 
+// rule: PORT-11
 #[test]
 fn a_taker_that_comes_late_takes_the_oldest_first(rt: HostRuntime) {
     check_steps(&rt, rt.alloc(), LINK, &late_taker());
 }
 
+// rule: PORT-13
 #[test]
 fn a_queue_that_nobody_reads_loses_its_newest_messages_alone(rt: HostRuntime) {
     check_steps(&rt, rt.alloc(), with_depth(1), &no_taker());
 }
 
 /// What is too long for the port doesn't come to its queue.
+// rule: PORT-3
 #[test]
 fn a_queuing_port_has_a_largest_payload(rt: HostRuntime) {
     let too_long = [Nav(Verdict::TooLong(NAV)), Take(None)];
@@ -196,6 +201,7 @@ fn check_dropped(rt: &(impl Abort + Wait), alloc: Global) {
     }
 }
 
+// rule: PORT-13
 #[test]
 fn a_dropped_taker_stops_nobody(rt: HostRuntime) {
     check_dropped(&rt, rt.alloc());

@@ -23,23 +23,27 @@ fn copies_at_time_0() -> [SmallestRow; 2] {
     [(A, 0, 7, Sampled(POS, 1)), (B, 0, 7, Redundant)]
 }
 
+// rule: RM-3
 #[test]
 fn a_copy_is_forwarded_only_after_skew_max(rt: HostRuntime) {
     check_steps(&rt, rt.alloc(), &copy_at_skew_max());
     check_steps(&rt, rt.alloc(), &copy_after_skew_max());
 }
 
+// rule: INT-2, RM-2, RM-4
 #[test]
 fn only_the_first_copy_is_forwarded(rt: HostRuntime) {
     check_steps(&rt, rt.alloc(), &two_frames_late());
     check_steps(&rt, rt.alloc(), &networks_apart());
 }
 
+// rule: RM-7
 #[test]
 fn a_reset_is_ahead_of_255(rt: HostRuntime) {
     check_steps(&rt, rt.alloc(), &reset_after_255());
 }
 
+// rule: RM-2
 #[test]
 fn time_0_is_a_time(rt: HostRuntime) {
     check_steps(&rt, rt.alloc(), &copies_at_time_0());
@@ -63,6 +67,7 @@ fn redundant_frame_between() -> [SmallestRow; 3] {
     ]
 }
 
+// rule: RM-3, RM-5
 #[test]
 fn the_greatest_time_of_forwarded_frames_counts(rt: HostRuntime) {
     check_steps(&rt, rt.alloc(), &copy_before_its_first());
@@ -89,6 +94,7 @@ fn bounds() -> [Pair; 10] {
     ]
 }
 
+// rule: RM-7
 #[test]
 fn sequence_numbers_are_ahead_up_to_the_bounds(rt: HostRuntime) {
     for (last, next, verdict) in bounds() {
@@ -102,6 +108,7 @@ fn both_copies() -> [SmallestRow; 2] {
     [(A, 1000, 7, Sampled(POS, 1)), (B, 1000, 7, Sampled(POS, 2))]
 }
 
+// rule: RM-1
 #[test]
 fn every_copy_is_forwarded_without_redundancy_management(rt: HostRuntime) {
     let link = Link {
@@ -111,6 +118,7 @@ fn every_copy_is_forwarded_without_redundancy_management(rt: HostRuntime) {
     check_steps_of(&rt, rt.alloc(), link, &both_copies());
 }
 
+// rule: RM-6
 #[test]
 fn a_frame_with_a_bad_header_counts_as_forwarded(rt: HostRuntime) {
     check_rows(&rt, rt.alloc(), LINK, &bad_and_good());

@@ -139,6 +139,7 @@ fn check_epochs(rt: &(impl Abort + Wait), alloc: Global) {
     assert!(rt; out.inner.starts_with(LINES.as_bytes()));
 }
 
+// rule: HIST-3, HIST-4
 #[test]
 fn the_epochs_of_a_link_played_as_one_trace_come_to_the_same(rt: HostRuntime) {
     check_epochs(&rt, rt.alloc());

@@ -109,6 +109,7 @@ fn the_example_of_the_readme_prints_what_stands_there(rt: HostRuntime) {
     check_example(&rt, rt.alloc(), NETWORK_A, NETWORK_B, OUTPUT);
 }
 
+// rule: PORT-2
 #[test]
 fn fragments_are_joined_from_both_networks(rt: HostRuntime) {
     let output = OUTPUT_OF_FRAGMENTS;

@@ -30,6 +30,7 @@ fn check_meetings(rt: &(impl Abort + Wait), alloc: Global) {
     check_meeting(rt, &mut putter, &mut taker, 0);
 }
 
+// rule: PORT-17, PORT-18
 #[test]
 fn ends_that_meet_know_how_many_messages_are_held(rt: HostRuntime) {
     check_meetings(&rt, rt.alloc());
@@ -44,6 +45,7 @@ fn check_without_taker(rt: &(impl Abort + Wait), alloc: Global) {
     put_each(rt, alloc, &mut putter, &rows);
 }
 
+// rule: PORT-13
 #[test]
 fn a_dropped_taker_stops_nobody(rt: HostRuntime) {
     check_without_taker(&rt, rt.alloc());
@@ -57,6 +59,7 @@ fn check_without_putter(rt: &(impl Abort + Wait), alloc: Global) {
     take_nothing(rt, &mut taker);
 }
 
+// rule: PORT-13
 #[test]
 fn a_dropped_putter_leaves_its_messages(rt: HostRuntime) {
     check_without_putter(&rt, rt.alloc());

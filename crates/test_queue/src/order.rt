@@ -28,6 +28,7 @@ fn check_depth(rt: &(impl Abort + Wait), alloc: Global, depth: u8) {
     }
 }
 
+// rule: PORT-10, PORT-11
 #[test]
 fn a_queue_holds_as_many_messages_as_its_depth(rt: HostRuntime) {
     for depth in depths() {
@@ -44,6 +45,7 @@ fn check_length(rt: &(impl Abort + Wait), alloc: Global, len: u16) {
     check_same(rt, &take_message(rt, &mut taker), &same);
 }
 
+// rule: PORT-11
 #[test]
 fn messages_of_no_octets_and_of_the_most_pass(rt: HostRuntime) {
     check_length(&rt, rt.alloc(), 0);
@@ -60,6 +62,7 @@ fn check_refusal(rt: &(impl Abort + Wait), alloc: Global) {
     take_nothing(rt, &mut taker);
 }
 
+// rule: PORT-10
 #[test]
 fn a_message_is_refused_and_room_made_for_the_next(rt: HostRuntime) {
     check_refusal(&rt, rt.alloc());
@@ -80,6 +83,7 @@ fn check_refusals(rt: &(impl Abort + Wait), alloc: Global) {
     take(rt, alloc, &mut taker, 2);
 }
 
+// rule: PORT-10
 #[test]
 fn a_queue_that_refused_many_messages_takes_one_again(rt: HostRuntime) {
     check_refusals(&rt, rt.alloc());
@@ -95,6 +99,7 @@ fn check_order(rt: &(impl Abort + Wait), alloc: Global) {
     take_nothing(rt, &mut taker);
 }
 
+// rule: PORT-11
 #[test]
 fn a_late_reader_gets_the_oldest_first(rt: HostRuntime) {
     check_order(&rt, rt.alloc());

@@ -60,16 +60,19 @@ fn check_passing<R: Abort + Threads + Wait + Sync>(rt: &R, alloc: Global, depth:
     take_nothing(rt, &mut taker);
 }
 
+// rule: PORT-11, PORT-12
 #[test]
 fn two_threads_pass_messages_through_a_queue_of_depth_1(rt: HostRuntime) {
     check_passing(&rt, rt.alloc(), 1, MANY);
 }
 
+// rule: PORT-11, PORT-12
 #[test]
 fn two_threads_pass_messages_through_a_queue_of_depth_4(rt: HostRuntime) {
     check_passing(&rt, rt.alloc(), 4, 100);
 }
 
+// rule: PORT-11, PORT-12
 #[test]
 fn two_threads_pass_messages_through_a_queue_of_depth_64(rt: HostRuntime) {
     check_passing(&rt, rt.alloc(), 64, MANY);

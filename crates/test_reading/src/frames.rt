@@ -35,6 +35,7 @@ fn check_beginnings(rt: &impl Abort, alloc: Global) {
     }
 }
 
+// rule: FRAME-2
 #[test]
 fn every_beginning_of_the_smallest_frame_is_too_short(rt: HostRuntime) {
     check_beginnings(&rt, rt.alloc());
@@ -48,11 +49,13 @@ fn check_longest(rt: &impl Abort, alloc: Global) {
     check_fault(rt, &frame, FrameFault::TooLong);
 }
 
+// rule: FRAME-3
 #[test]
 fn a_frame_longer_than_the_longest_is_too_long(rt: HostRuntime) {
     check_longest(&rt, rt.alloc());
 }
 
+// rule: FRAME-1
 #[test]
 fn the_length_is_tested_before_the_ethertype(rt: HostRuntime) {
     check_fault(&rt, &[0; 1515], FrameFault::TooLong);
@@ -74,6 +77,7 @@ fn check_beginning(rt: &impl Abort, alloc: Global, (ethernet, fault): Beginning)
     check_fault(rt, &octets_of(rt, alloc, ethernet, IP), fault);
 }
 
+// rule: FRAME-1, FRAME-4, FRAME-5
 #[test]
 fn frames_are_refused_by_their_first_fault(rt: HostRuntime) {
     for row in beginnings() {

@@ -44,6 +44,7 @@ fn check_smallest_datagram(rt: &impl Abort, packet: &Packet<'_>) {
     assert!(rt; datagram.payload.starts_with(&[1, 2]));
 }
 
+// rule: UDP-2
 #[test]
 fn the_smallest_packet_is_read_field_by_field(rt: HostRuntime) {
     let octets = smallest_octets(&rt, rt.alloc(), 7);
@@ -73,6 +74,7 @@ fn check_smallest_head(rt: &impl Abort, octets: &[u8]) {
     check_field(rt, "octets", head.payload_octets as u64, 17);
 }
 
+// rule: UDP-1
 #[test]
 fn a_udp_header_is_read_in_the_first_octets(rt: HostRuntime) {
     let octets = smallest_octets(&rt, rt.alloc(), 7);
@@ -97,6 +99,7 @@ fn check_fragment(rt: &impl Abort, alloc: Global, (ip, offset): Fragment) {
     assert!(rt; packet.more);
 }
 
+// rule: FRAME-7
 #[test]
 fn fragments_are_read(rt: HostRuntime) {
     for row in fragments() {
@@ -110,6 +113,7 @@ fn check_udp(rt: &impl Abort, octets: &[u8], fault: Option<UdpFault>) {
     assert!(rt; answer.err() == fault, "{octets:?}");
 }
 
+// rule: UDP-1
 #[test]
 fn udp_datagrams_are_refused_by_their_first_fault(rt: HostRuntime) {
     check_udp(&rt, &[0; 7], Some(UdpFault::Short));
@@ -133,6 +137,7 @@ fn check_payload(rt: &impl Abort, octets: &[u8], payload: &[u8]) {
 }
 
 /// The length field says 10, 8 and all of the 11 octets.
+// rule: UDP-2
 #[test]
 fn a_smaller_length_cuts_the_payload(rt: HostRuntime) {
     check_payload(&rt, &[0, 1, 0, 2, 0, 10, 0, 0, 7, 8, 9], &[7, 8]);

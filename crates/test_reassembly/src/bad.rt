@@ -31,12 +31,14 @@ fn uneven_after_the_limit() -> [Step; 3] {
     ]
 }
 
+// rule: REAS-3
 #[test]
 fn a_length_between_blocks_is_bad(rt: HostRuntime) {
     check(&rt, rt.alloc(), &[(FirstTo11, 1000, Bad)]);
     check(&rt, rt.alloc(), &[(EmptyFirst, 1000, Bad)]);
 }
 
+// rule: REAS-12
 #[test]
 fn an_end_past_the_longest_datagram_is_bad(rt: HostRuntime) {
     check(&rt, rt.alloc(), &[(LastTo8199, 1000, Held)]);
@@ -44,6 +46,7 @@ fn an_end_past_the_longest_datagram_is_bad(rt: HostRuntime) {
     check(&rt, rt.alloc(), &[(NextFrom65528, 1000, Bad)]);
 }
 
+// rule: REAS-13
 #[test]
 fn a_bad_fragment_changes_nothing(rt: HostRuntime) {
     check(&rt, rt.alloc(), &bad_between());

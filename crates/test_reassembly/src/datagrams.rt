@@ -97,6 +97,7 @@ fn short_datagrams() -> [Step; 2] {
     ]
 }
 
+// rule: REAS-9
 #[test]
 fn pieces_are_joined_in_either_order(rt: HostRuntime) {
     check(&rt, rt.alloc(), &in_order());
@@ -104,11 +105,13 @@ fn pieces_are_joined_in_either_order(rt: HostRuntime) {
     check(&rt, rt.alloc(), &for_a_sampling_port());
 }
 
+// rule: REAS-8
 #[test]
 fn octets_of_a_later_piece_replace_those_of_an_earlier_one(rt: HostRuntime) {
     check(&rt, rt.alloc(), &first_twice());
 }
 
+// rule: REAS-7
 #[test]
 fn the_latest_last_fragment_sets_the_end(rt: HostRuntime) {
     check(&rt, rt.alloc(), &end_moves_down());
@@ -116,22 +119,26 @@ fn the_latest_last_fragment_sets_the_end(rt: HostRuntime) {
     check(&rt, rt.alloc(), &end_moves_to_and_fro());
 }
 
+// rule: REAS-7
 #[test]
 fn the_last_fragment_may_have_any_length(rt: HostRuntime) {
     check(&rt, rt.alloc(), &empty_end());
     check(&rt, rt.alloc(), &end_within_a_block());
 }
 
+// rule: REAS-9
 #[test]
 fn each_octet_has_to_come(rt: HostRuntime) {
     check(&rt, rt.alloc(), &gap_within_a_block());
 }
 
+// rule: REAS-9
 #[test]
 fn a_complete_datagram_ends_its_group(rt: HostRuntime) {
     check(&rt, rt.alloc(), &last_once_more());
 }
 
+// rule: HIST-4
 #[test]
 fn a_copy_and_the_first_each_complete_a_datagram(rt: HostRuntime) {
     check_copied(
@@ -161,17 +168,20 @@ fn after_four() -> [Step; 3] {
     ]
 }
 
+// rule: HIST-4
 #[test]
 fn a_copy_and_the_pieces_that_wait_stand_in_their_order(rt: HostRuntime) {
     check_copied(&rt, rt.alloc(), &four_that_stand(), &after_four());
 }
 
+// rule: HIST-4
 #[test]
 fn what_goes_on_from_nothing_is_as_new(rt: HostRuntime) {
     let completed = [(First, 1000, Held), (Last, 1100, Completed)];
     check_copied(&rt, rt.alloc(), &[], &completed);
 }
 
+// rule: REAS-2
 #[test]
 fn the_head_of_a_short_datagram_has_zeros(rt: HostRuntime) {
     check(&rt, rt.alloc(), &short_datagrams());

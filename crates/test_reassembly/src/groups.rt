@@ -93,6 +93,7 @@ fn whole_between() -> [Step; 3] {
     ]
 }
 
+// rule: REAS-4, REAS-6
 #[test]
 fn the_one_that_began_first_is_given_up_for_a_fifth(rt: HostRuntime) {
     check(&rt, rt.alloc(), &five_begin());
@@ -100,6 +101,7 @@ fn the_one_that_began_first_is_given_up_for_a_fifth(rt: HostRuntime) {
     check(&rt, rt.alloc(), &first_touched_last());
 }
 
+// rule: REAS-5
 #[test]
 fn the_age_is_that_of_the_first_piece(rt: HostRuntime) {
     check(&rt, rt.alloc(), &at_the_limit());
@@ -108,17 +110,20 @@ fn the_age_is_that_of_the_first_piece(rt: HostRuntime) {
     check(&rt, rt.alloc(), &earlier_by_more_than_the_limit());
 }
 
+// rule: REAS-14
 #[test]
 fn no_other_key_is_given_up_for_its_age(rt: HostRuntime) {
     check(&rt, rt.alloc(), &another_key_between());
 }
 
+// rule: REAS-4
 #[test]
 fn a_key_has_both_addresses(rt: HostRuntime) {
     check(&rt, rt.alloc(), &another_source());
     check(&rt, rt.alloc(), &another_destination());
 }
 
+// rule: REAS-2, REAS-11
 #[test]
 fn a_whole_datagram_gives_up_the_group_of_its_key(rt: HostRuntime) {
     check(&rt, rt.alloc(), &whole_between());
@@ -155,6 +160,7 @@ fn over_where_four_stand() -> [Step; 5] {
     ]
 }
 
+// rule: REAS-15
 #[test]
 fn partial_datagrams_that_are_given_up_are_counted(rt: HostRuntime) {
     check_given_up(&rt, rt.alloc(), &five_begin(), 2);
@@ -164,6 +170,7 @@ fn partial_datagrams_that_are_given_up_are_counted(rt: HostRuntime) {
     check_given_up(&rt, rt.alloc(), &over_where_four_stand(), 1);
 }
 
+// rule: REAS-15
 #[test]
 fn one_that_is_completed_or_waits_is_not_counted_as_given_up(rt: HostRuntime) {
     check_given_up(&rt, rt.alloc(), &four_begin(), 0);

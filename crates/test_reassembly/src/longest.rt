@@ -75,6 +75,7 @@ fn check_longest(rt: &impl Abort, alloc: Global) {
     check_whole(rt, reassembly.offer(&filling, 1_000));
 }
 
+// rule: REAS-9
 #[test]
 fn only_the_piece_that_fills_the_gap_completes_the_longest_datagram(rt: HostRuntime) {
     check_longest(&rt, rt.alloc());

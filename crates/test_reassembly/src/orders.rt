@@ -55,6 +55,7 @@ fn check_order(rt: &impl Abort, alloc: Global, held: &[u16], filling: u16, datag
     check_joined(rt, reassembly.offer(&packet, 1_000), datagram);
 }
 
+// rule: REAS-9
 #[test]
 fn pieces_that_do_not_overlap_are_joined_in_each_order(rt: HostRuntime) {
     check_order(&rt, rt.alloc(), &[0, 2], 4, &APART);
@@ -62,6 +63,7 @@ fn pieces_that_do_not_overlap_are_joined_in_each_order(rt: HostRuntime) {
     check_order(&rt, rt.alloc(), &[4, 0], 2, &APART);
 }
 
+// rule: REAS-8, REAS-9
 #[test]
 fn pieces_may_overlap_what_came_from_both_sides(rt: HostRuntime) {
     check_order(&rt, rt.alloc(), &[2, 1, 3, 4], 0, &OVER);
@@ -80,6 +82,7 @@ fn check_end_below(rt: &impl Abort, alloc: Global) {
     );
 }
 
+// rule: REAS-9
 #[test]
 fn octets_past_the_end_do_not_count_for_those_before_it(rt: HostRuntime) {
     check_end_below(&rt, rt.alloc());
@@ -113,6 +116,7 @@ fn check_header_anew(rt: &impl Abort, alloc: Global) {
     check_joined(rt, reassembly.offer(&filling, 1_000), &HEADER_ANEW);
 }
 
+// rule: REAS-8
 #[test]
 fn the_header_of_the_piece_that_completes_a_datagram_is_the_later_one(rt: HostRuntime) {
     check_header_anew(&rt, rt.alloc());

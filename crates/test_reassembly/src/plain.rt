@@ -34,6 +34,7 @@ fn check_joined(rt: &impl Abort, offered: Offered<'_>) {
     }
 }
 
+// rule: REAS-9
 #[test]
 fn a_datagram_of_plain_ipv4_is_joined(rt: HostRuntime) {
     let mut reassembly = Reassembly::new(rt.alloc(), 500_000).expect(&rt, "memory");

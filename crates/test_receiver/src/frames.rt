@@ -78,6 +78,7 @@ fn check_causes(rt: &impl Abort, alloc: Global) {
     check_filtered(rt, &given, B, FilterCause::TooShort, 3);
 }
 
+// rule: COUNT-2
 #[test]
 fn filtered_frames_are_counted_by_network_and_cause(rt: HostRuntime) {
     check_causes(&rt, rt.alloc());
@@ -181,6 +182,7 @@ fn check_many(rt: &impl Abort, alloc: Global) {
     assert!(rt; count_all(rt, &given) == 26_000);
 }
 
+// rule: COUNT-1
 #[test]
 fn many_frames_of_all_kinds_are_counted(rt: HostRuntime) {
     check_many(&rt, rt.alloc());

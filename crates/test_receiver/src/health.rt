@@ -60,6 +60,7 @@ fn check_pieces(rt: &impl Abort, alloc: Global) {
     check_given_up(rt, &other, 0);
 }
 
+// rule: REAS-15
 #[test]
 fn partial_datagrams_that_are_given_up_are_counted(rt: HostRuntime) {
     check_pieces(&rt, rt.alloc());

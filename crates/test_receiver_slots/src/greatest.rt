@@ -127,6 +127,7 @@ fn check_greatest(rt: &impl Abort, alloc: Global) {
     }
 }
 
+// rule: FRAME-6
 #[test]
 fn sixty_four_links_and_thirty_two_ports_are_told_apart(rt: HostRuntime) {
     check_greatest(&rt, rt.alloc());

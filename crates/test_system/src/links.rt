@@ -176,6 +176,7 @@ fn check_ports(rt: &(impl Abort + Wait), alloc: Global) {
     }
 }
 
+// rule: PORT-7
 #[test]
 fn thirty_two_ports_of_a_link_are_told_apart(rt: HostRuntime) {
     check_ports(&rt, rt.alloc());

@@ -166,6 +166,7 @@ fn check_filtered<R: Abort + Threads + Wait + Sync>(rt: &R, alloc: Global, held:
     check_held(rt, alloc, &config, held, &rows);
 }
 
+// rule: COUNT-2
 #[test]
 fn a_filtered_frame_waits_for_no_link(rt: HostRuntime) {
     check_filtered(&rt, rt.alloc(), 17);

@@ -1,0 +1,124 @@
+"""The numbered rules of the pages, and what serves each: definitions, contracts, wrong bodies and tests.
+
+A rule is a sentence with a number, `**RM-3** words`, up to the next number or the end of its paragraph. What a tag can't
+say stands in checks/rules.txt: why a rule has none of a part, and the rules that a stored run shows.
+
+Which contracts carry a rule follows: those whose promises cite a definition that carries it, directly or through up to
+STEPS other definitions; of the functions that a user calls, CALLS, through any number.
+"""
+import re
+from collections import namedtuple
+from functools import cache
+
+from parts.options import ROOT
+from parts.tree import CRATES, bodies, definitions, functions, lines_of
+
+PAGES = [ROOT / "docs" / f"{name}.md" for name in ("RECEIVER", "SAMPLING", "CONCURRENCY", "EMBEDDING", "DELIVERY", "FORMATS")]
+REMARKS = ROOT / "checks" / "rules.txt"
+PARTS = ("definition", "contract", "wrong body", "test")
+STEPS = 1
+# The calls that a user makes, by their kind.
+CALLS = {
+    "each call that takes frames": (
+        "receiver::Receiver::receive", "receiver_c::yelunnavi_receiver_receive", "live_system::LiveSystem::receive",
+        "link_receiver::LinkState::take", "end_system::EndSystem::receive", "trace_player::play", "program::run"),
+    "each call of a partition": (
+        "mailbox_reader::MailboxReader::read", "partition_reader::PartitionReader::read", "message_ring::RingTaker::take",
+        "queuing_port::Taker::take"),
+    "each call that takes a history out": ("link_receiver::LinkState::take_epoch", "end_system::EndSystem::settle"),
+}
+ENTRIES = tuple(name for names in CALLS.values() for name in names)
+NUMBER = re.compile(r"\*\*([A-Z]+-\d+)\*\* ")
+
+Rule = namedtuple("Rule", "number words page line section")
+# What serves a rule: its part, the name, the place, and how many definitions stand between (0 where it has the tag).
+Link = namedtuple("Link", "rule part name path line steps")
+
+
+@cache
+def rules():
+    """The numbered rules in the order of their pages. What leads a list in stands before each rule of the list."""
+    found = []
+    for page in PAGES:
+        section = lead = ""
+        for line, text in enumerate(lines_of(page), 1):
+            heading, is_item = re.match(r"##+ (.*)", text), re.match(r"\s*(?:\d+\.|-) ", text)
+            section = heading[1] if heading else section
+            if text and not is_item:
+                last = NUMBER.sub("", re.split(r"(?<=[.;]) (?=\S)", text)[-1])
+                lead = f"{last} .. " if last.endswith((":", ",")) else ""
+            pieces = NUMBER.split(text)
+            for number, words in zip(pieces[1::2], pieces[2::2]):
+                own = words.strip().strip("|").strip()
+                found.append(Rule(number, lead + own if is_item else own, page, line, section))
+    return found
+
+
+def remarks():
+    """What checks/rules.txt says: the reasons by rule and part, and the stored runs with their rules."""
+    reasons, stored = {}, []
+    for line in lines_of(REMARKS):
+        if not line or line.startswith("#"):
+            continue
+        head, _, text = line.partition(": ")
+        if head == "stored":
+            file, _, named = text.partition(": ")
+            stored.append((file, named.split(", ")))
+            continue
+        part = next(part for part in PARTS if head.endswith(f" {part}"))
+        reasons.update({(rule, part): text for rule in head.removesuffix(f" {part}").split(", ")})
+    return reasons, stored
+
+
+@cache
+def steps_from(cites):
+    """The definitions to which these come, each with the fewest steps."""
+    known, found, steps = definitions(), {}, 0
+    front = set(cites) & known.keys()
+    while front:
+        found.update(dict.fromkeys(front, steps))
+        front, steps = {other for key in front for other in known[key].cites if other in known} - found.keys(), steps + 1
+    return found
+
+
+def carried(it):
+    """The rules that a contract carries, each with the fewest steps to a definition that says it."""
+    found = dict.fromkeys(it.rules, 0)
+    for key, steps in steps_from(frozenset(it.cites)).items():
+        for rule in definitions()[key].rules:
+            found[rule] = min(found.get(rule, steps), steps)
+    return found
+
+
+@cache
+def links():
+    """Everything that serves a rule."""
+    found = [Link(rule, "definition", it.name, it.path, it.line, 0) for it in definitions().values() for rule in it.rules]
+    for it in functions():
+        if it.is_test:
+            found += [Link(rule, "test", it.name, it.path, it.line, 0) for rule in it.rules]
+        elif not it.crate.startswith("test_"):
+            most = None if it.name in ENTRIES else STEPS
+            found += [Link(rule, "contract", it.name, it.path, it.line, steps) for rule, steps in carried(it).items()
+                      if most is None or steps <= most]
+    found += [Link(rule, "wrong body", it.name, it.path, 1, 0) for it in bodies() for rule in it.rules]
+    found += [Link(rule, "test", file, ROOT / file if (ROOT / file).exists() else CRATES / file, 1, 0)
+              for file, named in remarks()[1] for rule in named]
+    return found
+
+
+def way_to(rule, it):
+    """A shortest chain of definitions from a function's contract to one that says the rule, each citing the next."""
+    known = definitions()
+    before = dict.fromkeys(sorted(it.cites & known.keys()))
+    queue = list(before)
+    for key in queue:
+        if rule in known[key].rules:
+            way = [key]
+            while before[way[-1]]:
+                way.append(before[way[-1]])
+            return [known[step] for step in reversed(way)]
+        fresh = [other for other in sorted(known[key].cites) if other in known and other not in before]
+        before.update(dict.fromkeys(fresh, key))
+        queue += fresh
+    return []
