@@ -29,6 +29,7 @@ abbrev pub latest_time : ℕ
 latest_time = 9223372036854775807
 
 -- an option that may be left out, with one value, a time: `--NAME MICROSECONDS`
+-- rule: CMD-2
 abbrev pub time_option : Text → Rule
 time_option name = record (new_rule name) {
   long = Some name;
@@ -38,6 +39,7 @@ time_option name = record (new_rule name) {
 }
 
 -- an option that may be left out, and has no value: `--NAME`
+-- rule: CMD-3
 abbrev pub flag_option : Text → Rule
 flag_option name = record (new_rule name) {
   long = Some name;
@@ -48,6 +50,7 @@ flag_option name = record (new_rule name) {
 abbrev pub bare_command : App
 bare_command = on_top (λ top. record top { no_binary_name = true }) (new_app (codes "afdx_play"))
 
+-- rule: CMD-1
 abbrev pub play_command : App
 play_command = with_rule (with_rule (with_rule (with_rule (with_rule bare_command
     (file_option (codes "config"))) (file_option (codes "a"))) (file_option (codes "b"))) (time_option (codes "at"))) (flag_option (codes "threads"))
@@ -75,12 +78,14 @@ microseconds_in text = digits_value 10 (without_leading_plus text)
 
 -- a flag is on if the command matches `true` for it, as it does where the words have it, and off if it matches
 -- `false`, as it does where they don't, or nothing
+-- rule: CMD-3
 abbrev pub IsFlag : Option Text → Bool → Type 0
 IsFlag matched flag = (matched ≡ Some (codes "true") → flag ≡ true) × (matched ≡ Some (codes "false") → flag ≡ false) × (matched ≡ None → flag ≡ false)
 
 -- the files are the values that the command matches in the words, each under its own option; the time of
 -- the report is the number that it matches, and there is none if the option isn't given; the flag of the threads is
 -- what it matches for it
+-- rule: CMD-1
 abbrev pub IsLineIn : List Row → Line → Type 0
 IsLineIn rows line = (first_of (codes "config") rows ≡ Some (string_bytes line.config))
     × (first_of (codes "a") rows ≡ Some (string_bytes line.a))
@@ -89,6 +94,7 @@ IsLineIn rows line = (first_of (codes "config") rows ≡ Some (string_bytes line
     × IsFlag (one_of (codes "threads") rows) line.threads
 
 -- the time of the report, if it is given, is at most the latest
+-- rule: CMD-2
 abbrev pub HasTimeInRange : Line → Type 0
 HasTimeInRange line = IfSome line.at (λ at. at ≤ latest_time)
 
@@ -101,12 +107,14 @@ unfoldable pub HasFault : ErrorKind → List (String Global) → Type 0
 HasFault kind words = fault_of play_command (texts_of words) ≡ kind ∷ []
 
 -- the error is of the fault in the words: help if they ask for it, and else a refusal
+-- rule: CMD-5, FAULT-3
 abbrev pub IsFaultOf : List (String Global) → LineFault → Type 0
 IsFaultOf words (Help error) = HasFault (kind_of error) words × (kind_of error ≡ DisplayHelp)
 IsFaultOf words (Refused error) = HasFault (kind_of error) words × (kind_of error ≢ DisplayHelp)
 IsFaultOf words Memory = ⊤
 
 -- the fault of an error: help if the words ask for it, memory if it ran out, else a refusal
+-- rule: CMD-5, FAULT-3
 abbrev pub fault_from : ErrorKind → Error → LineFault
 fault_from DisplayHelp error = Help error
 fault_from OutOfMemory error = Memory

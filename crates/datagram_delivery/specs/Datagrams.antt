@@ -18,6 +18,7 @@ use Rattle.datagram_delivery.specs.Splitting.{AreFronts, IsLast, Offer, LeavesRo
 -- ---- the packets of the frames
 
 -- each copy has the packet of its frame
+-- rule: DELIV-7
 abbrev pub CarryPackets : (ℕ → PacketParts) → List Copy → Type 0
 CarryPackets packet copies = EachCopy (λ before copy. packet_in copy.event.frame ≡ Ok (packet copy.index)) copies
 
@@ -27,6 +28,7 @@ offers_of packet [] = []
 offers_of packet (copy ∷ before) = record { packet = packet copy.index; time = copy.event.time; room = copy.event.room } ∷ offers_of packet before
 
 -- the messages that a port gets if these are offered, each once
+-- rule: DELIV-7
 abbrev pub messages_by : Settings → List Offer → PortNo → List Message
 messages_by settings [] port = []
 messages_by settings (offer ∷ before) port =
@@ -81,6 +83,7 @@ pub record IsSplitInOrder (settings : Settings) (payload : Payload) (earlier : L
   }) ≡ Ok payload
 
 -- and of the groups that others begin after it at most three stand at a time
+-- rule: DELIV-12
 pub record IsSplitAmong (settings : Settings) (payload : Payload) (earlier : List Offer) (first : Offer) (during : List Offer) (last : Offer) : Type 0 where
   pub parts : IsSplitInOrder settings payload earlier first during last
   pub room : LeavesRoom settings.reassembly (groups_after_offers settings.reassembly [] earlier) (key_of last.packet) (during ++ first ∷ [])
@@ -92,6 +95,7 @@ pub record Sent : Type 0 where
   pub payload : Payload
   pub offers : List Offer
 
+-- rule: DELIV-10
 abbrev pub AreSent : Settings → List Sent → Type 0
 AreSent settings [] = Unit {0}
 AreSent settings (sent ∷ before) = IsSent settings sent.payload sent.offers × AreSent settings before
@@ -112,6 +116,7 @@ room_of [] = true
 room_of (offer ∷ before) = offer.room
 
 -- the messages to a port, in order, each with the time of its last packet, but for those whose queue was full then
+-- rule: DELIV-10
 abbrev pub messages_sent : PortNo → List Sent → List Message
 messages_sent port [] = []
 messages_sent port (sent ∷ before) =

@@ -61,11 +61,13 @@ pub record SendsNext (settings : Settings) (before : List Carried) (carried : Ca
   pub on : GoesOn settings before carried
   pub few : carried.offer.packet.more ≡ true → (carried.offer.packet.offset == 0) ≡ true → length (open_keys (carried_offers before)) < most_partials
 
+-- rule: DELIV-11
 abbrev pub AreInterleaved : Settings → List Carried → Type 0
 AreInterleaved settings [] = Unit {0}
 AreInterleaved settings (carried ∷ before) = SendsNext settings before carried × AreInterleaved settings before
 
 -- the messages to a port, in order, each with the time of its last packet, but for those whose queue was full then
+-- rule: DELIV-11
 abbrev pub messages_ended : PortNo → List Carried → List Message
 messages_ended port [] = []
 messages_ended port (carried ∷ before) =

@@ -36,11 +36,13 @@ AreOfOneWith limit datagram e [] = Unit {0}
 AreOfOneWith limit datagram e (earlier ∷ past) = AreOfOne limit datagram e earlier × AreOfOneWith limit datagram e past
 
 -- all frames of a past have parts of datagrams, and no two datagrams have one key within the limit
+-- rule: DELIV-2
 abbrev pub HaveParts : ℕ → (Event → List ℕ) → List Event → Type 0
 HaveParts limit datagram [] = Unit {0}
 HaveParts limit datagram (e ∷ past) = IsPart datagram e × AreOfOneWith limit datagram e past × HaveParts limit datagram past
 
 -- a message is that which a datagram has for a port of the link, where this frame has the datagram or a part of it
+-- rule: DELIV-2
 pub record IsMessageOf (settings : Settings) (frame datagram : List ℕ) (payload : Payload) : Type 0 where
   pub packet : PacketParts
   pub reads : packet_in frame ≡ Ok packet
@@ -62,6 +64,7 @@ WasSentIn settings datagram port [] message = ⊥
 WasSentIn settings datagram port (e ∷ past) message = WasSent settings datagram port e message ⊎ WasSentIn settings datagram port past message
 
 -- each of some messages was sent
+-- rule: DELIV-2
 abbrev pub WereSentIn : Settings → (Event → List ℕ) → PortNo → List Event → List Message → Type 0
 WereSentIn settings datagram port past [] = Unit {0}
 WereSentIn settings datagram port past (message ∷ later) = WasSentIn settings datagram port past message × WereSentIn settings datagram port past later

@@ -65,6 +65,7 @@ MeetAll is_asked settings numbering timing copies =
     AreCopies settings numbering timing copies × ((condition : Condition) → is_asked condition ≡ true → IsMet condition settings numbering timing copies)
 
 -- all are met but this one
+-- rule: DELIV-15
 pub record MeetAllBut (is_asked : Condition → Bool) (one : Condition) (settings : Settings) (numbering : Numbering) (timing : Timing) (copies : List Copy) : Type 0 where
   pub are : AreCopies settings numbering timing copies
   pub asked : is_asked one ≡ true

@@ -23,6 +23,7 @@ pub record CarriesWhole (settings : Settings) (payload : Payload) (frame : List 
   pub admits : datagram_payload settings.ports (record { destination = packet.destination; joined = false; octets = packet.octets }) ≡ Ok payload
 
 -- each copy carries the message of its frame
+-- rule: DELIV-8
 abbrev pub CarryWhole : Settings → (ℕ → Payload) → List Copy → Type 0
 CarryWhole settings payload copies = EachCopy (λ before copy. CarriesWhole settings (payload copy.index) copy.event.frame) copies
 
@@ -36,6 +37,7 @@ abbrev pub goes_to : PortNo → Payload → Bool → Bool
 goes_to port payload room = is_same_port payload.port port && has_room payload.kind room
 
 -- the messages to a port of the frames of which these are copies, in order, but for those whose queue was full
+-- rule: DELIV-8
 abbrev pub messages_of : (ℕ → Payload) → PortNo → List Copy → List Message
 messages_of payload port [] = []
 messages_of payload port (copy ∷ before) =
@@ -43,12 +45,14 @@ messages_of payload port (copy ∷ before) =
     else messages_of payload port before
 
 -- no queue was full
+-- rule: DELIV-9
 abbrev pub HaveRoom : (ℕ → Payload) → List Copy → Type 0
 HaveRoom payload copies = EachCopy (λ before copy. has_room (payload copy.index).kind copy.event.room ≡ true) copies
 
 -- ---- all that was sent
 
 -- the octets of the messages to a port of the first n frames, in the order of sending
+-- rule: DELIV-9
 abbrev pub octets_sent : (ℕ → Payload) → PortNo → ℕ → List (List ℕ)
 octets_sent payload port zero = []
 octets_sent payload port (suc n) =
@@ -59,5 +63,6 @@ abbrev pub octets_of : List Message → List (List ℕ)
 octets_of messages = map (λ message. message.octets) messages
 
 -- a copy came of each of the first n frames, on one network or on both, and of no other
+-- rule: DELIV-9
 abbrev pub AllCame : ℕ → List Copy → Type 0
 AllCame n copies = (index : ℕ) → has_come index copies ≡ nat_lt index n

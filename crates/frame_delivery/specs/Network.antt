@@ -20,6 +20,7 @@ IsLater None index = Unit {0}
 IsLater (Some before) index = before < index
 
 -- each network brings the frames in the order of sending, and none twice
+-- rule: DELIV-4
 abbrev pub KeepsOrder : List Copy → Type 0
 KeepsOrder copies = EachCopy (λ before copy. IsLater (latest (indices_on before copy.event.net)) copy.index) copies
 
@@ -30,6 +31,7 @@ MayFollow numbering window None index = Unit {0}
 MayFollow numbering window (Some before) index = ((index ≤ before + window) × RunsOn numbering before index) ⊎ (numbering.restarts index ≡ true)
 
 -- each network loses fewer than `window` frames in a row, and not the first after a restart
+-- rule: DELIV-4
 abbrev pub LosesFew : Numbering → ℕ → List Copy → Type 0
 LosesFew numbering window copies = EachCopy (λ before copy. MayFollow numbering window (latest (indices_on before copy.event.net)) copy.index) copies
 
@@ -63,6 +65,7 @@ abbrev pub IsOnItsWay : Timing → Copy → Type 0
 IsOnItsWay timing copy = (timing.sent copy.index + timing.least ≤ copy.event.time) × (copy.event.time ≤ timing.sent copy.index + timing.greatest)
 
 -- the age of a message by the time of its copy, and its age since it was sent: the copy was on its way
+-- rule: DELIV-13
 abbrev pub HasAge : Timing → ℕ → Copy → Type 0
 HasAge timing now copy =
     copy.event.time ≤ now →
@@ -88,11 +91,13 @@ pub record FitsSkew (timing : Timing) (skew_max : ℕ) : Type 0 where
   pub restarts : timing.greatest + skew_max < timing.least + timing.pause
 
 -- no copy is taken so late that 128 frames more, or the first after a restart, came before it
+-- rule: DELIV-3
 pub record IsNeverLate (timing : Timing) : Type 0 where
   pub frames : timing.greatest + timing.wait < timing.least + 128 * timing.gap
   pub restarts : timing.greatest + timing.wait < timing.least + timing.pause
 
 -- SkewMax is over before 128 frames more are sent
+-- rule: DELIV-1
 abbrev pub IsOverSoon : Timing → ℕ → Type 0
 IsOverSoon timing skew_max = timing.greatest + skew_max < timing.least + 128 * timing.gap
 
@@ -109,6 +114,7 @@ BeginsNear skew_max (other ∷ before) copy =
     IsAfterCut (latest (indices_on (other ∷ before) copy.event.net)) copy.index → copy.event.time ≤ newest_time (other ∷ before) + skew_max
     → copy.index ≤ greatest_index (other ∷ before) + 127
 
+-- rule: DELIV-1
 abbrev pub BeginNear : ℕ → List Copy → Type 0
 BeginNear skew_max copies = EachCopy (BeginsNear skew_max) copies
 
@@ -119,6 +125,7 @@ HasNoOvertaking timing = timing.greatest + timing.wait < timing.least + timing.g
 -- ---- altogether
 
 -- copies of a sender's frames come at times that fit the settings of their link
+-- rule: DELIV-3
 pub record ComeTimely (settings : Settings) (numbering : Numbering) (timing : Timing) (copies : List Copy) : Type 0 where
   pub redundancy : settings.redundancy ≡ true
   pub first : numbering.first ≤ 255
@@ -127,6 +134,7 @@ pub record ComeTimely (settings : Settings) (numbering : Numbering) (timing : Ti
   pub fits : FitsSkew timing settings.skew_max
 
 -- and on networks that begin near each other and lose few in a row, with no overtaking
+-- rule: DELIV-6
 pub record ComeWhole (settings : Settings) (numbering : Numbering) (timing : Timing) (copies : List Copy) : Type 0 where
   pub timely : ComeTimely settings numbering timing copies
   pub near : BeginNear settings.skew_max copies

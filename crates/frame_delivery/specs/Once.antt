@@ -21,11 +21,13 @@ is_new index [] = true
 is_new index (copy ∷ before) = nat_lt (greatest_index (copy ∷ before)) index
 
 -- the copies that were new when they came
+-- rule: DELIV-3
 abbrev pub new_copies : List Copy → List Copy
 new_copies [] = []
 new_copies (copy ∷ before) = if is_new copy.index before then copy ∷ new_copies before else new_copies before
 
 -- each is of a later frame than all before it: no frame twice, and all in the order of sending
+-- rule: DELIV-3
 abbrev pub AreInOrder : List Copy → Type 0
 AreInOrder copies = EachCopy (λ before copy. is_new copy.index before ≡ true) copies
 
@@ -37,6 +39,7 @@ has_come index [] = false
 has_come index (copy ∷ before) = copy.index == index || has_come index before
 
 -- the copies that were the first of their frame
+-- rule: DELIV-6
 abbrev pub first_copies : List Copy → List Copy
 first_copies [] = []
 first_copies (copy ∷ before) = if has_come copy.index before then first_copies before else copy ∷ first_copies before
@@ -44,6 +47,7 @@ first_copies (copy ∷ before) = if has_come copy.index before then first_copies
 -- ---- what the receiver makes of them
 
 -- the copies that pass integrity checking
+-- rule: DELIV-5
 abbrev pub passing : Settings → List Copy → List Copy
 passing settings [] = []
 passing settings (copy ∷ before) =
@@ -55,6 +59,7 @@ IsForwardedIfNew settings before copy =
     is_forwarded settings (events_of before) (arrival_of copy.event) ≡ (passes settings (events_of before) (arrival_of copy.event) && is_new copy.index (passing settings before))
 
 -- a copy is forwarded exactly if it is the first of its frame
+-- rule: DELIV-6
 abbrev pub IsForwardedIfFirst : Settings → List Copy → Copy → Type 0
 IsForwardedIfFirst settings before copy = is_forwarded settings (events_of before) (arrival_of copy.event) ≡ not (has_come copy.index before)
 
@@ -84,5 +89,6 @@ abbrev pub IsNotOvertaken : List Copy → Copy → Type 0
 IsNotOvertaken before copy = is_new copy.index before ≡ false → has_come copy.index before ≡ true
 
 -- each copy of a frame came after a copy of a later frame
+-- rule: DELIV-4
 abbrev pub IsOvertaken : ℕ → List Copy → Type 0
 IsOvertaken index copies = EachCopy (λ before copy. copy.index ≡ index → index < greatest_index before) copies

@@ -11,6 +11,7 @@ abbrev pub failed_by : ErrorKind → Option (Result ℕ Failed)
 failed_by Interrupted = None
 failed_by _ = Some (Err (record {}))
 
+-- rule: TRACE-11
 abbrev pub told : Result ℕ Error → Option (Result ℕ Failed)
 told (Ok count) = Some (Ok count)
 told (Err error) = failed_by (error_kind error)

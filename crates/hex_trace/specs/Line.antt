@@ -10,6 +10,7 @@ use Rattle.hex_trace.specs.declared.fault.TraceCause.{TraceCause}
 use Rattle.hex_trace.specs.declared.fault.TraceCause.TheVariants as causes
 
 -- the longest line, in bytes, without its end
+-- rule: TRACE-8
 abbrev pub longest_line : ℕ
 longest_line = 8192
 
@@ -26,14 +27,17 @@ abbrev pub zero_digit : ℕ
 zero_digit = 48
 
 -- the digits of a line's time: those that it begins with, but a first 0 ends them
+-- rule: TRACE-2
 abbrev pub time_digits : List ℕ → List ℕ
 time_digits line = if slice_index line 0 == zero_digit then take 1 line else take_while is_ascii_digit line
 
 -- the time that digits say, in microseconds: there is one, and it fits 64 bits
+-- rule: TRACE-2
 abbrev pub time_from : List ℕ → Result ℕ TraceCause
 time_from digits = if nat_lt 0 (length digits) && nat_lt (digits_value 10 digits) (2 ^ 64) then Ok (digits_value 10 digits) else Err causes.Time
 
 -- what stands after the space
+-- rule: TRACE-3
 abbrev pub after_space : List ℕ → Result (List ℕ) TraceCause
 after_space rest = if slice_index rest 0 == space then Ok (drop 1 rest) else Err causes.Space
 
@@ -42,15 +46,18 @@ octets_if (Ok octets) = Ok octets
 octets_if (Err fault) = Err causes.Hex
 
 -- the octets that hexadecimal digits say
+-- rule: TRACE-3
 abbrev pub octets_from : List ℕ → Result (List ℕ) TraceCause
 octets_from digits = octets_if (decode_of digits)
 
 -- a line without a frame: it is empty, or begins with #
+-- rule: TRACE-6
 abbrev pub is_skipped : List ℕ → Bool
 is_skipped line = length line == 0 || slice_index line 0 == comment
 
 -- the frame of a line that follows one with a frame of the time `before`, in microseconds: none if
 -- the line is skipped; or what is wrong with it
+-- rule: TRACE-5, TRACE-6, TRACE-8, TRACE-13
 unfoldable pub frame_from : ℕ → List ℕ → Result (Option TimedFrame) TraceCause
 frame_from before line =
     if nat_lt longest_line (length line) then Err causes.LongLine

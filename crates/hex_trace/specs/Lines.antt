@@ -21,6 +21,7 @@ abbrev pub said_by : Lines → List ℕ → Result (List TimedFrame) (ℕ × Tra
 said_by lines text = said_with lines (slice_split is_line_end text)
 
 -- the skipped lines, each with its end, after a line that says this: a line without a frame is one of them
+-- rule: TRACE-12
 abbrev pub skipped_after : List ℕ → List ℕ → Result (Option TimedFrame) TraceCause → List ℕ
 skipped_after skipped line (Ok None) = skipped ++ line ++ line_end ∷ []
 skipped_after skipped line (Ok (Some frame)) = skipped

@@ -12,6 +12,7 @@ use Rattle.hex_trace.specs.Source.{Given, IsWhole}
 abbrev pub line_end : ℕ
 line_end = 10
 
+-- rule: TRACE-4
 abbrev pub is_line_end : ℕ → Bool
 is_line_end b = b == line_end
 
@@ -22,6 +23,7 @@ with_front front (Err fault) = Err fault
 
 -- what the line with this line number says, and then the lines that follow, which are read by the
 -- time of the frame before them
+-- rule: TRACE-7, TRACE-13
 abbrev pub and_then : ℕ → ℕ → Result (Option TimedFrame) TraceCause → (ℕ → Result (List TimedFrame) (ℕ × TraceCause)) → Result (List TimedFrame) (ℕ × TraceCause)
 and_then line_number before (Ok None) next = next before
 and_then line_number before (Ok (Some frame)) next = with_front (frame ∷ []) (next frame.time)
@@ -34,6 +36,7 @@ frames_from line_number before [] = Ok []
 frames_from line_number before (line ∷ lines) = and_then line_number before (frame_from before line) (λ time. frames_from (line_number + 1) time lines)
 
 -- the frames in a text, or its first fault
+-- rule: TRACE-1, TRACE-4, TRACE-7
 abbrev pub frames_in : List ℕ → Result (List TimedFrame) (ℕ × TraceCause)
 frames_in text = frames_from 1 0 (slice_split is_line_end text)
 
@@ -43,6 +46,7 @@ Says given said = (given.failed ≡ false) × ((text : List ℕ) × IsWhole give
 
 -- reading a trace returns this: its frames, or its first fault; that a read failed, exactly if one
 -- did; or that memory ran out
+-- rule: TRACE-11
 abbrev pub ReadsTrace : Given → Result (List TimedFrame) TraceFault → Type 0
 ReadsTrace given (Ok frames) = Says given (Ok frames)
 ReadsTrace given (Err (Line line cause)) = Says given (Err (line, cause))

@@ -12,6 +12,7 @@ use Rattle.es_base.specs.Reassembly.{groups_in, offered}
 use Rattle.ip_reassembly.specs.GivenUp.{given_up}
 
 -- when the latest frame came on a network, in microseconds, whatever became of it
+-- rule: EMB-6
 abbrev pub latest_on : List Event → Net → Option ℕ
 latest_on [] net = None
 latest_on (e ∷ past) net = if is_same_net e.net net then Some e.time else latest_on past net

@@ -2,6 +2,7 @@
 use Rattle.link_lock.specs.declared.user.User.{User}
 use Rattle.link_lock.specs.declared.user.User.TheVariants.{First, Second}
 
+-- rule: CONC-13
 abbrev pub both_lists : {L : Type 0} → L → L → User → L
 both_lists first second First = first
 both_lists first second Second = second

@@ -23,6 +23,7 @@ with_list_of pass list = record pass { list = list }
 
 -- As far as this pass knows, its user may find this value, and these may be the lists of both users then:
 -- they agree with the value, and one is the user's own.
+-- rule: CONC-12
 pub record MayFind {S L : Type 0} (fixed_of : S → S) (agree : (User → L) → S → Type 0) (pass : Known S L) (lists : User → L) (found : S) : Type 0 where
   pub fixed : Some (fixed_of found) ≡ pass.fixed
   pub own : lists pass.user ≡ pass.list
@@ -35,6 +36,7 @@ pub record MayLeave {S L : Type 0} (fixed_of : S → S) (agree : (User → L) �
   pub agrees : agree (with_list lists pass.user (goes_on pass.user found left pass.list)) left
 
 -- One visit: the user found a value, did this to it, and its list went on by what it did.
+-- rule: CONC-7, CONC-12
 pub record Visited {S L : Type 0} (fixed_of : S → S) (agree : (User → L) → S → Type 0) (goes_on : User → S → S → L → L) (did : S → S → Type 0) (old new : Known S L) : Type 0 where
   pub lists : User → L
   pub found : S

@@ -51,6 +51,7 @@ abbrev pub holding : {S L : Type 0} → View S L → (User → L) → S → View
 holding v lists value = view v.fixed v.whose lists (Some value)
 
 -- the seat is this user's alone, and hasn't got the value
+-- rule: CONC-2
 abbrev pub IsReady : {S L : Type 0} → User → Me S (View S L) → Type 0
 IsReady user m = (m.0.whose ≡ One user) × (m.0.held ≡ None) × (m.1 ≡ [])
 
@@ -62,19 +63,23 @@ known_of lock user v = record { lock = lock; user = user; fixed = v.fixed; list 
 
 -- A seat that is some user's is the only one, and knows that user's list. A seat that has the value is the only one,
 -- and knows both lists.
+-- rule: CONC-11
 pub record Fits {S L : Type 0} (fixed : S) (lists : User → L) (seat_of : User → ℕ) (word holder number : ℕ) (v : View S L) : Type 0 where
   pub own : (user : User) → is_for user v.whose ≡ true → (v.fixed ≡ Some fixed) × (number ≡ seat_of user) × (lists_in v user ≡ lists user)
   pub holds : (s : S) → v.held ≡ Some s → (word ≡ 1) × (number ≡ holder) × ((user : User) → lists_in v user ≡ lists user)
 
 -- the value is in its slot, and the users' lists agree with it
+-- rule: CONC-1
 abbrev pub AtHome : {S L : Type 0} → (S → S) → ((User → L) → S → Type 0) → S → (User → L) → ℕ → List (maybe.Option S) → Type 0
 AtHome {S} fixed_of agree fixed lists word homes = (word ≡ 0) × ((s : S) × (homes ≡ some s ∷ []) × (fixed_of s ≡ fixed) × agree lists s)
 
 -- a seat that is one user's has the value
+-- rule: CONC-1
 abbrev pub Away : {S L : Type 0} → ℕ → ℕ → List (maybe.Option S) → List (View S L) → Type 0
 Away {S} {L} word holder homes views =
     (word ≡ 1) × (homes ≡ none ∷ []) × ((v : View S L) × (get_elem? views holder ≡ some v) × ((s : S) × (v.held ≡ Some s)) × ((user : User) × (v.whose ≡ One user)))
 
+-- rule: CONC-11
 pub record Locked {S L : Type 0} (fixed_of : S → S) (agree : (User → L) → S → Type 0) (fixed : S) (s : State S (View S L)) : Type 0 where
   pub lists : User → L
   pub seat_of : User → ℕ
@@ -96,6 +101,7 @@ pub record Took {S L : Type 0} (fixed_of : S → S) (agree : (User → L) → S 
   pub agrees : agree lists value
 
 -- an exchange of 0 for 1
+-- rule: CONC-4
 abbrev pub tried : {S L : Type 0} → (S → S) → ((User → L) → S → Type 0) → Step S → Me S (View S L) → ℕ → Me S (View S L) → Type 0
 tried fixed_of agree st m found m' = (found ≡ 0 → Took fixed_of agree m m') × (found ≢ 0 → m' ≡ m)
 
@@ -126,5 +132,6 @@ pub record MayGive {S L : Type 0} (goes_on : User → S → S → L → L) (fixe
   pub agrees : agree (lists_after goes_on user m.0 found left) left
 
 -- a store of 0: what stood in the slot of the seat was given back, and its user's list went on by it
+-- rule: CONC-4
 abbrev pub gave : {S L : Type 0} → (User → S → S → L → L) → Step S → Me S (View S L) → ℕ → Me S (View S L) → Type 0
 gave {S} goes_on st m found m' = (user : User) (s t : S) → m.0.whose ≡ One user → m.0.held ≡ Some s → m.1 ≡ (0, t) ∷ [] → m' ≡ (after goes_on user m.0 s t, [])

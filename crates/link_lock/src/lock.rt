@@ -62,6 +62,7 @@ pub struct Opened<S: Recorded> {
 impl<S: Recorded> Lock<S> {
     /// Puts a value under a lock of its own; no user has done anything so far. All memory of the lock is taken
     /// here. `Err` says that there was none, and the value is dropped.
+    // rule: CONC-2
     pub fn open(alloc: Global, value: S) -> Result<Opened<S>, AllocError>
         requires { S.agree (λ _. S.nothing) value }
         ensures first { IfOk result (λ o. o.first ≡ known o.lock First (S.fixed value) S.nothing) }
@@ -148,6 +149,7 @@ impl<S: Recorded> Lock<S> {
     /// (`keeps`); of both lists nothing is known but the rule, and that one is the user's own.
     ///
     /// A `work` that visits the same lock with the other user's pass waits for ever.
+    // rule: CONC-11, CONC-12
     pub fn visit<R: Wait, T, F: FnOnce(&mut S) -> T>(
         &self,
         rt: &R,
@@ -173,6 +175,7 @@ impl<S: Recorded> Lock<S> {
     /// once, and waits for nobody. Takes no memory.
     ///
     /// That `None` comes only if a user has the value isn't proved.
+    // rule: CONC-7
     pub fn try_visit<T, F: FnOnce(&mut S) -> T + Drop>(
         &self,
         pass: &mut PassOf<S>,
@@ -197,6 +200,7 @@ impl<S: Recorded> Lock<S> {
 
     /// Ends the lock. Returns the value, with which the lists of both users agree. There is nobody to wait for,
     /// since both passes are here. Takes no memory.
+    // rule: CONC-13
     pub fn settle(self, first: PassOf<S>, second: PassOf<S>) -> S
         requires lock { (first.lock ≡ self) × (second.lock ≡ self) }
         requires users { (first.user ≡ First) × (second.user ≡ Second) }

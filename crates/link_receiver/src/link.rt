@@ -134,7 +134,7 @@ impl LinkState {
     /// Takes the history out: the link goes on from what it left. What becomes of a frame is what it would have
     /// become, places and counts go on, and a partial datagram can still be completed. The events themselves
     /// are handed out, not copies of them. After a fault nothing has changed.
-    // rule: HIST-9
+    // rule: HIST-9, EMB-39
     pub fn take_epoch(&mut self, alloc: Global) -> Result<Epoch, EpochFault>
         ensures ok { IfOk result (λ epoch. Hands self.old epoch self.new) }
         ensures err { OnErr result (self.new ≡ self.old) }

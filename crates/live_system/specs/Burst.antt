@@ -46,6 +46,7 @@ abbrev pub AreFramesFor : LinkNo → Frames → Type 0
 AreFramesFor vl frames = All (λ (f : ℕ × Bor (List ℕ)). IsFrame f.1.now × (addressee_of f.1.now ≡ vl)) frames
 
 -- A link took these frames of a network, one after another; of each the place that it shows, and its verdict.
+-- rule: CONC-6, EMB-32
 abbrev pub TookInTurn : Net → LiveLink → Frames → List (ℕ × Verdict) → LiveLink → Type 0
 TookInTurn net old [] [] new = new ≡ old
 TookInTurn net old (f ∷ fs) (r ∷ rs) new = (mid : LiveLink) × Did (arrived net f.0 f.1.now) old mid r × TookInTurn net mid fs rs new
@@ -68,6 +69,7 @@ abbrev pub reply_of : LinkNo → ℕ × Verdict → Reply
 reply_of vl answer = replies.Link vl answer.0 answer.1
 
 -- A pass gave these frames to its link, one after another, and these are the replies.
+-- rule: CONC-6, EMB-32
 abbrev pub CallsInTurn : KnownLink → Frames → List Reply → KnownLink → Type 0
 CallsInTurn old [] [] new = new ≡ old
 CallsInTurn old (f ∷ fs) (r ∷ rs) new =

@@ -36,6 +36,7 @@ no_calls = []
 
 -- The past of the link is a run, its ports were given what that delivers, and the calls of the two networks are those of
 -- its events.
+-- rule: CONC-9
 pub record Agrees (lists : User → List Call) (link : LiveLink) : Type 0 where
   pub ported : IsPorted ShowsPort link
   pub calls : (user : User) → lists user ≡ calls_from 0 (net_of user) (events_of link)

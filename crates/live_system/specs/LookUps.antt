@@ -15,5 +15,6 @@ abbrev pub calls_on : LinkNo → List KnownLink → List Call
 calls_on vl links = calls_with on_link vl links
 
 -- Each look-up of what a pass counted answers as that of the pass does.
+-- rule: EMB-33
 abbrev pub IsCounted : KnownNet → KnownCounts → Type 0
 IsCounted pass counted = IsCountedBy on_link shown pass.net pass.filtered pass.links counted

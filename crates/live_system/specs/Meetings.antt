@@ -21,6 +21,7 @@ abbrev pub VisitsAt : List KnownLink → ℕ → (LiveLink → LiveLink → Type
 VisitsAt passes place did = (pass : KnownLink) × (slice_get passes place ≡ Some pass) × Visits pass did
 
 -- a reader of this port met it: it knows all messages that were delivered to the port, and nothing else changed
+-- rule: PORT-18
 pub record MeetsReader (port : PortNo) (before after : PortReader) (old new : LiveLink) : Type 0 where
   pub link : new ≡ old
   pub reader : after ≡ told before after.mailbox.reader.known
@@ -30,6 +31,7 @@ pub record MeetsReader (port : PortNo) (before after : PortReader) (old new : Li
 
 -- The end that takes of this port's queue met it: it knows all messages that were delivered to the port, and the queue all that
 -- it took. Each outlet is the same still and was given nothing, and nothing else changed.
+-- rule: PORT-18
 pub record MeetsTaker (port : PortNo) (before after : Known) (old new : LiveLink) : Type 0 where
   pub core : new.core ≡ old.core
   pub came : new.came ≡ old.came

@@ -54,6 +54,7 @@ abbrev pub Did : Arrival → LiveLink → LiveLink → ℕ × Verdict → Type 0
 Did a old new answer = Takes ShowsPort GivesPort AnswersPort old new a answer.0 answer.1 × TakesIfKnown HasSpacePort old new a answer.1
 
 -- One call more, which is what its visit came to, at its place, and it is counted; nothing else of the pass changes.
+-- rule: EMB-30
 pub record Calls (old : KnownLink) (c : Call) (new : KnownLink) : Type 0 where
   pub lock : new.lock ≡ old.lock
   pub net : new.net ≡ old.net

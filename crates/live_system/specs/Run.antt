@@ -73,6 +73,7 @@ steps_of net [] = []
 steps_of net (one ∷ earlier) = if is_same_net one.0 net then one.1 ∷ steps_of net earlier else steps_of net earlier
 
 -- these calls of one thread, one after another, made the one pass of the other, whatever the other thread did
+-- rule: EMB-32
 abbrev pub RanAlone : System → KnownNet → List Step → KnownNet → Type 0
 RanAlone system first [] last = last ≡ first
 RanAlone system first (step ∷ earlier) last =
@@ -122,6 +123,7 @@ shown_call c = call (shown c.place) c.time c.frame c.verdict
 -- A link with these settings after these calls. Its past is one run, and each of its ports was given what that delivers; what
 -- each network's frames came to, as it was replied, are the events of that network in this run, each at its place; each kind
 -- of verdict is counted; and the ends that were handed out at the opening are those of its ports.
+-- rule: CONC-9
 pub record EndsInOneRun (readers : Port → ℕ) (steps : List (Net × Step)) (settings : Settings) (ends : List (LinkEnds PartitionEnd)) (place : ℕ) (link : LiveLink) : Type 0 where
   pub with_settings : link.core.settings ≡ settings
   pub ported : IsPorted ShowsPort link
@@ -145,6 +147,7 @@ CountsCalls system steps net counts =
     × ((kind : ℕ) → IsKind verdict_kinds kind → count_on vl kind counts.net counts.links ≡ shown (count_calls kind (calls_in net vl steps)))
 
 -- each link of the configuration ends in one run
+-- rule: CONC-9
 pub record HasEnded (readers : Port → ℕ) (system : System) (steps : List (Net × Step)) (ends : List (LinkEnds PartitionEnd)) (links : List LiveLink) (a b : KnownCounts) : Type 0 where
   pub each : (vl : LinkNo) (place : ℕ) → link_of system.config.links vl ≡ Some place
       → (settings : Settings) × (link : LiveLink) × (slice_get system.config.links place ≡ Some settings) × (settings.vl ≡ vl) × (slice_get links place ≡ Some link)

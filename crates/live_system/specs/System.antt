@@ -64,6 +64,7 @@ AreWithoutCalls [] = Unit {0}
 AreWithoutCalls (pass ∷ passes) = (pass.calls ≡ []) × AreWithoutCalls passes
 
 -- a pass of that network that made no call and filtered nothing
+-- rule: CONC-2, EMB-29
 pub record IsNewPassOf (net : Net) (pass : KnownNet) : Type 0 where
   pub of_net : pass.net ≡ net
   pub no_calls : AreWithoutCalls pass.links
@@ -78,6 +79,7 @@ KnowLinks [] (link ∷ links) = ⊥
 
 -- The passes of both networks know the links of a receiver of this configuration to which nothing came, and these are the
 -- ends of its ports. Each sampling port has as many readers as this says.
+-- rule: EMB-29
 pub record AreOfNewLinks (readers : Port → ℕ) (config : Configuration) (a b : KnownNet) (ends : List (LinkEnds PartitionEnd)) : Type 0 where
   pub opened : Links PortOutlet
   pub new : IsNew ShowsPort (reads_by ReadsPort readers) config opened ends
@@ -95,6 +97,7 @@ pub record CallsAt (old : List KnownLink) (place : ℕ) (c : Call) (new : List K
   pub only : new ≡ slice_set old place after
 
 -- what a reply says, and what the frame did to the pass; a place that is replied stops at the greatest number of 64 bits
+-- rule: CONC-5, EMB-30, EMB-31
 abbrev pub Replies : Configuration → KnownNet → ℕ → List ℕ → Reply → KnownNet → Type 0
 Replies c old now octets (replies.Filtered cause) new =
     (addressed_link c octets ≡ Err cause) × (new.links ≡ old.links) × AddsOne filter_causes old.filtered new.filtered old.net (cause_kind cause)
@@ -109,6 +112,7 @@ abbrev pub AreLetGo : KnownLink → KnownLink → LiveLink → Type 0
 AreLetGo a b link = IsSettled a.link a.calls b.calls link
 
 -- each link: with its settings, and with the calls of both passes on it
+-- rule: EMB-33
 abbrev pub AreSettled : List Settings → List KnownLink → List KnownLink → List LiveLink → Type 0
 AreSettled links ones others settled = AreSettledBy settings_in AreLetGo links ones others settled
 

@@ -55,6 +55,7 @@ impl LiveSystem {
     /// `receive`, with which they may be mixed. Waits for nobody, takes no memory, and can't fail.
     ///
     /// That `None` comes only while the other network has the link isn't proved.
+    // rule: CONC-7, EMB-31
     pub fn try_receive(&self, pass: &mut NetPass, now: u64, bytes: &[u8]) -> Option<Reply>
         requires { IsPassOf self.now pass.old }
         ensures own { IsPassOf self.now pass.new }

@@ -10,6 +10,7 @@ use Rattle.mailbox_port.specs.declared.port.Mailbox.{Mailbox}
 abbrev pub most_readers : ℕ
 most_readers = 8
 
+-- rule: EMB-2
 abbrev pub is_reader_count : ℕ → Bool
 is_reader_count count = nat_le 1 count && nat_le count most_readers
 
@@ -44,6 +45,7 @@ pub record AreAlike (writers : List WriterEnd) (longest count : ℕ) : Type 0 wh
 abbrev pub new_port : List TableId → ℕ → PortEnd
 new_port buffers longest = record { buffers = buffers; longest = longest; published = [] }
 
+-- rule: PORT-7
 abbrev pub port_with : PortEnd → Message → PortEnd
 port_with port message = record port { published = port.published ++ message ∷ [] }
 
@@ -62,5 +64,6 @@ abbrev pub new_mailboxes : List TableId → ℕ → List Mailbox
 new_mailboxes buffers longest = mailboxes_from longest 0 buffers
 
 -- its reader knows these to be published
+-- rule: PORT-18
 abbrev pub told : Mailbox → List Message → Mailbox
 told mailbox published = record { reader = is_told mailbox.reader published; place = mailbox.place }

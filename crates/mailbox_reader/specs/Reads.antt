@@ -15,10 +15,12 @@ pub record PortReader : Type 0 where
   pub refresh : ℕ
 
 -- the same reader, which knows that these were published
+-- rule: PORT-18, EMB-11
 abbrev pub told : PortReader → List Published → PortReader
 told v published = record { mailbox = told_mailbox v.mailbox published; refresh = v.refresh }
 
 -- the reader of the same mailbox looked at it
+-- rule: EMB-9
 pub record IsLookOf (v w : PortReader) : Type 0 where
   pub reader : IsReadOf v.mailbox.reader w.mailbox.reader
   pub place : w.mailbox.place ≡ v.mailbox.place
@@ -41,6 +43,7 @@ pub record IsCopied (octets before out : List ℕ) : Type 0 where
   pub rest : drop (min (length octets) (length before)) out ≡ drop (min (length octets) (length before)) before
 
 -- the last of these messages has this number, time and length, and its octets that fit begin `out`
+-- rule: EMB-8
 pub record IsReadAs (seen : List Published) (before out : List ℕ) (number time len : ℕ) : Type 0 where
   pub number_is : number ≡ length seen
   pub octets : List ℕ
@@ -49,6 +52,7 @@ pub record IsReadAs (seen : List Published) (before out : List ℕ) (number time
   pub copied : IsCopied octets before out
 
 -- what a read by this reader into `out` says, all in all
+-- rule: EMB-8
 pub record IsRead (v w : PortReader) (before out : List ℕ) (answer : Reading) : Type 0 where
   pub looked : IsLookOf v w
   pub message : IfMessage answer (λ number time len _. IsReadAs w.mailbox.reader.seen before out number time len)

@@ -16,6 +16,7 @@ pub record KnownCounts : Type 0 where
   pub filtered : Counts
 
 -- The counts are those of the calls. `shows` says what a count shows of a number.
+-- rule: EMB-33, EMB-38
 pub record AreCounts (shows : ℕ → ℕ) (net : Net) (calls : List Call) (counts : LinkCounts) : Type 0 where
   pub all : counts.number ≡ shows (length calls)
   pub kinds : (kind : ℕ) → IsKind verdict_kinds kind → count_in counts.tally net kind ≡ shows (count_calls kind calls)

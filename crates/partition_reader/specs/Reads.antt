@@ -27,6 +27,7 @@ abbrev pub after_steps : PortReader → ℕ → PortReader
 after_steps v more = record { end = record v.end { steps = v.end.steps + more }; refresh = v.refresh; max = v.max }
 
 -- the same reader, which knows that these were published
+-- rule: PORT-18
 abbrev pub told : PortReader → List (List ℕ) → PortReader
 told v published = record { end = is_told v.end published; refresh = v.refresh; max = v.max }
 
@@ -39,6 +40,7 @@ abbrev pub words_of_range : ℕ → ℕ → ℕ
 words_of_range first octets = (first + octets + 7) / 8 - first / 8
 
 -- `out` begins with the octets of these words, as many as it has room for, and is else as before
+-- rule: EMB-36
 pub record IsCopyThatFits (words before out : List ℕ) (len : ℕ) : Type 0 where
   pub octets : (k : ℕ) → k < len → k < length out → slice_index out k ≡ octet_at words k
   pub others : (k : ℕ) → len ≤ k → slice_index out k ≡ slice_index before k
@@ -58,6 +60,7 @@ IfBusy (Busy number) P = P number
 IfBusy _ P = Unit {0}
 
 -- what a read by this reader into `out` says, but for the validity
+-- rule: EMB-36
 abbrev pub PlainAnswer : ReaderEnd → ReaderEnd → List ℕ → List ℕ → Read → Type 0
 PlainAnswer v w before out (Found number time len) =
     IsHeadOf w.seen number time len × IsCopyThatFits (last_of w.seen) before out len

@@ -18,5 +18,6 @@ abbrev pub lines_sent : Settings → List Carried → ℕ → List ℕ
 lines_sent link carried at = ports_lines at (λ port. messages_ended port carried) 0 link.ports
 
 -- they stand in what is written for two traces
+-- rule: DELIV-14
 abbrev pub AreWritten : Configuration → List TimedFrame → List TimedFrame → Option ℕ → Settings → List Carried → Type 0
 AreWritten c a b asked link carried = StandsIn (lines_sent link carried (report_time asked (reverse (merged a b)))) (output_of c a b asked)

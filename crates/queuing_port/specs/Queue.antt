@@ -36,6 +36,7 @@ abbrev pub BeginsWith : List Message → List Message → Type 0
 BeginsWith messages first = (rest : List Message) × (messages ≡ first ++ rest)
 
 -- a putter that put these messages, and knows of these that they were taken, may find these held
+-- rule: PORT-10
 abbrev pub PutterFinds : List Message → List Message → List Message → Type 0
 PutterFinds put known held = (taken : List Message) × (put ≡ taken ++ held) × BeginsWith taken known
 
@@ -45,7 +46,7 @@ TakerFinds taken known held = (put : List Message) × (put ≡ taken ++ held) ×
 
 -- As far as this putter knows, the queue may be full: as many messages as its depth were put that it
 -- doesn't know to be taken. Whether the queue is full, it can't know.
--- rule: PORT-10
+-- rule: PORT-10, PORT-17
 abbrev pub MayBeFull : Known → Type 0
 MayBeFull putter = (held : List Message) × (length held ≡ putter.depth) × PutterFinds putter.put putter.taken held
 
@@ -60,5 +61,6 @@ abbrev pub MayBeOldest : Known → Message → Type 0
 MayBeOldest taker message = (later : List Message) × TakerFinds taker.taken taker.put (message ∷ later)
 
 -- of one whose both lists are known: it holds so many messages, those that were put and not taken
+-- rule: PORT-18
 abbrev pub Holds : Known → ℕ → Type 0
 Holds both count = (held : List Message) × (length held ≡ count) × (both.put ≡ both.taken ++ held)

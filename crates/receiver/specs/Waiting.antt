@@ -32,6 +32,7 @@ abbrev pub AreWaitingAt : Ported PortOutlet → PortNo → Option ℕ → Type 0
 AreWaitingAt link port waiting = WaitAt (slice_get link.core.settings.ports port.0) (slice_get link.outlets port.0) (deliveries_of link port) waiting
 
 -- of the link that there may be
+-- rule: EMB-7
 abbrev pub AreWaitingIn : Option (Ported PortOutlet) → PortNo → Option ℕ → Type 0
 AreWaitingIn None port waiting = waiting ≡ None
 AreWaitingIn (Some link) port waiting = AreWaitingAt link port waiting

@@ -9,6 +9,7 @@ abbrev pub address : Bor (List ℕ) → Ptr
 address octets = block_ptr octets.ref_ptr.0 octets.ref_ptr.1
 
 -- it is told where these octets stand, and how many they are
+-- rule: EMB-23
 abbrev pub TellsOctets : Option (List ℕ) → HeldOctets → Type 0
 TellsOctets None told = ⊥
 TellsOctets (Some octets) told = (lent : Bor (List ℕ)) × (lent.now ≡ octets) × (told.at ≡ address lent) × (told.len ≡ length octets)

@@ -33,6 +33,7 @@ health_code None place = not_open
 health_code (Some now) place = if nat_lt place (length now.receiver.links) then done else no_place
 
 -- so is the link at this place
+-- rule: EMB-21
 abbrev pub TellsHealth : Option Receiving → ℕ → HealthReply → Type 0
 TellsHealth None place reply = ⊥
 TellsHealth (Some now) place reply = (link : Ported PortOutlet) × (slice_get now.receiver.links place ≡ Some link) × (reply ≡ health_reply_of link)
@@ -58,6 +59,7 @@ TellsWaitingOn old new place port waiting =
     LinksStay GivesPort old.receiver new.receiver × (new.ends ≡ old.ends)
     × ((link : Ported PortOutlet) × (slice_get new.receiver.links place ≡ Some link) × AreWaitingAt link (port_no port) (Some waiting))
 
+-- rule: EMB-21
 abbrev pub TellsWaiting : Option Receiving → Option Receiving → ℕ → ℕ → ℕ → Type 0
 TellsWaiting (Some old) (Some new) place port waiting = TellsWaitingOn old new place port waiting
 TellsWaiting (Some old) None place port waiting = ⊥

@@ -12,10 +12,12 @@ count_or others None = others
 count_or others (Some row) = if is_reader_count row.readers then row.readers else others
 
 -- as many as the row of a port says
+-- rule: EMB-20
 abbrev pub readers_in : ℕ → List PortRow → Port → ℕ
 readers_in others rows port = count_or others (find (has_name port.name) rows)
 
 -- each row says 0, or a number of readers that a port can have
+-- rule: EMB-20
 abbrev pub are_reader_counts : List PortRow → Bool
 are_reader_counts rows = list_all (λ (row : PortRow). nat_le row.readers most_readers) rows
 

@@ -6,7 +6,7 @@ use Rattle.sampling_port.specs.declared.state.Freshness.TheVariants.{Fresh, Stal
 
 -- fresh as long as its age is at most the refresh period; the age is 0 if now is earlier; all are in
 -- microseconds
--- rule: PORT-14, PORT-15
+-- rule: PORT-14, PORT-15, EMB-8, EMB-37, REP-5
 abbrev pub freshness : ℕ → ℕ → ℕ → Freshness
 freshness now time refresh = if nat_le (elapsed now time) refresh then Fresh else Stale
 

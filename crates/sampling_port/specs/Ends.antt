@@ -29,11 +29,13 @@ abbrev pub new_writer : TableId → WriterEnd
 new_writer port = record { port = port; published = []; steps = 0 }
 
 -- why a message of this many octets isn't published, where so many are
+-- rule: PORT-5, SAMP-21
 abbrev pub publish_fault : ℕ → ℕ → Option PublishFault
 publish_fault published octets =
     if nat_lt longest_message octets then Some TooLong else if published == most_messages then Some Exhausted else None
 
 -- the message of these octets and this time is published, in as many steps as that takes
+-- rule: PORT-4
 pub record IsPublished (readers : ℕ) (before after : WriterEnd) (octets : List ℕ) (time : ℕ) : Type 0 where
   pub port : after.port ≡ before.port
   pub published : after.published ≡ before.published ++ words_of octets time ∷ []
@@ -75,6 +77,7 @@ AreTries tries = (0 < tries) × (tries ≤ 8)
 
 -- all that it saw before is still seen, and the last message seen is held: it was the newest at the last of the
 -- looks, the one that held, after so many that failed. A try is two steps; `more` steps follow
+-- rule: EMB-36
 pub record IsHeldAfter (v w : ReaderEnd) (tries more : ℕ) : Type 0 where
   pub seen : StartsWith w.seen v.seen
   pub some : 0 < length w.seen
@@ -92,6 +95,7 @@ pub record IsNothing (v w : ReaderEnd) : Type 0 where
   pub steps : w.steps ≡ v.steps + 1
 
 -- each try found a newer message; the announcement is cleared in the last step
+-- rule: EMB-36
 pub record IsOvertaken (v w : ReaderEnd) (tries newest : ℕ) : Type 0 where
   pub seen : StartsWith w.seen v.seen
   pub newer : length v.seen + tries ≤ length w.seen
@@ -111,6 +115,7 @@ pub record IsCopy (words before out : List ℕ) (len : ℕ) : Type 0 where
   pub others : (k : ℕ) → len ≤ k → slice_index out k ≡ slice_index before k
 
 -- what a read gives. After a hold it loads each word of the message, and clears its announcement
+-- rule: SAMP-23, EMB-36
 abbrev pub ReadAnswer : ReaderEnd → ReaderEnd → ℕ → List ℕ → List ℕ → Read → Type 0
 ReadAnswer v w tries before out (Message number time len) =
     IsHeadOf w.seen number time len × IsCopy (last_of w.seen) before out len × IsHeldAfter v w tries (3 + (len + 7) / 8)
@@ -123,11 +128,13 @@ IsNotHeld v w tries (Overtaken number) = IsOvertaken v w tries number
 
 -- ---- a meeting
 
+-- rule: PORT-18
 abbrev pub is_told : ReaderEnd → List (List ℕ) → ReaderEnd
 is_told v published = record v { seen = published }
 
 -- what a reader gets that is told before and after: the last of the messages that are published, or none if there
 -- is none
+-- rule: PORT-18
 abbrev pub IsLastOf : List (List ℕ) → List ℕ → List ℕ → Read → Type 0
 IsLastOf published before out (Message number time len) =
     (0 < length published) × IsHeadOf published number time len × IsCopy (last_of published) before out len

@@ -53,16 +53,19 @@ abbrev pub writes : WriterLog → WriterView → WriterLog
 writes writer view = record { view = view; steps = writer.steps + 1 }
 
 -- it loaded the announcement of the next reader
+-- rule: SAMP-19
 abbrev pub scanned : Step (Unit {0}) → At → ℕ → At → Type 0
 scanned step me found me' = (step.word ≡ announcement_place (length (writer_of me.0).view.scanned))
     × (me'.0 ≡ Writes (writes (writer_of me.0) (scans (writer_of me.0).view found)))
 
 -- it stored the next word of the message in a slot of a port with this many readers
+-- rule: SAMP-19
 abbrev pub stored : ℕ → Step (Unit {0}) → At → ℕ → At → Type 0
 stored readers step me found me' = (slot : ℕ) → step.word ≡ place_of readers slot (length (writer_of me.0).view.stored)
     → me'.0 ≡ Writes (writes (writer_of me.0) (stores (writer_of me.0).view slot step.first))
 
 -- it stored `latest`
+-- rule: SAMP-19
 abbrev pub published : Step (Unit {0}) → At → ℕ → At → Type 0
 published step me found me' = (step.word ≡ latest_place) × (me'.0 ≡ Writes (writes (writer_of me.0) (publishes (writer_of me.0).view)))
 
@@ -102,11 +105,13 @@ second slots step me found me' = (step.word ≡ latest_place) × ((all : List (L
     × (found ≢ word_of (reader_of me.0).view.phase → length (reader_of me.0).view.seen < length all))
 
 -- it stored its announcement
+-- rule: SAMP-19
 abbrev pub announced : Step (Unit {0}) → At → ℕ → At → Type 0
 announced step me found me' = (step.word ≡ announcement_place (place_at me.0))
     × (me'.0 ≡ Reads (place_at me.0) (reads (reader_of me.0) (announces (reader_of me.0).view)))
 
 -- it loaded a word of the message that it holds, in a port with this many readers
+-- rule: SAMP-19
 abbrev pub got : ℕ → Step (Unit {0}) → At → ℕ → At → Type 0
 got readers step me found me' = (me'.0 ≡ Reads (place_at me.0) (reads (reader_of me.0) (reader_of me.0).view))
     × ((index : ℕ) → index < length (last_of (reader_of me.0).view.seen)
@@ -114,6 +119,7 @@ got readers step me found me' = (me'.0 ≡ Reads (place_at me.0) (reads (reader_
     → found ≡ slice_index (last_of (reader_of me.0).view.seen) index)
 
 -- it cleared its announcement
+-- rule: SAMP-19
 abbrev pub cleared : Step (Unit {0}) → At → ℕ → At → Type 0
 cleared step me found me' = (step.word ≡ announcement_place (place_at me.0))
     × (me'.0 ≡ Reads (place_at me.0) (reads (reader_of me.0) (clears (reader_of me.0).view)))

@@ -34,10 +34,12 @@ new_seats port (suc n) = new_seats port n ++ new_seat port n ∷ []
 
 -- ---- a reader's looks: it has seen all that is published at the look
 
+-- rule: SAMP-19
 abbrev pub LooksFirst : ℕ → ReaderSeated → ReaderSeated → ℕ → Type 0
 LooksFirst slots v w found = (all : List (List ℕ)) × (w ≡ reader_with v (looks_first v.knows found all)) × Looks slots v.knows.view found all
 
 -- and if it finds another word than it announced, there is more than it saw before
+-- rule: SAMP-19
 abbrev pub LooksAgain : ℕ → ReaderSeated → ReaderSeated → ℕ → Type 0
 LooksAgain slots v w found = (all : List (List ℕ)) × (w ≡ reader_with v (looks_again v.knows found all)) × Looks slots v.knows.view found all
     × (found ≢ word_of v.knows.view.phase → length v.knows.view.seen < length all)

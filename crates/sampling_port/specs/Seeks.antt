@@ -6,6 +6,7 @@ use Rattle.sampling_port.specs.Seats.{ReaderSeated}
 use Rattle.sampling_port.specs.declared.seek.Sought.{Sought}
 use Rattle.sampling_port.specs.declared.seek.Sought.TheVariants.{Empty, Busy, Found}
 
+-- rule: SAMP-23
 abbrev pub SeekAnswer : ℕ → ReaderSeated → ReaderSeated → ℕ → Sought → Type 0
 SeekAnswer slots v w tries Empty = IsIdle w.knows.view × IsNothing (end_of v) (end_of w)
 SeekAnswer slots v w tries (Busy number) = IsIdle w.knows.view × IsOvertaken (end_of v) (end_of w) tries number

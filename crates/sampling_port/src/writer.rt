@@ -80,6 +80,7 @@ impl<const READERS: usize> Writer<READERS> {
     /// writer.publish(2000, &[])             // Ok(2)
     /// writer.publish(3000, &[0; 1472])      // Err(PublishFault::TooLong)
     /// ```
+    // rule: SAMP-21
     pub fn publish(&mut self, time: u64, octets: &[u8]) -> Result<u64, PublishFault>
         ensures fault { IfErr result (λ fault. publish_fault (length self.old.published) (length octets.now) ≡ Some fault) }
         ensures unchanged { IfErr result (λ _. self.new ≡ self.old) }

@@ -15,12 +15,14 @@ use Rattle.slot_core.specs.Steps.{after}
 -- ---- the writer's steps, by its view, in a port with this many readers and slots
 
 -- the readers below it were scanned
+-- rule: SAMP-7
 pub record MayScan (readers : ℕ) (w : WriterView) (reader : ℕ) : Type 0 where
   pub exists : reader < readers
   pub idle : length w.stored ≡ 0
   pub next : reader ≡ length w.scanned
 
 -- the word begins a message in this slot
+-- rule: SAMP-8
 pub record MayChoose (w : WriterView) (slot word : ℕ) : Type 0 where
   pub short : word ≤ longest_message
   -- not the slot that `latest` shows
@@ -34,6 +36,7 @@ pub record MayContinue (w : WriterView) (slot word : ℕ) : Type 0 where
   pub more : length w.stored < words_for (slice_index w.stored 0)
   pub padded : IsPadded (slice_index w.stored 0) (length w.stored) word
 
+-- rule: SAMP-8
 pub record MayStore (readers slots : ℕ) (w : WriterView) (slot index word : ℕ) : Type 0 where
   pub exists : slot < slots
   pub within : index < slot_words
@@ -43,6 +46,7 @@ pub record MayStore (readers slots : ℕ) (w : WriterView) (slot index word : �
   pub later : 0 < index → MayContinue w slot word
 
 -- the message is whole, and has a message number
+-- rule: SAMP-9
 pub record MayPublish (w : WriterView) : Type 0 where
   pub begun : 0 < length w.stored
   pub whole : length w.stored ≡ words_for (slice_index w.stored 0)
@@ -56,16 +60,20 @@ IsFree phase = (phase ≡ Idle) ⊎ (phase ≡ Loaded (word_of phase))
 abbrev pub MayBegin : ReaderView → Type 0
 MayBegin v = IsFree v.phase × (v.own ≡ 0)
 
+-- rule: SAMP-10
 abbrev pub MayAnnounce : ReaderView → Type 0
 MayAnnounce v = v.phase ≡ Loaded (word_of v.phase)
 
+-- rule: SAMP-10
 abbrev pub MayLookAgain : ReaderView → Type 0
 MayLookAgain v = v.phase ≡ Announced (word_of v.phase)
 
 -- of the message that is held
+-- rule: SAMP-11
 abbrev pub MayLoadWord : ReaderView → ℕ → Type 0
 MayLoadWord v index = (v.phase ≡ Holding (word_of v.phase)) × (index < length (last_of v.seen))
 
+-- rule: SAMP-11
 abbrev pub MayClear : ReaderView → Type 0
 MayClear v = v.own ≢ 0
 

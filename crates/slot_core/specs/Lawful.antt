@@ -44,6 +44,7 @@ pub record IsReader (readers slots : ℕ) (words : List ℕ) (w : WriterView) (r
   pub noticed : (word : ℕ) → v.phase ≡ Holding word → reader < length w.scanned
       → (slice_index_or w.scanned reader None ≡ Some (slot_of word)) ⊎ (slot_of word ≡ slot_of (latest words))
 
+-- rule: SAMP-16
 pub record Lawful (readers slots : ℕ) (c : State) : Type 0 where
   pub words : length c.words ≡ table_words readers slots
   pub views : length c.views ≡ readers

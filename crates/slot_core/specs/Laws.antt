@@ -22,19 +22,22 @@ IsReached readers slots c = (events : List CoreEvent)
     × (AreAllowed readers slots (opening readers slots) events × (after_all readers (opening readers slots) events ≡ c))
 
 -- the reader holds this word
+-- rule: SAMP-12
 abbrev pub Holds : ℕ → State → ℕ → ℕ → Type 0
 Holds readers c reader word = (reader < readers) × ((view_at c.views reader).phase ≡ Holding word)
 
 -- the slot that a word shows has the words of this message, whole
+-- rule: SAMP-16
 abbrev pub HasMessage : ℕ → State → ℕ → List ℕ → Type 0
 HasMessage readers c word message = IsMessage message × Begins readers c.words (slot_of word) message
 
 -- a message can begin in some slot
--- rule: PORT-8
+-- rule: PORT-8, SAMP-15
 abbrev pub HasFreeSlot : ℕ → ℕ → State → Type 0
 HasFreeSlot readers slots c = (slot : ℕ) × ((word : ℕ) → word ≤ longest_message → Allowed readers slots c (StoreWord slot 0 word))
 
 -- what is held is the message that is the newest now, and all that is published is seen
+-- rule: SAMP-16
 pub record HoldsNewest (readers slots : ℕ) (c : State) (v : ReaderView) (word : ℕ) : Type 0 where
   pub newest : word ≡ latest c.words
   pub seen : v.seen ≡ c.writer.published
@@ -42,6 +45,7 @@ pub record HoldsNewest (readers slots : ℕ) (c : State) (v : ReaderView) (word 
   pub message : HasMessage readers c word (last_of c.writer.published)
 
 -- after some list of events, from the opening on, a reader looks again and holds this word; it still does after these
+-- rule: SAMP-16
 pub record IsHold (readers slots : ℕ) (c : State) (reader word : ℕ) (events : List CoreEvent) : Type 0 where
   pub reached : IsReached readers slots c
   pub looks : Allowed readers slots c (LoadSecond reader)

@@ -14,6 +14,7 @@ port_slots = 10
 -- ---- messages
 
 -- the longest, in octets (ARINC 664 Part 7, sampling ports: one frame)
+-- rule: SAMP-5
 abbrev pub longest_message : ℕ
 longest_message = 1471
 
@@ -24,6 +25,7 @@ slot_words = 186
 -- ---- a message number and a slot in one word (own)
 
 -- how many messages a port numbers, from 1
+-- rule: SAMP-6
 abbrev pub most_messages : ℕ
 most_messages = 2 ^ 60 - 1
 

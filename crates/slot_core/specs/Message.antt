@@ -12,6 +12,7 @@ abbrev pub octets_after_end : ℕ → ℕ → ℕ
 octets_after_end octets index = 8 * (index - 1) - octets
 
 -- they are zeros
+-- rule: SAMP-3
 abbrev pub IsPadded : ℕ → ℕ → ℕ → Type 0
 IsPadded octets index word = word % 256 ^ octets_after_end octets index ≡ 0
 
@@ -23,6 +24,7 @@ pub record IsStart (words : List ℕ) : Type 0 where
   pub padded : (i : ℕ) → i < length words → IsPadded (slice_index words 0) i (slice_index words i)
 
 -- the words are those of a message
+-- rule: SAMP-3
 pub record IsMessage (words : List ℕ) : Type 0 where
   pub start : IsStart words
   pub whole : length words ≡ words_for (slice_index words 0)

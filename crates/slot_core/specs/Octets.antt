@@ -13,6 +13,7 @@ abbrev pub word_at : List ℕ → ℕ → ℕ
 word_at octets place = word_of_eight (λ i. slice_index octets (8 * place + i))
 
 -- the words of a message with these octets and this time
+-- rule: SAMP-3
 abbrev pub words_of : List ℕ → ℕ → List ℕ
 words_of octets time = length octets ∷ time ∷ map (word_at octets) (range_with_len 0 ((length octets + 7) / 8))
 

@@ -16,6 +16,7 @@ use Rattle.slot_core.specs.State.{State, last_of, view_at}
 
 -- ---- the writer's turn, by its view
 
+-- rule: SAMP-7
 abbrev pub may_scan : WriterView → ℕ → Bool
 may_scan w reader = length w.stored == 0 && reader == length w.scanned
 
@@ -28,11 +29,13 @@ may_continue w slot word =
     slot == w.chosen && nat_lt (length w.stored) (words_for (slice_index w.stored 0)) && is_padded (slice_index w.stored 0) (length w.stored) word
 
 -- all of this many readers were scanned, and the word begins a message or continues it
+-- rule: SAMP-8
 abbrev pub may_store : ℕ → WriterView → ℕ → ℕ → ℕ → Bool
 may_store readers w slot index word =
     length w.scanned == readers && index == length w.stored
     && (if index == 0 then nat_le word longest_message else may_continue w slot word)
 
+-- rule: SAMP-9
 abbrev pub may_publish : WriterView → Bool
 may_publish w =
     nat_lt 0 (length w.stored) && length w.stored == words_for (slice_index w.stored 0) && nat_lt (length w.published) most_messages
@@ -78,9 +81,11 @@ is_holding (Holding word) = true
 abbrev pub may_begin : ReaderView → Bool
 may_begin v = is_free v.phase && v.own == 0
 
+-- rule: SAMP-11
 abbrev pub may_load_word : ReaderView → ℕ → Bool
 may_load_word v index = is_holding v.phase && nat_lt index (length (last_of v.seen))
 
+-- rule: SAMP-11
 abbrev pub may_clear : ReaderView → Bool
 may_clear v = not (v.own == 0)
 
@@ -103,6 +108,7 @@ refusal_to_store readers slots w slot index word =
     (index == 0 && is_latest w slot) (index == 0 && is_announced w slot)
 
 -- None if the step is allowed
+-- rule: SAMP-17
 abbrev pub refusal_of : ℕ → ℕ → State → CoreEvent → Option StepRefusal
 refusal_of readers slots c (Scan reader) = turn_of (nat_lt reader readers) (may_scan c.writer reader)
 refusal_of readers slots c (StoreWord slot index word) = refusal_to_store readers slots c.writer slot index word
@@ -115,6 +121,7 @@ refusal_of readers slots c (LoadWord reader index) =
 refusal_of readers slots c (Clear reader) = turn_of (nat_lt reader readers) (may_clear (view_at c.views reader))
 
 -- the step is refused for this reason: the first that there is; or memory ran out, and a message was to be published
+-- rule: SAMP-17
 abbrev pub IsRefusedBy : ℕ → ℕ → State → CoreEvent → StepRefusal → Type 0
 IsRefusedBy readers slots c event refusal =
     (refusal_of readers slots c event ≡ Some refusal) ⊎ ((refusal ≡ Memory) × (event ≡ StoreLatest) × (refusal_of readers slots c event ≡ None))

@@ -12,6 +12,7 @@ abbrev pub LeadTo : ℕ → ℕ → List CoreEvent → State → Type 0
 LeadTo readers slots events c = AreAllowed readers slots (opening readers slots) events × (c ≡ after_all readers (opening readers slots) events)
 
 -- the event at this place is the first that is refused, and this is why
+-- rule: SAMP-17
 abbrev pub IsFirstRefused : ℕ → ℕ → List CoreEvent → ℕ → StepRefusal → Type 0
 IsFirstRefused readers slots events place refusal =
     (event : CoreEvent) × (slice_get events place ≡ Some event) × (AreAllowed readers slots (opening readers slots) (take place events))

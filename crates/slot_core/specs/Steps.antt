@@ -46,6 +46,7 @@ abbrev pub announces : ReaderView → ReaderView
 announces v = record { phase = Announced (word_of v.phase); own = word_of v.phase; seen = v.seen }
 
 -- the reader holds if it finds the word again, and else goes on with what it found
+-- rule: SAMP-10, SAMP-13
 abbrev pub second_phase : ℕ → ℕ → Phase
 second_phase word found = if found == word then Holding word else Loaded found
 

@@ -39,6 +39,7 @@ abbrev pub IsWrittenUnder : ℕ → ℕ → State → Type 0
 IsWrittenUnder readers slots c = (reader word slot stored : ℕ) × (Holds readers c reader word)
     × (Allowed readers slots c (StoreWord slot 0 stored)) × (slot ≡ slot_of word)
 
+-- rule: SAMP-18
 abbrev pub FailsInHaste : ℕ → ℕ → Type 0
 FailsInHaste readers slots = (c : State) × (IsReachedBy (Allowed readers slots) (after_in_haste readers) (opening readers slots) c × IsWrittenUnder readers slots c)
 
@@ -52,6 +53,7 @@ abbrev pub HoldsNoMessage : ℕ → State → Type 0
 HoldsNoMessage readers c = (reader word : ℕ) × (Holds readers c reader word)
     × (HasMessage readers c word (last_of (view_at c.views reader).seen) → ⊥)
 
+-- rule: SAMP-18
 abbrev pub FailsEarly : ℕ → ℕ → Type 0
 FailsEarly readers slots = (c : State) × (IsReachedBy (AllowedEarly readers slots) (after readers) (opening readers slots) c × HoldsNoMessage readers c)
 
@@ -60,5 +62,6 @@ FailsEarly readers slots = (c : State) × (IsReachedBy (AllowedEarly readers slo
 abbrev pub IsStuck : ℕ → ℕ → State → Type 0
 IsStuck readers slots c = (length c.writer.scanned ≡ readers) × (length c.writer.stored ≡ 0) × (HasFreeSlot readers slots c → ⊥)
 
+-- rule: SAMP-18
 abbrev pub GetsStuck : ℕ → ℕ → Type 0
 GetsStuck readers slots = (c : State) × (IsReached readers slots c × IsStuck readers slots c)

@@ -6,20 +6,24 @@ use Rattle.slot_core.specs.Limits.{most_slots, slot_words}
 abbrev pub latest : List ℕ → ℕ
 latest words = slice_index words 0
 
+-- rule: SAMP-2
 abbrev pub announcement : List ℕ → ℕ → ℕ
 announcement words reader = slice_index words (1 + reader)
 
 -- the place of a word of a slot, in a table with this many readers
+-- rule: SAMP-4
 abbrev pub place_of : ℕ → ℕ → ℕ → ℕ
 place_of readers slot index = 1 + readers + (slot_words * slot + index)
 
 -- how many words a table has
+-- rule: SAMP-4
 abbrev pub table_words : ℕ → ℕ → ℕ
 table_words readers slots = 1 + readers + slot_words * slots
 
 -- ---- what `latest` and the announcements show
 
 -- a message number and a slot in one word; 0 shows none
+-- rule: SAMP-1
 abbrev pub word_for : ℕ → ℕ → ℕ
 word_for message_number slot = most_slots * message_number + slot
 
@@ -27,6 +31,7 @@ abbrev pub slot_of : ℕ → ℕ
 slot_of word = word % most_slots
 
 -- the slot that a word shows, if any
+-- rule: SAMP-1
 abbrev pub slot_shown : ℕ → Option ℕ
 slot_shown word = if word == 0 then None else Some (slot_of word)
 

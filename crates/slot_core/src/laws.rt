@@ -34,6 +34,7 @@ pub fn a_port_stays_lawful()
 {}
 
 /// No slot is written while a reader holds it.
+// rule: SAMP-12
 pub fn a_held_slot_is_not_written()
     ensures { (readers slots : ℕ) (c : State) (reader word slot index stored : ℕ) → Lawful readers slots c →
         Holds readers c reader word → Allowed readers slots c (StoreWord slot index stored) → slot ≢ slot_of word }
@@ -69,6 +70,7 @@ pub fn a_held_message_stays_whole()
 /// list of events follows in which it doesn't clear its announcement. Then what it holds is the message
 /// that was the newest at that look, by its number; all words of that message stand in the slot; and no
 /// step that is allowed writes the slot.
+// rule: SAMP-16
 pub fn a_hold_is_of_the_newest_message_and_whole()
     ensures newest { (readers slots : ℕ) (c : State) (reader word : ℕ) (events : List CoreEvent) → slots ≤ most_slots →
         IsHold readers slots c reader word events →
@@ -82,6 +84,7 @@ pub fn a_hold_is_of_the_newest_message_and_whole()
 {}
 
 /// A second look that finds another word comes after a newer message: the reader sees more than before.
+// rule: SAMP-14
 pub fn a_failed_look_sees_a_newer_message()
     ensures { (readers slots : ℕ) (c : State) (reader : ℕ) → Lawful readers slots c → Allowed readers slots c (LoadSecond reader) →
         latest c.words ≢ word_of (view_at c.views reader).phase →

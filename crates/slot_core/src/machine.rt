@@ -65,6 +65,7 @@ impl Core {
     /// core.step(alloc, &CoreEvent::Scan { reader: 1 }) // Err(NotItsTurn): reader 0 is scanned first
     /// core.step(alloc, &CoreEvent::Scan { reader: 0 }) // Ok(())
     /// ```
+    // rule: SAMP-7, SAMP-8, SAMP-9, SAMP-10, SAMP-11, SAMP-17
     pub fn step(&mut self, alloc: Global, event: &CoreEvent) -> Result<(), StepRefusal>
         ensures allowed { IfOk result (λ _. Allowed port_readers port_slots self.old event.now) }
         ensures state { IfOk result (λ _. self.new ≡ after port_readers self.old event.now) }

@@ -39,6 +39,7 @@ pub record ReceivesBy (old new : Passing) (now : ℕ) (octets : List ℕ) (told 
   pub replies : Replies old.system.config old.pass now octets reply new.pass
   pub tells : told ≡ frame_reply_of (with_place old.system.config reply)
 
+-- rule: EMB-26
 abbrev pub Receives : Option Passing → Option Passing → ℕ → List ℕ → FrameReply → Type 0
 Receives (Some old) (Some new) now octets told = ReceivesBy old new now octets told
 Receives (Some old) None now octets told = ⊥
@@ -56,6 +57,7 @@ count_code None link kind = not_open
 count_code (Some now) link kind = if is_kind verdict_kinds kind then (if nat_lt link (length now.system.config.links) then done else no_place) else no_kind
 
 -- so many frames of the link at this place came on the network of the pass with a verdict of this kind
+-- rule: EMB-27
 abbrev pub CountsFrames : Option Passing → ℕ → ℕ → ℕ → Type 0
 CountsFrames None link kind count = ⊥
 CountsFrames (Some now) link kind count =
@@ -66,6 +68,7 @@ filtered_code None cause = not_open
 filtered_code (Some now) cause = if is_kind filter_causes cause then done else no_kind
 
 -- so many frames were filtered on the network of the pass for this cause
+-- rule: EMB-27
 abbrev pub CountsFiltered : Option Passing → ℕ → ℕ → Type 0
 CountsFiltered None cause count = ⊥
 CountsFiltered (Some now) cause count = count ≡ count_in now.pass.filtered now.pass.net cause

@@ -48,6 +48,7 @@ OpensConfig readers config None = ⊥
 OpensConfig readers config (Some new) = IsNewSystem readers config new
 
 -- so it is of the configuration in these octets
+-- rule: EMB-25
 abbrev pub Opens : ℕ → List ℕ → Option Running → Type 0
 Opens readers octets new = (config : Configuration) × (config_of octets ≡ Ok config) × OpensConfig (λ _. readers) config new
 
@@ -75,6 +76,7 @@ hand_pass_code (Some from) None net = pass_code from (net_of net)
 hand_pass_code (Some from) (Some pass) net = already_open
 
 -- the pass of the network with this number was handed out, and nothing else changed
+-- rule: EMB-25
 abbrev pub HandsPass : ℕ → Option Running → Option Running → Option Passing → Type 0
 HandsPass net (Some old) (Some new) handed = (on : Net) × (net_of net ≡ Some on) × (handed ≡ pass_left on old) × (new ≡ without_pass on old)
 HandsPass net (Some old) None handed = ⊥
@@ -94,6 +96,7 @@ hand_taker_code (Some from) None name = name_code has_taker (text_of name) from.
 hand_taker_code (Some from) (Some taker) name = already_open
 
 -- this was handed out of the end of the port with this name, if anything was, and nothing else changed
+-- rule: EMB-25
 abbrev pub HandsOut : {A : Type 0} → (PartitionEnd → PartitionEnd → Option A → Type 0) → List ℕ → Option Running → Option Running → Option A → Type 0
 HandsOut Hands name (Some old) (Some new) handed = (new ≡ record old { ends = new.ends }) × HandsNamed Hands name old.ends new.ends handed
 HandsOut Hands name (Some old) None handed = ⊥

@@ -241,6 +241,7 @@ fn check_schedules(rt: &(impl Abort + Wait), alloc: Global) {
     }
 }
 
+// rule: CONC-9, EMB-32
 #[test]
 fn both_systems_reply_count_and_deliver_the_same(rt: HostRuntime) {
     check_schedules(&rt, rt.alloc());

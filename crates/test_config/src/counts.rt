@@ -39,6 +39,7 @@ fn check_64_links(rt: &impl Abort, config: &Config) {
     check_place(rt, config, 64, None);
 }
 
+// rule: CONF-3
 #[test]
 fn there_are_64_links_at_most(rt: HostRuntime) {
     let most = links(&rt, rt.alloc(), 64, true);
@@ -47,6 +48,7 @@ fn there_are_64_links_at_most(rt: HostRuntime) {
     check_fault(&rt, rt.alloc(), more.as_str(), Some(TooMany));
 }
 
+// rule: CONF-3, CONF-18
 #[test]
 fn links_are_counted_before_they_are_read(rt: HostRuntime) {
     let more = links(&rt, rt.alloc(), 65, false);
@@ -59,6 +61,7 @@ fn check_32_ports(rt: &impl Abort, config: &Config) {
     assert!(rt; last == Some(PortNo(31)));
 }
 
+// rule: CONF-9
 #[test]
 fn there_are_32_ports_of_a_link_at_most(rt: HostRuntime) {
     let most = ports(&rt, rt.alloc(), 32);

@@ -28,6 +28,7 @@ fn check_first_line(rt: &impl Abort, alloc: Global, line: &str, fault: Option<Co
     check_fault(rt, alloc, document.as_str(), fault);
 }
 
+// rule: CONF-2, CONF-18, CONF-20
 #[test]
 fn the_constant_is_tested_before_the_links(rt: HostRuntime) {
     for (line, fault) in first_lines() {
@@ -50,6 +51,7 @@ fn documents_without_links() -> [Row; 8] {
     ]
 }
 
+// rule: CONF-3, CONF-17, CONF-18
 #[test]
 fn links_are_tables_of_an_array(rt: HostRuntime) {
     for (document, fault) in documents_without_links() {
@@ -77,6 +79,7 @@ fn check_keys(rt: &impl Abort, alloc: Global, (keys, fault): Row) {
     check_fault(rt, alloc, document.as_str(), Some(fault));
 }
 
+// rule: CONF-9, CONF-18
 #[test]
 fn ports_are_tested_after_the_other_keys_of_their_link(rt: HostRuntime) {
     for row in keys_of_a_link() {
@@ -88,6 +91,7 @@ fn check_no_ports(rt: &impl Abort, config: &Config) {
     assert!(rt; config.links()[0].ports().is_empty());
 }
 
+// rule: CONF-9, CONF-17
 #[test]
 fn a_link_may_have_no_ports(rt: HostRuntime) {
     let document = "link = [{ vl = 1, skew_max_us = 0, reassembly_us = 0 }]";
@@ -101,11 +105,13 @@ fn changes() -> [Refused; 2] {
     ]
 }
 
+// rule: CONF-20
 #[test]
 fn a_document_is_refused_for_one_wrong_value(rt: HostRuntime) {
     check_refused(&rt, rt.alloc(), &changes());
 }
 
+// rule: CONF-4
 #[test]
 fn a_document_that_is_given_twice_is_refused(rt: HostRuntime) {
     let twice = with_more(&rt, rt.alloc(), BUILT_IN);

@@ -43,11 +43,13 @@ fn ends() -> [Taken; 12] {
     ]
 }
 
+// rule: CONF-4, CONF-5, CONF-6, CONF-7, CONF-8, CONF-19
 #[test]
 fn each_key_of_a_link_has_its_faults(rt: HostRuntime) {
     check_refused(&rt, rt.alloc(), &faults());
 }
 
+// rule: CONF-1, CONF-4, CONF-5, CONF-7, CONF-8
 #[test]
 fn each_range_of_a_link_is_taken_to_its_ends(rt: HostRuntime) {
     check_taken(&rt, rt.alloc(), &ends());

@@ -66,7 +66,7 @@ fn config_of_links(rt: &impl Abort, alloc: Global) -> Config {
     config_of(rt, alloc, document(rt, alloc).as_str())
 }
 
-// rule: FRAME-6
+// rule: FRAME-6, CONF-4
 #[test]
 fn links_of_64_upper_octets_are_found(rt: HostRuntime) {
     check_found(&rt, &config_of_links(&rt, rt.alloc()));

@@ -74,21 +74,25 @@ fn ends() -> [Taken; 17] {
     ]
 }
 
+// rule: CONF-10, CONF-11, CONF-19
 #[test]
 fn names_and_kinds_have_their_faults(rt: HostRuntime) {
     check_refused(&rt, rt.alloc(), &faults_of_names_and_kinds());
 }
 
+// rule: CONF-12, CONF-13, CONF-19
 #[test]
 fn addresses_and_udp_ports_have_their_faults(rt: HostRuntime) {
     check_refused(&rt, rt.alloc(), &faults_of_addresses_and_udp_ports());
 }
 
+// rule: CONF-14, CONF-15, CONF-16, CONF-19
 #[test]
 fn limits_of_a_port_have_their_faults(rt: HostRuntime) {
     check_refused(&rt, rt.alloc(), &faults_of_limits());
 }
 
+// rule: CONF-1, CONF-10, CONF-12, CONF-13, CONF-14, CONF-15, CONF-16
 #[test]
 fn each_range_of_a_port_is_taken_to_its_ends(rt: HostRuntime) {
     check_taken(&rt, rt.alloc(), &ends());

@@ -15,11 +15,13 @@ fn repetitions_in_a_link() -> [Refused; 2] {
     ]
 }
 
+// rule: CONF-22, CONF-23
 #[test]
 fn names_and_udp_ports_are_given_once_in_a_link(rt: HostRuntime) {
     check_refused(&rt, rt.alloc(), &repetitions_in_a_link());
 }
 
+// rule: CONF-23
 #[test]
 fn a_name_is_tested_before_the_address_and_udp_port(rt: HostRuntime) {
     let alloc = rt.alloc();
@@ -49,6 +51,7 @@ fn check_change(rt: &impl Abort, alloc: Global, change: Change) {
     check_fault(rt, alloc, document.as_str(), fault);
 }
 
+// rule: CONF-4, CONF-22, CONF-23
 #[test]
 fn link_numbers_and_names_are_given_once_over_the_links(rt: HostRuntime) {
     for change in changes_of_the_second_link() {
@@ -56,6 +59,7 @@ fn link_numbers_and_names_are_given_once_over_the_links(rt: HostRuntime) {
     }
 }
 
+// rule: CONF-4, CONF-18
 #[test]
 fn a_repeated_link_number_is_tested_before_the_other_keys(rt: HostRuntime) {
     let document = with_more(&rt, rt.alloc(), "\n[[link]]\nvl = 17\n");
@@ -88,6 +92,7 @@ fn check_placed(rt: &impl Abort, alloc: Global, row: Placed) {
     assert!(rt; place == FaultPlace { link, port }, "{new}: {place:?}");
 }
 
+// rule: CONF-24
 #[test]
 fn a_repetition_stands_at_the_later_link_and_port(rt: HostRuntime) {
     for row in places_of_faults() {

@@ -28,6 +28,7 @@ fn check_link(rt: &impl Abort, config: &Config) {
     check_link_settings(rt, &config.links()[0]);
 }
 
+// rule: CONF-2, CONF-4, CONF-5, CONF-6, CONF-7, CONF-8, CONF-27
 #[test]
 fn a_link_has_the_settings_of_its_table(rt: HostRuntime) {
     check_link(&rt, &first(&rt, rt.alloc()));
@@ -73,6 +74,7 @@ fn check_ports(rt: &impl Abort, config: &Config) {
     }
 }
 
+// rule: CONF-10, CONF-11, CONF-12, CONF-13, CONF-14, CONF-15, CONF-16, CONF-27
 #[test]
 fn ports_have_the_settings_of_their_tables(rt: HostRuntime) {
     check_ports(&rt, &first(&rt, rt.alloc()));
@@ -82,6 +84,7 @@ fn check_off(rt: &impl Abort, config: &Config) {
     assert!(rt; !config.links()[0].redundancy());
 }
 
+// rule: CONF-2
 #[test]
 fn the_constant_may_be_given(rt: HostRuntime) {
     let other = with_first_line(&rt, rt.alloc(), "constant = \"a1B2c3D4\"");
@@ -89,7 +92,7 @@ fn the_constant_may_be_given(rt: HostRuntime) {
     check_constant(&rt, &other, [0xa1, 0xb2, 0xc3, 0xd4]);
 }
 
-// rule: RM-1
+// rule: RM-1, CONF-6
 #[test]
 fn redundancy_management_may_be_switched_off(rt: HostRuntime) {
     let off = BUILT_IN.replace(rt.alloc(), "vl = 17", "vl = 17\nredundancy = false");
@@ -101,6 +104,7 @@ fn check_window(rt: &impl Abort, config: &Config, window: u64) {
     check_setting(rt, "window", u64::from(config.links()[0].window()), window);
 }
 
+// rule: CONF-8
 #[test]
 fn the_window_may_be_given(rt: HostRuntime) {
     let wide = BUILT_IN.replace(rt.alloc(), "vl = 17", "vl = 17\nwindow = 3");
@@ -121,6 +125,7 @@ fn links_are_found_by_their_numbers(rt: HostRuntime) {
     check_links_found(&rt, &both_links(&rt, rt.alloc()));
 }
 
+// rule: FRAME-6
 #[test]
 fn a_copy_finds_the_same_links(rt: HostRuntime) {
     let config = both_links(&rt, rt.alloc());

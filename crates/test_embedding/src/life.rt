@@ -263,6 +263,7 @@ fn check_life<R: Abort + Threads + Wait + Sync>(rt: &R, alloc: Global) {
     check_ended(rt, system, ran.a, ran.b);
 }
 
+// rule: EMB-34, EMB-35, EMB-38
 #[test]
 fn a_receiver_lives_from_its_configuration_to_its_counts(rt: HostRuntime) {
     check_life(&rt, rt.alloc());

@@ -36,6 +36,7 @@ fn check_opened(rt: &(impl Abort + Eprint + Wait), alloc: Global, case: &Case) {
     }
 }
 
+// rule: EMB-39
 #[test]
 fn a_system_that_keeps_no_frame_is_opened(rt: HostRuntime) {
     check_opened(&rt, rt.alloc(), &joined(&rt, rt.alloc()));

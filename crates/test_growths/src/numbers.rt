@@ -73,6 +73,7 @@ fn check_each_pushed(rt: &(impl Abort + Eprint), alloc: Global) {
     check_links(rt, &links, LINKS);
 }
 
+// rule: EMB-39
 #[test]
 fn links_of_64_upper_octets_are_added(rt: HostRuntime) {
     check_each_pushed(&rt, rt.alloc());
@@ -118,6 +119,7 @@ fn check_read(rt: &(impl Abort + Eprint), alloc: Global, text: &str) {
     check_config(rt, &copy_of(rt, alloc, &config));
 }
 
+// rule: EMB-39
 #[test]
 fn a_configuration_of_64_upper_octets_is_read_and_copied(rt: HostRuntime) {
     check_read(&rt, rt.alloc(), document(&rt, rt.alloc()).as_str());

@@ -80,6 +80,7 @@ fn check_opened(rt: &(impl Abort + Eprint), alloc: Global) {
     check_answer(rt, alloc, text.as_str(), (DONE, UNTOUCHED), Some(2));
 }
 
+// rule: EMB-15, EMB-39
 #[test]
 fn a_receiver_is_opened_in_a_slot(rt: HostRuntime) {
     check_opened(&rt, rt.alloc());
@@ -90,6 +91,7 @@ fn check_fault(rt: &(impl Abort + Eprint), alloc: Global) {
     check_answer(rt, alloc, text.as_str(), (FAULTY, OUT_OF_RANGE), None);
 }
 
+// rule: EMB-22, EMB-39
 #[test]
 fn a_fault_is_told_with_its_place(rt: HostRuntime) {
     check_fault(&rt, rt.alloc());

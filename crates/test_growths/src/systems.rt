@@ -183,23 +183,27 @@ fn check_copies(rt: &(impl Abort + Eprint + Wait), alloc: Global, case: &Case) {
     system.check_end(rt, (0, case.rows.len()), &case.queued);
 }
 
+// rule: CONC-14, EMB-39
 #[test]
 fn a_system_receives_a_sample(rt: HostRuntime) {
     check_copies(&rt, rt.alloc(), &sampled(&rt, rt.alloc()));
 }
 
+// rule: CONC-14, EMB-39
 #[test]
 fn a_system_joins_a_datagram(rt: HostRuntime) {
     check_copies(&rt, rt.alloc(), &joined(&rt, rt.alloc()));
     check_copies(&rt, rt.alloc(), &joined_backwards(&rt, rt.alloc()));
 }
 
+// rule: CONC-14, EMB-39
 #[test]
 fn a_system_gives_a_datagram_up(rt: HostRuntime) {
     check_copies(&rt, rt.alloc(), &given_up(&rt, rt.alloc()));
     check_copies(&rt, rt.alloc(), &refused(&rt, rt.alloc()));
 }
 
+// rule: CONC-14, EMB-39
 #[test]
 fn a_system_has_a_full_queue(rt: HostRuntime) {
     check_copies(&rt, rt.alloc(), &overflowed(&rt, rt.alloc()));
@@ -213,6 +217,7 @@ fn check_arrivals(rt: &(impl Abort + Eprint + Wait), alloc: Global, case: &Case)
     system.check_end(rt, (0, case.rows.len()), &case.queued);
 }
 
+// rule: CONC-14, EMB-39
 #[test]
 fn a_system_keeps_octets(rt: HostRuntime) {
     check_arrivals(&rt, rt.alloc(), &joined(&rt, rt.alloc()));
@@ -230,6 +235,7 @@ fn check_epochs(rt: &(impl Abort + Eprint + Wait), alloc: Global, case: &Case) {
     system.check_end(rt, (place, 0), &case.queued);
 }
 
+// rule: CONC-14, EMB-39
 #[test]
 fn a_system_hands_epochs_out(rt: HostRuntime) {
     check_epochs(&rt, rt.alloc(), &joined(&rt, rt.alloc()));
@@ -247,6 +253,7 @@ fn check_four_stand(rt: &(impl Abort + Eprint + Wait), alloc: Global, case: &Cas
     check_messages(rt, alloc, &mut system.taker);
 }
 
+// rule: CONC-14, EMB-39
 #[test]
 fn a_system_hands_an_epoch_out_while_four_datagrams_stand(rt: HostRuntime) {
     check_four_stand(&rt, rt.alloc(), &four_stand(&rt, rt.alloc()));

@@ -37,11 +37,13 @@ fn check_epoch(rt: &impl Abort, alloc: Global, mut state: LinkState) {
     assert!(rt; epoch.is_ok());
 }
 
+// rule: EMB-40
 #[test]
 fn an_epoch_with_the_end_of_a_datagram_takes_little_memory(rt: HostRuntime) {
     check_epoch(&rt, rt.alloc(), link_with(&rt, rt.alloc(), LastTo8199));
 }
 
+// rule: EMB-40
 #[test]
 fn an_epoch_with_the_beginning_of_a_datagram_takes_little_memory(rt: HostRuntime) {
     check_epoch(&rt, rt.alloc(), link_with(&rt, rt.alloc(), First));

@@ -85,6 +85,7 @@ fn check_port(rt: &impl Abort, alloc: Global) {
     check_held(rt, second, 20);
 }
 
+// rule: EMB-40
 #[test]
 fn a_sampling_port_is_used(rt: HostRuntime) {
     check_port(&rt, rt.alloc());
@@ -123,6 +124,7 @@ fn check_queue(rt: &(impl Abort + Wait), alloc: Global) {
     assert!(rt; taker.take(rt).is_none());
 }
 
+// rule: EMB-40
 #[test]
 fn a_queue_is_used(rt: HostRuntime) {
     check_queue(&rt, rt.alloc());
@@ -151,6 +153,7 @@ fn check_reassembly(rt: &impl Abort, alloc: Global, case: &Case) {
     }
 }
 
+// rule: EMB-40
 #[test]
 fn packets_are_joined(rt: HostRuntime) {
     check_reassembly(&rt, rt.alloc(), &joined(&rt, rt.alloc()));
@@ -174,6 +177,7 @@ fn check_system(rt: &(impl Abort + Wait), alloc: Global, case: &Case) {
     }
 }
 
+// rule: EMB-40
 #[test]
 fn a_filtered_frame_is_received_and_a_system_settles(rt: HostRuntime) {
     check_system(&rt, rt.alloc(), &joined(&rt, rt.alloc()));
@@ -194,6 +198,7 @@ fn check_ring(rt: &impl Abort, alloc: Global) {
     assert!(rt; taker.take(&mut out).is_none());
 }
 
+// rule: EMB-1, EMB-40
 #[test]
 fn a_ring_is_used(rt: HostRuntime) {
     check_ring(&rt, rt.alloc());
@@ -230,6 +235,7 @@ fn check_partition(rt: &impl Abort, alloc: Global) {
     }
 }
 
+// rule: EMB-40
 #[test]
 fn a_partition_reads(rt: HostRuntime) {
     check_partition(&rt, rt.alloc());
@@ -253,6 +259,7 @@ fn check_mailbox(rt: &impl Abort, alloc: Global) {
     assert!(rt; reader.latest().is_some());
 }
 
+// rule: EMB-1, EMB-40
 #[test]
 fn a_mailbox_is_read(rt: HostRuntime) {
     check_mailbox(&rt, rt.alloc());
@@ -296,11 +303,13 @@ fn check_receiver(rt: &impl Abort, alloc: Global, case: &Case) {
     assert!(rt; link.came() == (case.rows.len() as u64).wrapping_mul(200));
 }
 
+// rule: EMB-1, EMB-40
 #[test]
 fn a_receiver_for_one_task_is_used(rt: HostRuntime) {
     check_receiver(&rt, rt.alloc(), &joined(&rt, rt.alloc()));
 }
 
+// rule: EMB-1, EMB-40
 #[test]
 fn a_receiver_for_one_task_with_a_full_queue_is_used(rt: HostRuntime) {
     check_receiver(&rt, rt.alloc(), &overflowed(&rt, rt.alloc()));
@@ -356,6 +365,7 @@ fn check_live(rt: &(impl Abort + Wait), alloc: Global, case: &Case) {
     }
 }
 
+// rule: EMB-40
 #[test]
 fn a_system_that_keeps_no_frame_is_used(rt: HostRuntime) {
     check_live(&rt, rt.alloc(), &joined(&rt, rt.alloc()));

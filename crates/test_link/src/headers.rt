@@ -136,6 +136,7 @@ fn check_cut(rt: &(impl Abort + Wait), alloc: Global, frame: &[u8], len: usize) 
     assert!(rt; verdict == BadHeader(TotalLength), "{len}: {verdict:?}");
 }
 
+// rule: IP-4
 #[test]
 fn a_frame_that_was_cut_has_a_bad_header(rt: HostRuntime) {
     let frame = longest(rt.alloc(), 0).expect(&rt, "a frame");

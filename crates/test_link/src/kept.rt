@@ -135,6 +135,7 @@ fn check_from_the_beginning(rt: &(impl Abort + Wait), alloc: Global) {
     check_messages(rt, alloc, &messages, &[(1100, PAYLOAD)]);
 }
 
+// rule: HIST-4
 #[test]
 fn both_walks_begin_where_nothing_was_before(rt: HostRuntime) {
     check_from_the_beginning(&rt, rt.alloc());

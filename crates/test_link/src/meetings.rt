@@ -130,7 +130,7 @@ fn check_counts(rt: &(impl Abort + Wait), alloc: Global) {
     check_count(rt, &state, A, 13, 0);
 }
 
-// rule: COUNT-1
+// rule: COUNT-1, REP-8
 #[test]
 fn a_link_counts_its_events_by_network_and_kind(rt: HostRuntime) {
     check_counts(&rt, rt.alloc());

@@ -158,7 +158,7 @@ fn payloads_are_compared_with_the_largest(rt: HostRuntime) {
     }
 }
 
-// rule: PORT-3
+// rule: PORT-3, CONF-14
 #[test]
 fn the_largest_payload_of_a_sampling_port_is_1471_octets(rt: HostRuntime) {
     assert!(rt; sampling_port("pos", 5000, 1471).is_some());

@@ -102,6 +102,7 @@ fn check_rooms(rt: &(impl Abort + Wait), alloc: Global) {
     check_burst(rt, alloc, 0, 0);
 }
 
+// rule: EMB-32
 #[test]
 fn as_many_frames_of_a_burst_are_taken_as_there_is_room_for(rt: HostRuntime) {
     check_rooms(&rt, rt.alloc());

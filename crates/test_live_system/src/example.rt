@@ -23,6 +23,7 @@ fn check_example<R: Abort + Threads + Wait + Sync>(rt: &R, alloc: Global) {
     }
 }
 
+// rule: CONC-9
 #[test]
 fn the_example_takes_a_frame_and_its_copy(rt: HostRuntime) {
     check_example(&rt, rt.alloc());

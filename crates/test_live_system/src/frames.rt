@@ -44,6 +44,7 @@ fn check_worked(rt: &(impl Abort + Wait), alloc: Global) {
     check_rows(rt, alloc, &joined_for_a_sampling_port().map(packet_row));
 }
 
+// rule: EMB-29, EMB-30
 #[test]
 fn worked_frames_have_their_replies(rt: HostRuntime) {
     check_worked(&rt, rt.alloc());
@@ -65,6 +66,7 @@ fn check_both_passes(rt: &(impl Abort + Wait), alloc: Global) {
     assert!(rt; settled.a.calls(LinkNo(18)) == 0 && settled.a.count(LinkNo(18), 10) == 0);
 }
 
+// rule: EMB-33
 #[test]
 fn each_pass_counts_its_own_frames(rt: HostRuntime) {
     check_both_passes(&rt, rt.alloc());
@@ -89,6 +91,7 @@ fn check_too_short(rt: &(impl Abort + Wait), alloc: Global) {
     }
 }
 
+// rule: CONC-5, EMB-31
 #[test]
 fn filtered_frames_come_to_no_link(rt: HostRuntime) {
     check_too_short(&rt, rt.alloc());

@@ -47,6 +47,7 @@ fn meet_reader(rt: &(impl Abort + Wait), alloc: Global) {
     assert!(rt; reader.read(1000, &mut [0; 17]) == wanted);
 }
 
+// rule: PORT-18
 #[test]
 fn a_reader_that_met_its_port_reads_what_came(rt: HostRuntime) {
     meet_reader(&rt, rt.alloc());
@@ -70,6 +71,7 @@ fn meet_taker(rt: &(impl Abort + Wait), alloc: Global) {
     assert!(rt; taker.take(&mut out) == Some(wanted));
 }
 
+// rule: PORT-18
 #[test]
 fn a_taker_that_met_its_queue_takes_what_came(rt: HostRuntime) {
     meet_taker(&rt, rt.alloc());
@@ -86,6 +88,7 @@ fn check_names(rt: &impl Abort, alloc: Global) {
     assert!(rt; opened.take_taker("pos").is_none() && opened.place_of("alt").is_none());
 }
 
+// rule: EMB-29
 #[test]
 fn ends_are_had_by_name_and_no_oftener_than_there_are(rt: HostRuntime) {
     check_names(&rt, rt.alloc());

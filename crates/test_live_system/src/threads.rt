@@ -268,21 +268,25 @@ fn check_ended(rt: &impl Abort, mut ended: Ended) {
     }
 }
 
+// rule: EMB-30
 #[test]
 fn one_thread_samples_each_frame_once(rt: HostRuntime) {
     check_ended(&rt, on_one_thread(&rt, rt.alloc()));
 }
 
+// rule: CONC-2, CONC-9, CONC-10
 #[test]
 fn two_threads_end_as_one_does(rt: HostRuntime) {
     check_ended(&rt, on_two_threads(&rt, rt.alloc(), How::Each));
 }
 
+// rule: CONC-6, EMB-32
 #[test]
 fn two_threads_with_bursts_end_as_one_does(rt: HostRuntime) {
     check_ended(&rt, on_two_threads(&rt, rt.alloc(), How::AtOnce));
 }
 
+// rule: CONC-7, EMB-31
 #[test]
 fn two_threads_that_try_end_as_one_does(rt: HostRuntime) {
     check_ended(&rt, on_two_threads(&rt, rt.alloc(), How::ByTries));

@@ -63,6 +63,7 @@ fn check_writers<R: Abort + Threads + Wait + Sync>(rt: &R, opened: Opened<Book>)
     assert!(rt; book.lines().len() as u64 == 2 * MANY);
 }
 
+// rule: CONC-1, CONC-11
 #[test]
 fn two_threads_write_into_one_book_and_no_line_is_lost(rt: HostRuntime) {
     check_writers(&rt, opened(&rt, rt.alloc()));
@@ -111,6 +112,7 @@ fn check_writer_and_remover<R: Abort + Threads + Wait + Sync>(rt: &R, opened: Op
     assert_eq!(rt; taken.wrapping_add(left), MANY);
 }
 
+// rule: CONC-13
 #[test]
 fn one_thread_takes_out_pages_while_another_writes(rt: HostRuntime) {
     check_writer_and_remover(&rt, opened(&rt, rt.alloc()));

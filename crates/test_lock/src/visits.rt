@@ -73,6 +73,7 @@ fn check_visits<R: Abort + Wait>(rt: &R, opened: Opened<Book>)
     check_lines(rt, &book, &wanted);
 }
 
+// rule: CONC-2, CONC-12, CONC-13
 #[test]
 fn each_user_finds_what_the_other_left(rt: HostRuntime) {
     let opened = opened(&rt, rt.alloc());
@@ -98,6 +99,7 @@ fn check_taken_out<R: Abort + Wait>(rt: &R, opened: Opened<Book>)
     check_lines(rt, &book, &[(User::First, 11)]);
 }
 
+// rule: CONC-13
 #[test]
 fn pages_that_were_taken_out_are_not_in_the_settled_book(rt: HostRuntime) {
     check_taken_out(&rt, opened(&rt, rt.alloc()));
@@ -136,6 +138,7 @@ fn check_tries<R: Abort + Wait>(rt: &R, opened: Opened<Book>)
     check_lines(rt, &book, &wanted);
 }
 
+// rule: CONC-4, CONC-7
 #[test]
 fn a_try_gives_up_while_the_other_user_has_the_book_and_only_then(rt: HostRuntime) {
     check_tries(&rt, opened(&rt, rt.alloc()));

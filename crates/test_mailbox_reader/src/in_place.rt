@@ -37,6 +37,7 @@ fn check_stays(rt: &impl Abort, alloc: Global) {
     check_latest(rt, &reader, 21, 2000, &[200; 16]);
 }
 
+// rule: CONC-17, EMB-9
 #[test]
 fn a_message_stays_in_its_place_until_the_reader_looks_again(rt: HostRuntime) {
     check_stays(&rt, rt.alloc());
@@ -52,6 +53,7 @@ fn check_none(rt: &impl Abort, alloc: Global) {
     check_latest(rt, &reader, 1, 1000, &[]);
 }
 
+// rule: EMB-9
 #[test]
 fn there_is_no_message_of_a_port_where_nothing_was_published(rt: HostRuntime) {
     check_none(&rt, rt.alloc());

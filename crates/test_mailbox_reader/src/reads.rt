@@ -27,6 +27,7 @@ fn check_freshness(rt: &impl Abort, alloc: Global) {
     check_ages(rt, &mut reader);
 }
 
+// rule: PORT-15, EMB-8
 #[test]
 fn a_message_is_fresh_up_to_the_refresh_period_of_its_port(rt: HostRuntime) {
     check_freshness(&rt, rt.alloc());
@@ -62,6 +63,7 @@ fn check_octets_read(rt: &impl Abort, alloc: Global) {
     check_cut(rt, &mut writer, &mut reader);
 }
 
+// rule: EMB-8
 #[test]
 fn the_octets_that_fit_are_read_and_the_rest_of_out_is_left(rt: HostRuntime) {
     check_octets_read(&rt, rt.alloc());
@@ -83,6 +85,7 @@ fn check_port(rt: &impl Abort, alloc: Global) {
     );
 }
 
+// rule: EMB-8
 #[test]
 fn a_reader_tells_of_its_port_and_reads_the_newest(rt: HostRuntime) {
     check_port(&rt, rt.alloc());
@@ -112,6 +115,7 @@ fn check_eight(rt: &impl Abort, alloc: Global) {
     }
 }
 
+// rule: PORT-7, EMB-2
 #[test]
 fn eight_readers_each_find_the_newest(rt: HostRuntime) {
     check_eight(&rt, rt.alloc());

@@ -80,6 +80,7 @@ fn check_thread<R: Abort + Threads + Sync>(rt: &R, alloc: Global) {
     check_read(rt, &mut reader, MANY, &mut [0; 1471], wanted);
 }
 
+// rule: EMB-8
 #[test]
 fn a_partition_reads_whole_messages_in_order_on_its_own_thread(rt: HostRuntime) {
     check_thread(&rt, rt.alloc());

@@ -44,6 +44,7 @@ fn check_held(rt: &impl Abort, alloc: Global) {
     );
 }
 
+// rule: EMB-36
 #[test]
 fn a_held_message_stays_over_publications_until_it_is_released(rt: HostRuntime) {
     check_held(&rt, rt.alloc());
@@ -76,6 +77,7 @@ fn check_none(rt: &impl Abort, alloc: Global) {
     );
 }
 
+// rule: EMB-36
 #[test]
 fn nothing_is_held_of_a_port_where_nothing_was_published(rt: HostRuntime) {
     check_none(&rt, rt.alloc());

@@ -28,6 +28,7 @@ fn check_freshness(rt: &impl Abort, alloc: Global) {
     check_ages(rt, &mut reader);
 }
 
+// rule: PORT-15, EMB-37
 #[test]
 fn a_message_is_fresh_up_to_the_refresh_period_of_its_port(rt: HostRuntime) {
     check_freshness(&rt, rt.alloc());
@@ -63,6 +64,7 @@ fn check_octets_read(rt: &impl Abort, alloc: Global) {
     check_cut(rt, &mut writer, &mut reader);
 }
 
+// rule: EMB-36
 #[test]
 fn the_octets_that_fit_are_read_and_the_rest_of_out_is_left(rt: HostRuntime) {
     check_octets_read(&rt, rt.alloc());
@@ -84,6 +86,7 @@ fn check_parts(rt: &impl Abort, alloc: Global) {
     assert!(rt; reader.read(1, &mut [0; 1471]) == wanted);
 }
 
+// rule: EMB-37
 #[test]
 fn a_reader_gives_its_parts_back(rt: HostRuntime) {
     check_parts(&rt, rt.alloc());

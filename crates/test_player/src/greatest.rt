@@ -90,6 +90,7 @@ fn check_greatest(rt: &impl Abort, alloc: Global) {
     check_played(rt, alloc, Greatest, (trace.as_str(), ""), None, wanted);
 }
 
+// rule: REP-2
 #[test]
 fn each_of_thirty_two_ports_of_the_last_of_64_links_has_its_own_message(rt: HostRuntime) {
     check_greatest(&rt, rt.alloc());
@@ -178,6 +179,7 @@ fn check_longest(rt: &impl Abort, alloc: Global) {
     check_played(rt, alloc, BuiltIn, (trace.as_str(), ""), None, wanted);
 }
 
+// rule: REP-7, REP-12
 #[test]
 fn a_message_of_8192_octets_is_in_the_report_with_all_its_digits(rt: HostRuntime) {
     check_longest(&rt, rt.alloc());

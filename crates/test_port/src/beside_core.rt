@@ -150,6 +150,7 @@ fn check_beside_core(
     publish_in(rt, alloc, &mut core, &mut writer, 7, 0);
 }
 
+// rule: SAMP-19, SAMP-20
 #[test]
 fn a_running_port_loads_what_the_core_loads(rt: HostRuntime) {
     let (writer, mut seats) = open_seats::<8>(rt.alloc()).expect(&rt, "memory");

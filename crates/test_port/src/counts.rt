@@ -72,6 +72,7 @@ fn check_four(rt: &impl Abort, writer: &mut Writer<4>, reader: &mut Reader<4>)
     longest(rt, writer, reader);
 }
 
+// rule: SAMP-22
 #[test]
 fn a_publication_and_a_read_take_so_many_steps(rt: HostRuntime) {
     let (mut writer, mut readers) = open::<8>(&rt, rt.alloc());

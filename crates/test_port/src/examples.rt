@@ -37,6 +37,7 @@ fn check_numbers<const READERS: usize>(
     check_read(rt, reader, &mut out, message(3, 4000, 1471));
 }
 
+// rule: SAMP-5, SAMP-21
 #[test]
 fn a_message_is_published_under_the_next_number_or_is_too_long(rt: HostRuntime) {
     let (mut writer, mut readers) = open::<4>(&rt, rt.alloc());
@@ -65,6 +66,7 @@ fn check_reads<const READERS: usize>(
     check_read(rt, reader, &mut out, message(2, 2000, 1));
 }
 
+// rule: EMB-36
 #[test]
 fn a_read_gives_the_newest_message_and_leaves_the_rest_of_out(rt: HostRuntime) {
     let (mut writer, mut readers) = open::<4>(&rt, rt.alloc());
@@ -103,6 +105,7 @@ fn check_holds<const READERS: usize>(
     check_read(rt, &mut reader, &mut out, message(1, 1000, 17));
 }
 
+// rule: SAMP-11, EMB-36
 #[test]
 fn a_message_is_held_word_by_word_and_given_back(rt: HostRuntime) {
     let (writer, readers) = open::<4>(&rt, rt.alloc());
@@ -147,6 +150,7 @@ fn check_meeting<const READERS: usize>(
     check_found(rt, writer, reader, message(2, 2000, 0));
 }
 
+// rule: PORT-18
 #[test]
 fn a_reader_that_met_the_writer_finds_what_was_published(rt: HostRuntime) {
     let (mut writer, mut readers) = open::<4>(&rt, rt.alloc());
@@ -173,6 +177,7 @@ fn check_last<const READERS: usize>(
     check_octets(rt, &out, [6, 4, 9, 99]);
 }
 
+// rule: PORT-18
 #[test]
 fn the_last_message_is_read_by_a_thread_that_has_both_ends(rt: HostRuntime) {
     let (mut writer, mut readers) = open::<4>(&rt, rt.alloc());

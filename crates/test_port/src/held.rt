@@ -48,6 +48,7 @@ fn check_last<const READERS: usize>(
     check_read(rt, &mut reader, &mut [0; 1471], wanted);
 }
 
+// rule: SAMP-12, SAMP-16
 #[test]
 fn a_message_that_is_held_stays_while_others_are_published(rt: HostRuntime) {
     let (writer, readers) = open::<4>(&rt, rt.alloc());
@@ -72,6 +73,7 @@ fn check_left<const READERS: usize>(
     check_last(rt, hold(rt, reader, 2).release(), 2, 0);
 }
 
+// rule: PORT-4
 #[test]
 fn a_writer_that_is_dropped_leaves_its_last_message(rt: HostRuntime) {
     let (writer, readers) = open::<4>(&rt, rt.alloc());
@@ -129,6 +131,7 @@ fn check_all<const READERS: usize>(rt: &impl Abort, alloc: Global)
     check_each(rt, all, READERS as u64 + 20);
 }
 
+// rule: SAMP-15, SAMP-21
 #[test]
 fn the_writer_goes_on_while_every_reader_holds_a_message_of_its_own(rt: HostRuntime) {
     check_all::<1>(&rt, rt.alloc());
@@ -145,6 +148,7 @@ fn check_dropped<const READERS: usize>(rt: &impl Abort, alloc: Global)
     publish_twenty(rt, &mut writer, READERS as u64 + 1);
 }
 
+// rule: SAMP-21, SAMP-24
 #[test]
 fn the_writer_goes_on_where_every_reader_held_and_was_dropped(rt: HostRuntime) {
     check_dropped::<4>(&rt, rt.alloc());

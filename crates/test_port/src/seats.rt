@@ -71,6 +71,7 @@ fn check_late_look<const READERS: usize>(
     load_first(rt, seat, 97);
 }
 
+// rule: SAMP-23
 #[test]
 fn a_late_look_finds_the_newest_message(rt: HostRuntime) {
     let (writer, mut seats) = open_seats::<4>(rt.alloc()).expect(&rt, "memory");
@@ -142,6 +143,7 @@ fn check_overtaken<const READERS: usize>(
     check_read(rt, &mut Reader::from_seat(seat), &mut [0; 1471], wanted);
 }
 
+// rule: SAMP-14, SAMP-23, EMB-36
 #[test]
 fn a_reader_that_is_overtaken_at_each_try_is_busy(rt: HostRuntime) {
     let (writer, seats) = open_seats::<4>(rt.alloc()).expect(&rt, "memory");
@@ -225,6 +227,7 @@ fn check_seat_again<const READERS: usize>(
     check_held_words(rt, reader.into_seat());
 }
 
+// rule: SAMP-20
 #[test]
 fn an_end_is_made_of_a_seat_and_hands_it_back(rt: HostRuntime) {
     let (writer, seats) = open_seats::<4>(rt.alloc()).expect(&rt, "memory");

@@ -206,21 +206,25 @@ fn check_eight<R: Abort + Threads + Sync>(rt: &R, alloc: Global, look: Look) {
     check_last_of_four(rt, second);
 }
 
+// rule: SAMP-20, EMB-36
 #[test]
 fn four_threads_read_whole_messages_in_order(rt: HostRuntime) {
     check_four(&rt, rt.alloc(), Look::Reads);
 }
 
+// rule: SAMP-20, EMB-36
 #[test]
 fn eight_threads_read_whole_messages_in_order(rt: HostRuntime) {
     check_eight(&rt, rt.alloc(), Look::Reads);
 }
 
+// rule: SAMP-16, EMB-36
 #[test]
 fn four_threads_hold_whole_messages_in_order(rt: HostRuntime) {
     check_four(&rt, rt.alloc(), Look::Holds);
 }
 
+// rule: SAMP-16, EMB-36
 #[test]
 fn eight_threads_hold_whole_messages_in_order(rt: HostRuntime) {
     check_eight(&rt, rt.alloc(), Look::Holds);
@@ -260,6 +264,7 @@ fn check_short<R: Abort + Threads + Sync>(rt: &R, alloc: Global) {
     );
 }
 
+// rule: EMB-36
 #[test]
 fn a_short_message_is_read_with_its_own_time(rt: HostRuntime) {
     check_short(&rt, rt.alloc());

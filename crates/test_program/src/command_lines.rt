@@ -66,6 +66,7 @@ fn files() -> [Row; 3] {
     ]
 }
 
+// rule: CMD-1, CMD-4
 #[test]
 fn reads_the_files(rt: HostRuntime) {
     check_lines(&rt, rt.alloc(), &files());
@@ -84,11 +85,13 @@ fn help_and_refusals() -> [Row; 8] {
     ]
 }
 
+// rule: CMD-1, CMD-5, FAULT-3
 #[test]
 fn help_and_refusals_differ(rt: HostRuntime) {
     check_starts(&rt, rt.alloc(), &help_and_refusals());
 }
 
+// rule: CMD-5
 #[test]
 fn prints_the_help(rt: HostRuntime) {
     let expected = "help: Plays the hex traces of two redundant networks through a receiver
@@ -106,6 +109,7 @@ Options:
     check_line(&rt, rt.alloc(), "--help", expected);
 }
 
+// rule: FAULT-3
 #[test]
 fn prints_a_refusal(rt: HostRuntime) {
     let expected = "refused: error: the following required arguments were not provided:
@@ -127,6 +131,7 @@ fn places_of_the_time() -> [Row; 4] {
     ]
 }
 
+// rule: CMD-1, CMD-2, CMD-4
 #[test]
 fn the_time_stands_before_or_after_the_files(rt: HostRuntime) {
     check_lines(&rt, rt.alloc(), &places_of_the_time());
@@ -146,6 +151,7 @@ fn flags() -> [Row; 3] {
     ]
 }
 
+// rule: CMD-1, CMD-3
 #[test]
 fn reads_the_flag_of_the_threads(rt: HostRuntime) {
     check_starts(&rt, rt.alloc(), &flags());
@@ -172,6 +178,7 @@ fn times() -> [Row; 7] {
     ]
 }
 
+// rule: CMD-2
 #[test]
 fn reads_the_time(rt: HostRuntime) {
     check_lines(&rt, rt.alloc(), &times());
@@ -222,11 +229,13 @@ fn bad_times() -> [Row; 10] {
     ]
 }
 
+// rule: CMD-2, FAULT-3
 #[test]
 fn refuses_what_is_no_time(rt: HostRuntime) {
     check_starts(&rt, rt.alloc(), &bad_times());
 }
 
+// rule: CMD-2, FAULT-3
 #[test]
 fn prints_the_refusal_of_a_time(rt: HostRuntime) {
     let expected = "refused: error: invalid value '9223372036854775808' for '--at <MICROSECONDS>': \

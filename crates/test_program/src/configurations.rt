@@ -36,6 +36,7 @@ fn documents() -> [Document; 3] {
     ]
 }
 
+// rule: CONF-20, CONF-21, FAULT-5
 #[test]
 fn a_file_that_is_no_document_is_refused(rt: HostRuntime) {
     for (octets, errors) in documents() {
@@ -97,6 +98,7 @@ fn check_change(rt: &(impl Abort + Threads + Wait + Sync), alloc: Global, change
     check_refused(rt, alloc, config.as_bytes(), errors.as_str());
 }
 
+// rule: FAULT-4, FAULT-5
 #[test]
 fn each_fault_of_a_configuration_has_its_words(rt: HostRuntime) {
     for row in changes() {
@@ -104,6 +106,7 @@ fn each_fault_of_a_configuration_has_its_words(rt: HostRuntime) {
     }
 }
 
+// rule: CONF-3, FAULT-5
 #[test]
 fn too_many_links_have_their_words(rt: HostRuntime) {
     let config = "[[link]]\n".repeat(rt.alloc(), 65).expect(&rt, "memory");

@@ -104,6 +104,7 @@ fn check_example(
     check_files(rt, alloc, files, wanted);
 }
 
+// rule: CMD-6, FAULT-1
 #[test]
 fn the_example_of_the_readme_prints_what_stands_there(rt: HostRuntime) {
     check_example(&rt, rt.alloc(), NETWORK_A, NETWORK_B, OUTPUT);

@@ -58,6 +58,7 @@ fn check_unread(rt: &(impl Abort + Threads + Wait + Sync), alloc: Global, row: U
     );
 }
 
+// rule: CMD-6, FAULT-1, FAULT-4, FAULT-6
 #[test]
 fn a_file_that_is_not_read_has_its_words_and_status(rt: HostRuntime) {
     for row in unread_files() {
@@ -121,6 +122,7 @@ fn check_traces(
     check_files(rt, alloc, (Ok(BUILT_IN.as_bytes()), Ok(a), Ok(b)), wanted);
 }
 
+// rule: TRACE-14, CMD-6, FAULT-4, FAULT-6
 #[test]
 fn a_trace_that_is_refused_has_its_words_and_status(rt: HostRuntime) {
     for (a, b, errors, status) in faulty_traces() {
@@ -134,6 +136,7 @@ fn check_long_line(rt: &(impl Abort + Threads + Wait + Sync), alloc: Global, lin
     check_traces(rt, alloc, a, b, "afdx_play: trace A line 1: long line\n", 1);
 }
 
+// rule: TRACE-8, FAULT-6
 #[test]
 fn a_long_line_has_its_words_and_status(rt: HostRuntime) {
     let comment = "#".repeat(rt.alloc(), 8193).expect(&rt, "memory");

@@ -103,6 +103,7 @@ fn check_short(rt: &(impl Abort + Threads + Wait + Sync), alloc: Global) {
     check_input(rt, alloc, trace.as_str(), played(output.as_str()));
 }
 
+// rule: FRAME-2, OUT-4, REP-9
 #[test]
 fn every_beginning_of_less_than_60_octets_is_filtered(rt: HostRuntime) {
     check_short(&rt, rt.alloc());
@@ -126,6 +127,7 @@ fn check_cut(rt: &(impl Abort + Threads + Wait + Sync), alloc: Global, frame: &[
     check_input(rt, alloc, trace.as_str(), played(output.as_str()));
 }
 
+// rule: IP-4, OUT-6
 #[test]
 fn a_frame_that_was_cut_has_a_bad_header(rt: HostRuntime) {
     let frame = longest_frame(&rt, rt.alloc());
@@ -173,6 +175,7 @@ fn check_packets(rt: &(impl Abort + Threads + Wait + Sync), alloc: Global, row: 
     check_input(rt, alloc, trace.as_str(), played(output.as_str()));
 }
 
+// rule: REAS-3, REAS-12, UDP-4, OUT-6
 #[test]
 fn malicious_fragments_are_refused(rt: HostRuntime) {
     for row in packets() {
@@ -195,6 +198,7 @@ fn bad_lines() -> [(&'static str, &'static str); 5] {
     ]
 }
 
+// rule: TRACE-13
 #[test]
 fn bad_lines_are_refused(rt: HostRuntime) {
     for (line, errors) in bad_lines() {
@@ -212,6 +216,7 @@ fn check_comments(rt: &(impl Abort + Threads + Wait + Sync), alloc: Global) {
     check_input(rt, alloc, longer.as_str(), refused(1, errors));
 }
 
+// rule: TRACE-8
 #[test]
 fn the_longest_comment_is_skipped_and_a_longer_one_refused(rt: HostRuntime) {
     check_comments(&rt, rt.alloc());
@@ -236,6 +241,7 @@ fn check_second(
     check_files(rt, alloc, (Ok(BUILT_IN.as_bytes()), Ok(a), Ok(b)), wanted);
 }
 
+// rule: TRACE-14
 #[test]
 fn a_fault_of_trace_a_comes_before_a_failed_read_of_b(rt: HostRuntime) {
     let alloc = rt.alloc();
@@ -279,6 +285,7 @@ fn check_room(
     check_streams(rt, alloc, read, &calls, wanted);
 }
 
+// rule: FAULT-2
 #[test]
 fn a_writer_fails_or_takes_nothing_more_after_each_byte(rt: HostRuntime) {
     for room in 0..OUTPUT.len() {
@@ -287,6 +294,7 @@ fn a_writer_fails_or_takes_nothing_more_after_each_byte(rt: HostRuntime) {
     }
 }
 
+// rule: TRACE-11, OUT-3
 #[test]
 fn a_trace_comes_and_goes_byte_by_byte(rt: HostRuntime) {
     let calls = [WriteCall::Takes(1); OUTPUT.len()];

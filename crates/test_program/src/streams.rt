@@ -54,6 +54,7 @@ fn check_streams(rt: &(impl Abort + Threads + Wait + Sync), alloc: Global, row: 
     check_given(rt, alloc, words, given, wanted);
 }
 
+// rule: TRACE-11, FAULT-2, FAULT-4, FAULT-6
 #[test]
 fn a_stream_that_fails_has_its_words_and_status(rt: HostRuntime) {
     for row in failing_streams() {
@@ -79,6 +80,7 @@ fn check_untold(rt: &(impl Abort + Threads + Wait + Sync), alloc: Global) {
     check_given(rt, alloc, words, given, wanted);
 }
 
+// rule: FAULT-4
 #[test]
 fn a_fault_that_is_not_told_has_its_status(rt: HostRuntime) {
     check_untold(&rt, rt.alloc());

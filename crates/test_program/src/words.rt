@@ -77,6 +77,7 @@ fn check_row(rt: &(impl Abort + Threads + Wait + Sync), alloc: Global, row: Row)
     check_run(rt, alloc, words, input, empty_shelf(alloc), wanted);
 }
 
+// rule: TRACE-10, CMD-5, FAULT-4
 #[test]
 fn words_ask_for_the_standard_input_or_the_help(rt: HostRuntime) {
     for row in runs_without_files() {
@@ -102,6 +103,7 @@ fn check_unread(
     check_run(rt, alloc, words, FRAME, empty_shelf(alloc), wanted);
 }
 
+// rule: FAULT-4, FAULT-6
 #[test]
 fn words_that_are_no_text_are_refused(rt: HostRuntime) {
     let refused = "afdx_play: command line refused\n";
@@ -136,6 +138,7 @@ fn check_line(rt: &(impl Abort + Threads + Wait + Sync), alloc: Global, config: 
     check_files(rt, alloc, files, wanted);
 }
 
+// rule: CMD-1, CMD-6
 #[test]
 fn a_command_line_plays_its_files(rt: HostRuntime) {
     let config = BUILT_IN.replace(rt.alloc(), "\"pos\"", "\"height\"");
@@ -172,6 +175,7 @@ fn check_threads(rt: &(impl Abort + Threads + Wait + Sync), alloc: Global) {
     check_run(rt, alloc, Ok(words), "1 00", shelf, wanted);
 }
 
+// rule: REP-10, CMD-3
 #[test]
 fn a_command_line_plays_its_files_with_threads(rt: HostRuntime) {
     check_threads(&rt, rt.alloc());

@@ -83,7 +83,7 @@ fn check_refusals(rt: &(impl Abort + Wait), alloc: Global) {
     take(rt, alloc, &mut taker, 2);
 }
 
-// rule: PORT-10
+// rule: PORT-10, PORT-17
 #[test]
 fn a_queue_that_refused_many_messages_takes_one_again(rt: HostRuntime) {
     check_refusals(&rt, rt.alloc());

@@ -63,6 +63,7 @@ fn check_bad_everywhere(rt: &impl Abort, alloc: Global, bad: u8) {
     }
 }
 
+// rule: TRACE-3
 #[test]
 fn a_bad_byte_is_seen_at_each_place(rt: HostRuntime) {
     for bad in BAD {
@@ -92,6 +93,7 @@ fn check_bad_in_each(rt: &impl Abort, alloc: Global) {
 }
 
 /// Up to 40 octets, so that some come before, between and after those that are decoded at a time.
+// rule: TRACE-3
 #[test]
 fn a_bad_digit_is_seen_in_lines_of_each_length(rt: HostRuntime) {
     check_bad_in_each(&rt, rt.alloc());
@@ -115,6 +117,7 @@ fn check_counts(rt: &impl Abort, alloc: Global) {
     }
 }
 
+// rule: TRACE-3
 #[test]
 fn an_odd_number_of_digits_is_refused(rt: HostRuntime) {
     check_counts(&rt, rt.alloc());
@@ -127,6 +130,7 @@ fn check_second_line(rt: &impl Abort, alloc: Global, trace: &[u8], cause: TraceC
 }
 
 /// Each second line has a time below that of the first.
+// rule: TRACE-5, TRACE-13
 #[test]
 fn bad_digits_come_before_a_time_that_falls(rt: HostRuntime) {
     check_second_line(&rt, rt.alloc(), b"10 00\n5 0g", TraceCause::Hex);
@@ -135,6 +139,7 @@ fn bad_digits_come_before_a_time_that_falls(rt: HostRuntime) {
 }
 
 /// The first of two faults is the one that is told: the odd number, and then the first bad byte.
+// rule: TRACE-3
 #[test]
 fn of_two_bad_bytes_the_first_is_told(rt: HostRuntime) {
     let bad = FromHexError::InvalidHexCharacter { c: 'g', index: 2 };
@@ -151,6 +156,7 @@ const EVERY_VALUE: [u8; 17] = [
     0xff,
 ];
 
+// rule: TRACE-3
 #[test]
 fn digits_of_both_cases_stand_in_one_line(rt: HostRuntime) {
     check_octets(&rt, rt.alloc(), EVERY_DIGIT, &EVERY_VALUE);

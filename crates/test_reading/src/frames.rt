@@ -92,6 +92,7 @@ fn check_smallest_frame(rt: &impl Abort, frame: &Frame<'_>) {
     check_field(rt, "octets", frame.whole.len() as u64, 60);
 }
 
+// rule: WIRE-1, WIRE-2
 #[test]
 fn the_smallest_frame_is_read_field_by_field(rt: HostRuntime) {
     let octets = smallest_octets(&rt, rt.alloc(), 7);

@@ -61,6 +61,7 @@ fn check_lengths(rt: &impl Abort, alloc: Global) {
     }
 }
 
+// rule: TRACE-1, TRACE-3, TRACE-8
 #[test]
 fn lines_up_to_the_longest_are_read(rt: HostRuntime) {
     check_lengths(&rt, rt.alloc());
@@ -74,6 +75,7 @@ fn check_comments(rt: &impl Abort, alloc: Global, count: usize, line: u64) {
     assert!(rt; fault == Some(fault_at(line, TraceCause::Time)));
 }
 
+// rule: TRACE-6, TRACE-7, TRACE-12
 #[test]
 fn a_fault_after_a_million_bytes_of_comments_is_told_with_its_line(rt: HostRuntime) {
     check_comments(&rt, rt.alloc(), 100_000, 100_001);

@@ -44,7 +44,7 @@ fn check_smallest_datagram(rt: &impl Abort, packet: &Packet<'_>) {
     assert!(rt; datagram.payload.starts_with(&[1, 2]));
 }
 
-// rule: UDP-2
+// rule: UDP-2, WIRE-1, WIRE-3, WIRE-4
 #[test]
 fn the_smallest_packet_is_read_field_by_field(rt: HostRuntime) {
     let octets = smallest_octets(&rt, rt.alloc(), 7);
@@ -74,7 +74,7 @@ fn check_smallest_head(rt: &impl Abort, octets: &[u8]) {
     check_field(rt, "octets", head.payload_octets as u64, 17);
 }
 
-// rule: UDP-1
+// rule: UDP-1, WIRE-4
 #[test]
 fn a_udp_header_is_read_in_the_first_octets(rt: HostRuntime) {
     let octets = smallest_octets(&rt, rt.alloc(), 7);
@@ -99,7 +99,7 @@ fn check_fragment(rt: &impl Abort, alloc: Global, (ip, offset): Fragment) {
     assert!(rt; packet.more);
 }
 
-// rule: FRAME-7
+// rule: FRAME-7, WIRE-3
 #[test]
 fn fragments_are_read(rt: HostRuntime) {
     for row in fragments() {

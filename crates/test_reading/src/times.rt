@@ -19,6 +19,7 @@ fn check_cause(rt: &impl Abort, alloc: Global, line: &[u8], cause: TraceCause) {
     assert!(rt; fault == Some(fault_at(1, cause)), "{line:?}");
 }
 
+// rule: TRACE-2
 #[test]
 fn long_times_are_read(rt: HostRuntime) {
     let alloc = rt.alloc();
@@ -43,6 +44,7 @@ fn long_times_are_read(rt: HostRuntime) {
     check_time(&rt, alloc, b"18446744073709551615 00", u64::MAX);
 }
 
+// rule: TRACE-2
 #[test]
 fn times_that_do_not_fit_64_bits_are_refused(rt: HostRuntime) {
     let alloc = rt.alloc();
@@ -51,6 +53,7 @@ fn times_that_do_not_fit_64_bits_are_refused(rt: HostRuntime) {
     check_cause(&rt, alloc, b"100000000000000000000 00", TraceCause::Time);
 }
 
+// rule: TRACE-3
 #[test]
 fn a_space_follows_a_time_of_any_length(rt: HostRuntime) {
     let alloc = rt.alloc();

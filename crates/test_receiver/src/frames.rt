@@ -33,6 +33,7 @@ fn check_worked(rt: &impl Abort, alloc: Global) {
     check_rows(rt, alloc, &joined_for_a_sampling_port().map(packet_row));
 }
 
+// rule: HIST-1, EMB-4
 #[test]
 fn worked_frames_have_their_verdicts(rt: HostRuntime) {
     check_worked(&rt, rt.alloc());
@@ -78,7 +79,7 @@ fn check_causes(rt: &impl Abort, alloc: Global) {
     check_filtered(rt, &given, B, FilterCause::TooShort, 3);
 }
 
-// rule: COUNT-2
+// rule: COUNT-2, EMB-5
 #[test]
 fn filtered_frames_are_counted_by_network_and_cause(rt: HostRuntime) {
     check_causes(&rt, rt.alloc());
@@ -182,7 +183,7 @@ fn check_many(rt: &impl Abort, alloc: Global) {
     assert!(rt; count_all(rt, &given) == 26_000);
 }
 
-// rule: COUNT-1
+// rule: COUNT-1, EMB-1, EMB-5
 #[test]
 fn many_frames_of_all_kinds_are_counted(rt: HostRuntime) {
     check_many(&rt, rt.alloc());

@@ -35,6 +35,7 @@ fn check_heard(rt: &impl Abort, alloc: Global) {
     check_latest(rt, &given, 1, None, None);
 }
 
+// rule: EMB-6
 #[test]
 fn each_frame_of_a_link_is_the_latest_of_its_network(rt: HostRuntime) {
     check_heard(&rt, rt.alloc());
@@ -91,6 +92,7 @@ fn check_queue(rt: &impl Abort, alloc: Global) {
     assert!(rt; given.receiver.waiting(2, NAV).is_none());
 }
 
+// rule: EMB-7
 #[test]
 fn messages_that_nobody_took_wait(rt: HostRuntime) {
     check_queue(&rt, rt.alloc());

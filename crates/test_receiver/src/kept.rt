@@ -67,6 +67,7 @@ fn check_kept(rt: &impl Abort, alloc: Global) {
     assert!(rt; receiver.link(2).is_none());
 }
 
+// rule: PORT-4, EMB-4, OUT-8, REP-5, REP-7
 #[test]
 fn plain_memory_keeps_the_newest_sample_and_the_first_messages(rt: HostRuntime) {
     check_kept(&rt, rt.alloc());

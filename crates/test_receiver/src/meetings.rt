@@ -42,6 +42,7 @@ fn meet_reader(rt: &impl Abort, alloc: Global) {
     assert!(rt; reader.read(1000, &mut [0; 17]) == wanted);
 }
 
+// rule: PORT-18, EMB-11
 #[test]
 fn a_reader_that_met_its_port_reads_what_came(rt: HostRuntime) {
     meet_reader(&rt, rt.alloc());
@@ -61,6 +62,7 @@ fn meet_taker(rt: &impl Abort, alloc: Global) {
     take(rt, &mut taker, 2000);
 }
 
+// rule: PORT-18, EMB-11
 #[test]
 fn a_taker_that_met_its_queue_takes_what_came(rt: HostRuntime) {
     meet_taker(&rt, rt.alloc());

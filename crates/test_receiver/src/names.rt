@@ -29,6 +29,7 @@ fn check_names(rt: &impl Abort, alloc: Global) {
     assert!(rt; opened.take_end("nav").is_none() && opened.place_of("nav").is_none());
 }
 
+// rule: EMB-3
 #[test]
 fn ends_are_had_by_name_and_no_oftener_than_there_are(rt: HostRuntime) {
     check_names(&rt, rt.alloc());
@@ -48,6 +49,7 @@ fn check_counts(rt: &impl Abort, alloc: Global) {
     assert!(rt; ReaderCount::new(0).is_none() && ReaderCount::new(9).is_none());
 }
 
+// rule: EMB-2, EMB-3
 #[test]
 fn a_sampling_port_has_as_many_readers_as_the_opening_was_told(rt: HostRuntime) {
     check_counts(&rt, rt.alloc());
@@ -66,6 +68,7 @@ fn check_longest(rt: &impl Abort, alloc: Global) {
     assert!(rt; pos.max() == 40 && alt.max() == 1471);
 }
 
+// rule: EMB-2
 #[test]
 fn each_reader_has_the_longest_message_of_its_own_port(rt: HostRuntime) {
     check_longest(&rt, rt.alloc());

@@ -53,7 +53,7 @@ fn check_all_read(rt: &impl Abort, alloc: Global) {
     }
 }
 
-// rule: PORT-7
+// rule: PORT-7, EMB-2, EMB-4
 #[test]
 fn every_reader_of_a_port_reads_the_newest_message(rt: HostRuntime) {
     check_all_read(&rt, rt.alloc());
@@ -107,7 +107,7 @@ fn check_queue(rt: &impl Abort, alloc: Global) {
     check_count(rt, &given, A, Overflow(NAV), 2);
 }
 
-// rule: PORT-7
+// rule: PORT-7, PORT-17, EMB-10
 #[test]
 fn a_taker_takes_in_order_and_makes_room(rt: HostRuntime) {
     check_queue(&rt, rt.alloc());

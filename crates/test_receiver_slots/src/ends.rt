@@ -59,6 +59,7 @@ fn check_readers_handed(rt: &impl Abort, alloc: Global) {
     assert!(rt; refusal(&mut slot, b"pos") == NOT_OPEN);
 }
 
+// rule: EMB-12
 #[test]
 fn eight_readers_are_handed_out_by_the_name_of_a_port(rt: HostRuntime) {
     check_readers_handed(&rt, rt.alloc());
@@ -145,6 +146,7 @@ fn check_reads(rt: &impl Abort, alloc: Global) {
     assert!(rt; is_closed && is_gone, "closed");
 }
 
+// rule: EMB-15, EMB-18, EMB-23
 #[test]
 fn a_reader_reads_holds_and_copies_the_newest_message(rt: HostRuntime) {
     check_reads(&rt, rt.alloc());
@@ -196,6 +198,7 @@ fn check_takes(rt: &impl Abort, alloc: Global) {
     assert!(rt; take(&mut nav, &mut out).0 == NOT_OPEN);
 }
 
+// rule: EMB-12, EMB-15, EMB-19
 #[test]
 fn a_taker_takes_each_message_once_and_in_order(rt: HostRuntime) {
     check_takes(&rt, rt.alloc());
@@ -218,6 +221,7 @@ fn check_time(rt: &impl Abort, alloc: Global, time: u64) {
     let _ = pos.into_reader();
 }
 
+// rule: EMB-18, EMB-19
 #[test]
 fn times_of_64_bits_are_told_whole(rt: HostRuntime) {
     check_time(&rt, rt.alloc(), (1 << 48) + 7);

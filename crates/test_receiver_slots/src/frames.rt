@@ -97,6 +97,7 @@ fn check_frames(rt: &impl Abort, alloc: Global) {
     );
 }
 
+// rule: EMB-15, EMB-16
 #[test]
 fn what_becomes_of_a_frame_is_told_by_numbers_and_counted(rt: HostRuntime) {
     check_frames(&rt, rt.alloc());

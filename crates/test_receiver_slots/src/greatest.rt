@@ -127,7 +127,7 @@ fn check_greatest(rt: &impl Abort, alloc: Global) {
     }
 }
 
-// rule: FRAME-6
+// rule: FRAME-6, EMB-2, EMB-4, EMB-17, CONF-3, CONF-9
 #[test]
 fn sixty_four_links_and_thirty_two_ports_are_told_apart(rt: HostRuntime) {
     check_greatest(&rt, rt.alloc());

@@ -71,6 +71,7 @@ fn check_health(rt: &impl Abort, alloc: Global) {
     assert!(rt; health(&slot, 0) == (NOT_OPEN, UNTOLD));
 }
 
+// rule: EMB-6, EMB-21
 #[test]
 fn when_frames_came_and_what_was_given_up_is_told(rt: HostRuntime) {
     check_health(&rt, rt.alloc());
@@ -89,6 +90,7 @@ fn check_waiting(rt: &impl Abort, alloc: Global) {
     assert!(rt; waiting(&mut slot, 0, 1) == (NOT_OPEN, 99));
 }
 
+// rule: EMB-21
 #[test]
 fn the_messages_that_wait_at_a_port_are_told(rt: HostRuntime) {
     check_waiting(&rt, rt.alloc());

@@ -99,6 +99,7 @@ fn check_name_of_another_link(rt: &impl Abort, alloc: Global) {
     );
 }
 
+// rule: EMB-22, CONF-21, CONF-24, CONF-25
 #[test]
 fn the_fault_of_a_text_is_told_by_numbers(rt: HostRuntime) {
     check_faults(&rt, rt.alloc());
@@ -121,6 +122,7 @@ fn check_reader_counts(rt: &impl Abort, alloc: Global) {
     assert!(rt; slot.hand_reader(&mut other, b"pos") == NONE_LEFT);
 }
 
+// rule: EMB-20
 #[test]
 fn a_sampling_port_has_1_to_8_readers(rt: HostRuntime) {
     check_reader_counts(&rt, rt.alloc());
@@ -137,6 +139,7 @@ fn check_opened_twice(rt: &impl Abort, alloc: Global) {
     assert!(rt; fault == NO_FAULT);
 }
 
+// rule: EMB-15, EMB-24
 #[test]
 fn a_slot_is_opened_once_and_again_after_it_was_closed(rt: HostRuntime) {
     check_opened_twice(&rt, rt.alloc());

@@ -124,11 +124,13 @@ fn check_places(rt: &impl Abort, alloc: Global) {
     check_closed(rt, &slot);
 }
 
+// rule: EMB-17
 #[test]
 fn links_and_ports_are_told_by_their_places_and_names(rt: HostRuntime) {
     check_places(&rt, rt.alloc());
 }
 
+// rule: EMB-17
 #[test]
 fn all_settings_of_a_link_are_told(rt: HostRuntime) {
     check_settings(&rt, rt.alloc());

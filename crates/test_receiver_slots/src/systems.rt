@@ -131,6 +131,7 @@ fn check_frames(rt: &impl Abort, alloc: Global) {
     check_ends(rt, &mut system);
 }
 
+// rule: EMB-25, EMB-26, EMB-27
 #[test]
 fn what_becomes_of_a_frame_is_told_by_its_pass(rt: HostRuntime) {
     check_frames(&rt, rt.alloc());
@@ -168,6 +169,7 @@ fn check_pass_outlives_system(rt: &impl Abort, alloc: Global) {
     assert!(rt; reply(rt, &mut b, 4000, &frame(rt, alloc, false, 3)).number == 2);
 }
 
+// rule: EMB-25, EMB-28
 #[test]
 fn a_pass_is_handed_out_once_and_outlives_its_system(rt: HostRuntime) {
     check_passes(&rt, rt.alloc());
@@ -209,6 +211,7 @@ fn check_facts(rt: &impl Abort, alloc: Global) {
     );
 }
 
+// rule: EMB-25
 #[test]
 fn a_system_is_opened_once_and_told_by_its_places(rt: HostRuntime) {
     check_opened_twice(&rt, rt.alloc());

@@ -80,6 +80,7 @@ fn check_table(rt: &impl Abort, alloc: Global) {
     }
 }
 
+// rule: CONF-26
 #[test]
 fn a_table_is_opened_as_the_text_that_says_the_same(rt: HostRuntime) {
     check_table(&rt, rt.alloc());
@@ -120,6 +121,7 @@ fn check_faults(rt: &impl Abort, alloc: Global) {
     check_fault(rt, alloc, LINK, &[POS, NAV, NAV], fault(8, 0, (0, 0, 0)));
 }
 
+// rule: CONF-26
 #[test]
 fn the_fault_of_a_table_is_that_of_a_text_without_a_line(rt: HostRuntime) {
     check_faults(&rt, rt.alloc());
@@ -172,6 +174,7 @@ fn check_readers(rt: &impl Abort, alloc: Global) {
     );
 }
 
+// rule: EMB-20
 #[test]
 fn each_port_of_a_table_has_as_many_readers_as_its_row_says(rt: HostRuntime) {
     check_readers(&rt, rt.alloc());

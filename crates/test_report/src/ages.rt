@@ -26,7 +26,7 @@ fn check(rt: &impl Abort, (now, time, refresh, state): Row) {
     );
 }
 
-// rule: PORT-14, PORT-15
+// rule: PORT-14, PORT-15, REP-5
 #[test]
 fn a_message_is_fresh_up_to_its_refresh_period(rt: HostRuntime) {
     for row in rows() {

@@ -38,6 +38,7 @@ fn check_newest(rt: &impl Abort, alloc: Global, at: u64, count: usize, line: &st
     assert!(rt; text.as_slice() == line.as_bytes());
 }
 
+// rule: REP-3, REP-5
 #[test]
 fn a_sampling_port_shows_its_newest_message(rt: HostRuntime) {
     check_newest(&rt, rt.alloc(), 0, 0, "port pos sampling empty\n");
@@ -56,6 +57,7 @@ fn check_queue(rt: &impl Abort, alloc: Global, count: usize, lines: &str) {
     assert!(rt; text.as_slice() == lines.as_bytes());
 }
 
+// rule: REP-6, REP-7
 #[test]
 fn a_queuing_port_shows_all_its_messages_in_order(rt: HostRuntime) {
     check_queue(&rt, rt.alloc(), 0, "port nav queuing 0\n");
@@ -80,6 +82,7 @@ filtered A 0 0 0 0 0
 filtered B 0 0 0 0 0
 ";
 
+// rule: REP-8, REP-9
 #[test]
 fn counts_stand_by_network(rt: HostRuntime) {
     check_zeros(&rt, rt.alloc());

@@ -31,7 +31,7 @@ fn check_events(rt: &impl Abort) {
     check_counts(rt, &tally, B, [0, 1, 0, 0, 0, 0, 0, 0, 0, 0, 0, 0, 1]);
 }
 
-// rule: COUNT-1
+// rule: COUNT-1, REP-8
 #[test]
 fn events_are_counted_by_network_and_kind(rt: HostRuntime) {
     check_events(&rt);
@@ -64,7 +64,7 @@ fn check_causes(rt: &impl Abort) {
     check_filtered(rt, &tally, B, [0, 0, 0, 0, 1]);
 }
 
-// rule: COUNT-2
+// rule: COUNT-2, REP-9
 #[test]
 fn filtered_frames_are_counted_by_network_and_cause(rt: HostRuntime) {
     check_causes(&rt);

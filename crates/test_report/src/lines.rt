@@ -36,6 +36,7 @@ fn check_event(rt: &impl Abort, alloc: Global, verdict: Verdict, text: &str) {
 }
 
 /// No trace of a test is long enough to come to this verdict.
+// rule: OUT-2, OUT-6
 #[test]
 fn a_port_that_has_used_up_its_message_numbers_is_named(rt: HostRuntime) {
     let exhausted = Verdict::Exhausted(PortNo(0));
@@ -52,12 +53,14 @@ fn check_empty_port(rt: &impl Abort, alloc: Global) {
     check_line(rt, alloc, queuing, "port nav queuing 0");
 }
 
+// rule: REP-3, REP-6
 #[test]
 fn ports_without_messages_have_a_line(rt: HostRuntime) {
     check_empty_port(&rt, rt.alloc());
 }
 
 /// No run comes to this line, but for a reader beside a writer that is faster at each of its tries.
+// rule: REP-4
 #[test]
 fn a_port_that_was_never_still_has_a_line(rt: HostRuntime) {
     let busy = BusyLine { name: "pos" };
@@ -87,6 +90,7 @@ fn check_samples(rt: &impl Abort, alloc: Global) {
     check_line(rt, alloc, empty, "port pos sampling 1 1000 0 stale");
 }
 
+// rule: REP-5, REP-12
 #[test]
 fn the_newest_message_of_a_sampling_port_is_printed(rt: HostRuntime) {
     check_samples(&rt, rt.alloc());
@@ -107,6 +111,7 @@ fn check_queued(rt: &impl Abort, alloc: Global) {
     check_line(rt, alloc, queued(0, &[]), "message nav 0 0");
 }
 
+// rule: REP-7
 #[test]
 fn a_message_of_a_queue_is_printed(rt: HostRuntime) {
     check_queued(&rt, rt.alloc());
@@ -148,6 +153,7 @@ fn lengths() -> [usize; 7] {
     [255, 256, 257, 271, 272, 273, 8192]
 }
 
+// rule: REP-12
 #[test]
 fn a_long_message_is_printed_whole(rt: HostRuntime) {
     for octets in lengths() {
@@ -156,6 +162,7 @@ fn a_long_message_is_printed_whole(rt: HostRuntime) {
 }
 
 /// Lengths on both sides of 16 octets, below which there is no block, and of each number of blocks to 4.
+// rule: REP-12
 #[test]
 fn messages_of_each_length_to_70_octets_are_printed_whole(rt: HostRuntime) {
     for octets in 1..=70 {
@@ -178,6 +185,7 @@ fn check_no_counts(rt: &impl Abort, alloc: Global) {
     check_line(rt, alloc, line, "filtered B 0 0 0 0 0");
 }
 
+// rule: REP-8, REP-9
 #[test]
 fn counts_of_nothing_are_zeros(rt: HostRuntime) {
     check_no_counts(&rt, rt.alloc());
@@ -192,6 +200,7 @@ fn check_after(rt: &impl Abort, alloc: Global, length: usize) {
     assert!(rt; text.get(length..) == Some(b"countport pos sampling empty\n"));
 }
 
+// rule: OUT-1, OUT-2
 #[test]
 fn lines_are_added_to_a_text_of_a_million_bytes(rt: HostRuntime) {
     check_after(&rt, rt.alloc(), 1_000_000);

@@ -43,6 +43,7 @@ fn check_counts(rt: &impl Abort, alloc: Global, octets: u64, words: usize, count
     check_outcome(rt, alloc, steps.as_slice(), Ok(16));
 }
 
+// rule: SAMP-22
 #[test]
 fn a_publication_and_a_read_take_a_step_for_each_word_and_few_more(rt: HostRuntime) {
     check_counts(&rt, rt.alloc(), 0, 2, (11, 6));

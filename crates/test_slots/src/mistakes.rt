@@ -131,42 +131,50 @@ fn latest_too_early() -> [Move; 5] {
     ]
 }
 
+// rule: SAMP-10
 #[test]
 fn an_announcement_alone_is_no_hold(rt: HostRuntime) {
     check(&rt, rt.alloc(), &announced_after_the_scan());
 }
 
+// rule: SAMP-10
 #[test]
 fn the_second_look_comes_after_the_announcement(rt: HostRuntime) {
     let second = Refused(LOAD_SECOND, NotItsTurn);
     check(&rt, rt.alloc(), &[Publishes(0), Step(LOAD_FIRST), second]);
 }
 
+// rule: SAMP-13
 #[test]
 fn the_second_look_compares_the_message_number(rt: HostRuntime) {
     check(&rt, rt.alloc(), &announced_slot_written_again());
 }
 
+// rule: SAMP-11
 #[test]
 fn no_word_is_loaded_after_the_announcement_is_cleared(rt: HostRuntime) {
     check(&rt, rt.alloc(), &cleared());
 }
 
+// rule: SAMP-7
 #[test]
 fn no_word_is_stored_before_every_reader_is_scanned(rt: HostRuntime) {
     check(&rt, rt.alloc(), &scanned_one_by_one());
 }
 
+// rule: SAMP-7
 #[test]
 fn each_message_has_a_scan_of_its_own(rt: HostRuntime) {
     check(&rt, rt.alloc(), &held_after_the_scan());
 }
 
+// rule: SAMP-8
 #[test]
 fn the_slot_in_latest_is_not_written(rt: HostRuntime) {
     check(&rt, rt.alloc(), &newest_slot());
 }
 
+// rule: SAMP-9
 #[test]
 fn latest_is_stored_after_the_last_word(rt: HostRuntime) {
     check(&rt, rt.alloc(), &latest_too_early());

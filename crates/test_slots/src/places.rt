@@ -84,6 +84,7 @@ fn each_at_another_step() -> [Move; 7] {
     ]
 }
 
+// rule: SAMP-17
 #[test]
 fn the_place_is_tested_first(rt: HostRuntime) {
     check_nowhere(&rt, rt.alloc(), &at_the_opening());

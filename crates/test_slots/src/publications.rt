@@ -34,6 +34,7 @@ fn six_messages() -> [Move; 15] {
     ]
 }
 
+// rule: SAMP-10, SAMP-14
 #[test]
 fn a_look_that_fails_sees_newer_messages(rt: HostRuntime) {
     check(&rt, rt.alloc(), &six_messages());
@@ -50,6 +51,7 @@ fn twenty_messages() -> [Move; 20] {
 }
 
 /// No step is refused: each message takes memory, and there is enough.
+// rule: SAMP-9, SAMP-17
 #[test]
 fn many_messages_follow_one_another(rt: HostRuntime) {
     check(&rt, rt.alloc(), &twenty_messages());
@@ -80,6 +82,7 @@ fn one_held_and_one_newer() -> [Move; 9] {
     ]
 }
 
+// rule: SAMP-8, SAMP-12
 #[test]
 fn a_held_slot_and_the_newest_one_are_not_written(rt: HostRuntime) {
     check(&rt, rt.alloc(), &one_held_and_one_newer());
@@ -141,6 +144,7 @@ fn check_begun(rt: &impl Abort, alloc: Global, slot: usize, wanted: Outcome) {
     check_outcome(rt, alloc, steps.as_slice(), wanted);
 }
 
+// rule: SAMP-8, SAMP-15, SAMP-17
 #[test]
 fn one_slot_is_left_where_every_reader_holds_another(rt: HostRuntime) {
     let alloc = rt.alloc();
@@ -195,6 +199,7 @@ fn check_octet(rt: &impl Abort, core: &Core) {
     assert!(rt; message.len() == 3 && !message.is_empty());
 }
 
+// rule: SAMP-1, SAMP-2, SAMP-3, SAMP-11
 #[test]
 fn a_held_message_is_read_word_by_word(rt: HostRuntime) {
     let core = core_after(&rt, rt.alloc(), &one_octet());
@@ -222,6 +227,7 @@ fn first_message() -> [CoreEvent; 11] {
     ]
 }
 
+// rule: SAMP-17
 #[test]
 fn a_list_of_steps_leads_to_a_core_or_to_its_first_refusal(rt: HostRuntime) {
     check_outcome(&rt, rt.alloc(), &first_message(), Ok(16));

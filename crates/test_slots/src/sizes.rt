@@ -3,6 +3,7 @@
 use crate::schedule::check_value;
 use slot_core::{LONGEST_MESSAGE, MOST_MESSAGES, READERS, SLOTS, TABLE_WORDS, WORDS};
 
+// rule: SAMP-4, SAMP-5, SAMP-6
 #[test]
 fn a_port_has_its_sizes(rt: HostRuntime) {
     check_value(&rt, "readers", READERS as u64, 8);

@@ -64,6 +64,7 @@ fn failed_look() -> [Move; 5] {
     ]
 }
 
+// rule: SAMP-10, SAMP-17
 #[test]
 fn a_reader_takes_its_steps_in_turn(rt: HostRuntime) {
     let alloc = rt.alloc();
@@ -164,6 +165,7 @@ fn after_the_last_word() -> [Turn; 5] {
     ]
 }
 
+// rule: SAMP-3, SAMP-7, SAMP-17
 #[test]
 fn the_writer_takes_its_steps_in_turn(rt: HostRuntime) {
     let alloc = rt.alloc();
@@ -193,6 +195,7 @@ fn check_longest(rt: &impl Abort, alloc: Global) {
 }
 
 /// It has 186 words; the last one has 7 octets.
+// rule: SAMP-3, SAMP-5, SAMP-9
 #[test]
 fn the_longest_message_fills_a_slot(rt: HostRuntime) {
     check_longest(&rt, rt.alloc());

@@ -44,6 +44,7 @@ fn check_writer(rt: &impl Abort, core: &Core, wanted: Option<(u64, usize)>) {
     assert!(rt; free_readers(core) == READERS);
 }
 
+// rule: SAMP-7
 #[test]
 fn the_writer_scans_and_then_writes(rt: HostRuntime) {
     let alloc = rt.alloc();

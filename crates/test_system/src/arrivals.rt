@@ -75,6 +75,7 @@ fn check_rows(rt: &(impl Abort + Wait), alloc: Global, rows: &[FrameRow<'_>]) {
     }
 }
 
+// rule: CONC-5
 #[test]
 fn a_frame_that_is_kept_comes_to_the_same_as_one_that_is_copied(rt: HostRuntime) {
     let smallest = rows_of(&rt, rt.alloc(), &two_frames_late());

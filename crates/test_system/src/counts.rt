@@ -77,6 +77,7 @@ fn check_two_frames(rt: &(impl Abort + Wait), alloc: Global) {
     check_settled(rt, &running.settle(), &given);
 }
 
+// rule: EMB-38
 #[test]
 fn each_pass_counts_its_own_calls(rt: HostRuntime) {
     check_two_frames(&rt, rt.alloc());

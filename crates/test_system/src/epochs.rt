@@ -55,6 +55,7 @@ fn check_copy(rt: &(impl Abort + Wait), alloc: Global) {
     check_counts(rt, &settled.b, 17, 2, 1);
 }
 
+// rule: EMB-35
 #[test]
 fn places_copies_and_counts_go_on_over_an_epoch(rt: HostRuntime) {
     check_copy(&rt, rt.alloc());
@@ -74,6 +75,7 @@ fn check_joined(rt: &(impl Abort + Wait), alloc: Global) {
     check_settled(rt, &running.settle(), 1, &[last]);
 }
 
+// rule: EMB-35
 #[test]
 fn a_datagram_is_joined_over_an_epoch(rt: HostRuntime) {
     check_joined(&rt, rt.alloc());
@@ -90,6 +92,7 @@ fn check_two_epochs(rt: &(impl Abort + Wait), alloc: Global) {
     check_settled(rt, &running.settle(), 1, &[second]);
 }
 
+// rule: EMB-35
 #[test]
 fn a_sequence_number_counts_over_two_epochs(rt: HostRuntime) {
     check_two_epochs(&rt, rt.alloc());
@@ -103,6 +106,7 @@ fn check_no_link(rt: &(impl Abort + Wait), alloc: Global) {
     }
 }
 
+// rule: EMB-35
 #[test]
 fn a_link_that_is_not_configured_has_no_epoch(rt: HostRuntime) {
     check_no_link(&rt, rt.alloc());

@@ -31,6 +31,7 @@ fn check_example(rt: &(impl Abort + Wait), alloc: Global) {
     check_counts(rt, &settled.b, 17, 2, 1);
 }
 
+// rule: CONC-9, EMB-35
 #[test]
 fn the_example_ends_with_both_frames_taken_out(rt: HostRuntime) {
     check_example(&rt, rt.alloc());

@@ -119,7 +119,7 @@ fn check_gate(rt: &(impl Abort + Wait), alloc: Global) {
     check_settled(rt, running, given);
 }
 
-// rule: COUNT-2
+// rule: COUNT-2, CONC-5, CONC-8
 #[test]
 fn a_filtered_frame_is_counted_and_enters_no_gate(rt: HostRuntime) {
     check_gate(&rt, rt.alloc());

@@ -87,6 +87,7 @@ fn check_links(rt: &(impl Abort + Wait), alloc: Global, numbers: &[u16]) {
     }
 }
 
+// rule: CONC-5
 #[test]
 fn links_with_like_numbers_are_told_apart(rt: HostRuntime) {
     check_links(&rt, rt.alloc(), &[17, 18, 19, 33, 273]);
@@ -102,6 +103,7 @@ fn many_numbers(rt: &impl Abort, alloc: Global) -> Vec<u16> {
     numbers
 }
 
+// rule: CONC-5, EMB-38
 #[test]
 fn sixty_four_links_are_told_apart(rt: HostRuntime) {
     let numbers = many_numbers(&rt, rt.alloc());
@@ -176,7 +178,7 @@ fn check_ports(rt: &(impl Abort + Wait), alloc: Global) {
     }
 }
 
-// rule: PORT-7
+// rule: PORT-7, EMB-34
 #[test]
 fn thirty_two_ports_of_a_link_are_told_apart(rt: HostRuntime) {
     check_ports(&rt, rt.alloc());

@@ -91,6 +91,7 @@ fn check_lent_end(rt: &(impl Abort + Wait), alloc: Global) {
     check_history(rt, running, &[first, copy, second]);
 }
 
+// rule: EMB-34
 #[test]
 fn every_reader_of_a_port_reads_the_message(rt: HostRuntime) {
     check_taken_end(&rt, rt.alloc());
@@ -150,6 +151,7 @@ pub(crate) const JOINED: &str = "a0a1a2a3a4a5a6a7b0b1b2b3b4b5b6b7b8b9babbbcbdbeb
 /// The same with the octets of the later first fragment.
 const JOINED_ANEW: &str = "c0c1c2c3c4c5c6c7b0b1b2b3b4b5b6b7b8b9babbbcbdbebf";
 
+// rule: CONC-9
 #[test]
 fn a_joined_datagram_is_taken_whole(rt: HostRuntime) {
     check_joined(&rt, rt.alloc(), &in_order(), 1100, JOINED);
@@ -175,6 +177,7 @@ fn check_overflow(rt: &(impl Abort + Wait), alloc: Global) {
     check_history(rt, running, &given);
 }
 
+// rule: CONC-9
 #[test]
 fn what_a_full_queue_refuses_is_lost(rt: HostRuntime) {
     check_overflow(&rt, rt.alloc());
@@ -205,6 +208,7 @@ fn check_moved(rt: &(impl Abort + Wait), alloc: Global) {
     assert!(rt; running.take_end("pos").is_none());
 }
 
+// rule: EMB-34
 #[test]
 fn an_end_is_lent_by_its_name_and_moved_out_once(rt: HostRuntime) {
     check_lent(&rt, rt.alloc());

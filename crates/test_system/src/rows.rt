@@ -141,6 +141,7 @@ fn check_packets(rt: &(impl Abort + Wait), alloc: Global, rows: &[PacketRow]) {
     check_rows(rt, alloc, &packet_rows(rt, alloc, rows));
 }
 
+// rule: CONC-9
 #[test]
 fn sequence_numbers_are_checked(rt: HostRuntime) {
     check_smallest(&rt, rt.alloc(), &window()[..4]);
@@ -148,6 +149,7 @@ fn sequence_numbers_are_checked(rt: HostRuntime) {
     check_smallest(&rt, rt.alloc(), &turn());
 }
 
+// rule: CONC-9, EMB-38
 #[test]
 fn the_first_copy_is_forwarded(rt: HostRuntime) {
     check_smallest(&rt, rt.alloc(), &copy_at_skew_max());
@@ -157,11 +159,13 @@ fn the_first_copy_is_forwarded(rt: HostRuntime) {
     check_smallest(&rt, rt.alloc(), &copy_before_its_first());
 }
 
+// rule: CONC-9
 #[test]
 fn a_frame_with_a_bad_header_counts_as_forwarded(rt: HostRuntime) {
     check_rows(&rt, rt.alloc(), &bad_and_good());
 }
 
+// rule: CONC-9
 #[test]
 fn fragments_are_joined_or_given_up(rt: HostRuntime) {
     check_packets(&rt, rt.alloc(), &in_order());

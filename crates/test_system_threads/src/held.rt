@@ -118,6 +118,7 @@ fn check_second_link<R: Abort + Threads + Wait + Sync>(rt: &R, alloc: Global) {
     check_held(rt, alloc, &config, 17, &[row]);
 }
 
+// rule: CONC-3, CONC-8
 #[test]
 fn a_frame_of_one_link_is_received_while_another_link_is_held(rt: HostRuntime) {
     check_second_link(&rt, rt.alloc());
@@ -150,6 +151,7 @@ fn check_each<R: Abort + Threads + Wait + Sync>(rt: &R, alloc: Global) {
     }
 }
 
+// rule: CONC-1, CONC-3
 #[test]
 fn each_link_has_a_lock_of_its_own(rt: HostRuntime) {
     check_each(&rt, rt.alloc());
@@ -166,7 +168,7 @@ fn check_filtered<R: Abort + Threads + Wait + Sync>(rt: &R, alloc: Global, held:
     check_held(rt, alloc, &config, held, &rows);
 }
 
-// rule: COUNT-2
+// rule: COUNT-2, CONC-5
 #[test]
 fn a_filtered_frame_waits_for_no_link(rt: HostRuntime) {
     check_filtered(&rt, rt.alloc(), 17);
@@ -201,6 +203,7 @@ fn check_same_link<R: Abort + Threads + Wait + Sync>(rt: &R, alloc: Global) {
     assert!(rt; flags.is_late.load(Ordering::SeqCst));
 }
 
+// rule: CONC-1, CONC-8
 #[test]
 fn a_link_that_is_held_takes_no_other_frame(rt: HostRuntime) {
     check_same_link(&rt, rt.alloc());

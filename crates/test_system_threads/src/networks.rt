@@ -112,6 +112,7 @@ fn check_both<R: Abort + Threads + Wait + Sync>(rt: &R, alloc: Global) {
     }
 }
 
+// rule: CONC-2, CONC-9
 #[test]
 fn no_call_of_two_threads_is_lost(rt: HostRuntime) {
     check_both(&rt, rt.alloc());

@@ -270,12 +270,14 @@ fn check_many<R: Abort + Threads + Wait + Sync>(rt: &R, alloc: Global, takes_epo
     check_seeds(rt, alloc, &config, &links, takes_epochs);
 }
 
+// rule: CONC-9
 #[test]
 fn the_history_of_a_link_is_a_run_on_one_thread(rt: HostRuntime) {
     check_few(&rt, rt.alloc(), false);
     check_many(&rt, rt.alloc(), false);
 }
 
+// rule: CONC-9, CONC-10, EMB-35
 #[test]
 fn epochs_that_are_taken_out_on_the_way_and_the_history_are_one_run(rt: HostRuntime) {
     check_few(&rt, rt.alloc(), true);

@@ -79,6 +79,7 @@ fn check_gate<R: Abort + Threads + Wait + Sync>(rt: &R, alloc: Global) {
     assert!(rt; !flags.is_late.load(Ordering::SeqCst));
 }
 
+// rule: CONC-8
 #[test]
 fn a_message_is_not_read_before_its_frame_has_passed_the_gate(rt: HostRuntime) {
     check_gate(&rt, rt.alloc());

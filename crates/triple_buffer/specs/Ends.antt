@@ -40,6 +40,7 @@ with_published writer message = record writer { published = writer.published ++ 
 
 -- It looked: it has the last message that was published then. So it has no older one than before, and none older than
 -- one of which it knew.
+-- rule: CONC-17, EMB-9
 pub record IsReadOf (v w : ReaderEnd) : Type 0 where
   pub buffer : w.buffer ≡ v.buffer
   pub longest : w.longest ≡ v.longest
@@ -48,6 +49,7 @@ pub record IsReadOf (v w : ReaderEnd) : Type 0 where
   pub known : StartsWith w.seen v.known
 
 -- it knows these to be published
+-- rule: PORT-18
 abbrev pub is_told : ReaderEnd → List Message → ReaderEnd
 is_told reader published = record reader { known = published }
 
@@ -96,6 +98,7 @@ pub record MaySend (longest : ℕ) (me : At) (slot : ℕ) : Type 0 where
   pub number : own.number ≡ length (writer_of me.0).published + 1
 
 -- it published it, and has another buffer
+-- rule: CONC-16
 pub record IsSent (longest : ℕ) (before after : At) (sent : Latest) (slot : ℕ) : Type 0 where
   pub view : after.0 ≡ Writes (publishes (writer_of before.0) (message_in sent) slot)
   pub below : slot < 3
@@ -117,6 +120,7 @@ pub record MayReceive (longest : ℕ) (me : At) (slot : ℕ) (has : Option Lates
   pub room : HasRoom longest own
 
 -- it has that buffer now
+-- rule: CONC-16
 pub record IsReceived (longest : ℕ) (before after : At) (slot : ℕ) (has : Option Latest) : Type 0 where
   pub all : List Message
   pub view : after.0 ≡ Reads (takes (reader_of before.0) all slot)

@@ -39,6 +39,7 @@ abbrev pub publishes : WriterView → Message → ℕ → WriterView
 publishes writer message slot = record writer { published = writer.published ++ message ∷ []; slot = slot }
 
 -- it swapped its buffer, which has this message, with the one between the ends
+-- rule: CONC-16
 abbrev pub published : Step (Option Latest) → At → ℕ → At → Type 0
 published step me found me' = (slot : ℕ) (own : Latest) → me.1 ≡ (slot, Some own) ∷ [] → (other : Latest)
     × (me'.0 ≡ Writes (publishes (writer_of me.0) (message_in own) (place_in found))) × (me'.1 ≡ (place_in found, Some other) ∷ [])
@@ -56,11 +57,13 @@ abbrev pub takes : ReaderView → List Message → ℕ → ReaderView
 takes reader all slot = record { seen = all; known = all; newer = false; slot = slot; has = reader.has; longest = reader.longest }
 
 -- it loaded the word: there is a newer message between the ends, or it has the last that was published
+-- rule: CONC-16
 abbrev pub looked : Step (Option Latest) → At → ℕ → At → Type 0
 looked step me found me' = (me'.1 ≡ me.1) × (4 ≤ found → me'.0 ≡ Reads (sees_newer (reader_of me.0)))
     × (found < 4 → (me'.0 ≡ Reads (sees_all (reader_of me.0))) × StartsWith (reader_of me.0).seen (reader_of me.0).known)
 
 -- it swapped its buffer with the one between the ends, which has the last message that was published
+-- rule: CONC-16
 abbrev pub taken : Step (Option Latest) → At → ℕ → At → Type 0
 taken step me found me' = (all : List Message) × (latest : Latest) × (me'.0 ≡ Reads (takes (reader_of me.0) all (place_in found)))
     × (me'.1 ≡ (place_in found, Some latest) ∷ []) × (place_in found < 3) × HasRoom (reader_of me.0).longest latest × IsLastOf latest all

@@ -30,15 +30,18 @@ abbrev pub HasRoom : ℕ → Latest → Type 0
 HasRoom longest latest = length latest.octets.items ≡ longest
 
 -- the last of these messages is in the buffer, with its number; 0 if there is none
+-- rule: CONC-15, CONC-17
 pub record IsLastOf (latest : Latest) (messages : List Message) : Type 0 where
   pub number : latest.number ≡ length messages
   pub last : 0 < length messages → EndsWith messages (message_in latest)
 
 -- the word: the place of the buffer between the ends, and 4 more if the reader hasn't taken it
+-- rule: CONC-16
 abbrev pub place_in : ℕ → ℕ
 place_in word = word % 4
 
 -- what the writer and the reader know is true of the word and of the buffers that no end has
+-- rule: CONC-15
 pub record Lawful (longest word : ℕ) (homes : List (maybe.Option (Option Latest))) (w : WriterView) (r : ReaderView) : Type 0 where
   pub count : length homes ≡ 3
   pub places : (place_in word < 3) × (w.slot < 3) × (r.slot < 3)
@@ -63,6 +66,7 @@ module _ (w : WriterView) (r : ReaderView) (writer reader seat : ℕ) where
   Knows (Meets v u) = ((v ≡ w) × (seat ≡ writer)) × ((u ≡ r) × (seat ≡ reader))
   Knows Spent = Unit {0}
 
+-- rule: CONC-15
 pub record Kept (longest : ℕ) (s : table.State (Option Latest) SeatView) : Type 0 where
   pub writer : WriterView
   pub reader : ReaderView

@@ -17,10 +17,12 @@ use Rattle.vl_config.specs.Link.{links_from}
 -- ---- the constant field
 
 -- 8 hexadecimal digits of either case
+-- rule: CONF-2
 abbrev pub octets_from : List ℕ → Result (List ℕ) ConfigFault
 octets_from text = ok_or (result_ok (decode_sized text 4)) (Range keys.Constant)
 
 -- without the key it is 03 00 00 00 (own)
+-- rule: CONF-2
 abbrev pub constant_if : Option Data → Result (List ℕ) ConfigFault
 constant_if None = Ok (3 ∷ 0 ∷ 0 ∷ 0 ∷ [])
 constant_if (Some value) = do
@@ -33,6 +35,7 @@ abbrev pub some_tables : List Members → Result (List Members) ConfigFault
 some_tables [] = Err (Missing keys.Link)
 some_tables (table ∷ tables) = Ok (table ∷ tables)
 
+-- rule: CONF-3
 abbrev pub link_tables : Members → Result (List Members) ConfigFault
 link_tables document = do
   value ← required keys.Link document
@@ -53,5 +56,6 @@ config_if None = Err Text
 config_if (Some document) = config_from document
 
 -- the configuration in a text, or its first fault; Text if the text is no TOML document
+-- rule: CONF-18, CONF-20
 unfoldable pub config_in : List ℕ → Result Configuration ConfigFault
 config_in text = config_if (parse_document text)

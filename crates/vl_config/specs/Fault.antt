@@ -6,6 +6,7 @@ use Rattle.vl_config.specs.declared.fault.ConfigFault.TheVariants.{Memory}
 use Rattle.vl_config.specs.declared.fault.Key.{Key}
 use Rattle.vl_config.specs.declared.fault.Key.TheVariants as keys
 
+-- rule: CONF-1, FAULT-5
 abbrev pub key_name : Key → List ℕ
 key_name keys.Constant = codes "constant"
 key_name keys.Link = codes "link"

@@ -102,5 +102,6 @@ step sought seen line =
     let now = after (heading_of line) seen in
     if is_there sought now then noted sought now (heading_of line) line else now
 
+-- rule: CONF-25
 abbrev pub line_in : List ℕ → ConfigFault → FaultPlace → ℕ
 line_in text fault place = (fold (step (sought_by fault place)) (start (sought_by fault place)) (lines text)).found

@@ -20,6 +20,7 @@ abbrev pub port_tables_if : Option Data → Result (List Members) ConfigFault
 port_tables_if None = Ok []
 port_tables_if (Some value) = tables_from keys.Port most_ports value
 
+-- rule: CONF-9
 abbrev pub port_tables : Members → Result (List Members) ConfigFault
 port_tables table = port_tables_if (value_at keys.Port table)
 
@@ -30,6 +31,7 @@ ports_from earlier = collected (port_from earlier) []
 -- ---- the link
 
 -- the link number, which no earlier link has
+-- rule: CONF-4
 abbrev pub link_number_from : List Settings → Members → Result ℕ ConfigFault
 link_number_from links table = do
   vl ← u16_value_at keys.Vl table
@@ -39,6 +41,7 @@ link_number_from links table = do
 abbrev pub default_window : ℕ
 default_window = 2
 
+-- rule: CONF-8
 abbrev pub window_from : Members → Result ℕ ConfigFault
 window_from table = integer_or keys.Window 1 widest_window default_window table
 
@@ -51,6 +54,7 @@ pub record Head : Type 0 where
   pub window : ℕ
   pub tables : List Members
 
+-- rule: CONF-5, CONF-6, CONF-7
 abbrev pub head_from : List Settings → Members → Result Head ConfigFault
 head_from links table = do
   vl ← link_number_from links table
@@ -72,6 +76,7 @@ link_of head ports = record {
 }
 
 -- the link of this table, after these links
+-- rule: CONF-18
 abbrev pub link_from : List Settings → Members → Result Settings ConfigFault
 link_from links table = do
   head ← head_from links table

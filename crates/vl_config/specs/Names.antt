@@ -9,6 +9,7 @@ use Rattle.es_base.specs.Config.{has_name}
 use Rattle.vl_config.specs.declared.names.Names.{Names}
 
 -- whether this name is one of them
+-- rule: CONF-22
 abbrev pub is_among : Names → List ℕ → Bool
 is_among names name = contains_by (λ key. slice_cmp nat_cmp name key.bytes) names.names
 

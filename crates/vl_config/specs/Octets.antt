@@ -10,6 +10,7 @@ use Rattle.vl_config.specs.declared.fault.ConfigFault.TheVariants.{Text}
 use Rattle.vl_config.specs.declared.place.FaultPlace.{FaultPlace}
 
 -- the text that these octets are, if they are one
+-- rule: CONF-21
 abbrev pub text_of : List ℕ → Option (List ℕ)
 text_of octets = if is_utf8 octets then Some octets else None
 
@@ -18,6 +19,7 @@ config_if None = Err Text
 config_if (Some text) = config_in text
 
 -- the configuration in these octets, or its first fault
+-- rule: CONF-21
 abbrev pub config_of : List ℕ → Result Configuration ConfigFault
 config_of octets = config_if (text_of octets)
 
@@ -26,6 +28,7 @@ place_if None = nowhere
 place_if (Some text) = place_of text
 
 -- where the first fault of the configuration in these octets stands
+-- rule: CONF-24
 abbrev pub place_in : List ℕ → FaultPlace
 place_in octets = place_if (text_of octets)
 
@@ -35,6 +38,7 @@ line_if None fault place = 0
 line_if (Some text) fault place = line_in text fault place
 
 -- the line of this fault there; of what is no TOML document that of one of its octets
+-- rule: CONF-25
 abbrev pub IsLineOf : List ℕ → ConfigFault → FaultPlace → ℕ → Type 0
 IsLineOf octets Text place line = (at : ℕ) × (line ≡ line_of_octet octets at)
 IsLineOf octets fault place line = line ≡ line_if (text_of octets) fault place

@@ -57,5 +57,6 @@ place_from (Some document) = place_if (do
   constant ← constant_if (value_at keys.Constant document)
   link_tables document)
 
+-- rule: CONF-24
 unfoldable pub place_of : List ℕ → FaultPlace
 place_of text = place_from (parse_document text)

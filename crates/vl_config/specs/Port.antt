@@ -23,17 +23,20 @@ use Rattle.vl_config.specs.Table.{text_at, integer_at, integer_or, u16_value_at}
 abbrev pub name_from : List ℕ → Result (List ℕ) ConfigFault
 name_from text = if is_port_name text then Ok text else Err (Range keys.Name)
 
+-- rule: CONF-10
 abbrev pub name_at : Members → Result (List ℕ) ConfigFault
 name_at table = do
   text ← text_at keys.Name table
   name_from text
 
+-- rule: CONF-11
 abbrev pub service_from : List ℕ → Result Service ConfigFault
 service_from text =
     if bytes_eq text (codes "sampling") then Ok Sampling
     else if bytes_eq text (codes "queuing") then Ok Queuing
     else Err (Range keys.Kind)
 
+-- rule: CONF-11
 abbrev pub service_at : Members → Result Service ConfigFault
 service_at table = do
   text ← text_at keys.Kind table
@@ -45,6 +48,7 @@ whole_address (octets, []) = Some (from_be_bytes w32 octets)
 whole_address (octets, _ ∷ _) = None
 
 -- an IPv4 address: four decimal numbers without leading zeros and dots between them, in network order
+-- rule: CONF-12
 abbrev pub address_from : List ℕ → Result ℕ ConfigFault
 address_from text = ok_or (option_and_then whole_address (read_ipv4 text)) (Range keys.Address)
 
@@ -54,11 +58,13 @@ address_at table = do
   address_from text
 
 -- the longest message of a port with this service, in octets
+-- rule: CONF-14
 abbrev pub largest_message : Service → ℕ
 largest_message Sampling = longest_sample
 largest_message Queuing = longest_queued
 
 -- a sampling port with its refresh period in microseconds, a queuing port with its depth in messages
+-- rule: CONF-15, CONF-16
 abbrev pub kind_from : Service → Members → Result PortKind ConfigFault
 kind_from Sampling table = do
   refresh ← integer_at keys.RefreshUs 0 longest_refresh table
@@ -72,12 +78,14 @@ unless true fault x = Err fault
 unless false fault x = Ok x
 
 -- a port whose name no port of `earlier` has, and whose address and UDP port no port of `ports` has
+-- rule: CONF-22, CONF-23
 abbrev pub unrepeated_port : List Port → List Port → Port → Result Port ConfigFault
 unrepeated_port earlier ports port = do
   port ← unless (list_any (has_name port.name) earlier) DoubleName port
   unless (list_any (accepts port.address port.udp) ports) DoublePort port
 
 -- the port of this table, after the ports of the earlier links and after these ports of its own link
+-- rule: CONF-18
 abbrev pub port_from : List Port → List Port → Members → Result Port ConfigFault
 port_from earlier ports table = do
   name ← name_at table

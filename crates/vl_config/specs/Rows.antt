@@ -166,6 +166,7 @@ config_with constant (Ok links) = Ok (record { constant = constant; links = link
 config_with constant (Err fault) = Err fault
 
 -- the configuration of a table, or its first fault and where it stands
+-- rule: CONF-26
 abbrev pub table_of : List ℕ → List LinkRow → List PortRow → Result Configuration TableFault
 table_of constant [] ports = Err (record { fault = Missing keys.Link; place = nowhere })
 table_of constant (row ∷ rows) ports =

@@ -10,9 +10,11 @@ use Rattle.vl_config.specs.Fault.{key_name}
 use Rattle.vl_config.specs.Collected.{collected}
 
 -- the value at this key
+-- rule: CONF-1
 abbrev pub value_at : Key → Members → Option Data
 value_at key table = get_member (key_name key) table
 
+-- rule: CONF-19
 abbrev pub required : Key → Members → Result Data ConfigFault
 required key table = ok_or (value_at key table) (Missing key)
 
@@ -23,6 +25,7 @@ within key least greatest (pos n) = if nat_le least n && nat_le n greatest then 
 within key least greatest (negsuc n) = Err (Range key)
 
 -- the integer that a value is, from `least` to `greatest`
+-- rule: CONF-19
 abbrev pub integer_from : Key → ℕ → ℕ → Data → Result ℕ ConfigFault
 integer_from key least greatest value = do
   integer ← ok_or (as_integer value) (Kind key)
@@ -45,6 +48,7 @@ integer_or key least greatest default table = integer_if key least greatest defa
 abbrev pub greatest_u16 : ℕ
 greatest_u16 = 65535
 
+-- rule: CONF-4, CONF-13
 abbrev pub u16_value_at : Key → Members → Result ℕ ConfigFault
 u16_value_at key table = integer_at key 0 greatest_u16 table
 
@@ -87,6 +91,7 @@ abbrev pub at_most : ℕ → List Members → Result (List Members) ConfigFault
 at_most most tables = if nat_le (length tables) most then Ok tables else Err TooMany
 
 -- the tables of an array of up to `most` tables
+-- rule: CONF-17
 abbrev pub tables_from : Key → ℕ → Data → Result (List Members) ConfigFault
 tables_from key most value = do
   items ← items_from key value
