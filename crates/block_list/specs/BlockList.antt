@@ -2,12 +2,12 @@
 use Rattle.std.specs.Prelude.{◌≡◌, ℕ, List, [], ◌∷◌, ◌++◌}
 use denote.RawPtr.{Ptr}
 
--- how many entries a block has
+-- number of entries of a block
 abbrev pub block_size : ℕ
 block_size = 1024
 
--- its entries in order; how many more may be added with no memory taken; and where the memory of each
--- block begins, in order: while that stays, the entries of the block stand where they stood
+-- its entries in order; the number of entries that may be added without taking memory; and the addresses
+-- of the blocks, in order: while a block's address stays, its entries stay in place
 pub record BlockList (T : Type 0) : Type 0 where
   pub items : List T
   pub room : ℕ

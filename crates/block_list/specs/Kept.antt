@@ -15,7 +15,7 @@ entries_of full last = flat_map (λ block. block.items) full ++ last
 abbrev pub block_at : {T : Type 0} → ℕ → List T → List T
 block_at number items = take block_size (drop (number * block_size) items)
 
--- how many entries the last block may still take
+-- number of entries that the last block may still take
 abbrev pub room_in : {T : Type 0} → Vec T Global → ℕ
 room_in last = min (vec_capacity last) block_size - length last.items
 

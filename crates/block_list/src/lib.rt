@@ -15,10 +15,10 @@ use std::alloc::{AllocError, Global};
 use std::marker::Model;
 use std::mem;
 
-/// How many entries a block has.
+/// Entries of a block.
 pub const BLOCK: usize = 1024;
 
-/// The most blocks that are full: more entries than these hold no memory has room for.
+/// Most full blocks: no memory has room for more entries.
 const MOST_BLOCKS: usize = usize::MAX / 2 / BLOCK;
 
 /// A list that grows by blocks.
@@ -64,7 +64,7 @@ impl<T> BlockList<T> {
         }
     }
 
-    /// How many entries may be added with no memory taken: at most `BLOCK`.
+    /// Number of entries that may be added without taking memory: at most `BLOCK`.
     pub fn room(&self) -> usize
         ensures { result ≡ self.now.room }
     {
@@ -103,7 +103,7 @@ impl<T> BlockList<T> {
         self.last.push_reserved(entry);
     }
 
-    /// How many entries there are.
+    /// Number of entries.
     pub fn len(&self) -> usize
         ensures { result ≡ length self.now.items }
     {
@@ -145,8 +145,8 @@ impl<T> BlockList<T> {
     }
 }
 
-/// The last block becomes one of those before it, where it stands, and a new one follows it: with no entries,
-/// and memory for `BLOCK`. If memory runs out no block has changed.
+/// Moves the last block among those before it, its entries in place, and begins a new one with no entries, and memory
+/// for `BLOCK`. If memory runs out no block has changed.
 fn add_block<T>(alloc: Global, full: &mut Vec<Vec<T>>, last: &mut Vec<T>) -> Result<(), AllocError>
     ensures before { OnOk result (full.new.items ≡ full.old.items ++ last.old ∷ []) }
     ensures last { OnOk result ((last.new.items ≡ []) × (vec_capacity last.new ≡ block_size)) }

@@ -1,11 +1,11 @@
-//! Why words are no command line of the program.
+//! Faults of command lines.
 ghost use Rattle.std.specs.Prelude.{◌≡◌};
 ghost use Rattle.command_line.specs.declared.fault.LineFault.TheVariants as faults;
 
 use clap::Error;
 use std::alloc::AllocError;
 
-/// Why there is no `Line`. The texts are those that `clap` writes for the user.
+/// Fault of a command line. The texts are those that `clap` writes for the user.
 #[derive(Debug, Drop)]
 pub enum LineFault {
     /// `--help` was given: the text of the help.

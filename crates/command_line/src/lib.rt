@@ -1,6 +1,6 @@
-//! The command line of the program: which words it takes, and which files they name. It stands on `clap`, and
-//! on nothing of the receiver. `line_of` returns a line, the help or a refusal, each only if `clap`'s command
-//! says so of the words.
+//! The command line of the program: which words it takes, and which files they name. It depends on `clap`, and on
+//! nothing of the receiver. `line_of` returns a line, the help or a refusal, each only if `clap`'s command says so of
+//! the words.
 #![tactic(auto)]
 
 mod command;

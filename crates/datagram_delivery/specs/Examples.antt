@@ -126,8 +126,8 @@ eight value = value ∷ value ∷ value ∷ value ∷ value ∷ value ∷ value 
 abbrev pub datagram_of : ℕ → List ℕ
 datagram_of value = (19 ∷ 136 ∷ 19 ∷ 138 ∷ 0 ∷ 24 ∷ 0 ∷ 0 ∷ []) ++ eight value ++ eight value
 
--- a frame of 60 octets with eight octets of a datagram: octets 6 and 7 of the packet's header, the header's checksum, the
--- eight octets, the sequence number
+-- a frame of 60 octets with eight octets of a datagram: octets 6 and 7 of the packet's header, the header's checksum,
+-- the eight octets, the sequence number
 abbrev pub small_frame : List ℕ → List ℕ → List ℕ → ℕ → List ℕ
 small_frame place sum octets number =
     (3 ∷ 0 ∷ 0 ∷ 0 ∷ 0 ∷ 17 ∷ 2 ∷ 0 ∷ 0 ∷ 0 ∷ 1 ∷ 32 ∷ 8 ∷ 0 ∷ 69 ∷ 0 ∷ 0 ∷ 28 ∷ 0 ∷ 1 ∷ [])

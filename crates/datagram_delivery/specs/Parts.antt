@@ -1,6 +1,7 @@
 -- What is sent in parts, and that no part is mixed with those of another datagram (RFC 791 3.2).
 --
--- Parts are lost, and come twice or in another order; only how late they may come is asked of the networks (`AreOfOne`).
+-- Parts are lost, and come twice or in another order; only how late they may come is asked of the networks
+-- (`AreOfOne`).
 use Rattle.std.specs.Prelude.{◌≡◌, ◌⊎◌, ℕ, ◌+◌, ◌≤◌, Bool, true, false, List, [], ◌∷◌, length, take, drop, Ok}
 use Rattle.es_base.specs.declared.place.PortNo.{PortNo}
 use Rattle.es_base.specs.declared.event.Event.{Event}

@@ -33,8 +33,8 @@ pub fn a_split_datagram_is_joined()
         → fate limit (groups_after_offers limit groups before) last.packet last.time ≡ whole (joined (pieces_of key before) ++ last.packet.octets) true }
 {}
 
-/// It keeps its place if at most three other datagrams have a fragment between its first and its last: then of the groups
-/// that others begin at most three stand at a time. Those are datagrams as the sender counts them, each by its
+/// It keeps its place if at most three other datagrams have a fragment between its first and its last: then of the
+/// groups that others begin at most three stand at a time. Those are datagrams as the sender counts them, each by its
 /// identification; a datagram that is sent whole isn't counted.
 pub fn three_others_leave_room()
     ensures room { (limit : ℕ) (key : DatagramKey) (earlier offers : List Offer) → place_of key (groups_after_offers limit [] earlier) ≡ None → length (other_keys key offers) ≤ 3
@@ -51,9 +51,9 @@ pub fn each_packet_is_offered_once()
         → deliveries settings (events_of copies) port ≡ messages_by settings (offers_of packet (first_copies copies)) port }
 {}
 
-/// If a sender sends its datagrams one after another, each whole or in fragments, and a copy comes of each frame, a port
-/// gets each message that is sent to it, once, whole, in the order of sending, with the time of its last fragment's
-/// first copy; but for those whose queue was full then.
+/// If a sender sends its datagrams one after another, each whole or in fragments, and a copy comes of each frame, a
+/// port gets each message that is sent to it, once, whole, in the order of sending, with the time of its last
+/// fragment's first copy; but for those whose queue was full then.
 pub fn each_datagram_is_delivered_once()
     ensures { (settings : Settings) (numbering : Numbering) (timing : Timing) (packet : ℕ → PacketParts) (copies : List Copy) (sents : List Sent) (port : PortNo)
         → ComeWhole settings numbering timing copies → CarryPackets packet copies
@@ -68,9 +68,9 @@ pub fn each_datagram_among_others_is_delivered_once()
         → length carried ≤ most_samples → deliveries settings (events_of copies) port ≡ messages_ended port carried }
 {}
 
-/// Whatever else comes on the link, and whatever was lost before: a message in fragments, of each of which a copy comes,
-/// is delivered whole with its last fragment, if its identification wasn't used within the limit of time, and of the groups
-/// that others begin after it at most three stand at a time.
+/// Whatever else comes on the link, and whatever was lost before: a message in fragments, of each of which a copy
+/// comes, is delivered whole with its last fragment, if its identification wasn't used within the limit of time, and of
+/// the groups that others begin after it at most three stand at a time.
 pub fn a_split_message_is_delivered()
     ensures { (settings : Settings) (numbering : Numbering) (timing : Timing) (packet : ℕ → PacketParts) (copy : Copy) (before : List Copy) (first : Offer) (during earlier : List Offer) (payload : Payload)
         → ComeWhole settings numbering timing (copy ∷ before) → CarryPackets packet (copy ∷ before) → has_come copy.index before ≡ false
@@ -79,9 +79,9 @@ pub fn a_split_message_is_delivered()
         → outcome settings (events_of before) (arrival_of copy.event) ≡ brings payload }
 {}
 
-/// Nothing is made up, mixed or cut, whatever is lost, brought twice or out of order: a message that a port gets is that of
-/// the datagram of which the frame has a part that came at its time. It is only asked that no two frames that come within
-/// the limit of time of each other are of different datagrams with one identification.
+/// Nothing is made up, mixed or cut, whatever is lost, brought twice or out of order: a message that a port gets is
+/// that of the datagram of which the frame has a part that came at its time. It is only asked that no two frames that
+/// come within the limit of time of each other are of different datagrams with one identification.
 pub fn each_message_was_sent()
     ensures brought { (settings : Settings) (datagram : Event → List ℕ) (e : Event) (past : List Event) (payload : Payload) → HaveParts settings.reassembly datagram (e ∷ past)
         → outcome settings past (arrival_of e) ≡ brings payload → IsMessageOf settings e.frame (datagram e) payload }
@@ -89,7 +89,7 @@ pub fn each_message_was_sent()
         → WereSentIn settings datagram port past (deliveries settings past port) }
 {}
 
-/// What is asked can be met: by four frames that two networks bring, each with a loss, over the end of the sequence
+/// The conditions can be met: by four frames that two networks bring, each with a loss, over the end of the sequence
 /// numbers, and all four are forwarded; and by a message in two fragments, of which each network loses one.
 pub fn the_conditions_can_be_met()
     ensures in_fragments { ComeWhole link_with_queue numbering timing in_two_fragments }
@@ -101,8 +101,9 @@ pub fn the_conditions_can_be_met()
     ensures delivered { deliveries link_with_queue (events_of in_two_fragments) (record { 0 = 0 }) ≡ record { time = 1500; octets = message } ∷ [] }
 {}
 
-/// What goes wrong where one condition isn't met, and all others are: with a fifth datagram in parts the first isn't
-/// completed, so its message isn't delivered; and within the limit of time, to the microsecond, one identification for two datagrams mixes them.
+/// Counterexamples with one condition not met, and all others met: with a fifth datagram in parts the first isn't
+/// completed, so its message isn't delivered; and within the limit of time, to the microsecond, one identification for
+/// two datagrams mixes them.
 pub fn each_condition_is_needed()
     ensures fifth_group { (place_of first_key [] ≡ None) × (is_of first_key (fragment 1 8 false 1) ≡ true) × AreFronts 50000 first_key five_begun × IsLast 50000 (pieces_of first_key five_begun) (fragment 1 8 false 1) × LeavesRoom 50000 [] first_key four_begun × (LeavesRoom 50000 [] first_key five_begun → ⊥)
         × (fate 50000 (groups_after_offers 50000 [] five_begun) (fragment 1 8 false 1).packet 100 ≡ held) }

@@ -15,7 +15,7 @@ use Rattle.es_base.specs.Settings.{Settings}
 abbrev pub is_same_port : PortNo → PortNo → Bool
 is_same_port a b = a.0 == b.0
 
--- whether a port of this kind takes one message more, after this number of others: a sampling port as
+-- whether a port of this kind takes one more message, after this number of others: a sampling port as
 -- long as it has message numbers (own), a queuing port if its queue had room
 -- rule: PORT-5, PORT-9
 abbrev pub takes_one_more : PortKind → Bool → ℕ → Bool
@@ -41,7 +41,7 @@ deliveries settings [] port = []
 deliveries settings (e ∷ past) port =
     deliveries settings past port ++ delivered (outcome settings past (arrival_of e)) e.room e.time port (length (deliveries settings past port))
 
--- how many messages were delivered to a port
+-- number of messages delivered to a port
 abbrev pub number_delivered : Settings → List Event → PortNo → ℕ
 number_delivered settings past port = length (deliveries settings past port)
 

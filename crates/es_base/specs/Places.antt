@@ -1,6 +1,6 @@
 -- rule: none (where links and ports stand in the lists of a configuration)
--- The places of links by their numbers: first a directory, which says for each upper octet of a link number its page, from 1 on,
--- or 0 for none; and then the pages, which have an entry for each lower octet.
+-- The places of links by their numbers: first a directory, which says for each upper octet of a link number its page,
+-- from 1 on, or 0 for none; and then the pages, which have an entry for each lower octet.
 use Rattle.std.specs.Prelude.{◌≡◌, ℕ, zero, suc, ◌+◌, ◌-◌, ◌*◌, ◌/◌, ◌%◌, ◌<◌, ◌≤◌, min, Bool, false, List, length, map, Option, None, Some, slice_get, slice_index_or}
 use Rattle.std.specs.List.{IsDistinct}
 use Rattle.es_base.specs.Settings.{Settings}
@@ -10,15 +10,15 @@ use Rattle.es_base.specs.Config.{link_number, has_link_number, same_link_number}
 abbrev pub page_of : List ℕ → ℕ → ℕ
 page_of places upper = slice_index_or places upper 0
 
--- where the entry of a link number stands, in this page
+-- index of a link number's entry, in this page
 abbrev pub entry_of : ℕ → ℕ → ℕ
 entry_of page vl = 256 * page + vl % 256
 
--- how many pages there are
+-- number of pages
 abbrev pub pages_in : List ℕ → ℕ
 pages_in places = length places / 256 - 1
 
--- how many of the upper octets below this one have a page
+-- number of the upper octets below this one that have a page
 unfoldable pub pages_below : List ℕ → ℕ → ℕ
 pages_below places zero = 0
 pages_below places (suc upper) = min 1 (page_of places upper) + pages_below places upper

@@ -15,14 +15,14 @@ ghost use Rattle.es_base.specs.Limits.{filter_causes, verdict_kinds};
 ghost use Rattle.es_base.specs.Tally.{AddsOne, Counts, HasCounts, IsKind};
 ghost use Rattle.es_base.specs.Verdict.{kind_of};
 
-/// A tally that has one more of an event's kind counts the event. No count has stopped, as long as the
-/// number of all events fits in 64 bits.
+/// A tally with one more of an event's kind counts the event. No count saturates while the number of all events fits in
+/// 64 bits.
 pub fn an_event_is_counted_once()
     ensures { (old new : Counts) (past : List Event) (e : Event) → HasCounts old past → length past < 2 ^ 64 - 1
         → AddsOne verdict_kinds old new e.net (kind_of e.verdict) → HasCounts new (e ∷ past) }
 {}
 
-/// A tally of filtered frames that has one more of a frame's cause is that of these frames with it.
+/// A tally of filtered frames with one more of a frame's cause counts the frame.
 pub fn a_filtered_frame_is_counted_once()
     ensures { (old new : Counts) (c : Configuration) (earlier : List Arrival) (a : Arrival) (cause : FilterCause) → HasFiltered old c earlier
         → addressed_link c a.frame ≡ Err cause → AddsOne filter_causes old new a.net (cause_kind cause) → HasFiltered new c (a ∷ earlier) }
@@ -34,37 +34,37 @@ pub fn a_frame_of_a_link_is_not_filtered()
         → addressed_link c a.frame ≡ Ok link → HasFiltered counts c (a ∷ earlier) }
 {}
 
-/// The rules read no more of a past than what it left: if two pasts left the same, so do they with the same events
-/// after them.
+/// The rules read a past only by its summary (`Left`): pasts with equal summaries have equal ones after the same
+/// further events.
 pub fn what_is_left_goes_on()
     ensures { (settings : Settings) (one two later : List Event) → left_by settings one ≡ left_by settings two →
         left_by settings (later ++ one) ≡ left_by settings (later ++ two) }
 {}
 
-/// And each frame comes to the same.
+/// Pasts with equal summaries give each frame the same verdict.
 pub fn verdicts_need_what_is_left()
     ensures { (settings : Settings) (one two : List Event) → left_by settings one ≡ left_by settings two →
         (a : Arrival) (room : Bool) → verdict_of settings one a room ≡ verdict_of settings two a room }
 {}
 
-/// So events that are a run after one of them are a run after the other.
+/// Of pasts with equal summaries, events that are a run after one are a run after the other.
 pub fn runs_alike()
     ensures { (settings : Settings) (one two later : List Event) → left_by settings one ≡ left_by settings two → IsRun settings two →
         IsRun settings (later ++ one) → IsRun settings (later ++ two) }
 {}
 
-/// The part of a run before its latest events is a run.
+/// Each beginning of a run is a run.
 pub fn a_run_begins_with_a_run()
     ensures { (settings : Settings) (earlier later : List Event) → IsRun settings (later ++ earlier) → IsRun settings earlier }
 {}
 
-/// What was delivered to a port stays: later events only add messages after it.
+/// A port's deliveries only grow: later events add messages at the end.
 pub fn deliveries_go_on()
     ensures { (settings : Settings) (earlier later : List Event) (port : PortNo) →
         deliveries settings (later ++ earlier) port ≡ deliveries settings earlier port ++ drop (number_delivered settings earlier port) (deliveries settings (later ++ earlier) port) }
 {}
 
-/// What later events add to a port's messages follows from what was left before them.
+/// The messages that later events add to a port's follow from the summary before them.
 pub fn deliveries_alike()
     ensures { (settings : Settings) (one two later : List Event) (port : PortNo) → left_by settings one ≡ left_by settings two →
         drop (number_delivered settings one port) (deliveries settings (later ++ one) port) ≡ drop (number_delivered settings two port) (deliveries settings (later ++ two) port) }

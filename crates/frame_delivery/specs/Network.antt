@@ -48,8 +48,8 @@ pub record Timing : Type 0 where
   -- the least and the greatest time that a copy is on its way
   pub least : ℕ
   pub greatest : ℕ
-  -- the greatest time by which a copy is taken after one that came later: 0 for one task that gives them in the order of
-  -- their times, and for two threads the longest that one waits from its frame's time until its link takes it
+  -- the greatest time by which a copy is taken after one that came later: 0 for one task that gives them in the order
+  -- of their times, and for two threads the longest that one waits from its frame's time until its link takes it
   pub wait : ℕ
 
 -- the sender leaves the gap after each frame
@@ -76,8 +76,8 @@ abbrev pub time_of_all : List Copy → ℕ
 time_of_all [] = 0
 time_of_all (copy ∷ before) = max copy.event.time (time_of_all before)
 
--- the sender and the networks keep their times, and the copies are listed in the order in which they are taken, which is
--- that of their times but for the wait
+-- the sender and the networks keep their times, and the copies are listed in the order in which they are taken, which
+-- is that of their times but for the wait
 pub record KeepsTimes (numbering : Numbering) (timing : Timing) (copies : List Copy) : Type 0 where
   pub gaps : KeepsGap timing
   pub pauses : KeepsPause numbering timing
@@ -118,7 +118,8 @@ BeginsNear skew_max (other ∷ before) copy =
 abbrev pub BeginNear : ℕ → List Copy → Type 0
 BeginNear skew_max copies = EachCopy (BeginsNear skew_max) copies
 
--- no copy of a frame comes after a copy of a later frame: the times on the way, and the wait, differ by less than the gap
+-- no copy of a frame comes after a copy of a later frame: the times on the way, and the wait, differ by less than the
+-- gap
 abbrev pub HasNoOvertaking : Timing → Type 0
 HasNoOvertaking timing = timing.greatest + timing.wait < timing.least + timing.gap
 

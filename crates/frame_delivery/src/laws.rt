@@ -33,9 +33,9 @@ pub fn each_frame_passes()
         → KeepsOrder (copy ∷ before) → LosesFew numbering settings.window (copy ∷ before) → passes settings (events_of before) (arrival_of copy.event) ≡ true }
 {}
 
-/// SkewMax runs from each frame that was forwarded, and from no other. Once it is over since all of them, the next frame
-/// that passes is forwarded, whatever its number is. While it runs since one of them, whichever came last, a frame is
-/// redundant that isn't ahead of the one forwarded last.
+/// SkewMax runs from each frame that was forwarded, and from no other. Once it is over since all of them, the next
+/// frame that passes is forwarded, whatever its number is. While it runs since one of them, whichever came last, a
+/// frame is redundant that isn't ahead of the one forwarded last.
 pub fn skew_max_runs_from_each_forwarded_frame()
     ensures over { (settings : Settings) (past : List Event) (a : Arrival) → EachForwarded settings (λ e. e.time + settings.skew_max < a.time) past → passes settings past a ≡ true
         → is_forwarded settings past a ≡ true }
@@ -58,8 +58,8 @@ pub fn no_frame_is_forwarded_twice()
 {}
 
 /// And none is lost of which a copy comes: the first copy of each frame is forwarded, and no other, if each network
-/// also loses fewer than the window in a row, and the times on the way, with the wait, differ by less than the gap. (Then
-/// none is too late.)
+/// also loses fewer than the window in a row, and the times on the way, with the wait, differ by less than the gap.
+/// (Then none is too late.)
 pub fn no_frame_is_lost()
     ensures first { (settings : Settings) (numbering : Numbering) (timing : Timing) (copies : List Copy) → ComeWhole settings numbering timing copies
         → EachCopy (IsForwardedIfFirst settings) copies }
@@ -70,7 +70,7 @@ pub fn no_frame_is_lost()
     ensures all { (copies : List Copy) (index : ℕ) → has_come index (first_copies copies) ≡ has_come index copies }
 {}
 
-/// Where the times on the way differ by more, a frame is still lost only if each of its copies comes after a copy of a
+/// If the times on the way differ by more, a frame is still lost only if each of its copies comes after a copy of a
 /// later frame.
 pub fn a_frame_is_lost_only_if_it_is_overtaken()
     ensures forwarded { (settings : Settings) (numbering : Numbering) (timing : Timing) (copies : List Copy) → ComeTimely settings numbering timing copies → IsNeverLate timing
@@ -78,15 +78,15 @@ pub fn a_frame_is_lost_only_if_it_is_overtaken()
     ensures lost { (copies : List Copy) (index : ℕ) → has_come index (new_copies copies) ≡ false → IsOvertaken index copies }
 {}
 
-/// Where the networks lose more in a row, each frame of which a copy passes integrity checking is still forwarded, with
+/// If the networks lose more in a row, each frame of which a copy passes integrity checking is still forwarded, with
 /// the first that passes, and no other.
 pub fn no_frame_that_passes_is_lost()
     ensures { (settings : Settings) (numbering : Numbering) (timing : Timing) (copies : List Copy) → ComeTimely settings numbering timing copies → HasNoOvertaking timing
         → BeginNear settings.skew_max (passing settings copies) → forwarded settings (events_of copies) ≡ as_forwarded (first_copies (passing settings copies)) }
 {}
 
-/// Networks begin near each other if SkewMax is over before 128 frames more are sent. So it is only for a longer SkewMax
-/// that one has to ask where a network begins, or comes back after a cut.
+/// Networks begin near each other if SkewMax is over before 128 frames more are sent. So it is only for a longer
+/// SkewMax that one has to ask where a network begins, or comes back after a cut.
 pub fn a_short_skew_max_is_near()
     ensures all { (settings : Settings) (numbering : Numbering) (timing : Timing) (copies : List Copy) → KeepsTimes numbering timing copies → IsOverSoon timing settings.skew_max
         → BeginNear settings.skew_max copies }
@@ -100,8 +100,8 @@ pub fn each_message_has_its_age()
     ensures { (numbering : Numbering) (timing : Timing) (copies : List Copy) (now : ℕ) → KeepsTimes numbering timing copies → EachCopy (λ before copy. HasAge timing now copy) (first_copies copies) }
 {}
 
-/// So a port gets the message of each frame of which a copy comes, once, in the order of sending, whole, with the time of
-/// the first copy; but for those whose queue was full then.
+/// So a port gets the message of each frame of which a copy comes, once, in the order of sending, whole, with the time
+/// of the first copy; but for those whose queue was full then.
 pub fn each_message_is_delivered_once()
     ensures { (settings : Settings) (numbering : Numbering) (timing : Timing) (payload : ℕ → Payload) (copies : List Copy) (port : PortNo) → ComeWhole settings numbering timing copies
         → CarryWhole settings payload copies → length copies ≤ most_samples → deliveries settings (events_of copies) port ≡ messages_of payload port (first_copies copies) }
@@ -114,15 +114,15 @@ pub fn all_messages_are_delivered()
         → CarryWhole settings payload copies → length copies ≤ most_samples → HaveRoom payload copies → AllCame n copies → octets_of (deliveries settings (events_of copies) port) ≡ octets_sent payload port n }
 {}
 
-/// The conditions that `no_frame_is_lost` and `no_frame_is_forwarded_twice` ask, one by one: where each of them is met, the
-/// law holds. So the examples below leave none out.
+/// The conditions that `no_frame_is_lost` and `no_frame_is_forwarded_twice` ask, one by one: where each of them is met,
+/// the law holds. So the examples below leave none out.
 pub fn these_are_the_conditions()
     ensures all { (settings : Settings) (numbering : Numbering) (timing : Timing) (copies : List Copy) → MeetAll is_asked_for_all settings numbering timing copies → ComeWhole settings numbering timing copies }
     ensures once { (settings : Settings) (numbering : Numbering) (timing : Timing) (copies : List Copy) → MeetAll is_asked_for_once settings numbering timing copies
         → ComeTimely settings numbering timing copies × IsNeverLate timing × BeginNear settings.skew_max (passing settings copies) }
 {}
 
-/// What is asked can be met: by four frames that two networks bring, each with a loss, over the end of the sequence
+/// The conditions can be met: by four frames that two networks bring, each with a loss, over the end of the sequence
 /// numbers, and all four are forwarded; and with a SkewMax of a second, a thousand gaps, as well as with one of a gap.
 pub fn the_conditions_can_be_met()
     ensures met { ComeWhole (link 1000) numbering timing with_losses }
@@ -131,8 +131,8 @@ pub fn the_conditions_can_be_met()
     ensures forwarded_with_it { forwarded (link 1000000) (events_of with_losses) ≡ frame_at 2 3100 ∷ frame_at 1 2200 ∷ frame_at 255 1500 ∷ frame_at 254 100 ∷ [] }
 {}
 
-/// What goes wrong where one condition isn't met, by a microsecond or by one frame, and all others that the law asks are: a
-/// frame of which a copy comes is lost, or one is forwarded twice or after a later one.
+/// Counterexamples with one condition not met, by a microsecond or by one frame, and all others that the law asks met:
+/// a frame of which a copy comes is lost, or one is forwarded twice or after a later one.
 pub fn each_condition_is_needed()
     ensures second_copy_after_skew_max { MeetAllBut is_asked_for_all covers (link 1000) from_one (timed 2000 4000 100 1101 0) after_skew_max
         × (forwarded (link 1000) (events_of after_skew_max) ≡ frame_at 1 1101 ∷ frame_at 1 100 ∷ []) }

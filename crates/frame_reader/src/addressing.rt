@@ -1,4 +1,4 @@
-//! Which link a frame comes to.
+//! The link of a frame.
 ghost use Rattle.std.specs.Prelude.{◌≡◌, Err, IfErr, IfOk, OnOk};
 ghost use Rattle.es_base.specs.Config.{AreLinks};
 ghost use Rattle.es_base.specs.Addressing.{ComesToPlace, addressed_link};
@@ -6,8 +6,8 @@ ghost use Rattle.es_base.specs.Addressing.{ComesToPlace, addressed_link};
 use crate::frame::{Frame, read_frame};
 use es_base::{Config, FilterCause};
 
-/// Reads a frame, and finds the place of its link among those of the configuration; or says why the
-/// frame is filtered: the first fault of the frame, or that no link has its link number (own).
+/// Reads a frame and finds its link's place in the configuration. The error is the cause for which the
+/// frame is filtered: its first fault, or that no link has its link number (own).
 #[tactic(auto, unfolding(es_base::specs::Addressing::addressed_link))]
 pub fn read_addressed<'a>(
     config: &Config,

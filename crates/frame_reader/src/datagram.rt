@@ -7,10 +7,10 @@ ghost use Rattle.frame_reader.specs.Parts.{udp_parts, udp_head_parts};
 use crate::field::u16_at;
 use es_base::UdpFault;
 
-/// The octets of a header.
+/// Length of a UDP header, in octets.
 pub const UDP_HEADER: usize = 8;
 
-/// If the fields of a header stand.
+/// Offsets of a header's fields, in octets.
 const SOURCE_PORT: usize = 0;
 
 const DESTINATION_PORT: usize = 2;
@@ -22,16 +22,16 @@ const LENGTH: usize = 4;
 pub struct Datagram<'a> {
     pub source_port: u16,
     pub destination_port: u16,
-    /// The octets that follow the header, as many as the length field says.
+    /// The payload: the octets after the header, up to the length field's end.
     pub payload: &'a [u8],
 }
 
-/// What a UDP header says.
+/// The fields of a UDP header.
 #[derive(Clone, Copy, Debug, PartialEq, Eq)]
 pub struct UdpHead {
     pub source_port: u16,
     pub destination_port: u16,
-    /// How many octets the payload has.
+    /// Length of the payload, in octets.
     pub payload_octets: usize,
 }
 
@@ -53,8 +53,8 @@ pub fn read_udp(octets: &[u8]) -> Result<Datagram<'_>, UdpFault>
     })
 }
 
-/// Reads the header of a UDP datagram of `len` octets from the first `UDP_HEADER` of them, with zeros past its
-/// end: what `read_udp` reads of the whole datagram, without the payload's octets.
+/// Reads the header of a UDP datagram of `len` octets from the first `UDP_HEADER` of them, with zeros past its end: the
+/// header that `read_udp` reads of the whole datagram.
 pub fn read_udp_head(head: &[u8; UDP_HEADER], len: usize) -> Result<UdpHead, UdpFault>
     ensures { (octets : List ℕ) → head.now ≡ head_of octets → length octets ≡ len →
         Gives udp_head_parts result (udp_head_of (length octets) octets) }
@@ -62,7 +62,7 @@ pub fn read_udp_head(head: &[u8; UDP_HEADER], len: usize) -> Result<UdpHead, Udp
     udp_head_in(head, len)
 }
 
-/// The header in these octets, of `came` that came.
+/// The header in these octets, the first of `came`.
 fn udp_head_in(octets: &[u8; UDP_HEADER], came: usize) -> Result<UdpHead, UdpFault>
     ensures { Gives udp_head_parts result (udp_head_of came octets.now) }
 {

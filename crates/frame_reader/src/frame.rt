@@ -7,21 +7,21 @@ ghost use Rattle.es_base.specs.Frame.{IsFrame, ethertype_of, ethertype_ipv4, lin
 use crate::field::{u16_at, u32_at};
 use es_base::{FrameFault, LinkNo};
 
-/// The shortest frame, in octets: 64 of an Ethernet frame less its FCS of 4.
+/// Shortest frame, in octets: 64 of an Ethernet frame less its FCS of 4.
 const SHORTEST: usize = 60;
 
-/// The longest, in octets: 1518 less the FCS.
+/// Longest frame, in octets: 1518 less the FCS.
 const LONGEST: usize = 1514;
 
-/// If the link number stands: the last two octets of the destination address.
+/// Offset of the VL's number: the last two octets of the destination MAC address.
 const LINK_NUMBER: usize = 4;
 
-/// If the EtherType stands: after two addresses of 6 octets.
+/// Offset of the EtherType: after two MAC addresses of 6 octets.
 const ETHERTYPE: usize = 12;
 
 const ETHERTYPE_IPV4: u16 = 0x0800;
 
-/// If the IPv4 packet stands: after the EtherType.
+/// Offset of the IPv4 packet: after the EtherType.
 const INNER: usize = 14;
 
 /// A frame of a virtual link, without its FCS: 60 to 1514 octets, with the EtherType of IPv4.
@@ -29,11 +29,11 @@ const INNER: usize = 14;
 pub struct Frame<'a> {
     /// The link number.
     pub vl: LinkNo,
-    /// 0 to 255: the frame's last octet.
+    /// Sequence number, 0 to 255: the frame's last octet.
     pub sequence_number: u8,
-    /// What stands between the EtherType and the sequence number: an IPv4 packet and padding.
+    /// The octets between the EtherType and the sequence number: an IPv4 packet and padding.
     pub inner: &'a [u8],
-    /// The frame as it came.
+    /// The whole frame.
     pub whole: &'a [u8],
     pub ghost short: { shortest_frame ≤ length whole.now },
     pub ghost long: { length whole.now ≤ longest_frame },
@@ -67,7 +67,7 @@ pub fn read_frame(constant: [u8; 4], bytes: &[u8]) -> Result<Frame<'_>, FrameFau
     Ok(frame_in(bytes))
 }
 
-/// The frame in octets that were read as a frame before, or would be.
+/// The frame in octets that `read_frame` accepts.
 pub fn frame_in(bytes: &[u8]) -> Frame<'_>
     requires { IsFrame bytes.now }
     ensures { result.whole.now ≡ bytes.now }

@@ -8,12 +8,12 @@ use crate::Frame;
 use crate::field::{u16_at, u32_at};
 use es_base::PacketFault;
 
-/// A header without options has five words of four octets.
+/// Length of a header without options, in words of four octets.
 const HEADER_WORDS: u8 = 5;
 
 const HEADER: usize = 20;
 
-/// If the fields of a header stand.
+/// Offsets of a header's fields, in octets.
 const TOTAL_LENGTH: usize = 2;
 
 const IDENTIFICATION: usize = 4;
@@ -28,7 +28,7 @@ const DESTINATION: usize = 16;
 
 const PROTOCOL_UDP: u8 = 17;
 
-/// The bit that says that more fragments follow, above the thirteen bits of the offset.
+/// The more-fragments bit, above the thirteen bits of the offset.
 const MORE_FRAGMENTS: u16 = 0x2000;
 
 /// An IPv4 packet, which carries a datagram or a fragment of one.
@@ -38,11 +38,11 @@ pub struct Packet<'a> {
     pub source: u32,
     /// The destination address, in network order.
     pub destination: u32,
-    /// The identification that the fragments of one datagram share.
+    /// The identification, the same in all fragments of a datagram.
     pub ident: u16,
     /// Whether more fragments follow.
     pub more: bool,
-    /// If the packet's octets stand in the datagram, in octets: 0 to 65,528.
+    /// Byte offset of `octets` in the datagram, 0 to 65,528.
     pub offset: u32,
     /// The octets that follow the header.
     pub octets: &'a [u8],

@@ -2,7 +2,7 @@
 use Rattle.std.specs.Prelude.{◌≡◌, ℕ, ◌+◌, ◌-◌, ◌*◌, ◌<◌, ◌≤◌, true, List, slice_index, Option, None, Some}
 use Rattle.hex.specs.Hex.{hex_digit_value, is_hex_digit}
 
--- stands for the value of a byte that is no digit
+-- value of a byte that is no digit
 abbrev pub no_digit : ℕ
 no_digit = 255
 

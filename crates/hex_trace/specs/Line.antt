@@ -36,7 +36,7 @@ time_digits line = if slice_index line 0 == zero_digit then take 1 line else tak
 abbrev pub time_from : List ℕ → Result ℕ TraceCause
 time_from digits = if nat_lt 0 (length digits) && nat_lt (digits_value 10 digits) (2 ^ 64) then Ok (digits_value 10 digits) else Err causes.Time
 
--- what stands after the space
+-- the octets after the space
 -- rule: TRACE-3
 abbrev pub after_space : List ℕ → Result (List ℕ) TraceCause
 after_space rest = if slice_index rest 0 == space then Ok (drop 1 rest) else Err causes.Space

@@ -17,7 +17,7 @@ given bytes failed = record { bytes = bytes; failed = failed }
 abbrev pub IsWhole : Given → List ℕ → Type 0
 IsWhole given text = IfSome given.bytes (λ bytes. text ≡ bytes)
 
--- some bytes of a source were read, and stand after the front of a text, which is `text count` then; none
+-- some bytes of a source were read, and follow the front of a text, which is `text count` then; none
 -- only at its end; or a read failed, exactly if one did; or memory ran out
 abbrev pub ReadsMore : Option (List ℕ) → Option (List ℕ) → Bool → List ℕ → (ℕ → List ℕ) → Result ℕ TraceFault → Type 0
 ReadsMore old new failed front text (Ok count) =

@@ -9,13 +9,13 @@ use es_base::Memory;
 use std::alloc::Global;
 use std::marker::Model;
 
-/// A block with this many octets, or more, is full.
+/// Octets from which on a block is full.
 const FULL: usize = 256 * 1024;
 
-/// For how many frames a block has room at first; for more it grows.
+/// Frames for which a block has room at first; for more it grows.
 const MANY: usize = 4096;
 
-/// When a frame came, in microseconds, and where its octets begin and end in the block.
+/// Arrival time of a frame, in microseconds, and where its octets begin and end in the block.
 #[derive(Clone, Copy)]
 pub(crate) struct Entry {
     time: u64,
@@ -42,7 +42,7 @@ impl Model for Block {
 }
 
 impl Block {
-    /// No frames.
+    /// A block without frames.
     pub(crate) fn new(alloc: Global) -> Block
         ensures { result ≡ [] }
     {
@@ -52,7 +52,7 @@ impl Block {
         }
     }
 
-    /// No frames, with room for the octets of a full block.
+    /// A block without frames, with room for the octets of a full one.
     pub(crate) fn open(alloc: Global) -> Result<Block, Memory>
         ensures { IfOk result (λ block. block ≡ []) }
     {
@@ -73,21 +73,21 @@ impl Block {
         Ok(())
     }
 
-    /// How many frames there are.
+    /// Number of frames.
     pub(crate) fn len(&self) -> usize
         ensures { result ≡ length self.now }
     {
         self.entries.len()
     }
 
-    /// Whether there are frames, and as many octets as a block is to have.
+    /// Whether there are frames, and at least `FULL` octets.
     pub(crate) fn is_full(&self) -> bool
         ensures { result ≡ true → 0 < length self.now }
     {
         0 < self.entries.len() && FULL <= self.octets.len()
     }
 
-    /// The frame at this place. None if there are no more than that.
+    /// The frame at this place. None if there are fewer.
     pub(crate) fn frame(&self, place: usize) -> Option<LentFrame<'_>>
         ensures { option_map lent_as result ≡ slice_get self.now place }
     {

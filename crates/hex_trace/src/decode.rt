@@ -8,22 +8,22 @@ use hex::FromHexError;
 use std::alloc::Global;
 use std::simd::prelude::*;
 
-/// How many octets are decoded at a time, of 32 digits.
+/// Octets that are decoded at a time, of 32 digits.
 const BLOCK: usize = 16;
 
-/// The mark of a digit is its value and this. That of another byte is less than this.
+/// Offset of marks: a digit's mark is its value plus this; any other byte's is less than this.
 const MARK: u8 = 0xf0;
 
 /// The bit by which a letter of lower case differs from that of upper case.
 const CASE: u8 = b'a' - b'A';
 
-/// Stands for the value of a byte that is no digit.
+/// Value of a byte that is no digit.
 const NO_DIGIT: u8 = 255;
 
-/// The octets that hexadecimal digits of either case say: what `hex::decode` returns, several times
-/// as fast if all are digits.
+/// The octets of hexadecimal digits of either case, as `hex::decode` returns them, several times as fast
+/// if all are digits.
 ///
-/// If a byte is no digit, or the number of digits is odd, `hex` says what is wrong.
+/// If a byte is no digit, or the number of digits is odd, the error is that of `hex`.
 ///
 /// ```rust
 /// let octets = decode_digits(alloc, b"6b697769")?;
@@ -43,11 +43,10 @@ pub fn decode_digits(alloc: Global, digits: &[u8]) -> Result<Vec<u8>, FromHexErr
     hex::decode(alloc, digits)
 }
 
-/// Decodes pairs of digits, and returns whether all were digits. If one wasn't, what `octets` holds
-/// then means nothing.
+/// Decodes pairs of digits, and returns whether all were digits. If one wasn't, the octets mean nothing.
 ///
-/// The function stands alone in the program, and its loops have no early return, so that the longer
-/// one becomes one short run of vector code.
+/// The function isn't inlined, and its loops have no early return, so that the longer one becomes one
+/// short run of vector code.
 #[inline(never)]
 pub(crate) fn decode_pairs(digits: &[u8], octets: &mut [u8]) -> bool
     requires { length digits.now ≡ 2 * length octets.old }
@@ -104,15 +103,15 @@ fn marks_of(digits: u8x32) -> u8x32
     ensures length { length result ≡ 32 }
     ensures marks { (i : ℕ) → i < 32 → IsMark (slice_index digits i) (slice_index result i) }
 {
-    // A byte after `9` comes to 0 and more, and one before `0` to less than `MARK`.
+    // A byte after `9` gives 0 and more, and one before `0` less than `MARK`.
     let from_end = digits + u8x32::splat(u8::MAX - b'9');
     let decimal = from_end.saturating_sub(u8x32::splat(u8::MAX - (MARK + 9)));
-    // One is taken off first: else the byte before `A` would come to the mark of 9.
+    // One is taken off first: else the byte before `A` would give the mark of 9.
     let letter = (digits - u8x32::splat(1)) & u8x32::splat(!CASE);
     decimal.simd_max(letter + u8x32::splat(MARK + 10 - (b'A' - 1)))
 }
 
-/// The octets that the marks of pairs of digits say.
+/// The octets of the marks of pairs of digits.
 ///
 /// A pair is a number of 16 bits, whose upper half is the mark of the second digit. The value of the
 /// first is added to the upper four bits of that half, which then is too large by `MARK`.

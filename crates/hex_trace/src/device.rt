@@ -29,8 +29,8 @@ impl<T> Device<T> {
     }
 }
 
-/// What an answer of a reader or a writer of the standard library says to a source or a sink. None if
-/// the call was interrupted, and is to be made again.
+/// Answer of a standard reader or writer, as a source's or a sink's. None if the call was interrupted,
+/// and is to be made again.
 pub fn told(answer: io::Result<usize>) -> Option<Result<usize, Failed>>
     ensures { result ≡ told answer }
 {

@@ -1,4 +1,4 @@
-//! Why a trace isn't read, and the words of a line's fault.
+//! Faults of traces.
 ghost use Rattle.std.specs.Prelude.{◌≡◌, Some};
 ghost use Rattle.hex_trace.specs.Word.{cause_word};
 ghost use Rattle.hex_trace.specs.declared.fault.TraceFault.TheVariants as faults;
@@ -6,14 +6,14 @@ ghost use Rattle.hex_trace.specs.declared.fault.TraceFault.TheVariants as faults
 use es_base::Memory;
 use std::fmt;
 
-/// What is wrong with a line of a trace, the first that applies (order: own).
+/// Fault of a line of a trace, the first that applies (order: own).
 #[derive(Clone, Copy, Debug, Drop, PartialEq, Eq)]
 pub enum TraceCause {
     /// The line has more than `LONGEST_LINE` bytes; a skipped line too.
     LongLine,
     /// The line doesn't begin with a digit, or its time doesn't fit 64 bits.
     Time,
-    /// No space stands after the time.
+    /// No space follows the time.
     Space,
     /// The rest has a byte that is no hexadecimal digit, or an odd number of digits.
     Hex,
@@ -21,10 +21,10 @@ pub enum TraceCause {
     Falls,
 }
 
-/// Why a trace isn't read.
+/// Fault of a trace.
 #[derive(Clone, Copy, Debug, Drop, PartialEq, Eq)]
 pub enum TraceFault {
-    /// The first line with a fault, by its line number, from 1, and what is wrong with it.
+    /// The first faulty line, by its line number, from 1, and its fault.
     Line { line: u64, cause: TraceCause },
     /// A read of the source failed.
     Read,

@@ -13,7 +13,7 @@ use std::mem;
 /// A frame of a trace.
 #[derive(Clone, Copy)]
 pub struct LentFrame<'a> {
-    /// When it came, in microseconds.
+    /// Arrival time, in microseconds.
     pub time: u64,
     pub octets: &'a [u8],
 }
@@ -83,12 +83,12 @@ impl ReadFrames {
     }
 }
 
-/// The frames of a trace that are left to play. Their octets lie in blocks, and the memory of each is given back once
-/// its frames were left out.
+/// The frames of a trace that are left to play. Their octets lie in blocks, and the memory of each is freed once its
+/// frames were dropped.
 #[derive(Drop)]
 pub struct Frames {
     blocks: VecDeque<Block>,
-    /// The place of the next frame in the first block.
+    /// Index of the next frame in the first block.
     at: usize,
 }
 
@@ -104,7 +104,7 @@ impl Model for Frames {
 }
 
 impl Frames {
-    /// When the next frame came, in microseconds.
+    /// Arrival time of the next frame, in microseconds.
     pub fn time(&self) -> Option<u64>
         ensures { result ≡ first_time self.now }
     {
@@ -121,7 +121,7 @@ impl Frames {
         }
     }
 
-    /// Leaves the next frame out, if there is one.
+    /// Drops the next frame, if any.
     pub fn skip(&mut self)
         ensures { self.new ≡ drop 1 self.old }
     {

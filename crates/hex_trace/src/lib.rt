@@ -1,7 +1,6 @@
-//! Hex traces: where they come from, how one is read whole, and the frames that it says. A trace is text: a
-//! line for each frame, with the frame's time in microseconds, a space, and its octets in hexadecimal digits.
-//! What `read_trace` returns is what the text says: its frames, or the first faulty line with its cause; and
-//! a failed read exactly if one failed.
+//! Hex traces: where they come from, how one is read whole, and the frames that it says. A trace is text: a line for
+//! each frame, with the frame's time in microseconds, a space, and its octets in hexadecimal digits. `read_trace`
+//! returns the text's frames, or its first faulty line with its cause; and a failed read exactly if one failed.
 #![tactic(auto)]
 
 mod block;

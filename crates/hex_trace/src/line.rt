@@ -17,16 +17,16 @@ pub const LONGEST_LINE: usize = 8192;
 /// A line that begins with this byte is skipped.
 const COMMENT: u8 = b'#';
 
-/// Stands between a line's time and its octets.
+/// The byte between a line's time and its octets.
 const SPACE: u8 = b' ';
 
 /// A time that begins with this digit has no other.
 const ZERO: u8 = b'0';
 
-/// So many digits fit 64 bits, whatever they are.
+/// Any number of 19 decimal digits fits in 64 bits.
 const SHORT_TIME: usize = 19;
 
-/// The most octets that a line has room for.
+/// Most octets of a line.
 pub(crate) const MOST_OCTETS: usize = LONGEST_LINE / 2;
 
 /// The frame of a line that follows one with a frame of the time `before`, in microseconds. None
@@ -55,7 +55,7 @@ pub(crate) fn frame_from<'s>(
     Ok(Some(LentFrame { time, octets }))
 }
 
-/// A line's time in microseconds, and how many digits say it.
+/// A line's time in microseconds, and its number of digits.
 fn time_in(line: &[u8]) -> Result<(u64, usize), TraceCause>
     ensures time { IfOk result (λ said. (time_from (time_digits line.now) ≡ Ok said.0)
         × (length (time_digits line.now) ≡ said.1)) }
@@ -75,7 +75,7 @@ fn time_in(line: &[u8]) -> Result<(u64, usize), TraceCause>
     }
 }
 
-/// The number that a line begins with, and how many digits say it: `SHORT_TIME` of them at most.
+/// The number that a line begins with, and its number of digits, `SHORT_TIME` at most.
 fn leading_number(line: &[u8]) -> (u64, usize)
     ensures count { result.1 < 19 → result.1 ≡ prefix_len is_ascii_digit line.now }
     ensures number { result.0 ≡ digits_value 10 (take result.1 line.now) }
@@ -116,7 +116,7 @@ fn time_digits(line: &[u8]) -> &[u8]
     }
 }
 
-/// How many digits a line begins with.
+/// Number of digits that a line begins with.
 fn leading_digits(line: &[u8]) -> usize
     ensures value { result ≡ prefix_len is_ascii_digit line.now }
     ensures bound { result ≤ length line.now }
@@ -124,7 +124,7 @@ fn leading_digits(line: &[u8]) -> usize
     line.iter().take_while(|b| b.is_ascii_digit()).count()
 }
 
-/// The time that these digits say, in microseconds.
+/// The time of these digits, in microseconds.
 fn time_from(digits: &[u8]) -> Result<u64, TraceCause>
     requires { all_ascii_digits digits.now ≡ true }
     ensures { result ≡ time_from digits.now }
@@ -151,7 +151,7 @@ fn with_digit(number: u64, digit: u8) -> Option<u64>
     number.checked_mul(10)?.checked_add(value as u64)
 }
 
-/// What stands after the space that follows a line's time.
+/// The rest of a line after the space that follows its time.
 fn after_space(rest: &[u8]) -> Result<&[u8], TraceCause>
     ensures digits { IfOk result (λ digits. after_space rest.now ≡ Ok digits.now) }
     ensures cause { IfErr result (λ cause. after_space rest.now ≡ Err cause) }
@@ -162,7 +162,7 @@ fn after_space(rest: &[u8]) -> Result<&[u8], TraceCause>
     }
 }
 
-/// The octets that hexadecimal digits say, written to the front of `scratch`.
+/// The octets of hexadecimal digits, written to the front of `scratch`.
 fn octets_from<'s>(
     digits: &[u8],
     scratch: &'s mut [u8; MOST_OCTETS],

@@ -13,7 +13,7 @@ use memchr::memchr;
 use std::alloc::{AllocError, Global};
 use std::mem;
 
-/// Ends a line. After the last one of a text stands one more line, which may be empty.
+/// End of a line. After the last one of a text there is one more line, which may be empty.
 const LINE_END: u8 = b'\n';
 
 /// The lines of a trace that were read: their frames, up to the first fault.
@@ -46,8 +46,8 @@ impl Lines {
         }
     }
 
-    /// Takes the whole lines that a text begins with, up to the first fault, and returns how many bytes they
-    /// have with their ends.
+    /// Takes the whole lines that a text begins with, up to the first fault, and returns their number of bytes, with
+    /// their ends.
     pub(crate) fn take_lines(&mut self, alloc: Global, text: &[u8]) -> Result<usize, Memory>
         ensures said { IfOk result (λ taken. (more : List ℕ)
             → said_by self.new (drop taken text.now ++ more) ≡ said_by self.old (text.now ++ more)) }
@@ -129,7 +129,7 @@ impl Lines {
     }
 }
 
-/// The first line of a text, and what follows its end. None if no line ends.
+/// The first line of a text, and the text after its end. None if no line ends.
 fn cut_line(text: &[u8]) -> Option<(&[u8], &[u8])>
     ensures line { IfSome result (λ cut. (more : List ℕ) → slice_split is_line_end (text.now ++ more)
         ≡ cut.0.now ∷ slice_split is_line_end (cut.1.now ++ more)) }

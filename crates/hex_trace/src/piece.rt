@@ -6,11 +6,11 @@ ghost use Rattle.hex_trace.specs.Source.{ReadsMore};
 use crate::{Failed, Source, TraceFault};
 use es_base::Memory;
 
-/// How many bytes the text grows by, if a source has more than it holds.
+/// Bytes by which the text grows.
 const PIECE: usize = 65_536;
 
-/// Reads some bytes of a source to the place after the first `filled` of a text, and returns how many. If
-/// there is no room the text grows.
+/// Reads some bytes of a source to the place after the first `filled` of a text, and returns their
+/// number. If there is no room the text grows.
 pub(crate) fn read_more<S: Source>(
     source: &mut S,
     text: &mut Vec<u8>,
@@ -41,7 +41,7 @@ fn make_room(text: &mut Vec<u8>, filled: usize) -> Result<(), Memory>
     Ok(())
 }
 
-/// Reads some bytes to the place after the first `filled` of a text, and returns how many.
+/// Reads some bytes to the place after the first `filled` of a text, and returns their number.
 fn read_after<S: Source>(source: &mut S, text: &mut [u8], filled: usize) -> Result<usize, Failed>
     requires { filled ≤ length text.old }
     ensures front { take filled text.new ≡ take filled text.old }

@@ -9,12 +9,12 @@ use es_base::Memory;
 use std::alloc::Global;
 use std::marker::Model;
 
-/// A trace that is read piece by piece. Contracts see what was read of it and not yet taken out.
+/// A trace that is read piece by piece. Contracts see the frames that were read and not yet taken out.
 #[derive(Drop)]
 pub struct Reading {
-    /// Where the bytes are read to.
+    /// Buffer for the bytes read.
     pub(crate) text: Vec<u8>,
-    /// How many bytes the front of the text has of the line that hasn't ended.
+    /// Number of bytes, at the front of the text, of the line that hasn't ended.
     pub(crate) filled: usize,
     pub(crate) lines: Lines,
 }

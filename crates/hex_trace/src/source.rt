@@ -1,4 +1,4 @@
-//! Where traces come from.
+//! Sources of traces.
 ghost use Rattle.std.specs.Prelude.{◌≡◌, ◌≤◌, ◌||◌, ℕ, Bool, List, Option, None, is_err, length, IfOk};
 ghost use Rattle.std.specs.Io.KnownBytes.{ReadConsumes};
 
@@ -13,7 +13,7 @@ pub trait Source {
     /// Whether a read has failed.
     ghost has_failed: { Self → Bool };
 
-    /// Reads some bytes into the front of `buffer`, and returns how many. None of a buffer that isn't
+    /// Reads some bytes into the front of `buffer`, and returns their number. 0 for a buffer that isn't
     /// empty means that no more will come.
     fn read(&mut self, buffer: &mut [u8]) -> Result<usize, Failed>
         ensures count { IfOk result (λ count. count ≤ length buffer.new) }

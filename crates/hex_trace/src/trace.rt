@@ -11,7 +11,7 @@ use crate::{Frames, Reading, Source, TraceFault};
 use es_base::Memory;
 use std::alloc::Global;
 
-/// How far a trace was read.
+/// Progress of reading a trace.
 #[derive(Drop)]
 pub enum Progress {
     /// There may be more to read.
@@ -22,7 +22,8 @@ pub enum Progress {
 
 impl Reading {
     /// Reads some bytes of the source, none only at its end, and checks the lines that have ended. After a fault of a
-    /// line all that follows is read and kept, and the fault is returned at the end, since a failed read comes before it.
+    /// line all that follows is read and kept, and the fault is returned at the end, since a failed read comes before
+    /// it.
     pub fn read_on<S: Source>(self, alloc: Global, source: &mut S) -> Result<Progress, TraceFault>
         requires { S.has_failed source.old ≡ false }
         ensures { ReadsOn (S.remaining source.old) (S.remaining source.new) (S.has_failed source.new) self result }
@@ -67,8 +68,8 @@ pub fn read_trace<S: Source>(alloc: Global, source: &mut S) -> Result<Frames, Tr
     Err(TraceFault::Memory)
 }
 
-/// Takes the whole lines of the first `filled` bytes of a text. What is left of them moves to its front;
-/// returns how many bytes that is.
+/// Takes the whole lines of the first `filled` bytes of a text. The rest of them moves to its front; returns its number
+/// of bytes.
 fn take_piece(
     alloc: Global,
     lines: &mut Lines,

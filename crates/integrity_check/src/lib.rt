@@ -1,7 +1,7 @@
-//! Integrity checking of one link on one network: which frames pass, by their sequence numbers (ARINC 664
-//! Part 7, integrity checking; the window is own). A `Sequence` stands for all sequence numbers that it was
-//! told of, and keeps the window and the latest of them; what it says is what the definition says of the
-//! whole list. No memory is taken.
+//! Integrity checking of one link on one network: which frames pass, by their sequence numbers (ARINC
+//! 664 Part 7, integrity checking; the window is own). A `Sequence` keeps the window and the latest
+//! sequence number; it answers as the definition does of the whole list of numbers that it was told. No
+//! memory is taken.
 #![tactic(auto)]
 
 ghost use Rattle.std.specs.Prelude.{◌≡◌, ℕ, List, [], ◌∷◌};
@@ -10,8 +10,8 @@ ghost use Rattle.integrity_check.specs.Kept.{StandsFor};
 
 use std::marker::Model;
 
-/// Stands for the sequence numbers of all frames of one link on one network, whether or not they
-/// passed. It keeps the window and the latest of them.
+/// The sequence numbers of one link's frames on one network, passed or not, by the window and the latest
+/// of them.
 #[derive(Debug, Drop)]
 pub struct Sequence {
     window: u8,
@@ -27,15 +27,16 @@ impl Model for Sequence {
 }
 
 impl Sequence {
-    /// Before the first frame. `window` says how many sequence numbers after the latest pass.
+    /// The state before the first frame. `window` is the number of sequence numbers after the latest
+    /// that pass.
     pub fn opening(window: u8) -> Sequence
         ensures { StandsFor result window [] }
     {
         Sequence { window, last: None }
     }
 
-    /// Whether a frame with this sequence number, 0 to 255, passes: it is the first, a reset, or among
-    /// the first numbers after the latest, as many as the window says.
+    /// Whether a frame with this sequence number, 0 to 255, passes: it is the first, a reset (0), or
+    /// within the window after the latest.
     pub fn check(&self, sequence_number: u8) -> bool
         ensures { (window : ℕ) (sequence_numbers : List ℕ) → StandsFor self.now window sequence_numbers →
             result ≡ may_follow window (latest sequence_numbers) sequence_number }
@@ -48,7 +49,7 @@ impl Sequence {
         }
     }
 
-    /// One more frame, whether or not it passed.
+    /// Notes a frame, passed or not.
     pub fn note(&mut self, sequence_number: u8)
         ensures { (window : ℕ) (sequence_numbers : List ℕ) → StandsFor self.old window sequence_numbers →
             StandsFor self.new window (sequence_number ∷ sequence_numbers) }
@@ -56,7 +57,7 @@ impl Sequence {
         self.last = Some(sequence_number);
     }
 
-    /// A copy, which stands for the same sequence numbers.
+    /// A copy, of the same sequence numbers.
     pub fn copy(&self) -> Sequence
         ensures { result ≡ self.now }
     {
@@ -78,7 +79,7 @@ fn is_among_next(window: u8, before: u8, sequence_number: u8) -> bool
     sequence_number == next || is_among_next(window - 1, next, sequence_number)
 }
 
-/// The sequence number that follows: 1 follows 255, since 0 stands for a sender's reset.
+/// The next sequence number: 1 after 255, since 0 means a sender's reset.
 fn next_number(before: u8) -> u8
     ensures { result ≡ next_number before }
 {

@@ -12,18 +12,18 @@ abbrev pub one_at : Option ℕ → ℕ
 one_at None = 0
 one_at (Some place) = 1
 
--- that which began first, where the most groups stand and another begins
+-- the one that began first, if the most groups stand and another begins
 abbrev pub one_for_room : List Group → ℕ
 one_for_room groups = if length groups == most_partials then 1 else 0
 
--- how many groups a piece gives up: none where it joins one; where it begins one, that of its key, which began too
--- long ago, and that which makes room
+-- number of groups that a piece gives up: none if it joins one; if it begins one, that of its key, which began too long
+-- ago, and that which makes room
 abbrev pub given_up_for : List Group → DatagramKey → Found → ℕ
 given_up_for groups key (joins place group) = 0
 given_up_for groups key (begins others) = one_at (place_of key groups) + one_for_room others
 
--- how many a packet gives up that comes now, where these groups stand: a whole datagram the group of its key, a bad
--- fragment none; a group whose datagram is complete ends, and isn't given up
+-- number of groups that a packet gives up that comes now, after these groups: a whole datagram the group of its key, a
+-- bad fragment none; a group whose datagram is complete ends, and isn't given up
 -- rule: REAS-15
 unfoldable pub given_up : ℕ → List Group → PacketParts → ℕ → ℕ
 given_up limit groups packet now =

@@ -2,7 +2,7 @@
 use Rattle.std.specs.Prelude.{◌≡◌, ℕ, ◌+◌, ◌-◌, Bool, false, ◌&&◌, List, length, slice_index, slice_index_or, nat_le, nat_lt, Option, None, Some, if◌then◌else◌}
 use Rattle.es_base.specs.Fragments.{Piece, octet_at, total_of}
 
--- where the datagram ends, if that is known; its octets, each at its place; and which of them came
+-- the datagram's length, if known; its octets, each at its place; and which of them came
 pub record Held : Type 0 where
   pub total : Option ℕ
   pub octets : List ℕ

@@ -8,7 +8,7 @@ use Rattle.es_base.specs.Groups.{Group, Found, joins, begins, begin_or, is_same_
 use Rattle.ip_reassembly.specs.declared.partial.Partial.{Partial}
 use Rattle.ip_reassembly.specs.Held.{Holds}
 
--- the limit of time, in microseconds; how many partial datagrams were given up; and those that stand, in the order in
+-- the time limit, in microseconds; the number of partial datagrams given up; and those that stand, in the order in
 -- which they began
 pub record Kept : Type 0 where
   pub limit : ℕ

@@ -16,14 +16,14 @@ use std::marker::Model;
 /// The longest datagram that is joined, in octets (own).
 pub const LONGEST_JOINED: usize = 8200;
 
-/// What came of one datagram: each octet at its place, and a mark for each that came.
+/// Received octets of one datagram, each at its offset, with a mark for each that came.
 #[derive(Drop)]
 pub struct Buffer {
-    /// If the datagram ends, once a piece with no more to follow came.
+    /// Length of the datagram, once a piece with no more to follow came.
     total: Option<usize>,
     octets: Vec<u8>,
     marks: Vec<bool>,
-    /// Where octets came.
+    /// Places of the octets that came.
     runs: Runs,
 }
 
@@ -42,7 +42,7 @@ impl Model for Buffer {
 }
 
 impl Buffer {
-    /// A buffer for 8200 octets, of which none came.
+    /// An empty buffer for 8200 octets.
     pub(crate) fn new(alloc: Global) -> Result<Buffer, Memory>
         ensures { IfOk result (λ buffer. Holds buffer []) }
     {
@@ -56,7 +56,7 @@ impl Buffer {
         })
     }
 
-    /// A copy of this buffer, with what came.
+    /// A copy of this buffer and its octets.
     pub(crate) fn copy(&self, alloc: Global) -> Result<Buffer, Memory>
         ensures { IfOk result (λ copy. copy ≡ self.now) }
     {
@@ -70,7 +70,7 @@ impl Buffer {
         })
     }
 
-    /// A copy of what came, without the places before and after it.
+    /// A copy of the octets that came, without the places before and after them.
     pub(crate) fn stretch(&self, alloc: Global) -> Result<Stretch, Memory>
         ensures { IfOk result (λ stretch. stretch ≡ self.now) }
     {
@@ -81,7 +81,7 @@ impl Buffer {
         Stretch::copy_of(alloc, self.total, self.runs, least, octets, marks)
     }
 
-    /// A buffer in which came what a stretch has.
+    /// A buffer with a stretch's octets.
     pub(crate) fn of(alloc: Global, stretch: &Stretch) -> Result<Buffer, Memory>
         ensures { IfOk result (λ buffer. buffer ≡ stretch.now) }
     {
@@ -95,7 +95,7 @@ impl Buffer {
         })
     }
 
-    /// Forgets all that came.
+    /// Empties the buffer.
     pub(crate) fn clear(&mut self)
         ensures { Holds self.new [] }
     {
@@ -104,7 +104,7 @@ impl Buffer {
         self.runs = Runs::none();
     }
 
-    /// One piece more. Its octets replace those that came before.
+    /// Adds a piece. Its octets replace earlier ones.
     pub(crate) fn join(&mut self, more: bool, offset: usize, octets: &[u8])
         requires { offset + length octets.now ≤ longest_joined }
         ensures { (pieces : List Piece) (time : ℕ) → Holds self.old pieces →
@@ -117,7 +117,7 @@ impl Buffer {
         mark(&mut self.marks, offset, end);
     }
 
-    /// The length of the datagram, if a piece of `len` octets from `offset` on completes it.
+    /// Length of the datagram, if a piece of `len` octets from `offset` on completes it.
     pub(crate) fn joined_with(&self, more: bool, offset: usize, len: usize) -> Option<usize>
         requires { offset + len ≤ longest_joined }
         ensures joined { (pieces : List Piece) (piece : Piece) → Holds self.now pieces →
@@ -131,7 +131,7 @@ impl Buffer {
         if gap >= total { Some(total) } else { None }
     }
 
-    /// The first `len` octets, which are the datagram's if it is complete and so long.
+    /// The first `len` octets: the datagram's, if it is complete and has this length.
     pub(crate) fn octets(&self, len: usize) -> &[u8]
         requires { len ≤ longest_joined }
         ensures { (pieces : List Piece) (datagram : List ℕ) → Holds self.now pieces →
@@ -162,15 +162,14 @@ fn zeros(alloc: Global, places: usize) -> Result<Vec<u8>, Memory>
     Vec::from_elem(alloc, 0, places)
 }
 
-/// If the datagram ends after one piece more, which ends at `end`: that is for the latest piece with no
-/// more to follow to say.
+/// Length of the datagram after one more piece, which ends at `end`: the latest piece with no more to follow sets it.
 fn total_with(total: Option<usize>, more: bool, end: usize) -> Option<usize>
     ensures { result ≡ (if more then total else Some end) }
 {
     if more { total } else { Some(end) }
 }
 
-/// Writes a piece over what was there.
+/// Writes a piece at its offset.
 fn write(octets: &mut Vec<u8>, offset: usize, piece: &[u8])
     requires { offset + length piece.now ≤ length octets.old.items }
     ensures len { length octets.new.items ≡ length octets.old.items }
@@ -180,7 +179,7 @@ fn write(octets: &mut Vec<u8>, offset: usize, piece: &[u8])
     octets[offset..offset + piece.len()].copy_from_slice(piece);
 }
 
-/// The octet at a place, where a piece were written over what is there.
+/// The octet at a place, as if a piece were written at its offset.
 fn octet_with(octets: &[u8], offset: usize, piece: &[u8], place: usize) -> u8
     requires { place < length octets.now }
     ensures { result ≡ written_at octets.now offset piece.now place }

@@ -1,4 +1,4 @@
-//! What a packet alone says: whether it has a datagram whole, and whether it is a good fragment.
+//! Whole datagrams and bad fragments, by their packet alone.
 ghost use Rattle.std.specs.Prelude.{◌≡◌};
 ghost use Rattle.es_base.specs.Fragments.{is_whole, is_bad, has_bad_length, key_of};
 ghost use Rattle.frame_reader.specs.Parts.{packet_parts};
@@ -8,15 +8,15 @@ use crate::buffer::LONGEST_JOINED;
 use es_base::DatagramKey;
 use frame_reader::{Packet, UDP_HEADER};
 
-/// Whether a packet has a datagram whole (RFC 791 3.1).
+/// Whether a packet is a whole datagram (RFC 791 3.1).
 pub(crate) fn is_whole(packet: &Packet<'_>) -> bool
     ensures { result ≡ is_whole (packet_parts packet.now) }
 {
     packet.offset == 0 && !packet.more
 }
 
-/// Whether a fragment is no piece of a datagram: its length is bad, or it ends past octet 8200, where the
-/// longest datagram ends that is joined (own).
+/// Whether a fragment is no piece of a datagram: its length is bad, or it ends past octet 8200, the end
+/// of the longest joined datagram (own).
 pub(crate) fn is_bad(packet: &Packet<'_>) -> bool
     ensures { result ≡ is_bad (packet_parts packet.now) }
 {
@@ -24,7 +24,7 @@ pub(crate) fn is_bad(packet: &Packet<'_>) -> bool
     has_bad_length(packet) || end > LONGEST_JOINED
 }
 
-/// Whether more fragments follow one that is empty (own), or whose length is no multiple of 8 octets, the
+/// Whether a fragment with more to follow is empty (own), or its length is no multiple of 8 octets, the
 /// unit of offsets (RFC 791 3.1).
 fn has_bad_length(packet: &Packet<'_>) -> bool
     ensures { result ≡ has_bad_length (packet_parts packet.now) }
@@ -33,7 +33,7 @@ fn has_bad_length(packet: &Packet<'_>) -> bool
     packet.more && (len == 0 || len % 8 != 0)
 }
 
-/// Which datagram a fragment is a piece of (RFC 791 3.2).
+/// Key of a fragment's datagram (RFC 791 3.2).
 pub(crate) fn key_of(packet: &Packet<'_>) -> DatagramKey
     ensures { result ≡ key_of (packet_parts packet.now) }
 {

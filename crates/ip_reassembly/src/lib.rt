@@ -1,10 +1,10 @@
-//! Reassembly of IPv4 datagrams (RFC 791 3.2): the fragments of up to four datagrams at one time are
-//! joined, in buffers that are taken at the start. Nothing here knows of frames or of virtual links. The pieces
-//! that wait can be kept apart, in no more memory than they take (`Waiting`).
+//! Reassembly of IPv4 datagrams (RFC 791 3.2): the fragments of up to four datagrams at one time are joined, in buffers
+//! that are taken at the start. Nothing here knows of frames or of virtual links. Waiting pieces can be kept apart, in
+//! no more memory than they take (`Waiting`).
 //!
-//! What is handed on is, octet by octet, the datagram of all pieces that came, in whatever order: it ends
-//! where the latest piece with no more to follow ends, and each octet is that of the latest piece that has
-//! one at its place ([`laws::joins_the_datagram`]).
+//! A joined datagram is, octet by octet, that of all pieces, in whatever order they came: it ends where the latest
+//! piece with no more to follow ends, and each octet is that of the latest piece with one at its place
+//! ([`laws::joins_the_datagram`]).
 //!
 //! A receiver of plain IPv4 joins a datagram of 24 octets, whose end comes first:
 //!

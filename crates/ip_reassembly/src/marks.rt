@@ -6,7 +6,7 @@ ghost use Rattle.ip_reassembly.specs.Runs.{CameWithin};
 use es_base::Memory;
 use std::alloc::Global;
 
-/// As many marks as there are places, none of them set.
+/// Unset marks, one for each place.
 pub(crate) fn unset(alloc: Global, places: usize) -> Result<Vec<bool>, Memory>
     ensures { IfOk result (λ marks. marks.items ≡ replicate places false) }
 {

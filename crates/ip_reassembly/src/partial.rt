@@ -14,18 +14,18 @@ use es_base::{DatagramKey, Memory};
 use frame_reader::Packet;
 use std::alloc::Global;
 
-/// A datagram of which some pieces came; or a spare one, which waits to begin.
+/// A partly received datagram, or a spare buffer for one.
 #[derive(Drop)]
 pub struct Partial {
-    /// What its pieces share.
+    /// Key of its pieces.
     pub(crate) key: DatagramKey,
-    /// When its first piece came, in microseconds.
+    /// Arrival time of its first piece, in microseconds.
     pub(crate) begin: u64,
     pub(crate) buffer: Buffer,
 }
 
 impl Partial {
-    /// A spare one, of which nothing came.
+    /// An empty spare one.
     pub(crate) fn spare(alloc: Global) -> Result<Partial, Memory>
         ensures { IfOk result (λ partial. Holds partial.buffer []) }
     {
@@ -54,7 +54,7 @@ impl Partial {
         })
     }
 
-    /// Begins again with one piece, which comes now.
+    /// Begins anew with one piece, which comes now.
     pub(crate) fn begin(&mut self, key: DatagramKey, packet: &Packet<'_>, now: u64)
         requires { packet.now.offset + length packet.now.octets.now ≤ longest_joined }
         ensures { IsPartial self.new (record { key = key; pieces = piece_of (packet_parts packet.now) now ∷ [] }) }
@@ -65,7 +65,7 @@ impl Partial {
         self.join(packet);
     }
 
-    /// One piece more.
+    /// Adds a piece.
     pub(crate) fn join(&mut self, packet: &Packet<'_>)
         requires { packet.now.offset + length packet.now.octets.now ≤ longest_joined }
         ensures key { self.new.key ≡ self.old.key }
@@ -77,7 +77,7 @@ impl Partial {
             .join(packet.more, packet.offset as usize, packet.octets);
     }
 
-    /// The length of the datagram, if one piece more completes it.
+    /// Length of the datagram, if this piece completes it.
     pub(crate) fn joined_with(&self, packet: &Packet<'_>) -> Option<usize>
         requires { packet.now.offset + length packet.now.octets.now ≤ longest_joined }
         ensures joined { (pieces : List Piece) (time : ℕ) → Holds self.now.buffer pieces →
@@ -88,7 +88,7 @@ impl Partial {
             .joined_with(packet.more, packet.offset as usize, packet.octets.len())
     }
 
-    /// What one piece more would make of it.
+    /// The answer that one more piece would get.
     pub(crate) fn preview_with(&self, packet: &Packet<'_>) -> Preview
         requires { packet.now.offset + length packet.now.octets.now ≤ longest_joined }
         ensures { (pieces : List Piece) (time : ℕ) → Holds self.now.buffer pieces → result
@@ -106,7 +106,7 @@ impl Partial {
         }
     }
 
-    /// Whether its first piece came longer ago than the limit of time, in microseconds (own).
+    /// Whether its age is beyond the time limit, in microseconds (own).
     pub(crate) fn is_over(&self, limit: u64, now: u64) -> bool
         ensures { (group : Group) → IsPartial self.now group → result ≡ is_over limit now group }
     {
@@ -114,7 +114,7 @@ impl Partial {
     }
 }
 
-/// The place of the first that has a key.
+/// Index of the first with a key.
 pub(crate) fn place_among(partials: &[Partial], key: DatagramKey) -> Option<usize>
     ensures value { result ≡ position (has_key_of key) partials.now }
     ensures bound { IfSome result (λ place. place < length partials.now) }

@@ -20,24 +20,24 @@ use frame_reader::Packet;
 use std::alloc::Global;
 use std::marker::Model;
 
-/// The most partial datagrams that stand at one time (own).
+/// Most partial datagrams at one time (own).
 pub const MOST_PARTIALS: usize = 4;
 
-/// The pieces of datagrams that aren't complete yet.
+/// Partial datagrams, which pieces join until they are complete.
 ///
-/// Up to four partial datagrams stand (own). If a fragment begins a fifth, the one that began first is
-/// given up, whichever was touched last. A datagram that comes whole gives up the partial one with its
-/// key: source, destination and identification.
+/// Up to four partial datagrams stand (own). A fragment that begins a fifth gives up the one that began first,
+/// whichever was touched last. A whole datagram gives up the partial one with its key: source, destination and
+/// identification.
 ///
-/// A partial datagram whose first piece is older than the limit of time is given up when the next good
-/// fragment of its key comes, which begins a new one. Nothing is given up before, and no other key is
-/// looked at (own: the timer of RFC 791, which a fragment's time to live can raise, isn't used).
+/// A partial datagram whose first piece is older than the time limit is given up when the next good fragment of its key
+/// comes, which begins a new one; not before, and for no other key (own: the timer of RFC 791, which a fragment's time
+/// to live can raise, isn't used).
 #[derive(Drop)]
 pub struct Reassembly {
     limit: u64,
-    /// How many partial datagrams were given up. The count stops at the greatest number of 64 bits.
+    /// Number of partial datagrams given up. It saturates at 2^64 - 1.
     given_up: u64,
-    /// How many partial datagrams stand.
+    /// Number of partial datagrams that stand.
     standing: usize,
     /// Those that stand come first, in the order in which they began; the others are spare.
     partials: ArrayVec<Partial, MOST_PARTIALS>,
@@ -59,11 +59,11 @@ impl Model for Reassembly {
 impl Reassembly {
     ghost use Rattle.ip_reassembly.specs.Ends.{EndsWith};
 
-    /// No partial datagrams. `limit` is the limit of time, in microseconds: how long pieces are waited
+    /// A reassembly without partial datagrams. `limit` is the time limit, in microseconds: how long pieces are waited
     /// for after the first of them.
     ///
-    /// All memory is taken here, and none after it: buffers for four datagrams of 8200 octets. The only
-    /// error is that there wasn't so much.
+    /// All memory is taken here, and none after it: buffers for four datagrams of 8200 octets. The only error is that
+    /// memory ran out.
     pub fn new(alloc: Global, limit: u64) -> Result<Reassembly, Memory>
         ensures pieces { IfOk result (λ reassembly. StandsFor reassembly limit []) }
         ensures given_up { IfOk result (λ reassembly. reassembly.given_up ≡ 0) }
@@ -80,8 +80,7 @@ impl Reassembly {
         })
     }
 
-    /// A copy, which stands for the same pieces and takes as much memory. The only error is that there
-    /// wasn't so much.
+    /// A copy, with the same pieces and as much memory. The only error is that memory ran out.
     pub fn copy(&self, alloc: Global) -> Result<Reassembly, Memory>
         ensures { IfOk result (λ copy. copy ≡ self.now) }
     {
@@ -97,7 +96,8 @@ impl Reassembly {
         })
     }
 
-    /// This many partial datagrams that stand, in the order in which they began, and spare ones after them.
+    /// A reassembly of these partial datagrams: first the given number that stand, in the order in which they began,
+    /// then spare ones.
     pub(crate) fn of(
         limit: u64,
         given_up: u64,
@@ -124,27 +124,26 @@ impl Reassembly {
         &self.partials[..self.standing]
     }
 
-    /// The limit of time, in microseconds.
+    /// Time limit, in microseconds.
     pub fn limit(&self) -> u64
         ensures { result ≡ self.now.limit }
     {
         self.limit
     }
 
-    /// How many partial datagrams were given up so far: without an end of their own, since their time was over
-    /// as the next good fragment of their key came, since four stood and a fifth began, or since a datagram with
-    /// their key came whole. The count stops at the greatest number of 64 bits.
+    /// Number of partial datagrams given up: past the time limit as the next good fragment of the key came, the first
+    /// of four as a fifth began, or replaced by a whole datagram of the key. It saturates at 2^64 - 1.
     pub fn given_up(&self) -> u64
         ensures { result ≡ self.now.given_up }
     {
         self.given_up
     }
 
-    /// What would become of a packet that comes at `now`, in microseconds: what `offer` would answer, but
-    /// with the first 8 octets of a datagram and its length. A caller can so take the memory that it needs
-    /// for a datagram, or read its UDP header, before anything has changed.
+    /// The answer that `offer` would give to a packet at `now`, in microseconds, with a datagram's first 8 octets and
+    /// its length in place of its octets. So a caller can take memory for a datagram, or read its UDP header, before
+    /// anything has changed.
     ///
-    /// Times may fall: where `now` is earlier than a partial datagram's first piece, its age is 0 (own).
+    /// Times may fall: if `now` is earlier than a partial datagram's first piece, its age is 0 (own).
     pub fn preview(&self, packet: &Packet<'_>, now: u64) -> Preview
         ensures { (limit : ℕ) (groups : List Group) → StandsFor self.now limit groups →
             result ≡ preview_of (fate limit groups (packet_parts packet.now) now) }
@@ -165,12 +164,11 @@ impl Reassembly {
         }
     }
 
-    /// Takes a packet that comes at `now`, in microseconds, and says what becomes of it: `Bad` where it is
-    /// a fragment that is no piece, and then nothing has changed; `Held` where it is a piece of a datagram
-    /// that isn't complete; and else the datagram, whose partial one ends.
+    /// Takes a packet that comes at `now`, in microseconds. `Bad` is a fragment that is no piece: nothing has changed.
+    /// `Held` is a piece of a datagram that isn't complete. Else the datagram is returned, and its partial one ends.
     ///
-    /// The octets are the packet's own where nothing was joined. Else they are lent from the buffer that
-    /// they were joined in, without a copy.
+    /// The octets are the packet's own if nothing was joined, else lent from the buffer that they were joined in,
+    /// without a copy.
     pub fn offer<'a>(&'a mut self, packet: &'a Packet<'a>, now: u64) -> Offered<'a>
         ensures answer { (limit : ℕ) (groups : List Group) → StandsFor self.old limit groups →
             fate_seen result ≡ fate limit groups (packet_parts packet.now) now }
@@ -197,7 +195,7 @@ impl Reassembly {
         }
     }
 
-    /// The place of the partial datagram with a key.
+    /// Index of the partial datagram with a key.
     fn place_of(&self, key: DatagramKey) -> Option<usize>
         ensures group { (groups : List Group) → StandFor self.now.partials groups → result ≡ place_of key groups }
         ensures bound { IfSome result (λ place. place < length self.now.partials) }
@@ -212,7 +210,7 @@ impl Reassembly {
         &self.partials[place]
     }
 
-    /// The place of the partial datagram that a piece with this key joins.
+    /// Index of the partial datagram that a piece with this key joins.
     fn found_for(&self, key: DatagramKey, now: u64) -> Option<usize>
         ensures group { (groups : List Group) → StandFor self.now.partials groups →
             Finds result groups key (found_for self.now.limit groups key now) }
@@ -240,7 +238,7 @@ impl Reassembly {
         self.given_up = self.given_up.saturating_add(1);
     }
 
-    /// Gives up the partial datagram with a key, if there is one.
+    /// Gives up the partial datagram with a key, if any.
     fn give_up_key(&mut self, key: DatagramKey)
         ensures stand { (groups : List Group) → StandFor self.old.partials groups →
             StandFor self.new.partials (without groups (place_of key groups)) }
@@ -253,7 +251,7 @@ impl Reassembly {
         }
     }
 
-    /// Whether no partial datagram more may stand.
+    /// Whether the greatest number of partial datagrams stands.
     fn is_full(&self) -> bool
         ensures value { result ≡ (length self.now.partials == most_partials) }
         ensures bound { length self.now.partials ≤ most_partials }
@@ -261,7 +259,7 @@ impl Reassembly {
         self.standing == MOST_PARTIALS
     }
 
-    /// Gives up the one that began first where four stand (own).
+    /// Gives up the one that began first, if four stand (own).
     fn make_room(&mut self)
         ensures stand { (groups : List Group) → StandFor self.old.partials groups →
             StandFor self.new.partials (with_room groups) }
@@ -275,7 +273,7 @@ impl Reassembly {
         }
     }
 
-    /// One piece more for the partial datagram at a place.
+    /// Adds a piece to the partial datagram at a place.
     fn join_at(&mut self, place: usize, packet: &Packet<'_>)
         requires place { place < length self.old.partials }
         requires end { packet.now.offset + length packet.now.octets.now ≤ longest_joined }
@@ -289,7 +287,7 @@ impl Reassembly {
         self.partials[place].join(packet);
     }
 
-    /// A new partial datagram, after the others.
+    /// Begins a partial datagram, after the others.
     fn begin(&mut self, key: DatagramKey, packet: &Packet<'_>, now: u64)
         requires room { length self.old.partials < most_partials }
         requires end { packet.now.offset + length packet.now.octets.now ≤ longest_joined }
@@ -302,7 +300,7 @@ impl Reassembly {
         self.standing += 1;
     }
 
-    /// A new partial datagram, without an older one of its key, and with room for it.
+    /// Begins a partial datagram in place of any older one of its key, with room made for it.
     fn begin_anew(&mut self, key: DatagramKey, packet: &Packet<'_>, now: u64)
         requires { packet.now.offset + length packet.now.octets.now ≤ longest_joined }
         ensures stand { (groups : List Group) → StandFor self.old.partials groups → StandFor self.new.partials
@@ -317,7 +315,7 @@ impl Reassembly {
         self.begin(key, packet, now);
     }
 
-    /// Ends the partial datagram at a place, which is complete, and lends its octets.
+    /// Ends the partial datagram at a place, complete now, and lends its octets.
     fn take_out(&mut self, place: usize, len: usize) -> &[u8]
         requires place { place < length self.old.partials }
         requires len { len ≤ longest_joined }
@@ -332,7 +330,7 @@ impl Reassembly {
         self.partials[self.standing].buffer.octets(len)
     }
 
-    /// What becomes of a piece that joins the partial datagram at a place.
+    /// The answer to a piece that joins the partial datagram at a place.
     fn offer_at(&mut self, place: usize, packet: &Packet<'_>) -> Offered<'_>
         requires place { place < length self.old.partials }
         requires end { packet.now.offset + length packet.now.octets.now ≤ longest_joined }

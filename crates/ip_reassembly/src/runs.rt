@@ -1,4 +1,4 @@
-//! Where the octets of one datagram came, so that few marks have to be looked at.
+//! Runs of a datagram's received octets, by which few marks have to be looked at.
 ghost use Rattle.std.specs.Prelude.{◌≡◌, ℕ, ◌<◌, ◌≤◌, Bool, false, List, length, max, replicate, slice_index_or};
 ghost use Rattle.es_base.specs.Limits.{longest_joined};
 ghost use Rattle.ip_reassembly.specs.Covering.{AreSet};
@@ -6,25 +6,25 @@ ghost use Rattle.ip_reassembly.specs.Runs.{AreRuns, IsRun, with_marks};
 
 use crate::buffer::LONGEST_JOINED;
 
-/// How many marks are looked at together.
+/// Marks that are looked at together.
 const BLOCK: usize = 64;
 
-/// Where octets came: the gap that has to be filled next, and a run at the end. The gap only moves on, so each mark is
-/// looked at once for each look whether a piece completes the datagram, however often pieces come again.
+/// Places of the octets that came: the gap that has to be filled next, and a run at the end. The gap only moves on, so
+/// each mark is looked at once for each look whether a piece completes the datagram, however often pieces come again.
 #[derive(Clone, Copy)]
 pub(crate) struct Runs {
-    /// The place of the first octet that came: 8200 if none did.
+    /// Offset of the first octet that came: 8200 if none did.
     pub(crate) least: usize,
-    /// The place of the first octet of the datagram that didn't come: 0 if its first one didn't.
+    /// Offset of the datagram's first missing octet.
     pub(crate) gap: usize,
-    /// A place from which on all octets up to the reach came.
+    /// An offset from which on all octets up to the reach came.
     pub(crate) last: usize,
-    /// The place after the last octet that came: 0 if none did.
+    /// Offset after the last octet that came: 0 if none did.
     pub(crate) reach: usize,
 }
 
 impl Runs {
-    /// No octet came.
+    /// The runs of no octet.
     pub(crate) fn none() -> Runs
         ensures { (places : ℕ) → AreRuns (replicate places false) result }
     {
@@ -36,7 +36,7 @@ impl Runs {
         }
     }
 
-    /// The runs after one piece more, from `offset` up to `end`. The marks are those before it.
+    /// The runs after one more piece, from `offset` up to `end`. The marks are those before it.
     pub(crate) fn with(self, marks: &[bool], offset: usize, end: usize) -> Runs
         requires order { offset ≤ end }
         requires within { end ≤ length marks.now }
@@ -55,8 +55,7 @@ impl Runs {
         }
     }
 
-    /// The gap after a piece. Marks are looked at only where the piece meets the gap and ends before the run at the
-    /// end.
+    /// The gap after a piece. Marks are looked at only if the piece meets the gap and ends before the run at the end.
     fn gap_with(self, marks: &[bool], offset: usize, end: usize) -> usize
         requires order { offset < end }
         requires within { end ≤ length marks.now }
@@ -75,7 +74,7 @@ impl Runs {
         run_end(marks, end, self.reach)
     }
 
-    /// Where the run at the end begins, with a piece.
+    /// Beginning of the run at the end, after a piece.
     fn last_with(self, offset: usize, end: usize) -> usize
         requires { offset < end }
         ensures run { (marks : List Bool) → end ≤ length marks → AreRuns marks self →
@@ -111,7 +110,7 @@ fn run_end(marks: &[bool], from: usize, to: usize) -> usize
     place + set_first(&marks[place..to])
 }
 
-/// How many of the first marks are set, up to the first that isn't.
+/// Number of set marks before the first that isn't.
 fn set_first(marks: &[bool]) -> usize
     ensures run { IsRun marks.now 0 result }
     ensures gap { slice_index_or marks.now result false ≡ false }

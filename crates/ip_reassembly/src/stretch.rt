@@ -1,4 +1,4 @@
-//! What came of one datagram, in no more memory than it takes.
+//! The received octets of one datagram, in no more memory than they take.
 ghost use Rattle.std.specs.Prelude.{◌≡◌, ◌+◌, ◌≤◌, false, length, IfOk};
 ghost use Rattle.es_base.specs.Limits.{longest_joined};
 ghost use Rattle.ip_reassembly.specs.Runs.{AreRuns};
@@ -10,13 +10,14 @@ use es_base::Memory;
 use std::alloc::Global;
 use std::marker::Model;
 
-/// What came of one datagram: the octets from its first piece up to its last, and which of them came.
+/// The received part of one datagram: the octets from its first piece up to its last, and which of them
+/// came.
 #[derive(Drop)]
 pub(crate) struct Stretch {
-    /// If the datagram ends, once a piece with no more to follow came.
+    /// Length of the datagram, once a piece with no more to follow came.
     pub(crate) total: Option<usize>,
     pub(crate) runs: Runs,
-    /// The place of the first octet.
+    /// Offset of the first octet.
     pub(crate) least: usize,
     pub(crate) octets: Vec<u8>,
     /// A mark for each octet: whether it came.
@@ -38,7 +39,7 @@ impl Model for Stretch {
 }
 
 impl Stretch {
-    /// Nothing that came. It takes no memory.
+    /// A stretch of no octets. It takes no memory.
     pub(crate) fn empty(alloc: Global) -> Stretch {
         Stretch {
             total: None,

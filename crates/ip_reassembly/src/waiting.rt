@@ -1,4 +1,4 @@
-//! The pieces that wait, in no more memory than they take.
+//! Waiting pieces, in no more memory than they take.
 ghost use Rattle.std.specs.Prelude.{◌≡◌, IfOk};
 ghost use Rattle.ip_reassembly.specs.Waiting.{IsAt};
 
@@ -11,13 +11,13 @@ use es_base::{DatagramKey, Memory};
 use std::alloc::Global;
 use std::marker::Model;
 
-/// A partial datagram that waits: no piece joins it, so it keeps only what came. To a contract it is that partial
-/// datagram.
+/// A partial datagram that waits: no piece joins it, so it keeps only the octets that came. To a contract it is that
+/// partial datagram.
 #[derive(Drop)]
 struct WaitingDatagram {
-    /// What its pieces share.
+    /// Key of its pieces.
     key: DatagramKey,
-    /// When its first piece came, in microseconds.
+    /// Arrival time of its first piece, in microseconds.
     begin: u64,
     stretch: Stretch,
 }
@@ -31,7 +31,7 @@ impl Model for WaitingDatagram {
 }
 
 impl WaitingDatagram {
-    /// None of any datagram. It takes no memory.
+    /// One of no datagram. It takes no memory.
     fn empty(alloc: Global) -> WaitingDatagram {
         let key = DatagramKey {
             source: 0,
@@ -46,15 +46,15 @@ impl WaitingDatagram {
     }
 }
 
-/// The pieces of datagrams that weren't complete, as a `Reassembly` had them. It keeps the octets of the partial
-/// datagrams that stood, and no spare buffer: so a reassembly can begin with it, and no packet is offered to it.
+/// The partial datagrams of a `Reassembly`, kept without spare buffers: a reassembly can begin with them, and no packet
+/// is offered to them.
 #[derive(Drop)]
 pub struct Waiting {
-    /// The limit of time, in microseconds.
+    /// Time limit, in microseconds.
     limit: u64,
-    /// How many partial datagrams were given up before. The count stops at the greatest number of 64 bits.
+    /// Number of partial datagrams given up before. It saturates at 2^64 - 1.
     given_up: u64,
-    /// How many partial datagrams stood.
+    /// Number of partial datagrams that stood.
     standing: usize,
     /// Those that stood come first, in the order in which they began; the others are empty.
     partials: ArrayVec<WaitingDatagram, MOST_PARTIALS>,
@@ -74,8 +74,8 @@ impl Model for Waiting {
 }
 
 impl Reassembly {
-    /// A copy of the pieces that wait. It takes memory for the octets of each partial datagram that stands, from its
-    /// first piece up to its last, and for their marks. The only error is that there wasn't so much.
+    /// A copy of the waiting pieces. It takes memory for the octets of each partial datagram that stands, from its
+    /// first piece up to its last, and for their marks. The only error is that memory ran out.
     pub fn waiting(&self, alloc: Global) -> Result<Waiting, Memory>
         ensures { IfOk result (λ waiting. waiting ≡ self.now) }
     {
@@ -94,8 +94,8 @@ impl Reassembly {
 }
 
 impl Waiting {
-    /// A reassembly that goes on from these pieces. It takes the memory of a new one. The only error is that there
-    /// wasn't so much.
+    /// A reassembly that goes on from these pieces. It takes the memory of a new one. The only error is that memory ran
+    /// out.
     pub fn begin(&self, alloc: Global) -> Result<Reassembly, Memory>
         ensures { IfOk result (λ reassembly. reassembly ≡ self.now) }
     {

@@ -17,12 +17,12 @@ abbrev pub latest_on : List Event → Net → Option ℕ
 latest_on [] net = None
 latest_on (e ∷ past) net = if is_same_net e.net net then Some e.time else latest_on past net
 
--- how many of these groups are given up at a time at which reassembly is offered this
+-- number of these groups that are given up at a time at which reassembly is offered this
 abbrev pub given_up_by : ℕ → List Group → Option PacketParts → ℕ → ℕ
 given_up_by limit groups None time = 0
 given_up_by limit groups (Some packet) time = given_up limit groups packet time
 
--- how many groups of pieces were given up at a link
+-- number of groups of pieces given up at a link
 -- rule: REAS-15
 abbrev pub number_given_up : Settings → List Event → ℕ
 number_given_up settings [] = 0

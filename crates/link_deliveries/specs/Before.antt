@@ -1,4 +1,4 @@
--- What stood before a history.
+-- The groups before a history.
 use Rattle.std.specs.Prelude.{◌≡◌, List, [], ◌++◌, Option, None, Some}
 use Rattle.es_base.specs.declared.event.Event.{Event}
 use Rattle.es_base.specs.declared.event.Message.{Message}

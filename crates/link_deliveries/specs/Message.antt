@@ -5,7 +5,7 @@ use Rattle.es_base.specs.Packet.{PacketParts}
 use Rattle.es_base.specs.Udp.{UdpParts, udp_of}
 use Rattle.es_base.specs.Groups.{Group, whole, fate}
 
--- where an event delivers a message, it is the payload of the UDP datagram that its packet has or
+-- if an event delivers a message, it is the payload of the UDP datagram that its packet has or
 -- completes; where it delivers none, there is none
 -- rule: PORT-4
 abbrev pub IsMessageOf : Bool → ℕ → List Group → Option PacketParts → ℕ → Option Message → Type 0

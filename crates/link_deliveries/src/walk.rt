@@ -21,9 +21,9 @@ use ip_reassembly::{Reassembly, Waiting};
 use link_core::tells_delivered;
 use std::alloc::Global;
 
-/// The messages that a lawful history of a link delivered to a port, in order. `before` is the reassembly
-/// as it stood before the history, or None if nothing was before. Pieces are joined anew, so this takes a
-/// walk through the history, up to the last event that delivered a message.
+/// The messages that a lawful history of a link delivered to a port, in order. `before` is the reassembly before the
+/// history, or None if nothing was before. Pieces are joined anew, so this takes a walk through the history, up to the
+/// last event that delivered a message.
 pub fn deliveries(
     alloc: Global,
     settings: &LinkSettings,
@@ -68,7 +68,7 @@ pub fn deliveries_after(
     deliveries_before(alloc, settings, reassembly, history, end, port)
 }
 
-/// How many events there are up to the last one that delivered a message to the port.
+/// Number of events up to the last one that delivered a message to the port.
 fn end_of(history: &BlockList<Event>, port: PortNo) -> usize
     ensures { AreDeliveredBefore result port history.now.items }
 {
@@ -90,8 +90,7 @@ fn delivers_at(history: &BlockList<Event>, place: usize, port: PortNo) -> bool
     }
 }
 
-/// The messages that the events of the history before this place delivered. `reassembly` is as it stood before the
-/// history.
+/// The messages that the events of the history before this place delivered. `reassembly` is that before the history.
 fn deliveries_before(
     alloc: Global,
     settings: &LinkSettings,
@@ -117,7 +116,7 @@ fn deliveries_before(
     Ok(messages)
 }
 
-/// The reassembly that a walk begins with: a copy of the one that stood before, or a new one.
+/// The reassembly that a walk begins with: a copy of the one before the history, or a new one.
 fn reassembly_from(
     alloc: Global,
     settings: &LinkSettings,
@@ -149,7 +148,7 @@ fn reassembly_after(
     }
 }
 
-/// Adds a message, if there is one.
+/// Adds a message, if any.
 fn add(messages: &mut Vec<Message>, message: Option<Message>) -> Result<(), Memory>
     ensures { OnOk result (messages.new.items ≡ messages.old.items ++ option_to_list message) }
 {

@@ -1,11 +1,9 @@
-//! A lock round one value (own), with which two users work on threads of their own, one at a time. It knows what
-//! each of them did with the value: that is the user's *list*, which exists in contracts alone. The rule of the lock
-//! is a relation between the lists and the value, and the value's type chooses it (`Recorded`). So what was done may
-//! be taken out of the value later, while the lists keep it.
-//!
-//! A user works on the value in a *visit*, from the taking of the value to its return. No call takes the value and
-//! leaves it with a user, so nobody can forget to give it back. A visit waits while the other user is at work, so it
-//! is passed `rt`; nothing is promised of whose turn is next. Only the opening takes memory.
+//! A lock round one value (own), with which two users work on threads of their own, one at a time. What each of
+//! them did with the value is its *list*, which exists in contracts alone; the rule of the lock is a relation
+//! between both lists and the value, chosen by the value's type (`Recorded`), so what was done may be taken out of
+//! the value later while the lists keep it. A user works on the value in a *visit*, from the taking of the value to
+//! its return: no call leaves the value with a user. A visit takes no memory; it waits while the other user is at
+//! work, so it is passed `rt`, and nothing is promised of whose turn is next.
 //!
 //! ```text
 //! let Opened { lock, mut first, mut second } = Lock::open(alloc, value)?;

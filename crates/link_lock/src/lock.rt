@@ -25,7 +25,7 @@ const WORD: usize = 0;
 
 const SLOT: usize = 0;
 
-// The word if the value is in the slot, and if a user has it.
+// The lock's word: free while the value is in its slot, away while a user has it.
 const FREE: u64 = 0;
 
 const AWAY: u64 = 1;
@@ -48,7 +48,7 @@ impl<S: Recorded> Model for Lock<S> {
     ghost invariant = { λ l. (l.table.shared.table_id.words ≡ 1) × (l.table.shared.table_id.slots ≡ 1) };
 }
 
-/// A new lock, and the passes of its two users.
+/// A new lock and its two users' passes.
 #[derive(Drop)]
 pub struct Opened<S: Recorded> {
     /// Shared by the threads of both users.
@@ -142,11 +142,11 @@ impl<S: Recorded> Lock<S> {
     }
 
     /// One visit: waits until no user has the value, lets `work` change it, gives it back, and returns what `work`
-    /// returned. The user's list goes on by what was found and what was left. Takes no memory.
+    /// returned. The user's list goes on by the value as found and as left. Takes no memory.
     ///
-    /// Whoever calls it proves of `work` that it may be called with each value that this user may find
-    /// (`callable`), and that what it leaves keeps the rule with the user's list gone on and the other's as it was
-    /// (`keeps`); of both lists nothing is known but the rule, and that one is the user's own.
+    /// The caller proves of `work` that it may be called with each value that this user may find (`callable`), and that
+    /// the value it leaves keeps the rule, with the user's list gone on and the other's as it was (`keeps`); of both
+    /// lists nothing is known but the rule, and that one is the user's own.
     ///
     /// A `work` that visits the same lock with the other user's pass waits for ever.
     // rule: CONC-11, CONC-12

@@ -29,7 +29,7 @@ impl<S, L> Model for Pass<S, L> {
 pub type PassOf<S> = Pass<S, <S as Recorded>::List>;
 
 impl<S, L> Pass<S, L> {
-    /// Whose pass it is.
+    /// The user of the pass.
     pub fn user(&self) -> User
         ensures { result ≡ self.now.user }
     {

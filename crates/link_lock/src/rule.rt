@@ -1,4 +1,4 @@
-//! The rule of the table, and what each of its steps tells. No value of these types is made.
+//! The rule of the table, and its steps. No value of these types is made.
 ghost use Rattle.link_lock.specs.Rule.{Locked, first_part, gave, joined, opened, second_part, spent, tried};
 
 use crate::recorded::Recorded;
@@ -7,14 +7,14 @@ use atomic_table::{Join, Play, Seat, Split, Table, TableRule};
 use std::alloc::Global;
 use std::snapshot::Snapshot;
 
-/// Whose a seat is.
+/// Owner of a seat.
 pub(crate) enum Whose {
     One(User),
     Both,
     Nobody,
 }
 
-/// What a seat knows. The list of its own user is right at each moment, and while it has the value, both are.
+/// Knowledge of a seat. The list of its own user is right at each moment, and while it has the value, both are.
 pub(crate) struct View<S, L> {
     /// The value without all that a visit may change.
     pub fixed: Option<S>,

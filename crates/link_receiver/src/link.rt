@@ -43,20 +43,20 @@ use std::marker::Model;
 use std::mem;
 use std::sync::Wait;
 
-/// The state of one link: its settings, and its history. The rest follows from these and from the events that were
-/// taken out before it, which only proofs know: what is kept of all events, and for each port the end that publishes
-/// its messages or puts them into its queue.
+/// State of one link: its settings, and its history. The rest follows from these and from the events taken out before
+/// it, which only proofs know: the state kept of all events, and for each port the end that publishes its messages or
+/// puts them into its queue.
 #[derive(Drop)]
 pub struct LinkState {
     settings: LinkSettings,
     /// The events before the history, for proofs alone.
     before: Past,
-    /// How many they were.
+    /// Number of events before the history.
     taken: u64,
-    /// The pieces of datagrams that weren't complete before the history.
+    /// The partial datagrams before the history.
     pieces: Waiting,
     history: BlockList<Event>,
-    /// What is kept of all events.
+    /// State after all events.
     kept: Standing,
     outlets: Vec<Outlet>,
 }
@@ -81,8 +81,8 @@ impl Model for LinkState {
 }
 
 impl LinkState {
-    /// The state of a link with these settings and no history; and the ends of its ports, in the order of the
-    /// settings, each of its own port. All memory of the ports is taken here.
+    /// Opens a link with these settings and no history, and returns the ends of its ports, in the order of the
+    /// settings. All memory of the ports is taken here.
     pub fn new(alloc: Global, settings: &LinkSettings) -> Result<(LinkState, Vec<PortEnd>), Memory>
         ensures link { IfOk result (λ opened. IsNewLink settings.now opened.0) }
         ensures ends { IfOk result (λ opened. AreEndsOf 0 settings.now.ports opened.0.channels opened.1.items) }
@@ -123,7 +123,7 @@ impl LinkState {
         &self.history
     }
 
-    /// How many events were taken out: the place of the history's first event among all events of the link.
+    /// Number of events taken out: the place of the history's first event among all events of the link.
     pub fn taken(&self) -> u64
         ensures value { result ≡ length self.now.before }
         ensures few { result ≤ most_events }
@@ -131,9 +131,9 @@ impl LinkState {
         self.taken
     }
 
-    /// Takes the history out: the link goes on from what it left. What becomes of a frame is what it would have
-    /// become, places and counts go on, and a partial datagram can still be completed. The events themselves
-    /// are handed out, not copies of them. After a fault nothing has changed.
+    /// Takes the history out: the link goes on from its summary. Verdicts are as without it, places and counts go on,
+    /// and a partial datagram can still be completed. The events themselves are handed out, not copies of them. After a
+    /// fault nothing has changed.
     // rule: HIST-9, EMB-39
     pub fn take_epoch(&mut self, alloc: Global) -> Result<Epoch, EpochFault>
         ensures ok { IfOk result (λ epoch. Hands self.old epoch self.new) }
@@ -158,15 +158,15 @@ impl LinkState {
         Ok(Epoch::of(settings, before, first, events))
     }
 
-    /// How many events came on each network with each kind of verdict, from the first event on.
+    /// Number of events per network and kind of verdict, from the first event on.
     pub fn tally(&self) -> &VerdictTally
         ensures { HasCounts result.now (past_of self.now) }
     {
         self.kept.tally()
     }
 
-    /// The messages that the history delivered to a port, in order, worked out from it. This walks through the
-    /// history, up to the last event that delivered one.
+    /// The history's deliveries to a port, in order, worked out from it. This walks through the history, up to the last
+    /// event that delivered one.
     pub fn deliveries(&self, alloc: Global, port: PortNo) -> Result<Vec<Message>, Memory>
         ensures { IfOk result (λ messages. messages.items ≡ deliveries_since self.now port) }
     {
@@ -179,17 +179,16 @@ impl LinkState {
         )
     }
 
-    /// The pieces of datagrams that weren't complete before the history.
+    /// The partial datagrams before the history.
     fn pieces_before(&self) -> &Waiting
         ensures { StandsFor result.now self.now.settings.reassembly (groups_in self.now.settings self.now.before) }
     {
         &self.pieces
     }
 
-    /// A sampling port of this link and a reader of it meet: the reader then knows all that was delivered to
-    /// the port, before the history and in it, so no later read returns an earlier message than the last of
-    /// that. What it had seen is a beginning of it. It takes no memory and waits for nobody, and nothing else
-    /// changes.
+    /// Synchronizes a sampling port of this link with a reader of it: the reader then knows all messages delivered to
+    /// the port, before the history and in it, so no later read returns an earlier message than the last of them. What
+    /// it had seen is a beginning of them. Takes no memory and waits for nobody, and nothing else changes.
     pub fn meet(&mut self, port: PortNo, reader: &mut Reader<READERS>)
         requires { slice_get self.old.channels port.0 ≡ Some (samples reader.old.port) }
         ensures link { self.new ≡ self.old }
@@ -201,10 +200,9 @@ impl LinkState {
         self.outlets[port.0 as usize].meet_reader(reader);
     }
 
-    /// A queuing port of this link and the end that takes of it meet: the taker then knows all that was
-    /// delivered to the port, before the history and in it. What it knew before is a beginning of that.
-    /// Returns how many of these messages it hasn't taken: at most the depth of the queue. Nothing else
-    /// changes.
+    /// Synchronizes a queuing port of this link with its taker: the taker then knows all messages delivered to the
+    /// port, before the history and in it. What it knew before is a beginning of them. Returns the number of these
+    /// messages that it hasn't taken: at most the depth of the queue. Nothing else changes.
     pub fn meet_taker<R: Wait>(&mut self, rt: &R, port: PortNo, taker: &mut Taker) -> usize
         requires { slice_get self.old.channels port.0 ≡ Some (queues taker.old.queue) }
         ensures link { self.new ≡ self.old }
@@ -217,8 +215,8 @@ impl LinkState {
         self.outlets[port.0 as usize].meet_taker(rt, taker)
     }
 
-    /// What would become of a frame of this link that came now, at `now` microseconds. Nothing changes. The
-    /// frame's link number isn't looked at: whose frame it is, is for the caller to know.
+    /// Verdict of a frame of this link at `now` microseconds, but for the queue's answer. Nothing changes. The frame's
+    /// link number isn't looked at: the caller has to know that it is the link's.
     pub fn decide(&self, net: Net, now: u64, frame: &Frame<'_>) -> Decision
         ensures { result ≡ decision_after self.now (arrived net now frame.now.whole.now) }
     {
@@ -253,8 +251,8 @@ impl LinkState {
         }
     }
 
-    /// Takes a frame as `take` does, and keeps its octets themselves in place of a copy. They are those
-    /// of a frame of this link, as `read_frame` returned it. If memory runs out the arrival is handed back.
+    /// Takes a frame as `take` does, and keeps its octets without a copy. They are those of a frame of this link, as
+    /// `read_frame` returned it. If memory runs out the arrival is handed back.
     pub fn take_arrival<R: Wait>(
         &mut self,
         rt: &R,

@@ -33,7 +33,7 @@ steps_in_turn (f ∷ fs) (r ∷ rs) = steps_in_turn fs rs ++ came f.0 f.1.now r 
 
 -- ---- frames in a row of one link
 
--- at most so many are given in one visit
+-- the most frames that are given in one visit
 abbrev pub most_in_row : ℕ
 most_in_row = 8
 

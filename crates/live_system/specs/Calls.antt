@@ -34,8 +34,8 @@ as_opened link = record { core = record { settings = link.core.settings; past = 
 abbrev pub no_calls : List Call
 no_calls = []
 
--- The past of the link is a run, its ports were given what that delivers, and the calls of the two networks are those of
--- its events.
+-- The past of the link is a run, its ports were given what that delivers, and the calls of the two networks are those
+-- of its events.
 -- rule: CONC-9
 pub record Agrees (lists : User → List Call) (link : LiveLink) : Type 0 where
   pub ported : IsPorted ShowsPort link

@@ -29,8 +29,8 @@ pub record MeetsReader (port : PortNo) (before after : PortReader) (old new : Li
   pub met : HasOutletAt new port (λ outlet. HasMetPort outlet after)
   pub known : after.mailbox.reader.known ≡ deliveries_of old port
 
--- The end that takes of this port's queue met it: it knows all messages that were delivered to the port, and the queue all that
--- it took. Each outlet is the same still and was given nothing, and nothing else changed.
+-- The end that takes of this port's queue met it: it knows all messages that were delivered to the port, and the queue
+-- all that it took. Each outlet is the same still and was given nothing, and nothing else changed.
 -- rule: PORT-18
 pub record MeetsTaker (port : PortNo) (before after : Known) (old new : LiveLink) : Type 0 where
   pub core : new.core ≡ old.core

@@ -20,7 +20,7 @@ use Rattle.network_calls.specs.Calls.{count_calls, user_of}
 use Rattle.network_calls.specs.Counts.{AreCounts}
 use Rattle.live_system.specs.Calls.{Agrees, LiveLink, as_opened}
 
--- under which lock its link stands, its network, the link as it was opened, its calls, and their counts
+-- the lock of its link, its network, the link as it was opened, its calls, and their counts
 pub record KnownLink : Type 0 where
   pub lock : LockId
   pub net : Net
@@ -48,12 +48,12 @@ pub record Visits (pass : KnownLink) (did : LiveLink → LiveLink → Type 0) : 
 
 -- ---- a frame
 
--- What one call did to a link: the place that it shows, and its verdict. Where the queue of the frame's port is known to
--- have room, before or after, the verdict is that with room.
+-- What one call did to a link: the place that it shows, and its verdict. Where the queue of the frame's port is known
+-- to have room, before or after, the verdict is that with room.
 abbrev pub Did : Arrival → LiveLink → LiveLink → ℕ × Verdict → Type 0
 Did a old new answer = Takes ShowsPort GivesPort AnswersPort old new a answer.0 answer.1 × TakesIfKnown HasSpacePort old new a answer.1
 
--- One call more, which is what its visit came to, at its place, and it is counted; nothing else of the pass changes.
+-- One more call, the result of its visit, at its place, and it is counted; nothing else of the pass changes.
 -- rule: EMB-30
 pub record Calls (old : KnownLink) (c : Call) (new : KnownLink) : Type 0 where
   pub lock : new.lock ≡ old.lock
@@ -83,9 +83,9 @@ pub record IsNewPass (settings : Settings) (link : LiveLink) (lock : LockId) (ne
 
 -- ---- the end
 
--- What a link is once both networks have let go of it, which made these calls: it is the one that was opened; its past is
--- a run, its ports were given what that delivers, and its events are the calls of both; and all are counted as the calls
--- are.
+-- What a link is once both networks have let go of it, which made these calls: it is the one that was opened; its past
+-- is a run, its ports were given what that delivers, and its events are the calls of both; and all are counted as the
+-- calls are.
 pub record IsSettled (link : Option LiveLink) (a b : List Call) (settled : LiveLink) : Type 0 where
   pub opened : Some (as_opened settled) ≡ link
   pub agrees : Agrees (both_lists a b) settled

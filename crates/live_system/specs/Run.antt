@@ -1,5 +1,5 @@
--- What the threads of both networks did with a system, from its opening to its end. It exists in contracts alone.
--- The latest call stands first.
+-- What the threads of both networks did with a system, from its opening to its end. It exists in contracts alone. The
+-- latest call is first.
 use Rattle.std.specs.Prelude.{◌≡◌, ℕ, ◌==◌, List, [], ◌∷◌, ◌++◌, length, map, slice_get, Some, if◌then◌else◌}
 use Rattle.es_base.specs.declared.place.LinkNo.{LinkNo}
 use Rattle.es_base.specs.declared.place.Net.{Net}
@@ -100,7 +100,7 @@ call_in vl (came time octets (replies.Filtered cause)) = []
 call_in vl (came time octets (replies.Link number place verdict)) = if number.0 == vl.0 then call place time octets verdict ∷ [] else []
 call_in vl met = []
 
--- what this network's frames came to on the link with this number, as it was replied, the first frame first
+-- the calls of this network's frames on the link with this number, by their replies, the first frame first
 abbrev pub calls_in : Net → LinkNo → List (Net × Step) → List Call
 calls_in net vl [] = []
 calls_in net vl (one ∷ earlier) = if is_same_net one.0 net then calls_in net vl earlier ++ call_in vl one.1 else calls_in net vl earlier
@@ -120,9 +120,9 @@ shown_call c = call (shown c.place) c.time c.frame c.verdict
 
 -- ---- one record
 
--- A link with these settings after these calls. Its past is one run, and each of its ports was given what that delivers; what
--- each network's frames came to, as it was replied, are the events of that network in this run, each at its place; each kind
--- of verdict is counted; and the ends that were handed out at the opening are those of its ports.
+-- A link with these settings after these calls. Its past is one run, and each of its ports was given what that
+-- delivers; what each network's frames came to, as it was replied, are the events of that network in this run, each at
+-- its place; each kind of verdict is counted; and the ends that were handed out at the opening are those of its ports.
 -- rule: CONC-9
 pub record EndsInOneRun (readers : Port → ℕ) (steps : List (Net × Step)) (settings : Settings) (ends : List (LinkEnds PartitionEnd)) (place : ℕ) (link : LiveLink) : Type 0 where
   pub with_settings : link.core.settings ≡ settings

@@ -77,8 +77,8 @@ KnowLinks (pass ∷ passes) (link ∷ links) = (pass.link ≡ Some link) × Know
 KnowLinks (pass ∷ passes) [] = ⊥
 KnowLinks [] (link ∷ links) = ⊥
 
--- The passes of both networks know the links of a receiver of this configuration to which nothing came, and these are the
--- ends of its ports. Each sampling port has as many readers as this says.
+-- The passes of both networks know the links of a receiver of this configuration to which nothing came, and these are
+-- the ends of its ports. Each sampling port has as many readers as this says.
 -- rule: EMB-29
 pub record AreOfNewLinks (readers : Port → ℕ) (config : Configuration) (a b : KnownNet) (ends : List (LinkEnds PartitionEnd)) : Type 0 where
   pub opened : Links PortOutlet
@@ -96,7 +96,8 @@ pub record CallsAt (old : List KnownLink) (place : ℕ) (c : Call) (new : List K
   pub calls : Calls before c after
   pub only : new ≡ slice_set old place after
 
--- what a reply says, and what the frame did to the pass; a place that is replied stops at the greatest number of 64 bits
+-- what a reply says, and what the frame did to the pass; a place that is replied stops at the greatest number of 64
+-- bits
 -- rule: CONC-5, EMB-30, EMB-31
 abbrev pub Replies : Configuration → KnownNet → ℕ → List ℕ → Reply → KnownNet → Type 0
 Replies c old now octets (replies.Filtered cause) new =

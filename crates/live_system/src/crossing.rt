@@ -1,5 +1,5 @@
-//! What crosses threads: a system may be shared, and a pass may be sent. Nothing calls this; that it is proved is its
-//! use: it refuses a field that can't be shared where the field is added.
+//! What crosses threads: a system may be shared, and a pass may be sent. Nothing calls this; its proof is its use: a
+//! field that can't be shared is refused as it is added.
 use crate::net_pass::NetPass;
 use crate::system::LiveSystem;
 

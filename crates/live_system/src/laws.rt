@@ -24,9 +24,9 @@ ghost use Rattle.live_system.specs.Pass.{IsSettled, KnownLink};
 ghost use Rattle.live_system.specs.Run.{AreOpened, HasEnded, HasSettled, Passes, Ran, RanAlone, Step, steps_of};
 ghost use Rattle.live_system.specs.System.{KnowLinks, KnownCounts, KnownNet, Replies, System};
 
-/// Each call of either network that a settled link's passes know stands at its place among the link's events: with its
-/// network, its time, its frame and its verdict, which is what becomes of the frame after the events before it. A network's
-/// calls stand in their order, and each event is of one call.
+/// Each call of either network that a settled link's passes know is the event at its place of the link: with its
+/// network, its time, its frame and its verdict, which is that of the frame after the events before it. A network's
+/// calls are in their order, and each event is of one call.
 pub fn each_reply_stands_at_its_place()
     ensures { (link : Option LiveLink) (a b : List Call) (settled : LiveLink) → IsSettled link a b settled →
         StandInTheRun (λ net. both_lists a b (user_of net)) settled.core.settings (events_of settled) }
@@ -40,23 +40,23 @@ pub fn an_end_of_the_opening_may_meet_its_port()
         HasOutlet opened place port (λ outlet. IsQueueOf outlet taker) → KnowsOutlet passes place port (λ outlet. IsQueueOf outlet taker) }
 {}
 
-/// And a pass knows its links still, whatever frame it gave.
+/// A pass keeps its links, whatever frame it gives.
 pub fn a_pass_knows_its_links_after_each_frame()
     ensures { (config : Configuration) (old new : KnownNet) (now : ℕ) (octets : List ℕ) (reply : Reply) (links : List LiveLink) → Replies config old now octets reply new →
         KnowLinks old.links links → KnowLinks new.links links }
 {}
 
-/// What the two threads did, each with its own pass, is what both did together, in whatever order their calls came.
+/// The work of the two threads, each with its own pass, is that of both together, in whatever order their calls came.
 pub fn threads_run_together()
     ensures { (system : System) (first last : Passes) (steps : List (Net × Step)) → RanAlone system first.a (steps_of A steps) last.a → RanAlone system first.b (steps_of B steps) last.b →
         Ran system first steps last }
 {}
 
-/// However many frames the threads of both networks gave to a system since its opening, in whatever order, and whatever ends
-/// of its ports met them in between: when it is settled, each link's past is one run, and each of its ports was given what
-/// that delivers; what was replied on each network are the events of that network, each at its place; and the counts are
-/// those of the calls. A frame that a try answered is one of these calls, as one that waited for its link is; a try that gave
-/// up is none.
+/// After any frames that both networks' threads gave to a system since its opening, in whatever order, and any meetings
+/// of its ports with their ends in between: when it is settled, each link's past is one run, and each of its ports was
+/// given that run's deliveries; the replies on each network are the events of that network, each at its place; and the
+/// counts are those of the calls. A frame that a try answered is one of these calls, as one that waited for its link
+/// is; a try that gave up is none.
 pub fn from_the_opening_to_the_end()
     ensures { (readers : Port → ℕ) (system : System) (first last : Passes) (ends : List (LinkEnds PartitionEnd)) (steps : List (Net × Step)) (links : List LiveLink) (a b : KnownCounts) →
         AreOpened readers system first ends → Ran system first steps last → HasSettled system last links a b → HasEnded readers system steps ends links a b }

@@ -1,7 +1,7 @@
 //! The receiving half of an end system for two threads, one a network, which keeps no frame: each link stands under a
-//! lock of its own, with its ports, and its past is a value that proofs alone read. After the opening no call takes memory
-//! or fails, and a call waits for the lock of its link and for nothing else; `try_receive` waits for nobody, and gives up
-//! while the other network has the link.
+//! lock of its own, with its ports, and its past is a value that proofs alone read. After the opening no call takes
+//! memory or fails, and a call waits for the lock of its link and for nothing else; `try_receive` waits for nobody, and
+//! gives up while the other network has the link.
 //!
 //! ```text
 //! let Opened { system, mut a, mut b, ends } = LiveSystem::open(alloc, &config, ReaderCount::most())?;

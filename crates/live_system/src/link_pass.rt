@@ -28,8 +28,8 @@ use std::alloc::Global;
 use std::marker::Model;
 use std::sync::Wait;
 
-/// One network's pass on one link, by which a thread gives the link its frames. To a contract it is the lock under
-/// which the link stands, the network, the link as it was opened, the calls that were made, and their counts.
+/// One network's pass on one link, by which a thread gives the link its frames. To a contract it is the link's lock,
+/// the network, the link as it was opened, the calls made, and their counts.
 #[derive(Drop)]
 pub(crate) struct LinkPass {
     net: Net,
@@ -50,7 +50,7 @@ impl Model for LinkPass {
 }
 
 impl LinkPass {
-    /// A pass that did nothing.
+    /// A new pass.
     fn new(net: Net, vl: LinkNo, pass: PassOf<Locked>) -> LinkPass
         requires user { pass.user ≡ user_of net }
         requires list { pass.list ≡ no_calls }
@@ -64,8 +64,8 @@ impl LinkPass {
     }
 
     /// Gives the link a frame that came on the pass's network at `now`, in microseconds: waits until the link is free,
-    /// and lets the link take the frame. Returns the place of its event, which stops at the greatest number of 64 bits,
-    /// and its verdict. Takes no memory, and can't fail.
+    /// and lets the link take the frame. Returns its event's place, which saturates at 2^64 - 1, and its verdict. Takes
+    /// no memory, and can't fail.
     pub(crate) fn receive<R: Wait>(
         &mut self,
         rt: &R,
@@ -119,9 +119,9 @@ impl LinkPass {
         Some((place, verdict))
     }
 
-    /// Gives the link frames that came on the pass's network, each at its time, in microseconds: waits until the link is
-    /// free, lets the link take them one after another, and then gives it back. Replies the place of each one's event, which
-    /// stops at the greatest number of 64 bits, and its verdict. Takes no memory, and can't fail.
+    /// Gives the link frames that came on the pass's network, each at its time, in microseconds: waits until the link
+    /// is free, lets the link take them one after another, and then gives it back. Replies each event's place, which
+    /// saturates at 2^64 - 1, and its verdict. Takes no memory, and can't fail.
     pub(crate) fn receive_row<R: Wait>(
         &mut self,
         rt: &R,
@@ -149,8 +149,8 @@ impl LinkPass {
         tell(&mut self.counts, net, &answers, replies);
     }
 
-    /// A sampling port of the link and a reader of it meet, under the link's lock, for which this waits: the reader then
-    /// knows all messages that were delivered to the port. Nothing else changes.
+    /// Synchronizes a sampling port of the link with a reader of it, under the link's lock, for which this waits: the
+    /// reader then knows all messages delivered to the port. Nothing else changes.
     pub(crate) fn meet_reader<R: Wait>(
         &mut self,
         rt: &R,
@@ -173,8 +173,8 @@ impl LinkPass {
         )
     }
 
-    /// A queuing port of the link and the end that takes of it meet, under the link's lock, for which this waits: the taker
-    /// then knows all messages that were delivered to the port, and the queue all that the taker took. Nothing else changes.
+    /// Synchronizes a queuing port of the link with its taker, under the link's lock, for which this waits: the taker
+    /// then knows all messages delivered to the port, and the queue all that the taker took. Nothing else changes.
     pub(crate) fn meet_taker<R: Wait>(
         &mut self,
         rt: &R,
@@ -204,14 +204,14 @@ impl LinkPass {
         self.counts.vl
     }
 
-    /// How many calls were made. The number stops at the greatest number of 64 bits.
+    /// Number of calls. It saturates at 2^64 - 1.
     pub(crate) fn calls(&self) -> u64
         ensures { result ≡ shown (length self.now.calls) }
     {
         self.counts.number
     }
 
-    /// How many calls had a verdict of this kind, 1 to 13. The number stops at the greatest number of 64 bits.
+    /// Number of calls with a verdict of this kind, 1 to 13. It saturates at 2^64 - 1.
     pub(crate) fn count(&self, kind: usize) -> u64
         requires { IsKind verdict_kinds kind }
         ensures { result ≡ shown (count_calls kind self.now.calls) }

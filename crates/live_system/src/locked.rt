@@ -1,4 +1,4 @@
-//! A link as its lock keeps it: how the calls of both networks stand in its past.
+//! A link under its lock, and the calls of both networks in its past.
 use link_lock::Recorded;
 use network_calls::Call;
 use receiver::{OpenLink, PortOutlet};

@@ -1,4 +1,4 @@
-//! Ends of ports meet them, under the locks of their links.
+//! Meetings of ports with their ends, under the links' locks.
 ghost use Rattle.std.specs.Prelude.{◌≡◌};
 ghost use Rattle.receiver.specs.Meetings.{HasOutletAt};
 ghost use Rattle.receiver.specs.Port.{IsPortOf, IsQueueOf};
@@ -13,10 +13,10 @@ use receiver::{MailboxReader, RingTaker};
 use std::sync::Wait;
 
 impl LiveSystem {
-    /// A sampling port of the link at this place of the configuration and a reader of it meet, under the link's lock, for
-    /// which this waits: the reader then knows all messages that were delivered to the port. Nothing else changes. The
-    /// reader is given and given back, since the lock's contract doesn't say what a visit changes behind a `&mut` that it
-    /// is lent.
+    /// Synchronizes a sampling port of the link at this place of the configuration with a reader of it, under the
+    /// link's lock, for which this waits: the reader then knows all messages delivered to the port. Nothing else
+    /// changes. The reader is given and given back, since the lock's contract doesn't say what a visit changes behind a
+    /// `&mut` that it is lent.
     pub fn meet_reader<R: Wait>(
         &self,
         rt: &R,
@@ -34,9 +34,9 @@ impl LiveSystem {
         pass.links[place].meet_reader(rt, lock, port, reader)
     }
 
-    /// A queuing port of the link at this place of the configuration and the end that takes of it meet, under the link's
-    /// lock, for which this waits: the taker then knows all messages that were delivered to the port, and the queue all that
-    /// the taker took, for which it then has room. Nothing else changes. The taker is given and given back, as a reader is.
+    /// Synchronizes a queuing port of the link at this place of the configuration with its taker, under the link's
+    /// lock, for which this waits: the taker then knows all messages delivered to the port, and the queue all that the
+    /// taker took, for which it then has room. Nothing else changes. The taker is given and given back, as a reader is.
     pub fn meet_taker<R: Wait>(
         &self,
         rt: &R,
@@ -55,7 +55,7 @@ impl LiveSystem {
     }
 }
 
-/// Lets a reader meet its port, of a link that is locked.
+/// Synchronizes a reader with its port, of a locked link.
 pub(crate) fn meet_reader(
     locked: &mut Locked,
     port: PortNo,
@@ -68,7 +68,7 @@ pub(crate) fn meet_reader(
     reader
 }
 
-/// Lets a taker meet its queue, of a link that is locked.
+/// Synchronizes a taker with its queue, of a locked link.
 pub(crate) fn meet_taker(locked: &mut Locked, port: PortNo, mut taker: RingTaker) -> RingTaker
     requires { HasOutletAt locked.old port (λ outlet. IsQueueOf outlet taker) }
     ensures { MeetsTaker port taker result locked.old locked.new }

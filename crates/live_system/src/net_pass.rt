@@ -15,8 +15,8 @@ use network_calls::{LinkCounts, Reply};
 use receiver::{OpenLink, PortOutlet};
 use std::marker::Model;
 
-/// One network's pass on all links of a system, by which a thread gives them the frames of its network. To a
-/// contract it is the network, the passes on each link, and the counts of the frames that were filtered.
+/// One network's pass on all links of a system, by which a thread gives them the frames of its network. To a contract
+/// it is the network, the passes on each link, and the counts of filtered frames.
 #[derive(Drop)]
 pub struct NetPass {
     pub(crate) net: Net,
@@ -49,8 +49,7 @@ impl NetPass {
         self.net
     }
 
-    /// How many frames were given to the link with this number, up to the greatest number of 64 bits. 0 for a link that
-    /// isn't configured.
+    /// Number of frames given to the link with this number, saturating at 2^64 - 1. 0 for a link that isn't configured.
     pub fn calls(&self, vl: LinkNo) -> u64
         ensures { result ≡ shown (length (calls_on vl self.now.links)) }
     {
@@ -60,8 +59,8 @@ impl NetPass {
         }
     }
 
-    /// How many frames that were given to the link with this number had a verdict of this kind, 1 to 13, up to the
-    /// greatest number of 64 bits. 0 for a link that isn't configured.
+    /// Number of frames given to the link with this number whose verdict has this kind, 1 to 13, saturating at
+    /// 2^64 - 1. 0 for a link that isn't configured.
     pub fn count(&self, vl: LinkNo, kind: usize) -> u64
         requires { IsKind verdict_kinds kind }
         ensures { result ≡ shown (count_calls kind (calls_on vl self.now.links)) }
@@ -72,7 +71,7 @@ impl NetPass {
         }
     }
 
-    /// How many frames were filtered for this cause, up to the greatest number of 64 bits.
+    /// Number of frames filtered for this cause, saturating at 2^64 - 1.
     pub fn filtered(&self, cause: FilterCause) -> u64
         ensures { result ≡ count_in self.now.filtered self.now.net (cause_kind cause) }
     {

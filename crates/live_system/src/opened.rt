@@ -1,4 +1,4 @@
-//! A system as it is opened: its two passes, and the ends of all ports.
+//! A newly opened system: its two passes, and the ends of all ports.
 ghost use Rattle.std.specs.Prelude.{◌≡◌, List, IfOk, length};
 ghost use Rattle.es_base.specs.declared.place.Net.TheVariants.{A, B};
 ghost use Rattle.receiver.specs.Named.{port_named};
@@ -76,8 +76,8 @@ fn open_links<R: Readers>(
 }
 
 impl Opened {
-    /// Moves out a reader of the sampling port with this name, for a partition: as often as the opening was told. None if no
-    /// sampling port has the name, or its readers were all taken.
+    /// Moves out a reader of the sampling port with this name, for a partition: as many as the opening was told. None
+    /// if no sampling port has the name, or its readers were all taken.
     pub fn take_reader(&mut self, name: &str) -> Option<MailboxReader>
         ensures reader { HandsNamed HandsReader name.now self.old.ends.items self.new.ends.items result }
         ensures system { self.new.system ≡ self.old.system }
@@ -87,8 +87,8 @@ impl Opened {
         self.ends[place].ports[at].reads.take_reader()
     }
 
-    /// Moves out the end of the queue of the queuing port with this name, for a partition: once. None if no queuing port has
-    /// the name, or it was taken before.
+    /// Moves out the taker of the queuing port with this name, for a partition. None if no queuing port has the name,
+    /// or it was taken before.
     pub fn take_taker(&mut self, name: &str) -> Option<RingTaker>
         ensures taker { HandsNamed HandsTaker name.now self.old.ends.items self.new.ends.items result }
         ensures system { self.new.system ≡ self.old.system }
@@ -98,7 +98,7 @@ impl Opened {
         self.ends[place].ports[at].reads.take_taker()
     }
 
-    /// The place in the configuration of the link that has the port with this name, and the port's place in the link. None
+    /// Index in the configuration of the link that has the port with this name, and the port's place in the link. None
     /// if no port has it.
     pub fn place_of(&self, name: &str) -> Option<(usize, PortNo)>
         ensures { result ≡ port_named name.now self.now.ends.items }
@@ -110,7 +110,8 @@ impl Opened {
 
 impl LiveSystem {
     /// Opens the links of a configuration, with the passes of both networks, which know the same links, and the ends of
-    /// all ports; each sampling port has so many readers. All memory is taken here: no later call takes any.
+    /// all ports, with the same number of readers for each sampling port. All memory is taken here: no later call takes
+    /// any.
     pub fn open(alloc: Global, config: &Config, readers: ReaderCount) -> Result<Opened, Memory>
         ensures config { IfOk result (λ o. o.system.config ≡ config.now) }
         ensures a { IfOk result (λ o. IsPassOf o.system o.a × IsNewPassOf A o.a) }

@@ -1,4 +1,4 @@
-//! Frames in a row that come to one link: they are given in one visit of it.
+//! Frames in a row that come to one link, given in one visit of it.
 ghost use Rattle.std.specs.Prelude.{◌≡◌, ◌≤◌, length, map, take};
 ghost use Rattle.es_base.specs.Frame.{IsFrame, link_number_of};
 ghost use Rattle.es_base.specs.Past.{arrived};
@@ -10,13 +10,13 @@ use es_base::{Net, Verdict};
 use frame_reader::frame_in;
 use network_calls::{LinkCounts, Reply};
 
-/// How many frames are given in one visit at most.
+/// Most frames of one visit.
 pub(crate) const MOST_IN_ROW: usize = 8;
 
-/// Of each frame of a row the place of its event and its verdict; what stands after them says nothing.
+/// Place of the event and verdict, for each frame of a row; the entries after these mean nothing.
 pub(crate) type Answers = [(u64, Verdict); MOST_IN_ROW];
 
-/// Lets a link that is locked take a frame. Returns the place of its event and its verdict.
+/// Lets a locked link take a frame. Returns its event's place and its verdict.
 pub(crate) fn take(locked: &mut Locked, net: Net, now: u64, octets: &[u8]) -> (u64, Verdict)
     requires link { link_number_of octets.now ≡ locked.old.core.settings.vl.0 }
     requires frame { IsFrame octets.now }
@@ -25,7 +25,7 @@ pub(crate) fn take(locked: &mut Locked, net: Net, now: u64, octets: &[u8]) -> (u
     locked.link.receive(net, now, &frame_in(octets))
 }
 
-/// Lets a link that is locked take frames, one after another. Returns their answers.
+/// Lets a locked link take frames, one after another. Returns their answers.
 pub(crate) fn take_row(locked: &mut Locked, net: Net, row: &[(u64, &[u8])]) -> Answers
     requires few { length row.now ≤ most_in_row }
     requires frames { AreFramesFor locked.old.core.settings.vl row.now }

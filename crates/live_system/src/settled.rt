@@ -11,7 +11,7 @@ use es_base::Net;
 use network_calls::PassCounts;
 use receiver::{OpenLink, PortOutlet};
 
-/// The links, in their order, and what the passes of networks A and B counted.
+/// The links, in their order, and the counts of the passes of networks A and B.
 #[derive(Drop)]
 pub struct Settled {
     pub links: Vec<OpenLink<PortOutlet>>,

@@ -35,8 +35,8 @@ impl LiveSystem {
         &self.config
     }
 
-    /// Gives a frame that came on the pass's network at `now`, in microseconds, to its link, or filters it. Waits for the
-    /// link's lock and for nothing else; a filtered frame takes no lock. Takes no memory, and can't fail.
+    /// Gives a frame that came on the pass's network at `now`, in microseconds, to its link, or filters it. Waits for
+    /// the link's lock and for nothing else; a filtered frame takes no lock. Takes no memory, and can't fail.
     pub fn receive<R: Wait>(&self, rt: &R, pass: &mut NetPass, now: u64, bytes: &[u8]) -> Reply
         requires { IsPassOf self.now pass.old }
         ensures own { IsPassOf self.now pass.new }
@@ -49,9 +49,9 @@ impl LiveSystem {
         }
     }
 
-    /// As [`receive`](LiveSystem::receive) if nobody has the frame's link at this moment; a filtered frame takes no lock,
-    /// and is always answered. `None` if the other network has the link: the frame comes to a link, which didn't take it,
-    /// and the pass is as it was, so that the same frame may be given again. Calls that were answered are as those of
+    /// As [`receive`](LiveSystem::receive) if nobody has the frame's link at this moment; a filtered frame takes no
+    /// lock, and is always answered. `None` if the other network has the link: the link didn't take the frame, and the
+    /// pass is as it was, so that the same frame may be given again. Calls that were answered are as those of
     /// `receive`, with which they may be mixed. Waits for nobody, takes no memory, and can't fail.
     ///
     /// That `None` comes only while the other network has the link isn't proved.
@@ -69,7 +69,7 @@ impl LiveSystem {
         }
     }
 
-    /// Gives a frame to the link that it comes to, which has this place.
+    /// Gives a frame to its link, which has this place.
     pub(crate) fn receive_at<R: Wait>(
         &self,
         rt: &R,
@@ -93,7 +93,7 @@ impl LiveSystem {
         }
     }
 
-    /// Gives a frame to the link that it comes to, which has this place, if nobody has the link at this moment.
+    /// Gives a frame to its link, which has this place, if nobody has the link at this moment.
     fn try_receive_at(
         &self,
         pass: &mut NetPass,

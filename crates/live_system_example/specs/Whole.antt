@@ -12,7 +12,7 @@ use Rattle.live_system.specs.Burst.{Frames, steps_in_turn}
 use Rattle.live_system.specs.Run.{HasEnded, RanAlone, Step, came}
 use Rattle.live_system.specs.System.{IsPassOf, KnownNet, Replies, System}
 
--- a burst has at most so many frames
+-- the most frames of a burst
 abbrev pub room : ℕ
 room = 32
 

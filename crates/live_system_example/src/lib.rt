@@ -1,5 +1,5 @@
-//! A program in which one thread gives a frame to its network and another a burst of frames to the other one, and which then
-//! ends: what the law of a system that keeps no frame says of it, in whatever order the threads had their turn.
+//! A program in which one thread gives a frame to its network and another a burst of frames to the other one, and which
+//! then ends: what the law of a system that keeps no frame says of it, in whatever order the threads had their turn.
 #![tactic(auto)]
 
 ghost use Rattle.std.specs.Prelude.{◌≡◌, ◌≤◌, IfOk, length, take};
@@ -13,13 +13,13 @@ use std::alloc::Global;
 use std::sync::Wait;
 use std::thread::{Threads, join};
 
-/// How many frames a burst has at most.
+/// Most frames of a burst.
 pub const ROOM: usize = 32;
 
-/// What stands where no reply was written.
+/// Reply of an entry that wasn't written.
 const NOTHING: Reply = Reply::Filtered(FilterCause::TooShort);
 
-/// Gives a frame by a network's pass, and returns the pass and what was replied.
+/// Gives a frame by a network's pass, and returns the pass and the reply.
 fn give<R: Wait>(
     rt: &R,
     system: &LiveSystem,
@@ -34,7 +34,7 @@ fn give<R: Wait>(
     (pass, reply)
 }
 
-/// Gives a burst by a network's pass, and returns the pass and what was replied to as many frames.
+/// Gives a burst by a network's pass, and returns the pass and the replies.
 fn give_all<R: Wait>(
     rt: &R,
     system: &LiveSystem,
@@ -50,8 +50,8 @@ fn give_all<R: Wait>(
     (pass, replies)
 }
 
-/// Gives network A's pass a frame at 1000 microseconds and network B's a burst, each on a thread of its own, and settles the
-/// system.
+/// Gives network A's pass a frame at 1000 microseconds and network B's a burst, each on a thread of its own, and
+/// settles the system.
 pub fn run<R: Threads + Wait + Sync>(
     rt: &R,
     alloc: Global,

@@ -55,7 +55,7 @@ port_with port message = record port { published = port.published ++ message ∷
 abbrev pub IsMailboxOf : PortEnd → Mailbox → Type 0
 IsMailboxOf port mailbox = slice_get port.buffers mailbox.place ≡ Some mailbox.reader.buffer
 
--- the mailboxes with these buffers, the first of which stands at this place, before any message
+-- the mailboxes with these buffers, the first of which is at this place, before any message
 abbrev pub mailboxes_from : ℕ → ℕ → List TableId → List Mailbox
 mailboxes_from longest place [] = []
 mailboxes_from longest place (buffer ∷ buffers) = record { reader = new_reader buffer longest; place = place } ∷ mailboxes_from longest (place + 1) buffers

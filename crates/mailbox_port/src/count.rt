@@ -1,13 +1,13 @@
-//! How many readers a port has.
+//! Number of readers of a port.
 ghost use Rattle.std.specs.Prelude.{◌≡◌, ◌<◌, ◌≤◌, IfSome, is_some};
 ghost use Rattle.mailbox_port.specs.Port.{is_reader_count, most_readers};
 
 use std::marker::Model;
 
-/// The most readers that a port can have.
+/// Most readers of a port.
 pub const MOST_READERS: usize = 8;
 
-/// How many readers a port has, 1 to 8.
+/// Number of readers of a port, 1 to 8.
 #[derive(Clone, Copy)]
 pub struct ReaderCount {
     count: usize,
@@ -27,7 +27,7 @@ impl Model for ReaderCount {
 }
 
 impl ReaderCount {
-    /// So many readers; None for 0, and for 9 and more.
+    /// This number of readers; None for 0, and for 9 and more.
     pub fn new(count: usize) -> Option<ReaderCount>
         ensures valid { is_some result ≡ is_reader_count count }
         ensures value { IfSome result (λ made. made ≡ count) }
@@ -39,7 +39,7 @@ impl ReaderCount {
         }
     }
 
-    /// As many as a port can have.
+    /// The greatest number, 8.
     pub fn most() -> ReaderCount
         ensures { result ≡ most_readers }
     {

@@ -1,6 +1,6 @@
 //! A sampling port with a mailbox for each of its readers, 1 to 8 (ARINC 664 Part 7, sampling service; the protocol is
-//! own). A mailbox is a triple buffer: a publication copies the message once for each of them, and nobody waits. No call
-//! takes memory after the opening.
+//! own). A mailbox is a triple buffer: a publication copies the message once for each of them, and nobody waits. No
+//! call takes memory after the opening.
 //!
 //! ```text
 //! let (mut writer, mut mailboxes) = open_mailboxes(alloc, 1471, ReaderCount::new(2)?)?;

@@ -1,4 +1,4 @@
-//! The end of a port that publishes, and the mailboxes that it fills.
+//! The publishing end of a port, and its mailboxes.
 ghost use Rattle.std.specs.Prelude.{◌≡◌, ◌+◌, ◌<◌, ◌≤◌, length, slice_get, Some, IfOk};
 ghost use Rattle.triple_buffer.specs.Rule.{StartsWith, message};
 ghost use Rattle.triple_buffer.specs.Ends.{most_messages};
@@ -10,17 +10,17 @@ use std::alloc::Global;
 use std::marker::Model;
 use triple_buffer::{Reader, Writer, meet, open_buffer};
 
-/// What one reader of a port has of it.
+/// Mailbox of one reader.
 #[derive(Drop)]
 pub struct Mailbox {
-    /// The end that reads.
+    /// The reading end.
     pub reader: Reader,
-    /// The place of this mailbox among those of its port, 0 to 7.
+    /// Place of this mailbox among its port's, 0 to 7.
     pub place: usize,
 }
 
-/// The end of a port that publishes. Contracts see the buffers of its mailboxes, the longest message in octets, and each
-/// message that was published, in order.
+/// Publishing end of a port. Contracts see the buffers of its mailboxes, the longest message in octets, and each
+/// published message, in order.
 #[derive(Drop)]
 pub struct PortWriter {
     writers: Vec<Writer>,
@@ -38,7 +38,7 @@ impl Model for PortWriter {
     ghost invariant = { λ p. AreAlike p.writers.items p.longest p.count };
 }
 
-/// Opens a port with a mailbox for each of so many readers, for messages of up to `longest` octets. All memory is taken
+/// Opens a port with a mailbox for each of its readers, for messages of up to `longest` octets. All memory is taken
 /// here.
 pub fn open_mailboxes(
     alloc: Global,
@@ -65,7 +65,7 @@ pub fn open_mailboxes(
 }
 
 impl PortWriter {
-    /// How many messages were published.
+    /// Number of published messages.
     pub fn published(&self) -> u64
         ensures { result ≡ length self.now.published }
     {
@@ -80,8 +80,8 @@ impl PortWriter {
     }
 
     /// Publishes a message of these octets that came at `time` microseconds, and returns its number: 1, 2, 3 and so on.
-    /// One copy and one atomic step for each reader. It waits for nobody and takes no memory; nothing that a reader does
-    /// can refuse or delay it.
+    /// One copy and one atomic step for each reader. It waits for nobody and takes no memory; nothing that a reader
+    /// does can refuse or delay it.
     pub fn publish(&mut self, time: u64, octets: &[u8]) -> u64
         requires short { length octets.now ≤ self.old.longest }
         requires few { length self.old.published < most_messages }
@@ -95,7 +95,7 @@ impl PortWriter {
         self.count
     }
 
-    /// Tells the reader of one of the port's mailboxes what was published. Nothing else changes.
+    /// Synchronizes a mailbox with its port: its reader then knows all that was published. Nothing else changes.
     pub fn meet(&mut self, mailbox: &mut Mailbox)
         requires { IsMailboxOf self.old mailbox.old }
         ensures mailbox { mailbox.new ≡ told mailbox.old self.old.published }

@@ -1,8 +1,8 @@
 //! What a partition gets that only reads a sampling port of the receiver for one task (ARINC 664 Part 7, sampling
-//! service): the reader of a mailbox, which knows its port's refresh period. A read says whether its message is fresh at
-//! the time of the read, as READ_SAMPLING_MESSAGE of ARINC 653 does. The message can be read where it stands, too: it
-//! stays as it is until the next look, whatever is published meanwhile.
-//! No call waits, tries again or takes memory. Arrival times and the `now` of a call are of one clock.
+//! service): the reader of a mailbox, which knows its port's refresh period. A read says whether its message is fresh
+//! at the time of the read, as READ_SAMPLING_MESSAGE of ARINC 653 does. The message can be read in place, too: it stays
+//! as it is until the next look, whatever is published meanwhile. No call waits, tries again or takes memory. Arrival
+//! times and the `now` of a call are of one clock.
 //!
 //! ```text
 //! let mut reader = MailboxReader::new(mailbox, 100_000);

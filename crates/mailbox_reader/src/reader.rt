@@ -1,4 +1,4 @@
-//! The reader that a partition gets.
+//! A partition's reader.
 ghost use Rattle.std.specs.Prelude.{◌≡◌, ◌≤◌, [], IfNone, IfSome, drop, length, min, take};
 ghost use Rattle.sampling_port.specs.Age.{freshness as freshness_at};
 ghost use Rattle.triple_buffer.specs.Rule.{EndsWith, StartsWith, message_in};
@@ -10,7 +10,7 @@ use mailbox_port::{Latest, Mailbox, PortWriter};
 use sampling_port::{Freshness, freshness};
 use std::marker::Model;
 
-/// The end of a sampling port that a partition reads. Contracts see its mailbox and the port's refresh period.
+/// Reading end of a sampling port, for a partition. Contracts see its mailbox and the port's refresh period.
 #[derive(Drop)]
 pub struct MailboxReader {
     mailbox: Mailbox,
@@ -55,7 +55,8 @@ impl MailboxReader {
         self.mailbox.reader.longest()
     }
 
-    /// The reader and the end of its port that publishes meet: it then knows all that was published. Nothing else changes.
+    /// Synchronizes the reader with its port's publishing end: it then knows all that was published. Nothing else
+    /// changes.
     pub fn meet(&mut self, writer: &mut PortWriter)
         requires { IsMailboxOf writer.old self.old.mailbox }
         ensures reader { self.new ≡ told self.old writer.old.published }
@@ -65,9 +66,9 @@ impl MailboxReader {
         writer.meet(&mut self.mailbox);
     }
 
-    /// Reads the newest message at `now` microseconds, which is of the clock of the arrival times. The octets that fit are
-    /// copied to the beginning of `out`, and `len` is the length of the whole message: if it is at most that of `out`, all
-    /// of the message is there. All other octets of `out` are as they were. At most two atomic steps.
+    /// Reads the newest message at `now` microseconds, of the clock of the arrival times. The octets that fit are
+    /// copied to the beginning of `out`, and `len` is the length of the whole message: if it is at most that of `out`,
+    /// all of the message is there. All other octets of `out` are unchanged. At most two atomic steps.
     pub fn read(&mut self, now: u64, out: &mut [u8]) -> Reading
         ensures looked { IsLookOf self.old self.new }
         ensures message { IfMessage result (λ number time len _. IsReadAs self.new.mailbox.reader.seen out.old out.new number time len) }
@@ -90,15 +91,15 @@ impl MailboxReader {
         }
     }
 
-    /// Takes the newest message, if it is newer than the one that the reader has. At most two atomic steps.
+    /// Takes the newest message, if it is newer than the reader's. At most two atomic steps.
     pub fn update(&mut self)
         ensures { IsLookOf self.old self.new }
     {
         self.mailbox.reader.update();
     }
 
-    /// The message that the reader has, where it stands: it stays as it is until the next read or update, whatever is
-    /// published meanwhile. None only if none was published when the reader looked last.
+    /// The reader's message, in place: it stays as it is until the next read or update, whatever is published
+    /// meanwhile. None only if none was published when the reader looked last.
     ///
     /// ```text
     /// reader.update();

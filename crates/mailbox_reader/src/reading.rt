@@ -1,11 +1,11 @@
-//! What a read tells.
+//! Result of a read.
 use sampling_port::Freshness;
 
-/// What a partition's read gets.
+/// Result of a partition's read.
 #[derive(Clone, Copy, Debug, PartialEq, Eq)]
 pub enum Reading {
-    /// The message of this number, which came at `time` microseconds and has `len` octets. `out` begins with those of
-    /// its octets for which it has room. `validity` is at the time of the read.
+    /// The message of this number, which came at `time` microseconds and has `len` octets. `out` begins with as many of
+    /// them as fit. `validity` is that at the time of the read.
     Message {
         number: u64,
         time: u64,

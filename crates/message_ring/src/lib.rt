@@ -31,7 +31,7 @@ use std::marker::Model;
 #[derive(Debug, Clone, Copy, PartialEq, Eq)]
 pub struct Full;
 
-/// The message that was taken: when it came, and how many octets of `out` it fills.
+/// A taken message: its arrival time, and its length in `out`.
 #[derive(Debug, Clone, Copy, PartialEq, Eq)]
 pub struct Taken {
     pub time: u64,
@@ -45,11 +45,11 @@ pub struct RingPutter {
     ring: Producer<u8>,
     max: usize,
     depth: usize,
-    // How many octets have to be free, if fewer messages wait than the queue holds.
+    // Octets that have to be free, if fewer messages wait than the queue holds.
     needed: usize,
-    // The sizes of the messages that were put last, one fewer than the queue holds.
+    // Sizes of the messages that were put last, one fewer than the queue holds.
     latest: HeapCircularBuffer<u16>,
-    // Where a message of one frame is written beside its head before it is put.
+    // Buffer in which a message of one frame is written beside its head before it is put.
     room: Vec<u8>,
 }
 
@@ -120,7 +120,7 @@ pub fn open_ring(
     Ok((putter, taker))
 }
 
-/// The two ends of one queue meet: each then knows at least what the other did. Nothing else changes.
+/// Synchronizes the two ends of one queue: each then knows at least what the other did. Nothing else changes.
 pub fn meet(putter: &mut RingPutter, taker: &mut RingTaker)
     requires { (taker.old.queue ≡ putter.old.queue) × (taker.old.depth ≡ putter.old.depth) }
     ensures putter { (putter.new.queue ≡ putter.old.queue) × (putter.new.depth ≡ putter.old.depth) × (putter.new.put ≡ putter.old.put) }
@@ -136,16 +136,16 @@ pub fn meet(putter: &mut RingPutter, taker: &mut RingTaker)
 }
 
 impl RingPutter {
-    /// How many octets a message may have.
+    /// Longest message, in octets.
     pub fn max(&self) -> usize
         ensures { result ≡ self.now.queue.max }
     {
         self.max
     }
 
-    /// Whether there is room for one message more, which then stays, whatever the other end does. False: as many messages
-    /// as the queue holds were put that this end doesn't know to be taken, also after it looked. True wherever it knows of
-    /// room before the call.
+    /// Whether there is room for one more message; it stays, whatever the other end does. False: as many messages as
+    /// the queue holds were put that this end doesn't know to be taken, also after it looked. True if it knows of room
+    /// before the call.
     pub fn has_room(&mut self) -> bool
         ensures end { self.new ≡ record self.old { taken = self.new.taken } }
         ensures told { BeginsWith self.new.taken self.old.taken }
@@ -157,8 +157,8 @@ impl RingPutter {
         has_room(&mut self.ring, self.needed)
     }
 
-    /// How many messages wait: those that were put and that this end doesn't know to be taken, after it looked what the
-    /// other end took. A message is taken once all of its octets are. It costs a step for each message that waits.
+    /// Number of waiting messages: those put that this end doesn't know to be taken, after it looked what the other end
+    /// took. A message is taken once all of its octets are. It costs a step for each message that waits.
     pub fn waiting(&mut self) -> usize
         ensures end { self.new ≡ record self.old { taken = self.new.taken } }
         ensures told { BeginsWith self.new.taken self.old.taken }
@@ -169,8 +169,8 @@ impl RingPutter {
         last_with(&self.latest, self.ring.capacity() - free)
     }
 
-    /// Puts a message at the end of the queue. `Err`: as many messages as the queue holds were put that this end doesn't
-    /// know to be taken.
+    /// Puts a message at the end of the queue. `Err`: as many messages as the queue holds were put that this end
+    /// doesn't know to be taken.
     pub fn put(&mut self, time: u64, octets: &[u8]) -> Result<(), Full>
         requires { length octets.now ≤ self.old.queue.max }
         ensures ok { OnOk result (self.new ≡ with_put self.old (message time octets.now) self.new.taken) }
@@ -192,15 +192,15 @@ impl RingPutter {
 }
 
 impl RingTaker {
-    /// How many octets a message may have.
+    /// Longest message, in octets.
     pub fn max(&self) -> usize
         ensures { result ≡ self.now.queue.max }
     {
         self.max
     }
 
-    /// Takes the oldest message, and copies its octets to the beginning of `out`. None only if this end took all messages
-    /// that it knows to be put.
+    /// Takes the oldest message, and copies its octets to the beginning of `out`. None only if this end took all
+    /// messages that it knows to be put.
     pub fn take(&mut self, out: &mut [u8]) -> Option<Taken>
         requires { self.old.queue.max ≤ length out.old }
         ensures some { IfSome result (λ got. (got.len ≤ self.old.queue.max) × (self.new ≡ with_taken self.old (message got.time (take got.len out.new)) self.new.put)) }

@@ -1,11 +1,11 @@
-//! How many messages wait, by how many octets wait.
+//! Number of waiting messages, by the number of waiting octets.
 ghost use Rattle.std.specs.Prelude.{◌≡◌, ◌-◌, ◌<◌, length, slice_get, Some};
 ghost use Rattle.message_ring.specs.Ends.{AreLast};
 
 use circular_buffer::HeapCircularBuffer;
 
-/// How many of the last of these sizes make up so many octets: the fewest that have as many, and one more than there are
-/// if all have fewer.
+/// Number of the last of these sizes whose sum reaches `octets`: the fewest that do, and one more than there are if all
+/// together don't.
 pub(crate) fn last_with(sizes: &HeapCircularBuffer<u16>, octets: usize) -> usize
     ensures { AreLast sizes.now.items octets result }
 {
@@ -25,7 +25,7 @@ pub(crate) fn last_with(sizes: &HeapCircularBuffer<u16>, octets: usize) -> usize
     }
 }
 
-/// The size at this place, counted from the last one.
+/// Size at this place, counted from the last one.
 fn size_at(sizes: &HeapCircularBuffer<u16>, place: usize) -> usize
     requires { place < length sizes.now.items }
     ensures { slice_get sizes.now.items (length sizes.now.items - place - 1) ≡ Some result }

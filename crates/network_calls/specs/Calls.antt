@@ -30,7 +30,7 @@ abbrev pub calls_from : ℕ → Net → List Event → List Call
 calls_from place net [] = []
 calls_from place net (e ∷ es) = if is_same_net e.net net then call_of place e ∷ calls_from (place + 1) net es else calls_from (place + 1) net es
 
--- how many of the calls had a verdict of this kind
+-- number of the calls with a verdict of this kind
 abbrev pub count_calls : ℕ → List Call → ℕ
 count_calls kind [] = 0
 count_calls kind (c ∷ cs) = if kind_of c.verdict == kind then count_calls kind cs + 1 else count_calls kind cs

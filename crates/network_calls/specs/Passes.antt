@@ -1,5 +1,5 @@
--- The passes of a network, one on each link of a configuration, whatever an end system keeps of a link, and whatever else
--- its pass knows.
+-- The passes of a network, one on each link of a configuration, whatever an end system keeps of a link, and whatever
+-- else its pass knows.
 use Rattle.std.specs.Prelude.{◌≡◌, ℕ, List, [], ◌∷◌, Option, None, Some, length}
 use Rattle.std.specs.List.{find}
 use Rattle.es_base.specs.declared.place.LinkNo.{LinkNo}
@@ -13,7 +13,7 @@ use Rattle.network_calls.specs.declared.counts.LinkCounts.{LinkCounts}
 use Rattle.network_calls.specs.Calls.{count_calls}
 use Rattle.network_calls.specs.Counts.{AreCounts, KnownCounts, count_on, has_number, number_on}
 
--- A pass on a link: under which lock its link stands, its network, the link as it was opened, its calls, and their counts.
+-- A pass on a link: the lock of its link, its network, the link as it was opened, its calls, and their counts.
 pub record OnLink (L : Type 0) : Type 0 where
   pub lock : LockId
   pub net : Net

@@ -1,4 +1,4 @@
-//! What a network's pass counted, once it made its last call.
+//! Final counts of a network's pass.
 ghost use Rattle.std.specs.Prelude.{◌≡◌};
 ghost use Rattle.std.specs.Option.{option_copied};
 ghost use Rattle.es_base.specs.FilterTally.{cause_kind};
@@ -10,8 +10,8 @@ use crate::counts::LinkCounts;
 use es_base::{FilterCause, FilterTally, LinkNo, Net};
 use std::marker::Model;
 
-/// What one network's pass counted. To a contract it is the network, the counts on each link, in the order of the
-/// links, and those of the frames that were filtered.
+/// Counts of one network's pass. To a contract it is the network, the counts on each link, in the order of the links,
+/// and those of filtered frames.
 #[derive(Drop)]
 pub struct PassCounts {
     net: Net,
@@ -28,7 +28,7 @@ impl Model for PassCounts {
 }
 
 impl PassCounts {
-    /// What a pass of this network counted on each link, and of the frames that were filtered.
+    /// The counts of this network's pass on each link, and of filtered frames.
     pub fn new(net: Net, links: Vec<LinkCounts>, filtered: FilterTally) -> PassCounts
         ensures { result ≡ record { net = net; links = links.items; filtered = filtered } }
     {
@@ -46,8 +46,7 @@ impl PassCounts {
         self.net
     }
 
-    /// How many frames were given to the link with this number, up to the greatest number of 64 bits. 0 for a link that
-    /// isn't configured.
+    /// Number of frames given to the link with this number, saturating at 2^64 - 1. 0 for a link that isn't configured.
     pub fn calls(&self, vl: LinkNo) -> u64
         ensures { result ≡ number_on vl self.now.links }
     {
@@ -57,8 +56,8 @@ impl PassCounts {
         }
     }
 
-    /// How many frames that were given to the link with this number had a verdict of this kind, 1 to 13, up to the
-    /// greatest number of 64 bits. 0 for a link that isn't configured.
+    /// Number of frames given to the link with this number whose verdict has this kind, 1 to 13, saturating at
+    /// 2^64 - 1. 0 for a link that isn't configured.
     pub fn count(&self, vl: LinkNo, kind: usize) -> u64
         requires { IsKind verdict_kinds kind }
         ensures { result ≡ count_on vl kind self.now.net self.now.links }
@@ -69,7 +68,7 @@ impl PassCounts {
         }
     }
 
-    /// How many frames were filtered for this cause, up to the greatest number of 64 bits.
+    /// Number of frames filtered for this cause, saturating at 2^64 - 1.
     pub fn filtered(&self, cause: FilterCause) -> u64
         ensures { result ≡ count_in self.now.filtered self.now.net (cause_kind cause) }
     {

@@ -5,7 +5,7 @@ ghost use Rattle.hex.specs.Hex.{encode_lower, lower_digits};
 
 use std::simd::prelude::*;
 
-/// How many octets are turned into digits at a time.
+/// Octets that are turned into digits at a time.
 const BLOCK: usize = 16;
 
 /// Turns octets into digits of lower case, two for each.

@@ -5,7 +5,7 @@ ghost use Rattle.std.specs.Fmt.{decimal};
 use itoa::write_digits;
 use std::marker::Model;
 
-/// How many bytes a line has at most, with its end.
+/// Longest line, in bytes, with its end.
 const ROOM: usize = 128;
 
 /// The last part of a line, with its end. What comes before it is put to its front, so that digits and

@@ -22,7 +22,7 @@ pub record IsSamePort (v w : PortReader) : Type 0 where
   pub refresh : w.refresh ≡ v.refresh
   pub max : w.max ≡ v.max
 
--- it made so many more steps
+-- it made this many more steps
 abbrev pub after_steps : PortReader → ℕ → PortReader
 after_steps v more = record { end = record v.end { steps = v.end.steps + more }; refresh = v.refresh; max = v.max }
 
@@ -35,7 +35,7 @@ told v published = record { end = is_told v.end published; refresh = v.refresh; 
 abbrev pub most_tries : ℕ
 most_tries = 8
 
--- how many words have so many octets of a message, from `first` on; none may be one, in the midst of a word
+-- number of words with this many octets of a message, from `first` on; none may be one, in the midst of a word
 abbrev pub words_of_range : ℕ → ℕ → ℕ
 words_of_range first octets = (first + octets + 7) / 8 - first / 8
 

@@ -1,4 +1,4 @@
-//! Octets of the message that is held, by words.
+//! Octets of the held message, by words.
 ghost use Rattle.std.specs.Prelude.{◌≡◌, ℕ, ◌+◌, ◌-◌, ◌*◌, ◌/◌, ◌%◌, ◌^◌, ◌<◌, ◌≤◌, length, slice_index};
 ghost use Rattle.slot_core.specs.Octets.{octet_at};
 ghost use Rattle.slot_core.specs.State.{last_of};
@@ -50,7 +50,7 @@ pub(crate) fn copy_octets(held: &mut Held<READERS>, first: usize, out: &mut [u8]
     ensures octets { (k : ℕ) → k < length out.new → slice_index out.new k ≡ octet_at (last_of held.old.seen) (first + k) }
     ensures steps { held.new ≡ record held.old { steps = held.old.steps + words_of_range first (length out.new) } }
 {
-    // It is asked for its contract: at most 1471 octets, so no sum here wraps.
+    // Called only for its contract: at most 1471 octets, so no sum here wraps.
     let _len = held.len();
     let end = first + out.len();
     for place in first / 8..(end + 7) / 8 {
@@ -62,7 +62,7 @@ pub(crate) fn copy_octets(held: &mut Held<READERS>, first: usize, out: &mut [u8]
 }
 
 /// Reads the newest message into `out`, as much of it as fits. The reader comes by value, since it is held. The slice
-/// goes back, so its borrower knows what became of it.
+/// is returned, so that its borrower knows its octets.
 pub(crate) fn read_moved<'a>(
     reader: Reader<READERS>,
     out: &'a mut [u8],

@@ -12,8 +12,8 @@ use sampling_port::{Freshness, Held, freshness};
 use slot_core::READERS;
 use std::marker::Model;
 
-/// A partition's reader that holds a message: nobody writes the slot of it, whatever is published meanwhile. It isn't
-/// `Drop`, so a partition that neither releases it nor hands it on doesn't compile.
+/// A partition's reader that holds a message: nobody writes its slot, whatever is published meanwhile. It isn't `Drop`,
+/// so a partition that neither releases it nor hands it on doesn't compile.
 pub struct HeldMessage {
     held: Held<READERS>,
     refresh: u64,
@@ -33,7 +33,7 @@ impl Model for HeldMessage {
 }
 
 impl HeldMessage {
-    /// The message that is held, of a port with this refresh period and longest message.
+    /// The held message of a port with this refresh period and longest message.
     pub(crate) fn of(held: Held<READERS>, refresh: u64, max: usize) -> HeldMessage
         requires { max ≤ longest_message }
         ensures { result ≡ record { end = held; refresh = refresh; max = max } }
@@ -41,21 +41,21 @@ impl HeldMessage {
         HeldMessage { held, refresh, max }
     }
 
-    /// The number of the message.
+    /// Number of the message.
     pub fn number(&self) -> u64
         ensures { result ≡ length self.now.end.seen }
     {
         self.held.number()
     }
 
-    /// When it came, in microseconds.
+    /// Arrival time, in microseconds.
     pub fn time(&self) -> u64
         ensures { result ≡ slice_index (last_of self.now.end.seen) 1 }
     {
         self.held.time()
     }
 
-    /// How many octets it has.
+    /// Length, in octets.
     pub fn len(&self) -> usize
         ensures value { result ≡ slice_index (last_of self.now.end.seen) 0 }
         ensures short { result ≤ longest_message }
@@ -86,7 +86,7 @@ impl HeldMessage {
         copy_octets(&mut self.held, first, out);
     }
 
-    /// Gives the message back.
+    /// Releases the message.
     pub fn release(self) -> PartitionReader
         ensures { result ≡ after_steps self 1 }
     {

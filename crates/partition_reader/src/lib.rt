@@ -1,7 +1,7 @@
 //! What a partition gets that only reads a sampling port (ARINC 664 Part 7, sampling service): a reader that knows its
 //! port's refresh period. A read says whether its message is fresh at the time of the read, as READ_SAMPLING_MESSAGE of
-//! ARINC 653 does. A held message stands where it was published until it is released; it can't be dropped.
-//! No call waits or takes memory. Arrival times and the `now` of a call are of one clock.
+//! ARINC 653 does. A held message stays in place until it is released; it can't be dropped. No call waits or takes
+//! memory. Arrival times and the `now` of a call are of one clock.
 //!
 //! ```text
 //! let mut reader = PartitionReader::new(reader, 100_000, 16);

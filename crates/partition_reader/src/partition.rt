@@ -1,4 +1,4 @@
-//! The reader that a partition gets.
+//! A partition's reader.
 ghost use Rattle.std.specs.Prelude.{◌≡◌, ℕ, ◌+◌, ◌/◌, ◌≤◌, min, length, IfErr, IfOk};
 ghost use Rattle.slot_core.specs.Limits.{longest_message};
 ghost use Rattle.slot_core.specs.State.{StartsWith, last_of};
@@ -14,8 +14,8 @@ use sampling_port::{MOST_TRIES, NotHeld, Read, Reader, Writer, freshness, meet};
 use slot_core::READERS;
 use std::marker::Model;
 
-/// The end of a sampling port that a partition reads, with what it has to know of the port. Contracts see the reader's
-/// end, the refresh period and the longest message.
+/// Reading end of a sampling port, for a partition, with the port's refresh period and longest message. Contracts see
+/// the reader's end, the refresh period and the longest message.
 #[derive(Drop)]
 pub struct PartitionReader {
     reader: Reader<READERS>,
@@ -71,7 +71,8 @@ impl PartitionReader {
         self.max
     }
 
-    /// The reader and the end of its port that publishes meet: it then knows all that was published. Nothing else changes.
+    /// Synchronizes the reader with its port's publishing end: it then knows all that was published. Nothing else
+    /// changes.
     pub fn meet(&mut self, writer: &mut Writer<READERS>)
         requires { self.old.end.port ≡ writer.old.port }
         ensures reader { self.new ≡ told self.old writer.old.published }
@@ -81,10 +82,10 @@ impl PartitionReader {
         meet(writer, &mut self.reader);
     }
 
-    /// Reads the newest message at `now` microseconds, which is of the clock of the arrival times. It looks again up
-    /// to 8 times, and waits for nobody. The octets that fit are copied to the beginning of `out`, and `len` is the
-    /// length of the whole message: if it is at most that of `out`, all of the message is there, and what follows is as
-    /// it was. Without a message all of `out` is as it was.
+    /// Reads the newest message at `now` microseconds, of the clock of the arrival times. It looks again up to 8 times,
+    /// and waits for nobody. The octets that fit are copied to the beginning of `out`, and `len` is the length of the
+    /// whole message: if it is at most that of `out`, all of the message is there. Octets of `out` past the message are
+    /// unchanged; without a message, all of `out` is.
     pub fn read(&mut self, now: u64, out: &mut [u8]) -> Reading
         ensures port { IsSamePort self.old self.new }
         ensures seen { StartsWith self.new.end.seen self.old.end.seen }

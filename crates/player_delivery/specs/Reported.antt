@@ -12,8 +12,8 @@ use Rattle.datagram_delivery.specs.Interleaved.{Carried, messages_ended}
 abbrev pub StandsIn : List ℕ → List ℕ → Type 0
 StandsIn piece text = (before : List ℕ) × (after : List ℕ) × (text ≡ before ++ piece ++ after)
 
--- the lines on a link's ports if they got the messages of these datagrams, each once, in the order of sending, at the time
--- of the report
+-- the lines on a link's ports if they got the messages of these datagrams, each once, in the order of sending, at the
+-- time of the report
 abbrev pub lines_sent : Settings → List Carried → ℕ → List ℕ
 lines_sent link carried at = ports_lines at (λ port. messages_ended port carried) 0 link.ports
 

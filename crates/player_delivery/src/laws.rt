@@ -1,4 +1,4 @@
-//! What the player's report says of a link, by what was sent to it.
+//! The player's report on a link, by the messages that were sent to it.
 ghost use Rattle.std.specs.Prelude.{◌≡◌, ℕ, List, Option, Some, reverse, slice_get};
 ghost use Rattle.es_base.specs.declared.event.Arrival.{Arrival};
 ghost use Rattle.es_base.specs.Config.{Configuration};
@@ -11,11 +11,12 @@ ghost use Rattle.datagram_delivery.specs.Bringing.{BringDatagrams};
 ghost use Rattle.datagram_delivery.specs.Interleaved.{Carried};
 ghost use Rattle.player_delivery.specs.Reported.{AreWritten, lines_sent};
 
-/// If the frames of both traces that come to a link are copies of a sender's frames, of all fragments of a datagram or of
-/// none, on networks that keep what is asked of them, and at most four of its datagrams are in parts at a time, the report's
-/// lines on the ports of this link are those of the messages that were sent to them, of which copies came and for which
-/// their queues had room: each once, whole, in the order in which they were sent to their end, and no other. Nobody takes a message from a queue of the player. These lines
-/// stand in what is written for the traces (`trace_player::play` writes just that).
+/// If the frames of both traces that come to a link are copies of a sender's frames, of all fragments of a datagram or
+/// of none, on networks that keep what is asked of them, and at most four of its datagrams are in parts at a time, the
+/// report's lines on the ports of this link are those of the messages that were sent to them, of which copies came and
+/// for which their queues had room: each once, whole, in the order in which they were sent to their end, and no other.
+/// Nobody takes a message from a queue of the player. These lines are in the output of the traces, which
+/// `trace_player::play` writes.
 pub fn each_message_is_reported_once()
     ensures lines { (constant : List ℕ) (link : Settings) (frames : List Arrival) (carried : List Carried) (at : ℕ) → BringDatagrams link (past_after constant link frames) carried
         → link_lines at link (past_after constant link frames) ≡ lines_sent link carried at }

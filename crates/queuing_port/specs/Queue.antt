@@ -11,7 +11,7 @@ QueueId = TableId
 
 -- What an end knows of its queue. A putter knows the whole put list and a beginning of the taken list, a
 -- taker the whole taken list and a beginning of the put list: what the other end knew when they met.
--- `depth` is how many messages the queue holds at most.
+-- `depth` is the most messages of the queue.
 pub record Known : Type 0 where
   pub queue : QueueId
   pub depth : ℕ
@@ -60,7 +60,7 @@ MayBeEmpty taker = TakerFinds taker.taken taker.put []
 abbrev pub MayBeOldest : Known → Message → Type 0
 MayBeOldest taker message = (later : List Message) × TakerFinds taker.taken taker.put (message ∷ later)
 
--- of one whose both lists are known: it holds so many messages, those that were put and not taken
+-- a queue whose lists are both known: it holds this many messages, put and not taken
 -- rule: PORT-18
 abbrev pub Holds : Known → ℕ → Type 0
 Holds both count = (held : List Message) × (length held ≡ count) × (both.put ≡ both.taken ++ held)

@@ -1,8 +1,8 @@
 //! The queue of a queuing port: messages in order, none twice, and every loss told (ARINC 664 Part 7,
 //! queuing service; depth own). One end puts and the other takes, and two threads may use both at once.
 //!
-//! A call of `put` or `take` tries for its answer again while the other end is in the midst of a call,
-//! so both are passed `rt`. Neither takes memory. After more than 2^62 messages a call waits for ever.
+//! A call of `put` or `take` tries again while the other end is in the midst of a call, so both are
+//! passed `rt`. Neither takes memory. After more than 2^62 messages a call waits for ever.
 //!
 //! ```text
 //! let (mut putter, mut taker) = open_queue(alloc, 1)?;
@@ -79,7 +79,7 @@ impl Model for Taker {
     ghost invariant = { λ t. IsPassOf (arc_value t.queue) t.right × ((pass_view t.right).takes ≡ true) };
 }
 
-/// Both ends of a new queue, which holds up to `depth` messages: 1 to 64. All memory of the queue but
+/// Opens a queue of up to `depth` messages, 1 to 64, and returns its ends. All memory of the queue but
 /// that of the messages is taken here.
 pub fn open_queue(alloc: Global, depth: u8) -> Result<(Putter, Taker), Memory>
     requires { is_kind_within_limits (Queuing depth) ≡ true }
@@ -100,9 +100,9 @@ pub fn open_queue(alloc: Global, depth: u8) -> Result<(Putter, Taker), Memory>
     Ok((putter, taker))
 }
 
-/// The two ends of one queue meet: each then knows what the other did, and what it knew of that before is
-/// the beginning of it. Returns how many messages the queue holds: those that were put and not taken, at
-/// most its depth. Nothing else changes, and there is nobody to wait for, since both ends are here.
+/// Synchronizes the two ends of one queue: each then knows all that the other did, of which it knew a
+/// beginning before. Returns the number of messages in the queue: put and not taken, at most its depth.
+/// Nothing else changes, and there is nobody to wait for, since both ends are here.
 pub fn meet<R: Wait>(rt: &R, putter: &mut Putter, taker: &mut Taker) -> usize
     requires { taker.old.queue ≡ putter.old.queue }
     ensures putter { putter.new ≡ record putter.old { taken = taker.old.taken } }
@@ -122,10 +122,10 @@ pub fn meet<R: Wait>(rt: &R, putter: &mut Putter, taker: &mut Taker) -> usize
 }
 
 impl Putter {
-    /// Puts a message at the end of the queue. `Err` hands the message back. By the rule of the queue that
-    /// happens only if the queue was full at one moment of the call. The contract says the part of it that
-    /// this end can know: no message is handed back in the first `depth` puts, nor as long as fewer than
-    /// `depth` messages were put that this end doesn't know to be taken. What was taken it learns as the
+    /// Puts a message at the end of the queue. `Err` hands the message back. By the rule of the queue
+    /// that happens only if the queue was full at one moment of the call. The contract says as much of
+    /// it as this end can know: no message is handed back in the first `depth` puts, nor while fewer
+    /// than `depth` messages were put that this end doesn't know to be taken. It learns of takes as the
     /// ends meet.
     // rule: PORT-17
     pub fn put<R: Wait>(&mut self, rt: &R, message: Message) -> Result<(), Message>
@@ -140,10 +140,10 @@ impl Putter {
 }
 
 impl Taker {
-    /// Takes the oldest message. By the rule of the queue there is none only if the queue was empty at one
-    /// moment of the call. The contract says the part of it that this end can know: there is one as long
-    /// as this end knows of a message that was put and that it hasn't taken, and then it is the next of
-    /// those. What was put it learns as the ends meet.
+    /// Takes the oldest message. By the rule of the queue there is none only if the queue was empty at
+    /// one moment of the call. The contract says as much of it as this end can know: while it knows of
+    /// messages that were put and that it hasn't taken, the take gives the next of those. It learns of
+    /// puts as the ends meet.
     pub fn take<R: Wait>(&mut self, rt: &R) -> Option<Message>
         ensures some { IfSome result (λ message. self.new ≡ with_taken self.old message) }
         ensures may_be_oldest { IfSome result (MayBeOldest self.old) }

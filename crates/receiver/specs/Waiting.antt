@@ -9,7 +9,7 @@ use Rattle.receiver.specs.declared.port.PortOutlet.{PortOutlet}
 use Rattle.receiver.specs.declared.port.PortOutlet.TheVariants as outlets
 use Rattle.receiver.specs.Link.{Ported, deliveries_of}
 
--- of these messages so many wait in the queue: all but those that its putter knows to be taken
+-- `count` of these messages wait in the queue: all but those that its putter knows to be taken
 abbrev pub WaitIn : PortOutlet → List Message → ℕ → Type 0
 WaitIn (outlets.Queuing queue) messages count = (queue.put ≡ messages) × (count + length queue.taken ≡ length messages)
 WaitIn (outlets.Sampling writer) messages count = ⊥

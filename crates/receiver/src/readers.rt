@@ -1,16 +1,16 @@
-//! How many readers a sampling port has.
+//! Numbers of readers of sampling ports.
 ghost use Rattle.std.specs.Prelude.{◌≡◌, ℕ};
 ghost use Rattle.es_base.specs.Port.{Port};
 
 use es_base::PortSettings;
 use mailbox_port::ReaderCount;
 
-/// Says of each sampling port of a configuration how many readers it has (own). A `ReaderCount` says the same of all.
+/// Number of readers for each sampling port of a configuration (own). A `ReaderCount` is the same number for all.
 pub trait Readers {
-    /// How many readers the port with these settings has.
+    /// Number of readers of the port with these settings.
     ghost count: { Self → Port → ℕ };
 
-    /// How many readers the port with these settings has.
+    /// Number of readers of the port with these settings.
     fn of(&self, port: &PortSettings) -> ReaderCount
         ensures { result ≡ count self.now port.now };
 }

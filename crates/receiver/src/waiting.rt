@@ -1,4 +1,4 @@
-//! How many messages wait in the queues of a link's ports.
+//! Fill levels of the queues of a link's ports.
 ghost use Rattle.std.specs.Prelude.{◌≡◌, ℕ, [], slice_get};
 ghost use Rattle.receiver.specs.Outlet.{GivesAt};
 ghost use Rattle.receiver.specs.Port.{GivesPort};
@@ -11,9 +11,9 @@ use crate::receiver::Receiver;
 use es_base::PortNo;
 
 impl OpenLink<PortOutlet> {
-    /// How many messages wait in the queue of a port: those that were delivered to it and that nobody took, as far as its
-    /// end of the queue knows after it looked. None if the port samples, or the link has no such port. Takes no memory,
-    /// and waits for nobody; it costs a step for each message that waits.
+    /// Number of messages in a port's queue: delivered and not taken, as far as its end of the queue knows after it
+    /// looked. None if the port samples, or the link has no such port. Takes no memory, and waits for nobody; it costs
+    /// a step for each message that waits.
     pub fn waiting(&mut self, port: PortNo) -> Option<usize>
         ensures core { self.new.core ≡ self.old.core }
         ensures came { self.new.came ≡ self.old.came }
@@ -26,9 +26,9 @@ impl OpenLink<PortOutlet> {
 }
 
 impl Receiver<PortOutlet> {
-    /// How many messages wait in the queue of a port of the link at this place: those that were delivered to it and that
-    /// nobody took, as far as its end of the queue knows after it looked. None if the port samples, or there is no such
-    /// port. Takes no memory, and waits for nobody; it costs a step for each message that waits.
+    /// Number of messages in the queue of a port of the link at this place: delivered and not taken, as far as its end
+    /// of the queue knows after it looked. None if the port samples, or there is no such port. Takes no memory, and
+    /// waits for nobody; it costs a step for each message that waits.
     pub fn waiting(&mut self, place: usize, port: PortNo) -> Option<usize>
         ensures stays { LinksStay GivesPort self.old self.new }
         ensures waiting { AreWaitingIn (slice_get self.new.links place) port result }

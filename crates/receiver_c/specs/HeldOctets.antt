@@ -1,14 +1,14 @@
--- Octets in memory, as C is told where they stand.
+-- Octets in memory, as C is told their address.
 use Rattle.std.specs.Prelude.{◌≡◌, ℕ, List, length, Option, None, Some}
 use Rattle.std.specs.Borrow.{Bor}
 use Rattle.std.specs.Ptr.{Ptr, block_ptr}
 use Rattle.receiver_c.specs.declared.held_octets.HeldOctets.{HeldOctets}
 
--- where these octets stand, which are lent
+-- address of these octets, which are lent
 abbrev pub address : Bor (List ℕ) → Ptr
 address octets = block_ptr octets.ref_ptr.0 octets.ref_ptr.1
 
--- it is told where these octets stand, and how many they are
+-- the address and the number of these octets are told
 -- rule: EMB-23
 abbrev pub TellsOctets : Option (List ℕ) → HeldOctets → Type 0
 TellsOctets None told = ⊥

@@ -1,4 +1,4 @@
-//! Where octets stand in memory.
+//! Address and number of octets in memory.
 ghost use Rattle.std.specs.Prelude.{◌≡◌, length};
 ghost use Rattle.receiver_c.specs.HeldOctets.{address};
 

@@ -48,7 +48,8 @@ use slot_handles::taker_handle::TakerHandle;
 /// The number of the interface: raised with each change of a struct, a call or a number.
 pub const ABI: u32 = 4;
 
-/// The number of the interface of this library. A program compares it with that of the header that it was compiled with.
+/// The number of the interface of this library. A program compares it with that of the header that it was compiled
+/// with.
 #[unsafe(no_mangle)]
 pub extern "C" fn yelunnavi_abi() -> u32
     ensures { result ≡ abi }
@@ -58,7 +59,7 @@ pub extern "C" fn yelunnavi_abi() -> u32
 
 // ---- the slot of a receiver
 
-/// How many octets of room the slot of a receiver takes. The room is aligned to 8.
+/// Size of the slot of a receiver, in octets. The room is aligned to 8.
 #[unsafe(no_mangle)]
 pub extern "C" fn yelunnavi_receiver_room() -> usize
     ensures { result ≡ type_size receiver_row }
@@ -75,8 +76,9 @@ pub unsafe extern "C" fn yelunnavi_receiver_make(at: *mut u8)
     std::ptr::write(at as *mut MarkedReceiver, MarkedReceiver::empty())
 }
 
-/// Opens the receiver of the configuration in these octets, a TOML document. Each sampling port has so many readers, 1 to
-/// 8, else OUT_OF_RANGE. All memory is taken here. FAULTY, and its first fault with its key, link and port, if it has one.
+/// Opens the receiver of the configuration in these octets, a TOML document. Each sampling port has `readers` readers,
+/// 1 to 8, else OUT_OF_RANGE. All memory is taken here. FAULTY, and its first fault with its key, link and port, if it
+/// has one.
 #[unsafe(no_mangle)]
 pub extern "C" fn yelunnavi_receiver_open(
     alloc: Global,
@@ -103,8 +105,8 @@ pub extern "C" fn yelunnavi_receiver_open(
     made.slot.open_text(alloc, text, readers, fault)
 }
 
-/// Opens the receiver of the configuration of a table: the constant field, the links, and their ports one after another.
-/// Else as `yelunnavi_receiver_open`, with the same faults, which have no line.
+/// Opens the receiver of the configuration of a table: the constant field, the links, and their ports one after
+/// another. Else as `yelunnavi_receiver_open`, with the same faults, which have no line.
 #[unsafe(no_mangle)]
 pub extern "C" fn yelunnavi_receiver_open_table(
     alloc: Global,
@@ -216,8 +218,8 @@ pub extern "C" fn yelunnavi_receiver_hand_taker(
     made.slot.hand_taker(&mut room.slot, name)
 }
 
-/// Tells how many frames of the link at this place came on this network with a verdict of this kind, 1 to 13. A count
-/// stops at the greatest number of 64 bits.
+/// Tells the number of frames of the link at this place on this network with a verdict of this kind, 1 to 13. It
+/// saturates at 2^64 - 1.
 #[unsafe(no_mangle)]
 pub extern "C" fn yelunnavi_receiver_count(
     h: &mut ReceiverHandle,
@@ -239,8 +241,7 @@ pub extern "C" fn yelunnavi_receiver_count(
     made.slot.count(link, net, kind, count)
 }
 
-/// Tells how many frames were filtered on this network for this cause, 1 to 5. A count stops at the greatest number of
-/// 64 bits.
+/// Tells the number of frames filtered on this network for this cause, 1 to 5. It saturates at 2^64 - 1.
 #[unsafe(no_mangle)]
 pub extern "C" fn yelunnavi_receiver_filtered(
     h: &mut ReceiverHandle,
@@ -261,8 +262,8 @@ pub extern "C" fn yelunnavi_receiver_filtered(
     made.slot.filtered(net, cause, count)
 }
 
-/// Tells of the link at this place when its latest frame came on each network, whatever became of it, and how many
-/// partial datagrams were given up.
+/// Tells, of the link at this place, the arrival time of its latest frame on each network, whatever its verdict, and
+/// the number of partial datagrams given up.
 #[unsafe(no_mangle)]
 pub extern "C" fn yelunnavi_receiver_health(
     h: &mut ReceiverHandle,
@@ -282,8 +283,8 @@ pub extern "C" fn yelunnavi_receiver_health(
     made.slot.health(link, reply)
 }
 
-/// Tells how many messages wait in the queue of a port, by the places of its link and of the port in it: those that were
-/// delivered to it and that nobody took, as far as the receiver knows after it looked. NONE_LEFT if the port samples.
+/// Tells the number of messages in a port's queue, by the places of its link and of the port in it: delivered and not
+/// taken, as far as the receiver knows after it looked. NONE_LEFT if the port samples.
 #[unsafe(no_mangle)]
 pub extern "C" fn yelunnavi_receiver_waiting(
     h: &mut ReceiverHandle,
@@ -303,7 +304,7 @@ pub extern "C" fn yelunnavi_receiver_waiting(
     made.slot.waiting(link, port, waiting)
 }
 
-/// Tells how many links the configuration has.
+/// Tells the number of links of the configuration.
 #[unsafe(no_mangle)]
 pub extern "C" fn yelunnavi_receiver_links(h: &mut ReceiverHandle, links: &mut usize) -> u32
     ensures place { (h.new.at ≡ h.old.at) × (h.new.room.mark ≡ h.old.room.mark) }
@@ -319,7 +320,7 @@ pub extern "C" fn yelunnavi_receiver_links(h: &mut ReceiverHandle, links: &mut u
     made.slot.links(links)
 }
 
-/// Tells the settings of the link at this place of the configuration, and how many ports it has.
+/// Tells the settings of the link at this place of the configuration, and its number of ports.
 #[unsafe(no_mangle)]
 pub extern "C" fn yelunnavi_receiver_link(
     h: &mut ReceiverHandle,
@@ -339,8 +340,8 @@ pub extern "C" fn yelunnavi_receiver_link(
     made.slot.link(link, reply)
 }
 
-/// Tells the settings of a port, by the places of its link and of the port in it, and its name, which stands at the
-/// beginning of `name`.
+/// Tells the settings of a port, by the places of its link and of the port in it, and its name, at the beginning of
+/// `name`.
 #[unsafe(no_mangle)]
 pub extern "C" fn yelunnavi_receiver_port(
     h: &mut ReceiverHandle,
@@ -384,7 +385,7 @@ pub extern "C" fn yelunnavi_receiver_place(
 
 // ---- the slot of a reader
 
-/// How many octets of room the slot of a reader takes. The room is aligned to 8.
+/// Size of the slot of a reader, in octets. The room is aligned to 8.
 #[unsafe(no_mangle)]
 pub extern "C" fn yelunnavi_reader_room() -> usize
     ensures { result ≡ type_size reader_row }
@@ -442,8 +443,8 @@ pub extern "C" fn yelunnavi_reader_hold(
     made.slot.hold(now, reply)
 }
 
-/// Tells where the octets of the message stand that is held, and how many they are. They stay as they are until the message
-/// is released or the reader is closed.
+/// Tells the address and the number of the held message's octets. They stay as they are until the message is released
+/// or the reader is closed.
 #[unsafe(no_mangle)]
 pub extern "C" fn yelunnavi_reader_octets(h: &mut ReaderHandle, octets: &mut HeldOctets) -> u32
     ensures place { (h.new.at ≡ h.old.at) × (h.new.room.mark ≡ h.old.room.mark) }
@@ -465,7 +466,7 @@ pub extern "C" fn yelunnavi_reader_octets(h: &mut ReaderHandle, octets: &mut Hel
     }
 }
 
-/// Fills `out` with octets of the message that is held, from `first` on.
+/// Fills `out` with octets of the held message, from `first` on.
 #[unsafe(no_mangle)]
 pub extern "C" fn yelunnavi_reader_copy(h: &mut ReaderHandle, first: usize, out: &mut [u8]) -> u32
     ensures place { (h.new.at ≡ h.old.at) × (h.new.room.mark ≡ h.old.room.mark) }
@@ -482,7 +483,7 @@ pub extern "C" fn yelunnavi_reader_copy(h: &mut ReaderHandle, first: usize, out:
     made.slot.copy(first, out)
 }
 
-/// Gives the message back that is held.
+/// Releases the held message.
 #[unsafe(no_mangle)]
 pub extern "C" fn yelunnavi_reader_release(h: &mut ReaderHandle) -> u32
     ensures place { (h.new.at ≡ h.old.at) × (h.new.room.mark ≡ h.old.room.mark) }
@@ -526,7 +527,7 @@ pub extern "C" fn yelunnavi_reader_close(h: &mut ReaderHandle)
 
 // ---- the slot of the end of a queue, a taker
 
-/// How many octets of room the slot of a taker takes. The room is aligned to 8.
+/// Size of the slot of a taker, in octets. The room is aligned to 8.
 #[unsafe(no_mangle)]
 pub extern "C" fn yelunnavi_taker_room() -> usize
     ensures { result ≡ type_size taker_row }

@@ -35,7 +35,7 @@ depth = 2
 max = 64
 "#;
 
-/// What can't be: the configuration above has a fault, or lacks a port.
+/// Never happens: the configuration above has a fault, or lacks a port.
 fn refused() -> io::Error {
     io::Error::from(ErrorKind::InvalidData)
 }

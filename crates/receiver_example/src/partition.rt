@@ -1,4 +1,4 @@
-//! What runs in a partition: it has ends of ports, and nothing else of the receiver.
+//! The work of a partition: it has ends of ports, and nothing else of the receiver.
 ghost use Rattle.std.specs.Prelude.{◌≡◌, ◌<◌, IfNone, IfOk, IfSome, IsSome, length, take};
 ghost use Rattle.message_ring.specs.Queue.{MayBeEmpty, message, with_taken};
 ghost use Rattle.mailbox_reader.specs.Reads.{IfMessage, IsRead};

@@ -1,4 +1,4 @@
--- How a link is, and how many messages wait at a port.
+-- Health of a link, and the fill level of a port's queue.
 use Rattle.std.specs.Prelude.{◌≡◌, ℕ, slice_get, length, nat_lt, Option, None, Some, if◌then◌else◌}
 use Rattle.es_base.specs.declared.place.Net.TheVariants as nets
 use Rattle.es_base.specs.Port.{Port, is_sampling}
@@ -53,7 +53,7 @@ abbrev pub waiting_code : Option Receiving → ℕ → ℕ → ℕ
 waiting_code None place port = not_open
 waiting_code (Some now) place port = link_queue_code (slice_get now.receiver.links place) port
 
--- so many wait at this port, after its end of the queue looked
+-- this many messages wait at this port, after its end of the queue looked
 abbrev pub TellsWaitingOn : Receiving → Receiving → ℕ → ℕ → ℕ → Type 0
 TellsWaitingOn old new place port waiting =
     LinksStay GivesPort old.receiver new.receiver × (new.ends ≡ old.ends)

@@ -6,7 +6,7 @@ use Rattle.mailbox_port.specs.Port.{is_reader_count, most_readers}
 use Rattle.vl_config.specs.Rows.{has_name}
 use Rattle.vl_config.specs.declared.rows.PortRow.{PortRow}
 
--- as many as a row says, if there is one and it says a number; else so many
+-- a row's number of readers, if any; else this number
 abbrev pub count_or : ℕ → Option PortRow → ℕ
 count_or others None = others
 count_or others (Some row) = if is_reader_count row.readers then row.readers else others

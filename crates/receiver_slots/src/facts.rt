@@ -7,7 +7,7 @@ use crate::codes::{DONE, NO_PLACE};
 use crate::replies::{LinkReply, PortReply, link_reply_of, port_reply_of};
 use es_base::{Config, PortName};
 
-/// Tells the settings of the link at this place, and how many ports it has. NO_PLACE.
+/// Tells the settings of the link at this place, and its number of ports. NO_PLACE.
 pub fn tell_link(config: &Config, link: usize, reply: &mut LinkReply) -> u32
     ensures code { result ≡ link_code_in config.now link }
     ensures told { result ≡ done → TellsLinkIn config.now link reply.new }
@@ -20,8 +20,8 @@ pub fn tell_link(config: &Config, link: usize, reply: &mut LinkReply) -> u32
     DONE
 }
 
-/// Tells the settings of a port, by the places of its link and of the port in it, and its name, which stands at the
-/// beginning of `name`. NO_PLACE.
+/// Tells the settings of a port, by the places of its link and of the port in it, and its name, at the beginning of
+/// `name`. NO_PLACE.
 pub fn tell_port(
     config: &Config,
     link: usize,

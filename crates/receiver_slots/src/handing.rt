@@ -12,7 +12,7 @@ use crate::replies::PlaceReply;
 use receiver::{LinkEnds, MailboxReader, PartitionEnd, PortNo, RingTaker, place_named};
 use vl_config::text_of;
 
-/// The place of the link that has the port with this name, and the port.
+/// Index of the link that has the port with this name, and the port.
 fn port_named(ends: &[LinkEnds<PartitionEnd>], name: &str) -> Option<(usize, PortNo)>
     ensures { result ≡ port_named name.now ends.now }
 {
@@ -28,7 +28,7 @@ fn reader_named(ends: &mut [LinkEnds<PartitionEnd>], name: &str) -> Option<Mailb
     ends[place].ports[at].reads.take_reader()
 }
 
-/// Moves out the end of the queue of the queuing port with this name. None if there is none.
+/// Moves out the taker of the queuing port with this name. None if there is none.
 fn taker_named(ends: &mut [LinkEnds<PartitionEnd>], name: &str) -> Option<RingTaker>
     ensures { HandsNamed HandsTaker name.now ends.old ends.new result }
 {
@@ -36,7 +36,7 @@ fn taker_named(ends: &mut [LinkEnds<PartitionEnd>], name: &str) -> Option<RingTa
     ends[place].ports[at].reads.take_taker()
 }
 
-/// Moves out a reader of the sampling port with this name, or says why there is none: NO_NAME, NONE_LEFT.
+/// Moves out a reader of the sampling port with this name. NO_NAME, NONE_LEFT.
 pub fn take_reader(ends: &mut [LinkEnds<PartitionEnd>], name: &[u8]) -> Result<MailboxReader, u32>
     ensures ok { IfOk result (λ reader. HandsNamed HandsReader name.now ends.old ends.new (Some reader)) }
     ensures code { code_of result ≡ name_code has_reader (text_of name.now) ends.old }
@@ -56,7 +56,7 @@ pub fn take_reader(ends: &mut [LinkEnds<PartitionEnd>], name: &[u8]) -> Result<M
     }
 }
 
-/// Moves out the end of the queue of the queuing port with this name, or says why there is none: NO_NAME, NONE_LEFT.
+/// Moves out the taker of the queuing port with this name. NO_NAME, NONE_LEFT.
 pub fn take_taker(ends: &mut [LinkEnds<PartitionEnd>], name: &[u8]) -> Result<RingTaker, u32>
     ensures ok { IfOk result (λ taker. HandsNamed HandsTaker name.now ends.old ends.new (Some taker)) }
     ensures code { code_of result ≡ name_code has_taker (text_of name.now) ends.old }
@@ -76,7 +76,7 @@ pub fn take_taker(ends: &mut [LinkEnds<PartitionEnd>], name: &[u8]) -> Result<Ri
     }
 }
 
-/// Where the port with this name is.
+/// Places of the link and of the port with this name.
 pub fn place_of(ends: &[LinkEnds<PartitionEnd>], name: &[u8]) -> Option<PlaceReply>
     ensures { result ≡ option_map place_reply_of (place_among name.now ends.now) }
 {

@@ -1,4 +1,4 @@
-//! How many readers the ports of a table have.
+//! Numbers of readers of a table's ports.
 ghost use Rattle.std.specs.Prelude.{◌≡◌};
 ghost use Rattle.std.specs.List.{find};
 ghost use Rattle.std.specs.Option.{option_copied};
@@ -9,7 +9,7 @@ use es_base::PortSettings;
 use receiver::{MOST_READERS, ReaderCount, Readers};
 use vl_config::PortRow;
 
-/// As many readers as a port's row says; where it says 0, and without rows, as many as `others`.
+/// Numbers of readers by the ports' rows; `others` for a row of 0, and without rows.
 #[derive(Clone, Copy, Drop)]
 pub struct PortReaders<'a> {
     pub rows: &'a [PortRow],
@@ -33,7 +33,7 @@ fn row_named<'a>(rows: &'a [PortRow], name: &str) -> Option<&'a PortRow>
     rows.iter().find(|row| row.has_name(name))
 }
 
-/// As many readers as this row says, if there is one and it says a number.
+/// This row's number of readers; `others` without a row, and for 0.
 fn count_or(others: ReaderCount, row: Option<&PortRow>) -> ReaderCount
     ensures { result ≡ count_or others (option_copied row.entry) }
 {
@@ -43,7 +43,7 @@ fn count_or(others: ReaderCount, row: Option<&PortRow>) -> ReaderCount
     }
 }
 
-/// Whether each row says 0, or a number of readers that a port can have.
+/// Whether each row has 0, or a number of readers that a port can have.
 pub(crate) fn are_reader_counts(rows: &[PortRow]) -> bool
     ensures { result ≡ are_reader_counts rows.now }
 {

@@ -1,4 +1,4 @@
-//! What an opening is asked for: a configuration, in a text or in a table, and how many readers each sampling port has.
+//! Request of an opening: a configuration, in a text or in a table, and the number of readers of each sampling port.
 ghost use Rattle.std.specs.Prelude.{◌≡◌, ◌≢◌, ◌↔◌, ◌⊎◌, Err, IfErr, IfOk, Ok, [], false};
 ghost use Rattle.mailbox_port.specs.Port.{is_reader_count};
 ghost use Rattle.vl_config.specs.Octets.{config_of};
@@ -17,14 +17,14 @@ use vl_config::{
     ConfigFault, LinkRow, PortRow, config_of_table, line_in_octets, place_in_octets, read_octets,
 };
 
-/// A configuration, and how many readers each of its sampling ports has.
+/// A configuration, and the number of readers of each of its sampling ports.
 #[derive(Drop)]
 pub struct Wanted<'a> {
     pub config: Config,
     pub readers: PortReaders<'a>,
 }
 
-/// What is told of this fault of the configuration in these octets.
+/// Reply on this fault of the configuration in these octets.
 fn told_of(alloc: Global, octets: &[u8], fault: ConfigFault) -> Result<FaultReply, Memory>
     ensures { config_of octets.now ≡ Err fault → IfOk result (HasFault octets.now) }
 {
@@ -33,7 +33,7 @@ fn told_of(alloc: Global, octets: &[u8], fault: ConfigFault) -> Result<FaultRepl
     Ok(fault_reply_of(fault, place, line))
 }
 
-/// The configuration in these octets, a TOML document, with so many readers at each sampling port, 1 to 8, else
+/// The configuration in these octets, a TOML document, with `readers` readers at each sampling port, 1 to 8, else
 /// OUT_OF_RANGE. FAULTY, and its first fault with its key, link, port and line, if it has one.
 pub fn wanted_in_text(
     alloc: Global,
@@ -65,9 +65,9 @@ pub fn wanted_in_text(
     Ok(Wanted { config, readers })
 }
 
-/// The configuration of a table: the constant field, the links, and their ports one after another; with as many readers at
-/// each sampling port as its row says, 1 to 8, or `readers` where it says 0; another number is OUT_OF_RANGE. FAULTY, and the fault of [`wanted_in_text`] of a text that says the same,
-/// but for its line.
+/// The configuration of a table: the constant field, the links, and their ports one after another; with as many readers
+/// at each sampling port as its row says, 1 to 8, or `readers` for 0; another number is OUT_OF_RANGE. FAULTY, and the
+/// fault of [`wanted_in_text`] of a text that says the same, but for its line.
 pub fn wanted_in_table<'a>(
     alloc: Global,
     constant: &[u8; 4],

@@ -1,7 +1,6 @@
-//! Redundancy management of one link: the first copy of each frame is forwarded, and the others are redundant
-//! (ARINC 664 Part 7, redundancy management; order and table own). A `Redundancy` stands for all frames that
-//! were forwarded, and keeps two numbers of them; what it says is what the definition says of the whole list.
-//! No memory is taken.
+//! Redundancy management of one link: the first copy of each frame is forwarded, and the others are redundant (ARINC
+//! 664 Part 7, redundancy management; order and table own). A `Redundancy` keeps two numbers of the forwarded frames;
+//! it answers as the definition does of the whole list of them. No memory is taken.
 #![tactic(auto)]
 
 ghost use Rattle.std.specs.Prelude.{◌≡◌, ℕ, List, [], ◌∷◌};
@@ -10,20 +9,20 @@ ghost use Rattle.redundancy_manager.specs.Kept.{StandsFor};
 
 use std::marker::Model;
 
-/// Stands for all frames of one link that were forwarded. It keeps their summary.
+/// The forwarded frames of one link, by their summary.
 #[derive(Debug, Drop)]
 pub struct Redundancy {
     skew_max: u64,
-    /// None before the first frame was forwarded.
+    /// None before the first forwarded frame.
     summary: Option<Summary>,
 }
 
-/// Of the frames that were forwarded, what the next one is compared with.
+/// Summary of the forwarded frames, with which the next frame is compared.
 #[derive(Clone, Copy, Debug)]
 struct Summary {
-    /// The sequence number of the latest.
+    /// Sequence number of the latest.
     latest_number: u8,
-    /// The greatest time of all, in microseconds.
+    /// Greatest arrival time of all, in microseconds.
     greatest_time: u64,
 }
 
@@ -38,7 +37,7 @@ impl Model for Redundancy {
 }
 
 impl Redundancy {
-    /// Before the first frame was forwarded. `skew_max` is SkewMax, in microseconds.
+    /// The state before the first forwarded frame. `skew_max` is SkewMax, in microseconds.
     pub fn opening(skew_max: u64) -> Redundancy
         ensures { StandsFor result skew_max [] }
     {
@@ -48,9 +47,9 @@ impl Redundancy {
         }
     }
 
-    /// Whether a frame with this sequence number that passed integrity checking is forwarded at `now`,
-    /// in microseconds: none was; or the greatest time of those that were is more than SkewMax ago; or
-    /// its number is ahead of that of the latest.
+    /// Whether a frame with this sequence number that passed integrity checking is forwarded at `now`, in microseconds:
+    /// it is the first; or the greatest time of the forwarded ones is more than SkewMax ago; or its number is ahead of
+    /// the latest's.
     pub fn would_forward(&self, sequence_number: u8, now: u64) -> bool
         ensures { (skew_max : ℕ) (frames : List Forwarded) → StandsFor self.now skew_max frames →
             result ≡ is_first_copy skew_max frames sequence_number now }
@@ -64,7 +63,7 @@ impl Redundancy {
         }
     }
 
-    /// One more frame was forwarded, with this sequence number, at `now`, in microseconds.
+    /// Notes a forwarded frame with this sequence number, at `now`, in microseconds.
     pub fn note_forwarded(&mut self, sequence_number: u8, now: u64)
         ensures { (skew_max : ℕ) (frames : List Forwarded) → StandsFor self.old skew_max frames →
             StandsFor self.new skew_max (record { sequence_number = sequence_number; time = now } ∷ frames) }
@@ -79,7 +78,7 @@ impl Redundancy {
         });
     }
 
-    /// A copy, which stands for the same frames.
+    /// A copy, of the same frames.
     pub fn copy(&self) -> Redundancy
         ensures { result ≡ self.now }
     {

@@ -28,7 +28,7 @@ pub record WriterEnd : Type 0 where
 abbrev pub new_writer : TableId → WriterEnd
 new_writer port = record { port = port; published = []; steps = 0 }
 
--- why a message of this many octets isn't published, where so many are
+-- fault of a message of this many octets, after this many publications
 -- rule: PORT-5, SAMP-21
 abbrev pub publish_fault : ℕ → ℕ → Option PublishFault
 publish_fault published octets =

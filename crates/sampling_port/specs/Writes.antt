@@ -9,8 +9,8 @@ pub record IsAtRest (w : WriterView) : Type 0 where
   pub scanned : w.scanned ≡ []
   pub stored : w.stored ≡ []
 
--- how many steps a publication of so many octets makes, with so many readers: a load of each announcement, a store
--- of each word, and the store of `latest`
+-- number of steps of a publication of this many octets, with this many readers: a load of each announcement, a store of
+-- each word, and the store of `latest`
 -- rule: SAMP-22
 abbrev pub steps_to_publish : ℕ → ℕ → ℕ
 steps_to_publish readers octets = 3 + readers + (octets + 7) / 8

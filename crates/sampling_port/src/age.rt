@@ -1,11 +1,11 @@
-//! How long a message is fresh.
+//! Freshness of messages.
 ghost use Rattle.std.specs.Prelude.{◌≡◌};
 ghost use Rattle.sampling_port.specs.Age.{freshness};
 
 use crate::state::Freshness;
 
-/// The freshness at `now` of a message that came at `time`, at a port with this refresh period (own).
-/// All three are in microseconds. The age is 0 where `now` is earlier than `time`.
+/// Freshness at `now` of a message that came at `time`, at a port with this refresh period (own). All
+/// three are in microseconds. The age is 0 if `now` is earlier than `time`.
 pub fn freshness(now: u64, time: u64, refresh: u64) -> Freshness
     ensures { result ≡ freshness now time refresh }
 {

@@ -1,4 +1,4 @@
-//! The words of a message that is held, and its octets.
+//! Words and octets of a held message.
 ghost use Rattle.std.specs.Prelude.{◌≡◌, ℕ, ◌+◌, ◌-◌, ◌*◌, ◌/◌, ◌%◌, ◌^◌, ◌<◌, ◌≤◌, length, slice_index};
 ghost use Rattle.slot_core.specs.State.{last_of};
 ghost use Rattle.sampling_port.specs.Ends.{IsCopy};
@@ -18,7 +18,7 @@ fn write_octets(out: &mut [u8; 1471], first: usize, word: u64, count: usize)
     out[first..first + count].copy_from_slice(&word.to_be_bytes()[..count]);
 }
 
-/// The length and the time of the message that is held: its first two words, each loaded once.
+/// Length and time of the held message: its first two words, each loaded once.
 pub(crate) fn head<const READERS: usize>(
     reader: &mut ReaderSeat<READERS>,
     word: u64,
@@ -35,8 +35,7 @@ pub(crate) fn head<const READERS: usize>(
     (len as usize, time)
 }
 
-/// Copies the octets of the message that is held to the beginning of `out`. Each of its words is loaded
-/// once.
+/// Copies the octets of the held message to the beginning of `out`. Each of its words is loaded once.
 pub(crate) fn copy_octets<const READERS: usize>(
     reader: &mut ReaderSeat<READERS>,
     word: u64,

@@ -25,31 +25,29 @@ pub fn a_held_slot_is_not_written()
         v.view.phase ≡ Holding word → MayStore readers slots w.view slot index stored → slot ≢ slot_of word }
 {}
 
-/// What a reader holds is a message, and all of it stands in the words of its slot.
+/// A held message is a whole message, in the words of its slot.
 pub fn a_held_message_is_whole()
     ensures { (readers slots : ℕ) (s : PortState) (reader place word : ℕ) (v : ReaderLog) →
         Kept readers slots s → SeatKnows s reader (Reads place v) → v.view.phase ≡ Holding word →
         IsMessage (last_of v.view.seen) × Begins readers s.words (slot_of word) (last_of v.view.seen) }
 {}
 
-/// A reader that has the word which stands in `latest` has seen all that is published. So what a look finds
-/// is the newest message at that look, and what it holds too.
+/// A reader with the word in `latest` has seen all published messages. So a look finds the newest message at that look,
+/// and a hold has it.
 pub fn who_has_the_newest_word_has_seen_all()
     ensures { (readers slots : ℕ) (s : PortState) (writer reader place : ℕ) (w : WriterLog) (v : ReaderLog) →
         Kept readers slots s → SeatKnows s writer (Writes w) → SeatKnows s reader (Reads place v) →
         HasWord v.view.phase (latest s.words) → v.view.seen ≡ w.view.published }
 {}
 
-/// A look that finds 0 finds nothing published. What it finds is the word that it loads, and by what the step tells
-/// its seat that is `latest`. So Empty says that nothing was published at its one look.
+/// A look that finds 0 in `latest` finds nothing published. So Empty says that nothing was published at its one look.
 pub fn a_look_that_finds_0_finds_nothing_published()
     ensures { (readers slots found : ℕ) (s : PortState) (kept : Kept readers slots s) (load : SeatStep) (me after : At) →
         IsFoundIn s load found → IsLook slots load me found after → found ≡ 0 → kept.writer.published ≡ [] }
 {}
 
-/// What a reader reads that was told all before and has seen no more than that after: the last message, or
-/// none if none was published, and never that it was overtaken. So a thread with both ends, which meets,
-/// reads, and meets again, knows what it read.
+/// A reader that is synchronized before and after a read, with nothing published in between, read the last message, or
+/// Empty, and never Busy. So a thread with both ends, which meets, reads, and meets again, knows what it read.
 // rule: PORT-18
 pub fn what_is_read_between_two_meetings_is_the_last()
     ensures { (published : List (List ℕ)) (v w : ReaderEnd) (tries : ℕ) (before out : List ℕ) (answer : Read) →
@@ -57,14 +55,14 @@ pub fn what_is_read_between_two_meetings_is_the_last()
         IsLastOf published before out answer }
 {}
 
-/// A copy of the words of a message has the octets of which these words were made.
+/// A copy of a message's words has the octets of which these words were made.
 pub fn what_was_published_is_what_is_read()
     ensures { (octets before out : List ℕ) (time place : ℕ) → AreOctets octets →
         IsCopy (words_of octets time) before out (length octets) → place < length octets →
         slice_index out place ≡ slice_index octets place }
 {}
 
-/// The steps of a publication and the words of a table, with four readers and with eight.
+/// Numbers of a publication's steps and of a table's words, with four readers and with eight.
 pub fn sizes_with_four_readers_and_with_eight()
     ensures steps_of_four { (octets : ℕ) → steps_to_publish 4 octets ≡ 7 + (octets + 7) / 8 }
     ensures steps_of_eight { (octets : ℕ) → steps_to_publish 8 octets ≡ 11 + (octets + 7) / 8 }

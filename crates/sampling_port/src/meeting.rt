@@ -1,4 +1,4 @@
-//! How a reader is told what was published, by a thread that has both ends.
+//! Synchronization of a reader with the writer, by a thread that has both ends.
 ghost use Rattle.std.specs.Prelude.{◌≡◌, ℕ, ◌<◌};
 ghost use Rattle.slot_core.specs.declared.view.Phase.TheVariants.{Idle};
 ghost use Rattle.slot_core.specs.State.{StartsWith};
@@ -52,7 +52,8 @@ impl Join<SeatView> for Regain {
     ghost spent = { Spent };
 }
 
-/// The writer's right joins the reader's, which is told, and they part again.
+/// Joins the writer's right with the reader's, which then knows all that was published, and parts them
+/// again.
 fn meet_rights<const READERS: usize>(
     table: &PortTable<READERS>,
     writer: &mut Right,
@@ -89,8 +90,8 @@ fn meet_seats<const READERS: usize>(
     meet_rights(&reader.table, &mut writer.right, &mut reader.right);
 }
 
-/// Tells a reader of this writer's port what was published. What it had seen is a beginning of that. The
-/// words of the port stay as they are, and no step is counted.
+/// Synchronizes a reader of this writer's port: it then knows all that was published. What it had seen
+/// is a beginning of that. The words of the port stay as they are, and no step is counted.
 ///
 /// ```text
 /// writer.publish(1000, &[7, 8, 9])
@@ -106,9 +107,9 @@ pub fn meet<const READERS: usize>(writer: &mut Writer<READERS>, reader: &mut Rea
     meet_seats(&mut writer.seat, &mut reader.seat);
 }
 
-/// Reads the last message, with a reader of this writer's port: the two meet, the reader reads, and they
-/// meet again. So nothing newer was published while it read, and it found the last message, or none if none
-/// was published.
+/// Reads the last message, with a reader of this writer's port that meets the writer before and after
+/// the read. So nothing newer was published while it read, and it found the last message, or none if
+/// none was published.
 ///
 /// ```text
 /// writer.publish(1000, &[7, 8, 9])

@@ -17,7 +17,7 @@ use slot_core::WORDS;
 use std::alloc::Global;
 use std::sync::Arc;
 
-/// The next reader's right is parted from the one that opens the port.
+/// Parts the next reader's right from the one that opens the port.
 struct NextReader;
 
 impl Split<SeatView> for NextReader {
@@ -26,7 +26,7 @@ impl Split<SeatView> for NextReader {
     ghost right = { next_one };
 }
 
-/// And at last the writer's.
+/// Parts the writer's right, at last.
 struct LastWriter;
 
 impl Split<SeatView> for LastWriter {
@@ -35,8 +35,9 @@ impl Split<SeatView> for LastWriter {
     ghost right = { λ _. Writes first_writer };
 }
 
-/// Opens a port with this many readers, at most 14: the seats of its writer and of its readers, in order
-/// of their places. Two slots more than readers, and 16 at most, since a word names a slot in four bits.
+/// Opens a port with this many readers, at most 14, and returns the seats of its writer and of its
+/// readers, in order of their places. It has two slots more than readers, and 16 at most, since a word
+/// names a slot in four bits.
 pub fn open_seats<const READERS: usize>(
     alloc: Global,
 ) -> Result<(WriterSeat<READERS>, [ReaderSeat<READERS>; READERS]), Memory>
@@ -60,8 +61,8 @@ pub fn open_seats<const READERS: usize>(
     Ok((WriterSeat::at(table, last), readers))
 }
 
-/// Opens a port with this many readers, at most 14: its writer, and its readers in order of their places.
-/// All memory of the port is taken here.
+/// Opens a port with this many readers, at most 14, and returns its writer, and its readers in order of
+/// their places. All memory of the port is taken here.
 pub fn open_port<const READERS: usize>(
     alloc: Global,
 ) -> Result<(Writer<READERS>, [Reader<READERS>; READERS]), Memory>

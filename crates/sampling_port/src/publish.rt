@@ -10,7 +10,7 @@ use crate::writer_seat::WriterSeat;
 use byteorder::{BigEndian, ByteOrder};
 use slot_core::MOST_SLOTS;
 
-/// No slot has this number.
+/// Slot number of no slot.
 const NO_SLOT: u64 = MOST_SLOTS;
 
 /// The first slot that is neither the newest message's nor among those taken.
@@ -28,7 +28,7 @@ fn free_slot(taken: &[u64], newest: u64) -> u64
     unreachable!()
 }
 
-/// The word of the eight octets from `8 * place` on, with zeros after the end.
+/// Word of the eight octets from `8 * place` on, with zeros after the end.
 fn eight_octets(octets: &[u8], place: usize) -> u64
     requires { 8 * place < length octets.now }
     ensures { result ≡ word_at octets.now place }
@@ -50,7 +50,7 @@ fn with_zeros(octets: &[u8]) -> [u8; 8]
     eight
 }
 
-/// The word at this index of the message of this time and these octets.
+/// Word at this index of the message with this time and these octets.
 fn word_of(time: u64, octets: &[u8], index: usize) -> u64
     requires short { length octets.now ≤ longest_message }
     requires within { index < words_for (length octets.now) }
@@ -65,8 +65,8 @@ fn word_of(time: u64, octets: &[u8], index: usize) -> u64
     }
 }
 
-/// Publishes a message, at a port that has published `count` and whose `latest` is `last`. Returns the word
-/// that shows the message.
+/// Publishes a message, at a port that has published `count` and whose `latest` is `last`. Returns the
+/// new word of `latest`.
 pub(crate) fn publish_message<const READERS: usize>(
     seat: &mut WriterSeat<READERS>,
     count: u64,

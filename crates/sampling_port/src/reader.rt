@@ -1,4 +1,4 @@
-//! The end that reads.
+//! The reading end.
 ghost use Rattle.std.specs.Prelude.{◌≡◌, ℕ, ◌+◌, ◌*◌, ◌<◌, ◌≤◌, length, slice_index, IfErr, IfOk};
 ghost use Rattle.slot_core.specs.Limits.{longest_message};
 ghost use Rattle.slot_core.specs.State.{last_of};
@@ -11,10 +11,10 @@ use crate::seek::{Sought, seek};
 use slot_core::MOST_SLOTS;
 use std::marker::Model;
 
-/// How often a read looks again at most (own).
+/// Most tries of a read (own).
 pub const MOST_TRIES: u8 = 8;
 
-/// What a read gets.
+/// Result of a read.
 #[derive(Clone, Copy, Debug, PartialEq, Eq)]
 pub enum Read {
     /// The message of this number, which came at `time` microseconds. The first `len` octets of `out` are
@@ -26,7 +26,7 @@ pub enum Read {
     Busy { number: u64 },
 }
 
-/// Why no message is held.
+/// Fault of a hold.
 #[derive(Clone, Copy, Debug, PartialEq, Eq)]
 pub enum NotHeld {
     /// Nothing was published.
@@ -35,9 +35,8 @@ pub enum NotHeld {
     Busy { number: u64 },
 }
 
-/// An end of a port that reads. It announces nothing. Contracts see the messages that were published
-/// when it last looked or was told, its looks, true for each that ended with a hold, and how many steps it
-/// made.
+/// Reading end of a port, which announces nothing. Contracts see the messages published when it last
+/// looked or met the writer, its looks, true for each that ended with a hold, and its number of steps.
 #[derive(Drop)]
 pub struct Reader<const READERS: usize> {
     pub(crate) seat: ReaderSeat<READERS>,
@@ -56,8 +55,8 @@ impl<const READERS: usize> Model for Reader<READERS> {
     ghost invariant = { λ r. IsIdle r.seat.knows.view };
 }
 
-/// A reader that holds a message: nobody writes the slot of it, whatever is published meanwhile. A `Held`
-/// that is dropped keeps the slot out of use for good; the writer goes on with the others.
+/// A reader that holds a message: nobody writes its slot, whatever is published meanwhile. A `Held` that
+/// is dropped keeps the slot out of use for good; the writer goes on with the others.
 #[derive(Drop)]
 pub struct Held<const READERS: usize> {
     seat: ReaderSeat<READERS>,
@@ -102,8 +101,8 @@ impl<const READERS: usize> Reader<READERS> {
         self.seat
     }
 
-    /// Reads the newest message. It looks again up to `tries` times, 1 to 8, and waits for nobody. What
-    /// `out` has after the message is as it was, and all of it if there is no message.
+    /// Reads the newest message. It looks again up to `tries` times, 1 to 8, and waits for nobody.
+    /// Octets of `out` past the message are unchanged; without a message, all of `out` is.
     ///
     /// ```text
     /// let mut out = [0; 1471];
@@ -165,21 +164,21 @@ impl<const READERS: usize> Reader<READERS> {
 }
 
 impl<const READERS: usize> Held<READERS> {
-    /// The number of the message.
+    /// Number of the message.
     pub fn number(&self) -> u64
         ensures { result ≡ length self.now.seen }
     {
         self.word / MOST_SLOTS
     }
 
-    /// When it came, in microseconds.
+    /// Arrival time, in microseconds.
     pub fn time(&self) -> u64
         ensures { result ≡ slice_index (last_of self.now.seen) 1 }
     {
         self.time
     }
 
-    /// How many octets it has.
+    /// Length, in octets.
     pub fn len(&self) -> usize
         ensures value { result ≡ slice_index (last_of self.now.seen) 0 }
         ensures short { result ≤ longest_message }
@@ -197,7 +196,7 @@ impl<const READERS: usize> Held<READERS> {
         self.seat.load_word(self.word, 2 + place)
     }
 
-    /// Gives the message back.
+    /// Releases the message.
     pub fn release(self) -> Reader<READERS>
         ensures { result ≡ record self.entry { steps = self.entry.steps + 1 } }
     {

@@ -14,8 +14,8 @@ use std::alloc::Global;
 use std::marker::Model;
 use std::sync::Arc;
 
-/// A reader's seat at a port. Contracts see which port it is at, the reader's place, and what it knows: its
-/// view in the slot core, its looks, and how many steps it made.
+/// A reader's seat at a port. Contracts see which port it is at, the reader's place, and its knowledge:
+/// its view in the slot core, its looks, and its number of steps.
 #[derive(Drop)]
 pub struct ReaderSeat<const READERS: usize> {
     pub(crate) table: Arc<PortTable<READERS>, Global>,
@@ -131,7 +131,7 @@ impl<const READERS: usize> ReaderSeat<READERS> {
             .load::<Second<READERS>>(&mut self.right, 0)
     }
 
-    /// LoadWord: loads the word at this index of the message that is held, which `word` shows.
+    /// LoadWord: loads the word at this index of the held message, which `word` shows.
     pub fn load_word(&mut self, word: u64, index: usize) -> u64
         requires turn { MayLoadWord self.old.knows.view index }
         requires word { word ≡ word_of self.old.knows.view.phase }

@@ -1,24 +1,24 @@
-//! The rule of a port's table, and what each seat at it knows. No value of these types is made.
+//! The rule of a port's table, and the knowledge of each seat at it. No value of these types is made.
 use atomic_table::{Seat, Table, TableRule};
 use slot_core::{ReaderView, WriterView};
 use std::alloc::Global;
 use std::collections::LinkedList;
 
-/// What the writer's seat knows: its view in the core, and how many steps it made.
+/// Knowledge of the writer's seat: its view in the core, and its number of steps.
 pub struct WriterLog {
     pub view: WriterView,
     pub steps: u64,
 }
 
-/// What a reader's seat knows: its view in the core, its looks, true for each that ended with a hold,
-/// and how many steps it made.
+/// Knowledge of a reader's seat: its view in the core, its looks, true for each that ended with a hold,
+/// and its number of steps.
 pub struct ReaderLog {
     pub view: ReaderView,
     pub looks: LinkedList<bool>,
     pub steps: u64,
 }
 
-/// What a seat knows.
+/// Knowledge of a seat.
 pub enum SeatView {
     /// The seat that opens the port, from which this many readers were parted.
     Opens(u64),

@@ -12,14 +12,14 @@ ghost use Rattle.sampling_port.specs.Seats.{LooksAgain, reader_with};
 use crate::reader_seat::ReaderSeat;
 use slot_core::MOST_SLOTS;
 
-/// How the looks of a read end.
+/// Result of a read's looks.
 #[derive(Clone, Copy, Debug, PartialEq, Eq)]
 pub(crate) enum Sought {
     /// Nothing was published.
     Empty,
     /// Each try found a newer message; the newest that was seen has this number.
     Busy(u64),
-    /// The message that this word shows is held.
+    /// The message of this word is held.
     Found(u64),
 }
 

@@ -1,10 +1,10 @@
-//! Whether a message is as new as its port wants.
+//! Validity of a message, by its age and its port's refresh period.
 ghost use Rattle.std.specs.Prelude.{Some};
 ghost use Rattle.sampling_port.specs.Age.{freshness_word};
 
 use std::fmt;
 
-/// Whether a message is as new as its port wants.
+/// Validity of a message, by its age and its port's refresh period.
 #[derive(Clone, Copy, Debug, PartialEq, Eq)]
 pub enum Freshness {
     /// Its age is at most the refresh period.

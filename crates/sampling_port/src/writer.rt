@@ -1,4 +1,4 @@
-//! The end that publishes.
+//! The publishing end.
 ghost use Rattle.std.specs.Prelude.{◌≡◌, ◌+◌, ◌≤◌, None, Some, length, IfErr, IfOk};
 ghost use Rattle.slot_core.specs.Limits.{most_messages};
 ghost use Rattle.sampling_port.specs.Ends.{IsPublished, new_writer, publish_fault};
@@ -9,7 +9,7 @@ use crate::writer_seat::WriterSeat;
 use slot_core::{LONGEST_MESSAGE, MOST_MESSAGES};
 use std::marker::Model;
 
-/// Why a message isn't published.
+/// Fault of a publication.
 #[derive(Clone, Copy, Debug, PartialEq, Eq)]
 pub enum PublishFault {
     /// It has more than `LONGEST_MESSAGE` octets, 1471.
@@ -18,14 +18,14 @@ pub enum PublishFault {
     Exhausted,
 }
 
-/// The end of a port that publishes. Contracts see the words of each message that it published, in
-/// order, and how many steps it made.
+/// Publishing end of a port. Contracts see the words of each message that it published, in order, and
+/// its number of steps.
 #[derive(Drop)]
 pub struct Writer<const READERS: usize> {
     pub(crate) seat: WriterSeat<READERS>,
-    /// The word that `latest` holds.
+    /// The word in `latest`.
     last: u64,
-    /// How many messages are published.
+    /// Number of published messages.
     count: u64,
 }
 
@@ -63,7 +63,7 @@ impl<const READERS: usize> Writer<READERS> {
         }
     }
 
-    /// How many messages it published: at most 2^60 - 1.
+    /// Number of published messages: at most 2^60 - 1.
     pub fn published(&self) -> u64
         ensures value { result ≡ length self.now.published }
         ensures few { result ≤ most_messages }

@@ -12,8 +12,8 @@ use std::alloc::Global;
 use std::marker::Model;
 use std::sync::Arc;
 
-/// The writer's seat at a port. Contracts see which port it is at, and what it knows: its view in the slot
-/// core, and how many steps it made.
+/// The writer's seat at a port. Contracts see which port it is at, and its knowledge: its view in the
+/// slot core, and its number of steps.
 #[derive(Drop)]
 pub struct WriterSeat<const READERS: usize> {
     table: Arc<PortTable<READERS>, Global>,

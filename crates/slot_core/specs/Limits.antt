@@ -24,11 +24,11 @@ slot_words = 186
 
 -- ---- a message number and a slot in one word (own)
 
--- how many messages a port numbers, from 1
+-- greatest message number of a port
 -- rule: SAMP-6
 abbrev pub most_messages : ℕ
 most_messages = 2 ^ 60 - 1
 
--- the most slots of a port: how many a word can name
+-- the most slots of a port: as many as a word can name
 abbrev pub most_slots : ℕ
 most_slots = 16

@@ -4,7 +4,7 @@ use Rattle.slot_core.specs.declared.look.WriterPhase.{WriterPhase}
 use Rattle.slot_core.specs.declared.look.WriterPhase.TheVariants.{Scanning, Writing}
 use Rattle.slot_core.specs.declared.view.WriterView.{WriterView}
 
--- where the writer is: it writes if words are stored
+-- phase of the writer: it writes if words are stored
 abbrev pub IsWriterPhase : WriterPhase → WriterView → Type 0
 IsWriterPhase (Scanning scanned) w = (length w.stored ≡ 0) × (scanned.now ≡ w.scanned)
 IsWriterPhase (Writing scanned slot stored) w =

@@ -3,11 +3,11 @@
 use Rattle.std.specs.Prelude.{◌≡◌, ℕ, ◌+◌, ◌-◌, ◌*◌, ◌/◌, ◌%◌, ◌^◌, ◌<◌, ◌≤◌, List, length, slice_index}
 use Rattle.slot_core.specs.Limits.{longest_message}
 
--- how many words a message of this many octets has
+-- number of words of a message of this many octets
 abbrev pub words_for : ℕ → ℕ
 words_for octets = 2 + (octets + 7) / 8
 
--- how many octets of the word at this index come after the end of a message of this many octets
+-- number of octets of the word at this index after the end of a message of this many octets
 abbrev pub octets_after_end : ℕ → ℕ → ℕ
 octets_after_end octets index = 8 * (index - 1) - octets
 

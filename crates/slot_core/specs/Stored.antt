@@ -1,4 +1,4 @@
--- What a core keeps, and the state that it stands for.
+-- The contents of a core, and the state that they represent.
 use Rattle.std.specs.Prelude.{◌≡◌, ℕ, ◌<◌, ◌≤◌, List, length, map, slice_index, take}
 use Rattle.std.specs.List.{All}
 use Rattle.slot_core.specs.declared.machine.Core.TheInside.{Inside}

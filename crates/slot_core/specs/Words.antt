@@ -15,7 +15,7 @@ announcement words reader = slice_index words (1 + reader)
 abbrev pub place_of : ℕ → ℕ → ℕ → ℕ
 place_of readers slot index = 1 + readers + (slot_words * slot + index)
 
--- how many words a table has
+-- number of words of a table
 -- rule: SAMP-4
 abbrev pub table_words : ℕ → ℕ → ℕ
 table_words readers slots = 1 + readers + slot_words * slots

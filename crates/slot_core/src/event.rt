@@ -1,4 +1,4 @@
-//! The steps that the writer and the readers of a sampling port can take, and why one is refused.
+//! Steps of the writer and the readers of a sampling port, and their refusals.
 
 /// One step: one load or one store of one word of the port's table. The first three are the writer's,
 /// the others are those of the reader that they name. Readers, slots and indices count from 0.
@@ -39,8 +39,7 @@ pub enum CoreEvent {
     },
 }
 
-/// Why a step is refused, in the order in which it is tested: place, turn, latest, announced, memory
-/// (order: own).
+/// Refusal of a step, tested in the order place, turn, latest, announced, memory (order: own).
 #[derive(Clone, Copy, Debug, PartialEq, Eq)]
 pub enum StepRefusal {
     /// There is no such reader, slot or word of a slot.

@@ -47,16 +47,16 @@ pub fn a_free_slot_exists()
         length c.writer.stored ≡ 0 → HasFreeSlot readers slots c }
 {}
 
-/// What a reader begins to hold is the newest message at that moment, its second look, and the reader
-/// has seen all that is published.
+/// A message that a reader begins to hold is the newest at that moment, its second look, and the reader
+/// has seen all published messages.
 pub fn a_held_message_was_the_newest()
     ensures { (readers slots : ℕ) (c : State) (reader word : ℕ) → Lawful readers slots c →
         Allowed readers slots c (LoadSecond reader) → Holds readers (after readers c (LoadSecond reader)) reader word →
         HoldsNewest readers slots (after readers c (LoadSecond reader)) (view_at (after readers c (LoadSecond reader)).views reader) word }
 {}
 
-/// What a reader holds stays whole until the reader clears its announcement, whatever comes between.
-/// The reader's view stays as it is.
+/// A held message stays whole until its reader clears its announcement, whatever comes between. The
+/// reader's view stays as it is.
 pub fn a_held_message_stays_whole()
     ensures view { (readers slots : ℕ) (c : State) (reader word : ℕ) (events : List CoreEvent) → Holds readers c reader word →
         AreAllowed readers slots c events → Outlasts reader events →
@@ -67,9 +67,9 @@ pub fn a_held_message_stays_whole()
 {}
 
 /// All of it together, from the opening on: after any list of events a reader looks again and holds; any
-/// list of events follows in which it doesn't clear its announcement. Then what it holds is the message
-/// that was the newest at that look, by its number; all words of that message stand in the slot; and no
-/// step that is allowed writes the slot.
+/// list of events follows in which it doesn't clear its announcement. Then it holds the message that was
+/// the newest at that look, by its number; the slot has all words of that message; and no allowed step
+/// writes the slot.
 // rule: SAMP-16
 pub fn a_hold_is_of_the_newest_message_and_whole()
     ensures newest { (readers slots : ℕ) (c : State) (reader word : ℕ) (events : List CoreEvent) → slots ≤ most_slots →
@@ -97,8 +97,8 @@ pub fn a_step_is_allowed_or_refused()
         (refusal_of readers slots c event ≡ None) ↔ Allowed readers slots c event }
 {}
 
-/// The words of octets and a time are those of a message: they have its octets, and no other message has
-/// the same words. And whatever are words of a message, they are those of its octets and its time. Octets
+/// The words of octets and a time are those of one message: they have its octets, and no other message
+/// has the same words. Conversely, the words of a message are those of its octets and its time. Octets
 /// are below 256, and a message has at most `longest_message`; words are below 2^64.
 pub fn a_message_has_words_of_its_own()
     ensures message { (octets : List ℕ) (time : ℕ) → AreOctets octets → IsMessage (words_of octets time) }

@@ -1,8 +1,7 @@
-//! A sampling port as a machine: its words, what the writer and each reader know, and every step that
-//! one of them can take, as data (ARINC 664 Part 7, sampling ports; the protocol is own). A list of
-//! events is one interleaving of the writer and the readers, and the laws hold for every list: no slot is
-//! written while a reader holds it, and what is held is the whole message that was newest at the second look.
-//! A step which isn't allowed is refused, and changes nothing.
+//! A sampling port as a machine: its words, what the writer and each reader know, and every step that one of them can
+//! take, as data (ARINC 664 Part 7, sampling ports; the protocol is own). A list of events is one interleaving of the
+//! writer and the readers, and the laws hold for every list: no slot is written while a reader holds it, and a held
+//! message is whole and was the newest at the second look. A step that isn't allowed is refused, and changes nothing.
 #![tactic(auto)]
 
 mod event;

@@ -1,4 +1,4 @@
-//! What can be seen of a core.
+//! Look-ups of a core's state.
 ghost use Rattle.std.specs.Prelude.{◌≡◌, ◌<◌, length, slice_index};
 ghost use Rattle.slot_core.specs.Limits.{port_readers, port_slots, slot_words};
 ghost use Rattle.slot_core.specs.Words.{announcement, latest, place_of};
@@ -8,7 +8,7 @@ ghost use Rattle.slot_core.specs.Look.{IsWriterPhase};
 use crate::steps::place_of;
 use crate::{Core, MessageWords, Phase, READERS, SLOTS, WORDS};
 
-/// Where the writer is. For each reader scanned so far there is the slot that it announced, or None.
+/// Phase of the writer. For each reader scanned so far there is the slot that it announced, or None.
 #[derive(Clone, Copy, Debug)]
 pub enum WriterPhase<'a> {
     /// It scans the readers, or has scanned all.
@@ -56,7 +56,7 @@ impl Core {
         self.published.as_slice()
     }
 
-    /// How many messages were published when the reader last loaded `latest`: it has seen that many of
+    /// Number of messages published when the reader last loaded `latest`: it has seen that many of
     /// `published`, from the first on.
     pub fn seen(&self, reader: usize) -> u64
         requires { reader < port_readers }
@@ -65,7 +65,7 @@ impl Core {
         self.reader(reader).seen as u64
     }
 
-    /// Where the writer is.
+    /// Phase of the writer.
     pub fn writer_phase(&self) -> WriterPhase<'_>
         ensures { IsWriterPhase result self.now.writer }
     {
@@ -81,7 +81,7 @@ impl Core {
         }
     }
 
-    /// Where a reader is.
+    /// Phase of a reader.
     pub fn reader_phase(&self, reader: usize) -> Phase
         requires { reader < port_readers }
         ensures { result ≡ (view_at self.now.views reader).phase }

@@ -1,4 +1,4 @@
-//! The machine: a port's words, and what its writer and its readers know, stepped by events.
+//! The machine: a port's words, and the knowledge of its writer and its readers, stepped by events.
 ghost use Rattle.std.specs.Prelude.{◌≡◌, IfErr, IfOk, OnErr, replicate};
 ghost use Rattle.slot_core.specs.Limits.{port_readers, port_slots};
 ghost use Rattle.slot_core.specs.Words.{table_words};
@@ -13,8 +13,8 @@ use arrayvec::ArrayVec;
 use std::alloc::{AllocError, Global};
 use std::marker::Model;
 
-/// A sampling port, as data: its words, what is published, where the writer is and where each reader is.
-/// Contracts see it as a `State`.
+/// A sampling port, as data: its words, the published messages, and the phases of the writer and of each
+/// reader. Contracts see it as a `State`.
 #[derive(Drop)]
 pub struct Core {
     pub(crate) words: [u64; TABLE_WORDS],
@@ -41,8 +41,7 @@ impl Model for Core {
 }
 
 impl Core {
-    /// A port at which nothing was published, whose writer scans and whose readers are idle. It takes
-    /// no memory.
+    /// A port without publications, whose writer scans and whose readers are idle. It takes no memory.
     pub fn opening(alloc: Global) -> Core
         ensures { result ≡ opening port_readers port_slots }
     {

@@ -38,7 +38,7 @@ impl MessageWords {
         self.words.as_slice()
     }
 
-    /// How many words there are: 2 to `WORDS`.
+    /// Number of words: 2 to `WORDS`.
     pub fn len(&self) -> usize
         ensures { result ≡ length self.now }
     {
@@ -52,7 +52,7 @@ impl MessageWords {
     }
 }
 
-/// How many words a message of this many octets has.
+/// Number of words of a message of this many octets.
 pub(crate) fn words_for(octets: u64) -> usize
     requires { octets ≤ longest_message }
     ensures { result ≡ words_for octets }

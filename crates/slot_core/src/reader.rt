@@ -1,4 +1,4 @@
-//! What a core keeps of a reader.
+//! State of a reader in a core.
 ghost use Rattle.std.specs.Prelude.{◌≡◌, ℕ, List, length};
 ghost use Rattle.slot_core.specs.State.{word_of};
 ghost use Rattle.slot_core.specs.Steps.{announces, begins, clears, first_phase, looks_again, second_phase};
@@ -12,7 +12,7 @@ pub(crate) struct Reader {
     pub phase: Phase,
     /// Its announcement.
     pub own: u64,
-    /// How many messages were published when it last loaded `latest`.
+    /// Number of messages published when it last loaded `latest`.
     pub seen: usize,
 }
 
@@ -116,7 +116,7 @@ impl Reader {
     }
 }
 
-/// Where a reader is after its first load of `latest`.
+/// Phase of a reader after its first load of `latest`.
 fn first_phase(found: u64) -> Phase
     ensures { result ≡ first_phase found }
 {
@@ -127,7 +127,7 @@ fn first_phase(found: u64) -> Phase
     }
 }
 
-/// Where a reader that announced this word is after it loaded `latest` again.
+/// Phase of a reader that announced this word, after it loaded `latest` again.
 fn second_phase(word: u64, found: u64) -> Phase
     ensures { result ≡ second_phase word found }
 {

@@ -6,8 +6,8 @@ ghost use Rattle.slot_core.specs.Runs.{IsFirstRefused, LeadTo};
 use crate::{Core, CoreEvent, StepRefusal};
 use std::alloc::Global;
 
-/// The core after these events, from the opening on. The error names the place of the first event that
-/// is refused, from 0, and why.
+/// The core after these events, from the opening on. The error is the index of the first refused event,
+/// and its refusal.
 ///
 /// ```text
 /// run(alloc, &[CoreEvent::Scan { reader: 0 }, CoreEvent::StoreLatest]) // Err((1, NotItsTurn))

@@ -1,4 +1,4 @@
-//! What each step does, if it is allowed.
+//! Effects of allowed steps.
 ghost use Rattle.std.specs.Prelude.{◌≡◌, ◌<◌, ◌≤◌, [], IfOk, OnErr};
 ghost use Rattle.slot_core.specs.Limits.{most_messages, most_slots, port_readers, port_slots, slot_words};
 ghost use Rattle.slot_core.specs.Words.{place_of, slot_shown, table_words, word_for};
@@ -76,7 +76,7 @@ impl Core {
     }
 }
 
-/// The place of a word of a slot in the table.
+/// Index in the table of a word of a slot.
 pub(crate) fn place_of(slot: usize, index: usize) -> usize
     requires slot { slot < port_slots }
     requires index { index < slot_words }
@@ -86,7 +86,7 @@ pub(crate) fn place_of(slot: usize, index: usize) -> usize
     1 + READERS + (WORDS * slot + index)
 }
 
-/// The word that shows a message number and a slot.
+/// The word of a message number and a slot.
 fn word_for(message_number: u64, slot: u64) -> u64
     requires number { message_number ≤ most_messages }
     requires slot { slot < most_slots }

@@ -1,4 +1,4 @@
-//! Whose turn it is, and why a step is refused.
+//! Turns of the writer and the readers, and refusals of steps.
 ghost use Rattle.std.specs.Prelude.{◌≡◌, ◌≤◌, ◌<◌, ◌==◌, Some, length, slice_index};
 ghost use Rattle.slot_core.specs.Limits.{longest_message, port_readers, port_slots};
 ghost use Rattle.slot_core.specs.Message.{words_for};
@@ -12,7 +12,7 @@ use crate::view::MOST_SLOTS;
 use crate::{Core, CoreEvent, LONGEST_MESSAGE, MOST_MESSAGES, READERS, SLOTS, StepRefusal, WORDS};
 
 impl Core {
-    /// Why the step is refused, if it is: the first of place, turn, latest and announced.
+    /// Refusal of the step, if any: the first of place, turn, latest and announced.
     pub(crate) fn refusal_of(&self, event: &CoreEvent) -> Option<StepRefusal>
         ensures { result ≡ refusal_of port_readers port_slots self.now event.now }
     {
@@ -81,7 +81,7 @@ impl Core {
             && (self.published.len() as u64) < MOST_MESSAGES
     }
 
-    /// How many octets the message has that is being written. 0 if none is.
+    /// Length of the message that is being written, in octets. 0 if none is.
     fn octets(&self) -> u64
         ensures value { result ≡ slice_index self.now.writer.stored 0 }
         ensures short { result ≤ longest_message }
@@ -140,7 +140,7 @@ impl Core {
         reader.is_holding() && index < self.words_seen_last(&reader)
     }
 
-    /// How many words the message has that this reader has seen last.
+    /// Number of words of the message that this reader has seen last.
     fn words_seen_last(&self, reader: &Reader) -> usize
         requires { reader.now.seen ≤ length self.now.writer.published }
         ensures { result ≡ length (last_of (view_of self.now.writer.published reader.now).seen) }

@@ -1,24 +1,24 @@
-//! The sizes of a sampling port, and what its writer and each of its readers know of it.
+//! Sizes of a sampling port, and the knowledge of its writer and of each reader.
 
 use std::collections::LinkedList;
 
-/// The readers of a sampling port (own).
+/// Number of readers of a sampling port (own).
 pub const READERS: usize = 8;
-/// Its slots, each of which holds one message: one for each reader, one for the message that `latest`
-/// shows, and one to write (own).
+/// Number of slots, of one message each: one for each reader, one for the message that `latest` shows,
+/// and one to write (own).
 pub const SLOTS: usize = READERS + 2;
-/// The longest message, in octets (ARINC 664 Part 7, sampling ports: one frame).
+/// Longest message, in octets (ARINC 664 Part 7, sampling ports: one frame).
 pub const LONGEST_MESSAGE: u64 = 1471;
-/// The words of a slot, those of the longest message: its length, its time, its octets, eight to a word.
+/// Words of a slot, those of the longest message: its length, its time, its octets, eight to a word.
 pub const WORDS: usize = 2 + (LONGEST_MESSAGE as usize + 7) / 8;
-/// All words of a port's table: `latest`, the announcements, the slots.
+/// Words of a port's table: `latest`, the announcements, the slots.
 pub const TABLE_WORDS: usize = 1 + READERS + WORDS * SLOTS;
-/// How many messages a sampling port numbers, from 1: 2^60 - 1 (own).
+/// Greatest message number of a sampling port: 2^60 - 1 (own).
 pub const MOST_MESSAGES: u64 = (1 << 60) - 1;
-/// How many slots a word of `latest` can name; what is left of the word is the message number (own).
+/// Number of slots that a word of `latest` can name; the rest of the word is the message number (own).
 pub const MOST_SLOTS: u64 = 16;
 
-/// Where a reader is. The word is the one of `latest` that it loaded.
+/// Phase of a reader. The word is the one of `latest` that it loaded.
 #[derive(Clone, Copy, Debug, PartialEq, Eq)]
 pub enum Phase {
     /// It reads nothing.
@@ -32,8 +32,8 @@ pub enum Phase {
     Holding(u64),
 }
 
-/// What the writer knows. It writes if `stored` isn't empty, and scans else. Contracts speak of
-/// such a view; no program makes one.
+/// Knowledge of the writer: it writes if `stored` isn't empty, and scans else. It exists in contracts
+/// alone: no program makes one.
 #[derive(Drop)]
 pub struct WriterView {
     /// For each reader scanned so far the slot that it announced, or None.
@@ -48,12 +48,12 @@ pub struct WriterView {
     pub published: LinkedList<LinkedList<u64>>,
 }
 
-/// What a reader knows. Contracts speak of such a view; no program makes one.
+/// Knowledge of a reader. It exists in contracts alone: no program makes one.
 #[derive(Drop)]
 pub struct ReaderView {
     pub phase: Phase,
     /// Its own announcement.
     pub own: u64,
-    /// The messages that were published when it last loaded `latest`.
+    /// The messages published when it last loaded `latest`.
     pub seen: LinkedList<LinkedList<u64>>,
 }

@@ -1,8 +1,8 @@
-//! Why each rule is needed: without it some schedule goes wrong. The contract of each function says so
-//! of a port with eight readers and, but for the last, ten slots.
+//! Counterexamples without each rule: the contract of each function has one, at a port with eight
+//! readers and, but for the last, ten slots.
 ghost use Rattle.slot_core.specs.Without.{FailsEarly, FailsInHaste, GetsStuck};
 
-/// If a reader held what it announces, with no second look, a slot that it holds could be written.
+/// Without the second look, if a reader held what it announces, a slot that it holds could be written.
 pub fn the_second_look()
     ensures { FailsInHaste 8 10 }
 {}

@@ -1,4 +1,4 @@
--- What stands in a room in which a slot was made: the mark of its kind, and nothing is open.
+-- Contents of a room in which a slot was made: the mark of its kind, and nothing open.
 use Rattle.std.specs.Prelude.{None}
 use Rattle.receiver_slots.specs.declared.reader_slot.ReaderState.TheVariants.{Closed}
 use Rattle.slot_handles.specs.declared.marked.MarkedReader.{MarkedReader}

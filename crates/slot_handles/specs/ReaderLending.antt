@@ -1,4 +1,4 @@
--- What the handle of a reader is once what stands in its room was lent.
+-- The handle of a reader after its room's contents were lent.
 use Rattle.std.specs.Borrow.{Lends, MutBor, Fml}
 use Rattle.slot_handles.specs.declared.marked.MarkedReader.{MarkedReader}
 use Rattle.slot_handles.specs.contracts.marked.MarkedReader.{the_row as room_row}

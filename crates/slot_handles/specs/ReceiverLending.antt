@@ -1,4 +1,4 @@
--- What the handle of a receiver is once what stands in its room was lent.
+-- The handle of a receiver after its room's contents were lent.
 use Rattle.std.specs.Borrow.{Lends, MutBor, Fml}
 use Rattle.slot_handles.specs.declared.marked.MarkedReceiver.{MarkedReceiver}
 use Rattle.slot_handles.specs.contracts.marked.MarkedReceiver.{the_row as room_row}

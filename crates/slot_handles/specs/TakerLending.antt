@@ -1,4 +1,4 @@
--- What the handle of a taker is once what stands in its room was lent.
+-- The handle of a taker after its room's contents were lent.
 use Rattle.std.specs.Borrow.{Lends, MutBor, Fml}
 use Rattle.slot_handles.specs.declared.marked.MarkedTaker.{MarkedTaker}
 use Rattle.slot_handles.specs.contracts.marked.MarkedTaker.{the_row as room_row}

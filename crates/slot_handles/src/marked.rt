@@ -1,4 +1,4 @@
-//! What stands in the room of a handle: the mark of its kind, and its slot. A call looks at the mark before it touches the
+//! Contents of a handle's room: the mark of its kind, and its slot. A call looks at the mark before it touches the
 //! slot, so that a room in which no slot of its kind was made is refused, and isn't written.
 ghost use Rattle.std.specs.Prelude.{◌≡◌};
 

@@ -23,7 +23,7 @@ impl ReaderHandle {
     ghost use Rattle.std.specs.Borrow.{sem};
     ghost use Rattle.slot_handles.specs.ReaderLending.{LendsRoom};
 
-    /// What stands in the room, to work on.
+    /// The contents of the room, to work on.
     pub fn lend(&mut self) -> &mut MarkedReader
         ensures* writes_back { sem 𝓛 (LendsRoom self.entry result) }
         ensures value { result.now ≡ self.old.room }

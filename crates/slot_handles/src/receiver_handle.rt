@@ -23,7 +23,7 @@ impl ReceiverHandle {
     ghost use Rattle.std.specs.Borrow.{sem};
     ghost use Rattle.slot_handles.specs.ReceiverLending.{LendsRoom};
 
-    /// What stands in the room, to work on.
+    /// The contents of the room, to work on.
     pub fn lend(&mut self) -> &mut MarkedReceiver
         ensures* writes_back { sem 𝓛 (LendsRoom self.entry result) }
         ensures value { result.now ≡ self.old.room }

@@ -1,4 +1,4 @@
--- What stands in a room in which a system's or a pass's slot was made.
+-- Contents of a room in which a system's or a pass's slot was made.
 use Rattle.std.specs.Prelude.{None}
 use Rattle.system_c.specs.declared.marked.MarkedSystem.{MarkedSystem}
 use Rattle.system_c.specs.declared.marked.MarkedPass.{MarkedPass}

@@ -1,4 +1,4 @@
--- What the handle of a network's pass is once what stands in its room was lent.
+-- The handle of a network's pass after its room's contents were lent.
 use Rattle.std.specs.Borrow.{Lends, MutBor, Fml}
 use Rattle.system_c.specs.declared.marked.MarkedPass.{MarkedPass}
 use Rattle.system_c.specs.contracts.marked.MarkedPass.{the_row as room_row}

@@ -1,4 +1,4 @@
--- What the handle of a system is once what stands in its room was lent.
+-- The handle of a system after its room's contents were lent.
 use Rattle.std.specs.Borrow.{Lends, MutBor, Fml}
 use Rattle.system_c.specs.declared.marked.MarkedSystem.{MarkedSystem}
 use Rattle.system_c.specs.contracts.marked.MarkedSystem.{the_row as room_row}

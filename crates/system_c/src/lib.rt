@@ -1,6 +1,6 @@
-//! The end system of two threads for programs in C: a handle for the system and one for each network's pass, beside those of
-//! `receiver_c`, which are the same. It is compiled apart from `receiver_c`, and both make one archive: so a program has
-//! what it calls, and a frame's way is compiled for each of them.
+//! The end system of two threads for programs in C: a handle for the system and one for each network's pass, beside
+//! those of `receiver_c`, which are the same. It is compiled apart from `receiver_c`, and both make one archive: so a
+//! program has what it calls, and a frame's way is compiled for each of them.
 #![tactic(auto)]
 
 pub mod marked;

@@ -1,4 +1,4 @@
-//! What stands in the room of a handle of a system or of a pass, as in [`slot_handles::marked`].
+//! Contents of the rooms of a system's and of a pass's handle, as in [`slot_handles::marked`].
 ghost use Rattle.std.specs.Prelude.{◌≡◌};
 
 use system_slots::{PassSlot, SystemSlot};

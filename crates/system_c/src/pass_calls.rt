@@ -14,7 +14,7 @@ use crate::pass_handle::PassHandle;
 use receiver_slots::FrameReply;
 use receiver_slots::codes::NOT_MADE;
 
-/// How many octets of room the slot of a network's pass takes. The room is aligned to 8.
+/// Size of the slot of a network's pass, in octets. The room is aligned to 8.
 #[unsafe(no_mangle)]
 pub extern "C" fn yelunnavi_pass_room() -> usize
     ensures { result ≡ type_size pass_row }
@@ -31,8 +31,8 @@ pub unsafe extern "C" fn yelunnavi_pass_make(at: *mut u8)
     std::ptr::write(at as *mut MarkedPass, MarkedPass::empty())
 }
 
-/// Takes the octets of a frame that came on the pass's network at `now` microseconds, and tells what became of it. BUSY if the
-/// other network's thread has the frame's link just then: nothing has happened, and the program gives the same frame again.
+/// Takes the octets of a frame that came on the pass's network at `now` microseconds, and tells its verdict. BUSY while
+/// the other network's thread has the frame's link: nothing has happened, and the program gives the same frame again.
 #[unsafe(no_mangle)]
 pub extern "C" fn yelunnavi_pass_receive(
     h: &mut PassHandle,
@@ -55,8 +55,8 @@ pub extern "C" fn yelunnavi_pass_receive(
     made.slot.receive(now, frame, reply)
 }
 
-/// Tells how many frames of the link at this place came on the pass's network with a verdict of this kind, 1 to 13. A count
-/// stops at the greatest number of 64 bits.
+/// Tells the number of frames of the link at this place on the pass's network with a verdict of this kind, 1 to 13. It
+/// saturates at 2^64 - 1.
 #[unsafe(no_mangle)]
 pub extern "C" fn yelunnavi_pass_count(
     h: &mut PassHandle,
@@ -77,8 +77,7 @@ pub extern "C" fn yelunnavi_pass_count(
     made.slot.count(link, kind, count)
 }
 
-/// Tells how many frames were filtered on the pass's network for this cause, 1 to 5. A count stops at the greatest number of
-/// 64 bits.
+/// Tells the number of frames filtered on the pass's network for this cause, 1 to 5. It saturates at 2^64 - 1.
 #[unsafe(no_mangle)]
 pub extern "C" fn yelunnavi_pass_filtered(h: &mut PassHandle, cause: u32, count: &mut u64) -> u32
     ensures place { (h.new.at ≡ h.old.at) × (h.new.room.mark ≡ h.old.room.mark) }

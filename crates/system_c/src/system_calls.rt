@@ -27,7 +27,7 @@ use slot_handles::reader_handle::ReaderHandle;
 use slot_handles::taker_handle::TakerHandle;
 use std::alloc::Global;
 
-/// How many octets of room the slot of a system takes. The room is aligned to 8.
+/// Size of the slot of a system, in octets. The room is aligned to 8.
 #[unsafe(no_mangle)]
 pub extern "C" fn yelunnavi_system_room() -> usize
     ensures { result ≡ type_size system_row }
@@ -44,8 +44,9 @@ pub unsafe extern "C" fn yelunnavi_system_make(at: *mut u8)
     std::ptr::write(at as *mut MarkedSystem, MarkedSystem::empty())
 }
 
-/// Opens the system of the configuration in these octets, a TOML document. Each sampling port has so many readers, 1 to
-/// 8, else OUT_OF_RANGE. All memory is taken here. FAULTY, and its first fault with its key, link and port, if it has one.
+/// Opens the system of the configuration in these octets, a TOML document. Each sampling port has `readers` readers, 1
+/// to 8, else OUT_OF_RANGE. All memory is taken here. FAULTY, and its first fault with its key, link and port, if it
+/// has one.
 #[unsafe(no_mangle)]
 pub extern "C" fn yelunnavi_system_open(
     alloc: Global,
@@ -185,7 +186,7 @@ pub extern "C" fn yelunnavi_system_hand_taker(
     made.slot.hand_taker(&mut room.slot, name)
 }
 
-/// Tells how many links the configuration has.
+/// Tells the number of links of the configuration.
 #[unsafe(no_mangle)]
 pub extern "C" fn yelunnavi_system_links(h: &mut SystemHandle, links: &mut usize) -> u32
     ensures place { (h.new.at ≡ h.old.at) × (h.new.room.mark ≡ h.old.room.mark) }
@@ -201,7 +202,7 @@ pub extern "C" fn yelunnavi_system_links(h: &mut SystemHandle, links: &mut usize
     made.slot.links(links)
 }
 
-/// Tells the settings of the link at this place of the configuration, and how many ports it has.
+/// Tells the settings of the link at this place of the configuration, and its number of ports.
 #[unsafe(no_mangle)]
 pub extern "C" fn yelunnavi_system_link(
     h: &mut SystemHandle,
@@ -221,8 +222,8 @@ pub extern "C" fn yelunnavi_system_link(
     made.slot.link(link, reply)
 }
 
-/// Tells the settings of a port, by the places of its link and of the port in it, and its name, which stands at the
-/// beginning of `name`.
+/// Tells the settings of a port, by the places of its link and of the port in it, and its name, at the beginning of
+/// `name`.
 #[unsafe(no_mangle)]
 pub extern "C" fn yelunnavi_system_port(
     h: &mut SystemHandle,

@@ -30,7 +30,8 @@ abbrev pub with_place : Configuration → Reply → ReceiverReply
 with_place config (replies.Filtered cause) = answers.Filtered cause
 with_place config (replies.Link vl place verdict) = answers.Link (or_0 (link_of config.links vl)) vl place verdict
 
--- the frame came at this time on the network of the pass; what the system replied is told, and the pass has one call more
+-- the frame came at this time on the network of the pass; what the system replied is told, and the pass has one call
+-- more
 pub record ReceivesBy (old new : Passing) (now : ℕ) (octets : List ℕ) (told : FrameReply) : Type 0 where
   pub system : new.system ≡ old.system
   pub own : IsPassOf new.system new.pass
@@ -56,7 +57,7 @@ abbrev pub count_code : Option Passing → ℕ → ℕ → ℕ
 count_code None link kind = not_open
 count_code (Some now) link kind = if is_kind verdict_kinds kind then (if nat_lt link (length now.system.config.links) then done else no_place) else no_kind
 
--- so many frames of the link at this place came on the network of the pass with a verdict of this kind
+-- `count` is the number of frames of the link at this place on the pass's network with a verdict of this kind
 -- rule: EMB-27
 abbrev pub CountsFrames : Option Passing → ℕ → ℕ → ℕ → Type 0
 CountsFrames None link kind count = ⊥
@@ -67,7 +68,7 @@ abbrev pub filtered_code : Option Passing → ℕ → ℕ
 filtered_code None cause = not_open
 filtered_code (Some now) cause = if is_kind filter_causes cause then done else no_kind
 
--- so many frames were filtered on the network of the pass for this cause
+-- `count` is the number of frames filtered on the pass's network for this cause
 -- rule: EMB-27
 abbrev pub CountsFiltered : Option Passing → ℕ → ℕ → Type 0
 CountsFiltered None cause count = ⊥

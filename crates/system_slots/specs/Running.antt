@@ -34,8 +34,8 @@ pub record Running : Type 0 where
 abbrev pub passing : System → KnownNet → Passing
 passing system pass = record { system = system; pass = pass }
 
--- a new system of this configuration, with the passes of both networks and the ends of all ports; each sampling port has as
--- many readers as this says
+-- a new system of this configuration, with the passes of both networks and the ends of all ports; each sampling port
+-- has as many readers as this says
 pub record IsNewSystem (readers : Port → ℕ) (config : Configuration) (new : Running) : Type 0 where
   pub of_config : new.system.config ≡ config
   pub passes : Passes

@@ -1,5 +1,5 @@
-//! What crosses threads: each slot may be sent. Nothing calls this; that it is proved is its use: it refuses a field that
-//! can't be sent where the field is added.
+//! What crosses threads: each slot may be sent. Nothing calls this; its proof is its use: a field that can't be sent is
+//! refused as it is added.
 use crate::pass_slot::PassSlot;
 use crate::system_slot::SystemSlot;
 

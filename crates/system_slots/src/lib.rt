@@ -1,10 +1,10 @@
-//! What a program in C has of an end system of two threads that keeps no frame: a slot for the system, and one for the pass
-//! of each network, which the thread of that network has. Readers and takers stand in the slots of `receiver_slots`. Both
-//! passes share the system by counted references: a pass touches no other slot, and outlives the closing of the system's; the
-//! memory goes back with the last of the three. Each call answers one of the [`codes`], and tells what else there is to tell
-//! by numbers, in a reply. Of the calls only the two openings take memory, and none waits: where the other network's thread
-//! has a frame's link just then, [`PassSlot::receive`] answers [`BUSY`](codes::BUSY), and nothing has happened. `receiver_c`
-//! exports them.
+//! What a program in C has of an end system of two threads that keeps no frame: a slot for the system, and one for the
+//! pass of each network, which the thread of that network has. Readers and takers are in the slots of `receiver_slots`.
+//! Both passes share the system by counted references: a pass touches no other slot, and outlives the closing of the
+//! system's; the memory goes back with the last of the three. Each call answers one of the [`codes`], and gives its
+//! results by numbers, in a reply. Of the calls only the two openings take memory, and none waits: while the other
+//! network's thread has a frame's link, [`PassSlot::receive`] answers [`BUSY`](codes::BUSY), and nothing has happened;
+//! `receiver_c` exports them.
 //!
 //! ```text
 //! let mut system = SystemSlot::empty();

@@ -1,4 +1,4 @@
-//! A place for a network's pass.
+//! A slot for a network's pass.
 ghost use Rattle.std.specs.Prelude.{◌≡◌, ◌<◌, ◌↔◌, ◌⊎◌, is_none, None, Some};
 ghost use Rattle.receiver_slots.specs.Codes.{busy, done, not_open};
 ghost use Rattle.system_slots.specs.Passing.{ComesToLink, CountsFiltered, CountsFrames, Passing as Seen, Receives, count_code, filtered_code};
@@ -44,9 +44,9 @@ impl PassSlot {
         self.passing = Some(passing);
     }
 
-    /// Takes the octets of a frame that came on the pass's network at `now` microseconds, and tells what became of it. BUSY if
-    /// the other network's thread has the frame's link just then: nothing has happened, and the program gives the same frame
-    /// again.
+    /// Takes the octets of a frame that came on the pass's network at `now` microseconds, and tells its verdict. BUSY
+    /// while the other network's thread has the frame's link: nothing has happened, and the program gives the same
+    /// frame again.
     pub fn receive(&mut self, now: u64, frame: &[u8], reply: &mut FrameReply) -> u32
         ensures open { (result ≡ not_open) ↔ (self.old ≡ None) }
         ensures received { result ≡ done → Receives self.old self.new now frame.now reply.new }
@@ -66,8 +66,8 @@ impl PassSlot {
         }
     }
 
-    /// Tells how many frames of the link at this place came on the pass's network with a verdict of this kind, 1 to 13. A count
-    /// stops at the greatest number of 64 bits.
+    /// Tells the number of frames of the link at this place on the pass's network with a verdict of this kind, 1 to 13.
+    /// It saturates at 2^64 - 1.
     pub fn count(&self, link: usize, kind: u32, count: &mut u64) -> u32
         ensures code { result ≡ count_code self.now link kind }
         ensures counted { result ≡ done → CountsFrames self.now link kind count.new }
@@ -86,8 +86,7 @@ impl PassSlot {
         DONE
     }
 
-    /// Tells how many frames were filtered on the pass's network for this cause, 1 to 5. A count stops at the greatest number of
-    /// 64 bits.
+    /// Tells the number of frames filtered on the pass's network for this cause, 1 to 5. It saturates at 2^64 - 1.
     pub fn filtered(&self, cause: u32, count: &mut u64) -> u32
         ensures code { result ≡ filtered_code self.now cause }
         ensures counted { result ≡ done → CountsFiltered self.now cause count.new }

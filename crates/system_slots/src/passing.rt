@@ -1,4 +1,4 @@
-//! A network's pass, with the system that it is of.
+//! A network's pass, with its system.
 ghost use Rattle.std.specs.Prelude.{◌≡◌, IfNone, IfSome, Some};
 ghost use Rattle.es_base.specs.Config.{link_of};
 ghost use Rattle.receiver_slots.specs.Replies.{or_0};
@@ -11,7 +11,7 @@ use std::alloc::Global;
 use std::marker::Model;
 use std::sync::Arc;
 
-/// It has a reference of its own to the system, which is counted.
+/// A pass with a counted reference of its own to the system.
 #[derive(Drop)]
 pub(crate) struct Passing {
     pub(crate) system: Arc<LiveSystem, Global>,
@@ -40,7 +40,7 @@ fn place_of(config: &Config, vl: LinkNo) -> usize
     }
 }
 
-/// What a receiver for one task would reply: the same, with the place of the link.
+/// The reply of a receiver for one task: the same, with the place of the link.
 fn with_place(config: &Config, reply: Reply) -> receiver::Reply
     ensures { result ≡ with_place config.now reply }
 {
@@ -56,8 +56,8 @@ fn with_place(config: &Config, reply: Reply) -> receiver::Reply
 }
 
 impl Passing {
-    /// Takes the octets of a frame at `now` microseconds, and tells what became of it. None if the other network's thread has
-    /// its link just then.
+    /// Takes the octets of a frame at `now` microseconds, and tells its verdict. None while the other network's thread
+    /// has its link.
     pub fn try_receive(&mut self, now: u64, frame: &[u8]) -> Option<FrameReply>
         ensures some { IfSome result (ReceivesBy self.old self.new now frame.now) }
         ensures none { IfNone result ((self.new ≡ self.old) × ComesToLink (Some self.old) frame.now) }

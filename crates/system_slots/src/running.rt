@@ -55,7 +55,7 @@ impl Running {
         })
     }
 
-    /// Moves out the pass of this network: once.
+    /// Moves out the pass of this network, once.
     pub fn take_pass(&mut self, net: Net) -> Option<Passing>
         ensures pass { result ≡ pass_left net self.old }
         ensures left { self.new ≡ without_pass net self.old }

@@ -1,4 +1,4 @@
-//! A place for a system.
+//! A slot for a system.
 ghost use Rattle.std.specs.Prelude.{◌≡◌, ◌≢◌, ◌<◌, ◌≤◌, ◌↔◌, ◌⊎◌, IsSome, None, Some, false};
 ghost use Rattle.mailbox_port.specs.Port.{is_reader_count};
 ghost use Rattle.mailbox_reader.specs.Reads.{PortReader};
@@ -25,7 +25,8 @@ use receiver_slots::{
 use std::alloc::Global;
 use std::marker::Model;
 
-/// The system of a configuration, with the passes of the networks and the ends of its ports that are left to hand out, or none.
+/// The system of a configuration, if any, with the passes of the networks and the ends of its ports that are left to
+/// hand out.
 #[derive(Drop)]
 pub struct SystemSlot {
     running: Option<Running>,
@@ -47,8 +48,9 @@ impl SystemSlot {
         SystemSlot { running: None }
     }
 
-    /// Opens the system of the configuration in these octets, a TOML document. Each sampling port has so many readers, 1 to 8,
-    /// else OUT_OF_RANGE. All memory is taken here. FAULTY, and its first fault with its key, link and port, if it has one.
+    /// Opens the system of the configuration in these octets, a TOML document. Each sampling port has `readers`
+    /// readers, 1 to 8, else OUT_OF_RANGE. All memory is taken here. FAULTY, and its first fault with its key, link and
+    /// port, if it has one.
     pub fn open_text(
         &mut self,
         alloc: Global,
@@ -74,9 +76,10 @@ impl SystemSlot {
         }
     }
 
-    /// Opens the system of the configuration of a table: the constant field, the links, and their ports one after another. Each
-    /// sampling port has as many readers as its row says, 1 to 8, or `readers` where it says 0; another number is OUT_OF_RANGE.
-    /// All memory is taken here. FAULTY, and the fault of [`open_text`](SystemSlot::open_text) of a text that says the same, but for its line.
+    /// Opens the system of the configuration of a table: the constant field, the links, and their ports one after
+    /// another. Each sampling port has as many readers as its row says, 1 to 8, or `readers` for 0; another number is
+    /// OUT_OF_RANGE. All memory is taken here. FAULTY, and the fault of [`open_text`](SystemSlot::open_text) of a text
+    /// that says the same, but for its line.
     pub fn open_table(
         &mut self,
         alloc: Global,
@@ -172,8 +175,8 @@ impl SystemSlot {
         DONE
     }
 
-    /// Hands the end of the queue of the queuing port with this name to a slot that has none: once. NONE_LEFT if the port
-    /// samples, or the end was handed out.
+    /// Hands the end of the queue of the queuing port with this name to a slot that has none: once. NONE_LEFT if the
+    /// port samples, or the end was handed out.
     pub fn hand_taker(&mut self, to: &mut TakerSlot, name: &[u8]) -> u32
         ensures code { result ≡ hand_taker_code self.old to.old name.now }
         ensures handed { result ≡ done → (taker : Known) × (to.new ≡ Some taker) × HandsOut HandsTaker name.now self.old self.new (Some taker) }
@@ -195,7 +198,7 @@ impl SystemSlot {
         DONE
     }
 
-    /// Tells how many links the configuration has.
+    /// Tells the number of links of the configuration.
     pub fn links(&self, links: &mut usize) -> u32
         ensures code { result ≡ links_code self.now }
         ensures told { result ≡ done → CountsLinks self.now links.new }
@@ -208,7 +211,7 @@ impl SystemSlot {
         DONE
     }
 
-    /// Tells the settings of the link at this place of the configuration, and how many ports it has.
+    /// Tells the settings of the link at this place of the configuration, and its number of ports.
     pub fn link(&self, link: usize, reply: &mut LinkReply) -> u32
         ensures code { result ≡ link_code self.now link }
         ensures told { result ≡ done → TellsLink self.now link reply.new }
@@ -220,8 +223,8 @@ impl SystemSlot {
         tell_link(running.system.config(), link, reply)
     }
 
-    /// Tells the settings of a port, by the places of its link and of the port in it, and its name, which stands at the
-    /// beginning of `name`.
+    /// Tells the settings of a port, by the places of its link and of the port in it, and its name, at the beginning of
+    /// `name`.
     pub fn port(&self, link: usize, port: usize, reply: &mut PortReply, name: &mut [u8; 16]) -> u32
         ensures code { result ≡ port_code self.now link port }
         ensures told { result ≡ done → TellsPort self.now link port reply.new name.old name.new }

@@ -1,5 +1,5 @@
-//! Three systems are given the same frames: one keeps its histories, one keeps no frame, and one keeps none and takes them
-//! in bursts.
+//! Three systems are given the same frames: one keeps its histories, one keeps no frame, and one keeps none and takes
+//! them in bursts.
 use crate::made::{Burst, LINKS, Source};
 use crate::{kept, live};
 use end_system::{NoGate, PassCounts as KeptCounts, Reply};
@@ -16,10 +16,10 @@ use test_inputs::SECOND_LINK;
 use test_inputs_live::Live;
 use test_inputs_systems::{BUILT_IN, Running, config_of};
 
-/// How many bursts a schedule has.
+/// Number of bursts of a schedule.
 const BURSTS: u64 = 40;
 
-/// What stands in replies before a burst, and is never replied to a frame of it.
+/// Reply of an entry before a burst, which no frame of it gets.
 const NOTHING: Reply = Reply::Filtered(TooLong);
 
 /// The ends of one system's ports.
@@ -167,7 +167,7 @@ fn check_taken(rt: &impl Abort, live: &mut RingTaker, wanted: Option<&Message>) 
     }
 }
 
-/// All three ends take the same next message, if there is one.
+/// All three ends take the same next message, if any.
 fn check_next(
     rt: &(impl Abort + Wait),
     kept: &mut Taker,

@@ -1,4 +1,5 @@
-//! Frames by chance, which are the same for the same seed: in bursts of one network, now and then many in a row of one link.
+//! Frames by chance, which are the same for the same seed: in bursts of one network, now and then many in a row of one
+//! link.
 use es_base::Net;
 use std::alloc::Global;
 use test_inputs::fragments::{PacketName, padding_after};
@@ -9,10 +10,10 @@ use test_inputs_systems::smallest_for;
 /// The numbers of the links that are configured.
 pub(crate) const LINKS: [u16; 2] = [17, 18];
 
-/// Where a message's first octet stands in a frame.
+/// Offset of a message's first octet in a frame.
 const FIRST_OCTET: usize = 42;
 
-/// How many frames a burst has at most.
+/// Most frames of a burst.
 const MOST: usize = 48;
 
 /// Frames that a network brings at once, each with its time in microseconds.
@@ -27,7 +28,7 @@ pub(crate) struct Burst {
 pub(crate) struct Source {
     state: u64,
     time: u64,
-    /// How many frames were made, up to 255, and then from 0 again.
+    /// Number of frames made, up to 255, and then from 0 again.
     made: u8,
     /// The last sequence number of each link on each network.
     numbers: [u8; 4],
@@ -95,8 +96,8 @@ impl Source {
         Some((self.time, octets))
     }
 
-    /// The next burst: 1 to 48 frames of one network, one in three of another link than the one before, or, one in eight
-    /// bursts, all of one link. Link 40,000 isn't configured. None if memory runs out.
+    /// The next burst: 1 to 48 frames of one network, one in three of another link than the one before, or, one in
+    /// eight bursts, all of one link. Link 40,000 isn't configured. None if memory runs out.
     pub(crate) fn burst(&mut self, alloc: Global) -> Option<Burst> {
         let net = if self.draw(2) == 0 { Net::A } else { Net::B };
         let stays = self.draw(8) == 0;

@@ -22,7 +22,7 @@ fn check_change(rt: &impl Abort, alloc: Global, old: &str, new: &str, fault: Opt
     check_fault(rt, alloc, document.as_str(), fault);
 }
 
-/// A text of the built-in configuration, what stands in its place, and the fault of that document.
+/// A text of the built-in configuration, its replacement, and the fault of that document.
 pub(crate) type Refused = (&'static str, &'static str, ConfigFault);
 
 /// Each change has its fault.
@@ -32,7 +32,7 @@ pub(crate) fn check_refused(rt: &impl Abort, alloc: Global, rows: &[Refused]) {
     }
 }
 
-/// A text of the built-in configuration, and what stands in its place.
+/// A text of the built-in configuration, and its replacement.
 pub(crate) type Taken = (&'static str, &'static str);
 
 /// Each change is taken.

@@ -31,7 +31,7 @@ fn a_name_is_tested_before_the_address_and_udp_port(rt: HostRuntime) {
     check_fault(&rt, alloc, both.as_str(), Some(DoubleName));
 }
 
-/// A text of the second link, what stands in its place, and the fault of the document if it has one.
+/// A text of the second link, its replacement, and the fault of the document if it has one.
 type Change = (&'static str, &'static str, Option<ConfigFault>);
 
 fn changes_of_the_second_link() -> [Change; 5] {
@@ -66,7 +66,7 @@ fn a_repeated_link_number_is_tested_before_the_other_keys(rt: HostRuntime) {
     check_fault(&rt, rt.alloc(), document.as_str(), Some(DoubleLink));
 }
 
-/// A text of the second link, what stands in its place, and the link and the port at which the fault stands.
+/// A text of the second link, its replacement, and the fault's link and port.
 type Placed = (&'static str, &'static str, Option<usize>, Option<usize>);
 
 /// The first port of link 18 has a name of link 17; the link has its number; and there is no fault.

@@ -195,7 +195,7 @@ const SAMPLED: usize = 10;
 
 const QUEUED: usize = 11;
 
-/// How many frames of link 17 had a verdict of this kind, on both networks.
+/// Number of frames of link 17 that had a verdict of this kind, on both networks.
 fn count(settled: &Settled, kind: usize) -> u64
     requires { IsKind verdict_kinds kind }
 {

@@ -19,13 +19,13 @@ const EPOCH: usize = 30;
 #[derive(Drop)]
 pub(crate) struct Ended {
     pub pass: NetPass,
-    /// How many frames came to a link.
+    /// Number of frames that came to a link.
     pub taken: u64,
     /// The epochs that were taken out, in order.
     pub epochs: Vec<Epoch>,
 }
 
-/// How many frames came to a link, with this one.
+/// Number of frames that came to a link, with this one.
 fn count_taken(taken: u64, reply: Reply) -> u64 {
     match reply {
         Reply::Link {

@@ -44,7 +44,7 @@ fn read_newest(reader: &mut Reader<READERS>, out: &mut [u8; 1471]) -> Option<See
     }
 }
 
-/// A partition that looks at the newest message where it stands, without a copy.
+/// A partition that looks at the newest message in place, without a copy.
 fn hold_newest(reader: Reader<READERS>) -> (Reader<READERS>, Option<Seen>) {
     match reader.hold(MOST_TRIES) {
         Ok(mut held) => {
@@ -94,7 +94,7 @@ pub(crate) fn run_holder(mut reader: Reader<READERS>, ended: &AtomicBool) -> Opt
     seen
 }
 
-/// Takes all messages of a queue, each once and in order. Returns how many there were.
+/// Takes all messages of a queue, each once and in order. Returns their number.
 pub(crate) fn run_taker<R: Wait>(rt: &R, mut taker: Taker, ended: &AtomicBool) -> u64 {
     let mut count = 0u64;
     for _ in 0..u64::MAX {

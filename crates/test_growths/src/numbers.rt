@@ -10,7 +10,7 @@ use std::alloc::Global;
 use std::process::Abort;
 use vl_config::Config;
 
-/// How many links there are: as many as there may be.
+/// Number of links: as many as there may be.
 const LINKS: u16 = 64;
 
 /// The number of the link at this place. No two links share an upper or a lower octet, and 0 and 65535 are among the

@@ -11,11 +11,11 @@ use test_inputs::fragments::padding_after;
 use test_inputs::rows::FOR_NAV;
 use test_inputs::{ETHERNET, frame_of};
 
-/// How many datagrams there are: as many as may stand.
+/// Number of datagrams: as many as may stand.
 pub(crate) const DATAGRAMS: usize = 4;
 
-/// The header checksum of a packet from 10.1.1.1 to 224.224.0.17 if its total length, identification and fragment offset
-/// were 0. Less by each of them.
+/// The header checksum of a packet from 10.1.1.1 to 224.224.0.17 if its total length, identification and fragment
+/// offset were 0. Less by each of them.
 const CHECKSUM: u16 = 0xcdfa;
 
 /// The bit that says that more fragments follow, above the thirteen bits of the offset.

@@ -20,7 +20,8 @@ const UNTOUCHED: FaultReply = FaultReply {
 /// The number of a link that isn't, in the place of the second one's.
 const NO_LINK: &str = "vl = 65536";
 
-/// The reply for it: a value out of its range, that of `vl` in the second link, after the 18 lines of the first and a heading.
+/// The reply for it: a value out of its range, that of `vl` in the second link, after the 18 lines of the first and a
+/// heading.
 const OUT_OF_RANGE: FaultReply = FaultReply {
     fault: 4,
     key: 3,
@@ -37,7 +38,7 @@ fn open(alloc: Global, slot: &mut ReceiverSlot, text: &str) -> (u32, FaultReply)
     (code, fault)
 }
 
-/// How many links the receiver in the slot has. None if nothing is open in it.
+/// Number of links of the receiver in the slot. None if nothing is open in it.
 fn links_in(rt: &impl Abort, slot: &ReceiverSlot) -> Option<usize> {
     let mut links = 77;
     let code = slot.links(&mut links);

@@ -1,6 +1,7 @@
-//! Two threads, of which one runs out of memory: the other gives no further frame. Before they begin a growth of a known
-//! size is asked for, as in `without`: whoever refuses growths refuses the first that comes after it in another thread, and
-//! counts those that follow. `MOST` lies between those of the frames that are under way then, and those of all frames.
+//! Two threads, of which one runs out of memory: the other gives no further frame. Before they begin a growth of a
+//! known size is asked for, as in `without`: whoever refuses growths refuses the first that comes after it in another
+//! thread, and counts those that follow. `MOST` lies between those of the frames that are under way then, and those of
+//! all frames.
 use crate::refusal::{OWN, tell};
 use crate::without::mark;
 use std::alloc::Global;
@@ -12,10 +13,10 @@ use test_inputs_systems::{BUILT_IN, config_of};
 use thread_player::play_threads;
 use trace_player::{Device, PlayFault};
 
-/// How many growths may follow the one that is refused.
+/// Number of growths that may follow the one that is refused.
 const MOST: usize = 25_000;
 
-/// How many frames the other network has. Each asks for a growth at least, for its octets in its link's history.
+/// Number of frames of the other network. Each asks for a growth at least, for its octets in its link's history.
 const FRAMES: usize = 50_000;
 
 /// The beginning of a frame of the second link.

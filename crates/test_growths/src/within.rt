@@ -13,7 +13,7 @@ use test_inputs::fragments::PacketName::{First, LastTo8199};
 use test_inputs::fragments::{PacketName, padding_after};
 use test_inputs::{CONSTANT, ETHERNET, LINK, frame_of};
 
-/// How many octets may be asked for.
+/// Number of octets that may be asked for.
 const MOST: usize = 2_000;
 
 /// A link in which a datagram waits of which only this piece came.

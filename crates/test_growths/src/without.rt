@@ -25,7 +25,7 @@ use test_inputs::CONSTANT;
 use test_inputs_live::Live;
 use test_inputs_systems::Running;
 
-/// How many octets the growth has that others follow which are refused.
+/// Number of octets of the growth that refused ones follow.
 const MARK: usize = 1_000_003;
 
 /// From here on each growth is refused.

@@ -3,9 +3,9 @@
 use crate::frames::{IP, frame_of};
 use std::alloc::Global;
 
-/// How many links there are.
+/// Number of links.
 pub const GREATEST_LINKS: u16 = 64;
-/// How many ports the last link has. The others have none.
+/// Number of ports of the last link. The others have none.
 pub const GREATEST_PORTS: u16 = 32;
 
 /// The number of the link at this place: 0, 256, 512 and so on, and 65535 of the last.

@@ -1,5 +1,5 @@
-//! What the tests of the end system are given: configurations of many links, frames of each link, and a system with both
-//! of its passes. There are no tests here.
+//! What the tests of the end system are given: configurations of many links, frames of each link, and a system with
+//! both of its passes. There are no tests here.
 #![tactic(auto)]
 
 mod configurations;

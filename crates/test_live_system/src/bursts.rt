@@ -10,10 +10,10 @@ use std::sync::Wait;
 use test_inputs::rows::POS;
 use test_inputs::smallest;
 
-/// What stands in replies before a burst, and is replied to no frame of these tests.
+/// Reply of an entry before a burst, which no frame of these tests gets.
 pub(crate) const NOTHING: Reply = Reply::Filtered(TooLong);
 
-/// How many frames a burst has.
+/// Number of frames of a burst.
 const MANY: u8 = 80;
 
 /// Frames as they are lent.

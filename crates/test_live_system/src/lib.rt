@@ -1,5 +1,5 @@
-//! The end system that keeps no frame: worked frames with each reply, one by one and in bursts, the counts of both passes,
-//! and two threads that end as one does.
+//! The end system that keeps no frame: worked frames with each reply, one by one and in bursts, the counts of both
+//! passes, and two threads that end as one does.
 #![tactic(auto)]
 
 #[cfg(test)]

@@ -15,8 +15,8 @@ use std::thread;
 use std::thread::{Threads, join};
 use test_inputs::smallest;
 
-/// How many frames each network gives. So few that no sequence number is ahead of a later one, however far one thread is
-/// before the other: then the first copy of each is forwarded.
+/// Number of frames that each network gives. So few that no sequence number is ahead of a later one, however far one
+/// thread is before the other: then the first copy of each is forwarded.
 const MANY: u8 = 100;
 
 /// The place of the event of a frame that came to link 17.
@@ -77,7 +77,8 @@ fn give_one<R: Wait>(
     }
 }
 
-/// Gives the smallest frames with the sequence numbers from 1 on, one each 10 microseconds, one by one. Returns their places.
+/// Gives the smallest frames with the sequence numbers from 1 on, one each 10 microseconds, one by one. Returns their
+/// places.
 fn give_each<R: Abort + Wait>(
     rt: &R,
     alloc: Global,

@@ -61,7 +61,7 @@ impl Book {
         Ok(())
     }
 
-    /// Takes all written pages out. Returns how many lines they have.
+    /// Takes all written pages out. Returns their number of lines.
     pub fn take_out(&mut self) -> usize
         ensures lines { result ≡ length self.old.lines }
         ensures rest { self.new ≡ without_lines self.old }
@@ -110,7 +110,8 @@ pub fn write<R: Wait>(
     lock.visit(rt, pass, |book: &mut Book| book.write(by, number))
 }
 
-/// The user writes a number if nobody has the book at this moment. `None` if another user has it, and nothing is written.
+/// The user writes a number if nobody has the book at this moment. `None` if another user has it, and nothing is
+/// written.
 pub fn try_write(
     lock: &Lock<Book>,
     pass: &mut PassOf<Book>,
@@ -125,8 +126,8 @@ pub fn try_write(
     lock.try_visit(pass, |book: &mut Book| book.write(by, number))
 }
 
-/// While this user has the book, the other one tries to write a number. Returns the other one's pass, and whether it came
-/// to the book.
+/// While this user has the book, the other one tries to write a number. Returns the other one's pass, and whether it
+/// came to the book.
 pub fn try_inside<R: Wait>(
     rt: &R,
     lock: &Lock<Book>,
@@ -154,7 +155,7 @@ pub fn try_inside<R: Wait>(
     )
 }
 
-/// The user takes all written pages out, whoever wrote them. Returns how many lines they have.
+/// The user takes all written pages out, whoever wrote them. Returns their number of lines.
 pub fn take_out<R: Wait>(rt: &R, lock: &Lock<Book>, pass: &mut PassOf<Book>) -> usize
     requires { pass.old.lock ≡ lock.now }
     ensures { pass.new ≡ pass.old }

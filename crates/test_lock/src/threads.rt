@@ -10,7 +10,7 @@ use std::sync::Wait;
 use std::thread;
 use std::thread::{Threads, join};
 
-/// How many numbers each user writes.
+/// Number of numbers that each user writes.
 const MANY: u64 = 20_000;
 
 /// Writes the numbers from 0 on.
@@ -24,7 +24,7 @@ fn write_many<R: Abort + Wait>(rt: &R, lock: &Lock<Book>, mut pass: PassOf<Book>
     pass
 }
 
-/// The numbers of this user are 0, 1 and so on. Returns how many they are.
+/// The numbers of this user are 0, 1 and so on. Returns their number.
 fn count_in_order(rt: &impl Abort, lines: &[Line], user: User) -> u64 {
     let mut count = 0u64;
     for line in lines {
@@ -69,7 +69,7 @@ fn two_threads_write_into_one_book_and_no_line_is_lost(rt: HostRuntime) {
     check_writers(&rt, opened(&rt, rt.alloc()));
 }
 
-/// Takes written pages out again and again. Returns how many lines they have.
+/// Takes written pages out again and again. Returns their number of lines.
 fn take_out_many<R: Abort + Wait>(
     rt: &R,
     lock: &Lock<Book>,

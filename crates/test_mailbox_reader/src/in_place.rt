@@ -1,4 +1,4 @@
-//! A message that is read where it stands.
+//! A message that is read in place.
 use crate::port::{MAX, open, publish, seventeen};
 use mailbox_port::PortWriter;
 use mailbox_reader::Freshness::{Fresh, Stale};

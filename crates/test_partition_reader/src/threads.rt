@@ -8,7 +8,7 @@ use std::alloc::Global;
 use std::process::Abort;
 use std::thread::{Threads, join};
 
-/// How many messages are published, and how often the partition looks for one.
+/// Number of messages published, and how often the partition looks for one.
 const MANY: u64 = 1000;
 
 /// All octets of the message of this number. It comes at that many microseconds.

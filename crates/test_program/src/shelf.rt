@@ -124,7 +124,7 @@ pub(crate) struct Wanted<'a> {
     pub status: u8,
     pub output: &'a str,
     pub errors: &'a str,
-    /// How many of the files are asked for.
+    /// Number of files asked for.
     pub asked: u8,
 }
 

@@ -7,12 +7,12 @@ use std::sync::Wait;
 use std::thread;
 use std::thread::{Threads, join};
 
-/// How many messages pass in the long tests.
+/// Number of messages that pass in the long tests.
 const MANY: u64 = 100_000;
 /// How many calls of `put` or `take` a thread makes at most: each has to be done by then.
 const MOST_TURNS: u64 = 10_000_000;
 
-/// Puts messages of times 1 to `count`, each again until there is room. Returns how many were put.
+/// Puts messages of times 1 to `count`, each again until there is room. Returns the number put.
 fn put_in_order<R: Wait>(rt: &R, alloc: Global, mut putter: Putter, count: u64) -> u64 {
     let mut put = 0;
     for _ in 0..MOST_TURNS {

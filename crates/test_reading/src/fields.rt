@@ -1,4 +1,4 @@
-//! What stands in a field.
+//! The value of a field.
 use std::process::Abort;
 
 /// The field of this name has this value.

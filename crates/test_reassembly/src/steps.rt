@@ -23,7 +23,7 @@ pub(crate) enum Fate {
 }
 
 impl Fate {
-    /// The datagram, if there is one, and whether it was joined.
+    /// The datagram, if any, and whether it was joined.
     fn datagram(self) -> (&'static str, bool) {
         match self {
             Fate::Bad | Fate::Held => ("", false),

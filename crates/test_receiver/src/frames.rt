@@ -147,7 +147,7 @@ fn all_kinds() -> [VerdictKind; 13] {
     ]
 }
 
-/// How many frames of link 17 came.
+/// Number of frames of link 17 that came.
 fn count_all(rt: &impl Abort, given: &Given) -> u64 {
     let link = given.receiver.link(0).expect(rt, "a link");
     let mut all = 0u64;

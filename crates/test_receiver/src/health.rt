@@ -8,7 +8,8 @@ use std::alloc::Global;
 use std::process::Abort;
 use test_inputs::rows::{NAV, POS, SmallestRow, five_begin, in_order, packet_row, smallest_row};
 
-/// A sample comes on A, its copy on B, one with a number too far ahead on A, and the next one on B, with an earlier time.
+/// A sample comes on A, its copy on B, one with a number too far ahead on A, and the next one on B, with an earlier
+/// time.
 fn heard() -> [SmallestRow; 4] {
     [
         (A, 1000, 1, Sampled(POS, 1)),

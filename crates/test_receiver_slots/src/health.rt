@@ -32,7 +32,7 @@ fn health(slot: &ReceiverSlot, link: usize) -> (u32, HealthReply) {
     (code, reply)
 }
 
-/// How many messages wait at a port, and what is answered.
+/// Number of messages that wait at a port, and what is answered.
 fn waiting(slot: &mut ReceiverSlot, link: usize, port: usize) -> (u32, usize) {
     let mut waiting = 99;
     let code = slot.waiting(link, port, &mut waiting);

@@ -1,5 +1,5 @@
-//! The slots that programs in C have of the receiver for one task, and of the end system of two threads: each call once, and
-//! each of its answers.
+//! The slots that programs in C have of the receiver for one task, and of the end system of two threads: each call
+//! once, and each of its answers.
 #![tactic(auto)]
 
 #[cfg(test)]

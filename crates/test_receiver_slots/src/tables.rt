@@ -127,8 +127,8 @@ fn the_fault_of_a_table_is_that_of_a_text_without_a_line(rt: HostRuntime) {
     check_faults(&rt, rt.alloc());
 }
 
-/// How many readers of this port can be handed out of a receiver that is opened from these ports, with this number for those
-/// that have none of their own.
+/// How many readers of this port can be handed out of a receiver that is opened from these ports, with this number for
+/// those that have none of their own.
 fn handed(rt: &impl Abort, alloc: Global, ports: &[PortRow], readers: usize, name: &[u8]) -> usize {
     let mut slot = ReceiverSlot::empty();
     let mut fault = NO_FAULT;

@@ -20,7 +20,7 @@ fn begun() -> [Move; 2] {
     [Scans, Step(first)]
 }
 
-/// Which slot is written, and how many words stand in it; or none.
+/// The slot that is written, and its number of stored words; or none.
 fn written(core: &Core) -> Option<(u64, usize)> {
     match core.writer_phase() {
         WriterPhase::Scanning { scanned: _ } => None,
@@ -32,7 +32,7 @@ fn written(core: &Core) -> Option<(u64, usize)> {
     }
 }
 
-/// How many readers were scanned, and found with nothing announced.
+/// Number of readers scanned, and found with nothing announced.
 fn free_readers(core: &Core) -> usize {
     let (WriterPhase::Scanning { scanned } | WriterPhase::Writing { scanned, .. }) =
         core.writer_phase();

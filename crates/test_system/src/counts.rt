@@ -51,7 +51,8 @@ pub(crate) fn check_counts(
     }
 }
 
-/// Two frames of network A became samples, and their copies on B are redundant. The link's history is what it was given.
+/// Two frames of network A became samples, and their copies on B are redundant. The link's history is what it was
+/// given.
 fn check_settled(rt: &impl Abort, settled: &Settled, given: &[Given]) {
     let Settled { links, a, b } = settled;
     assert!(rt; links.len() == 1 && a.net() == A && b.net() == B);

@@ -52,7 +52,8 @@ pub(crate) fn octets_of(rt: &impl Abort, alloc: Global, row: FrameRow<'_>) -> Ve
     frame_of(alloc, &texts, sequence_number).expect(rt, "octets")
 }
 
-/// The system receives a frame of link 17, whose event has this place, with its verdict. Returns what link 17 was given.
+/// The system receives a frame of link 17, whose event has this place, with its verdict. Returns what link 17 was
+/// given.
 pub(crate) fn check_frame<G: Gate + Drop>(
     rt: &(impl Abort + Wait),
     alloc: Global,
@@ -75,7 +76,8 @@ pub(crate) fn check_frame<G: Gate + Drop>(
     }
 }
 
-/// The system receives these frames of link 17, one after another, with their verdicts. Returns what the link was given.
+/// The system receives these frames of link 17, one after another, with their verdicts. Returns what the link was
+/// given.
 pub(crate) fn check_frames<G: Gate + Drop>(
     rt: &(impl Abort + Wait),
     alloc: Global,

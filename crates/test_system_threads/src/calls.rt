@@ -24,7 +24,7 @@ pub(crate) struct Calls {
     pub calls: Vec<Call>,
     /// The epochs that it took out, in order.
     pub epochs: Vec<Epoch>,
-    /// How many of its frames were filtered.
+    /// Number of its filtered frames.
     pub filtered: u64,
 }
 

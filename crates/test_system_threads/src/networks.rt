@@ -14,7 +14,7 @@ use std::thread::{Threads, join};
 use test_inputs::smallest;
 use test_inputs_systems::{BUILT_IN, Running, config_of};
 
-/// How many frames each network gives.
+/// Number of frames that each network gives.
 const MANY: u8 = 200;
 
 /// Gives the smallest frames with the sequence numbers from 1 on, one each 10 microseconds.

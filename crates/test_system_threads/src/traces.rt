@@ -17,10 +17,10 @@ use test_inputs::rows::NAV_UDP;
 use test_inputs::{ETHERNET, IP, PAYLOAD, SECOND_LINK, frame_of};
 use test_inputs_systems::{BUILT_IN, Running, config_of, sampling_links, smallest_for};
 
-/// How many frames each network gives.
+/// Number of frames that each network gives.
 const MANY: u64 = 200;
 
-/// How many links a trace has at most.
+/// Most links of a trace.
 const MOST: usize = 8;
 
 /// What two threads are to do.

@@ -25,7 +25,7 @@ StartsWith messages first = (rest : List Message) × (messages ≡ first ++ rest
 abbrev pub EndsWith : List Message → Message → Type 0
 EndsWith messages last = (before : List Message) × (messages ≡ before ++ last ∷ [])
 
--- a buffer with room for so many octets
+-- a buffer with room for this many octets
 abbrev pub HasRoom : ℕ → Latest → Type 0
 HasRoom longest latest = length latest.octets.items ≡ longest
 

@@ -1,5 +1,5 @@
--- The line of a document at which a fault stands (own): the documents that people write have a heading for each link and
--- each port, and a line for each key.
+-- The line of a document's fault (own): the documents that people write have a heading for each link and each port, and
+-- a line for each key.
 use Rattle.std.specs.Prelude.{ℕ, ◌+◌, ◌-◌, ◌^◌, ◌==◌, Bool, true, false, ◌&&◌, not, List, length, take, drop, min, codes, Option, None, Some, if◌then◌else◌}
 use Rattle.std.specs.List.{fold, prefix_len, starts_with}
 use Rattle.std.specs.Char.{is_ascii_whitespace}
@@ -48,7 +48,7 @@ gives line key = begins line (key_name key) && begins (drop (length (key_name ke
 
 -- ---- the table
 
--- so many headings of links, or of ports of a link, stand before the keys at this place
+-- number of headings of links, or of ports of a link, before the keys at this place
 abbrev pub passed : Option ℕ → ℕ
 passed None = 0
 passed (Some place) = next place
@@ -57,7 +57,7 @@ abbrev pub list_key : Option ℕ → Key
 list_key None = keys.Link
 list_key (Some link) = keys.Port
 
--- the key at which a fault stands
+-- key of a fault
 abbrev pub key_of : ConfigFault → FaultPlace → Key
 key_of (faults.Missing key) place = key
 key_of (faults.Kind key) place = key
@@ -86,7 +86,7 @@ after_heading Not seen = seen
 abbrev pub after : Heading → Seen → Seen
 after heading seen = after_heading heading (record seen { lines = next seen.lines })
 
--- the last line stands in the table that is sought
+-- the last line is in the sought table
 abbrev pub is_there : Sought → Seen → Bool
 is_there sought seen = not seen.elsewhere && (seen.links == sought.links && seen.ports == sought.ports)
 

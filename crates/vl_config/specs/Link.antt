@@ -37,7 +37,7 @@ link_number_from links table = do
   vl ← u16_value_at keys.Vl table
   unless (list_any (has_link_number vl) links) DoubleLink vl
 
--- how many sequence numbers after another pass if the link's table doesn't say (own)
+-- default window of integrity checking, in sequence numbers (own)
 abbrev pub default_window : ℕ
 default_window = 2
 

@@ -27,7 +27,7 @@ abbrev pub place_if : Option (List ℕ) → FaultPlace
 place_if None = nowhere
 place_if (Some text) = place_of text
 
--- where the first fault of the configuration in these octets stands
+-- place of the first fault of the configuration in these octets
 -- rule: CONF-24
 abbrev pub place_in : List ℕ → FaultPlace
 place_in octets = place_if (text_of octets)

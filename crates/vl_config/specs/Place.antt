@@ -1,4 +1,4 @@
--- Where the first fault of a document stands: at which link, and at which of its ports.
+-- Place of a document's first fault: its link, and its port there.
 use Rattle.std.specs.Prelude.{ℕ, List, [], ◌∷◌, ◌++◌, length, Option, None, Some, Result, Ok, Err}
 use Rattle.toml.specs.Data.{Members}
 use Rattle.toml.specs.Parse.{parse_document}

@@ -1,4 +1,5 @@
--- A configuration from a table of numbers: the rules of a text, in their order, of numbers that stand where a text has keys.
+-- A configuration from a table of numbers: the rules of a text, in their order, of numbers that stand where a text has
+-- keys.
 use Rattle.std.specs.Prelude.{◌≡◌, ◌⊎◌, ℕ, ◌==◌, Bool, true, false, ◌&&◌, nat_lt, drop, List, [], ◌∷◌, ◌++◌, length, nat_le, take, Option, None, Some, Result, Ok, Err, if◌then◌else◌}
 use Rattle.es_base.specs.declared.port.PortKind.{PortKind}
 use Rattle.es_base.specs.declared.port.PortKind.TheVariants as kinds
@@ -165,7 +166,7 @@ abbrev pub config_with : List ℕ → Result (List Settings) TableFault → Resu
 config_with constant (Ok links) = Ok (record { constant = constant; links = links })
 config_with constant (Err fault) = Err fault
 
--- the configuration of a table, or its first fault and where it stands
+-- the configuration of a table, or its first fault with its place
 -- rule: CONF-26
 abbrev pub table_of : List ℕ → List LinkRow → List PortRow → Result Configuration TableFault
 table_of constant [] ports = Err (record { fault = Missing keys.Link; place = nowhere })

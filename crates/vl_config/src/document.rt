@@ -66,7 +66,7 @@ pub(crate) fn constant_if(value: Option<&Value>) -> Result<[u8; 4], ConfigFault>
     }
 }
 
-/// The 4 octets that this text spells: 8 hexadecimal digits of either case.
+/// The 4 octets of this text: 8 hexadecimal digits of either case.
 fn octets_from(text: &str) -> Result<[u8; 4], ConfigFault>
     ensures { result ≡ octets_from text.now }
 {

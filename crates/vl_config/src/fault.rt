@@ -1,4 +1,4 @@
-//! The keys of a document, and why a document is no configuration.
+//! Keys and faults of a document.
 ghost use Rattle.std.specs.Prelude.{◌≡◌, Some};
 ghost use Rattle.vl_config.specs.Fault.{key_name};
 ghost use Rattle.vl_config.specs.declared.fault.ConfigFault.TheVariants as faults;

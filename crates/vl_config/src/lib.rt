@@ -1,6 +1,6 @@
-//! The configuration of a receiver: a TOML document, read into settings within their limits. `read_config`
-//! returns the settings that the document says, or its first fault in the stated order, with the key that it
-//! is about. No two links have one link number, no two ports one name.
+//! The configuration of a receiver: a TOML document, read into settings within their limits. `read_config` returns the
+//! document's settings, or its first fault in the stated order, with its key. No two links have one link number, no two
+//! ports one name.
 #![tactic(auto)]
 
 mod built_in;

@@ -1,4 +1,4 @@
-//! The line of a document at which a fault stands.
+//! The line of a document's fault.
 ghost use Rattle.std.specs.Prelude.{◌≡◌, option_map};
 ghost use Rattle.std.specs.List.{fold};
 ghost use Rattle.std.specs.Str.Lines.{lines};
@@ -6,48 +6,48 @@ ghost use Rattle.vl_config.specs.Line.{after, bare, begins, gives, heading_of, i
 
 use crate::{ConfigFault, FaultPlace, Key};
 
-/// What the head of a line says.
+/// Kind of a line's heading.
 #[derive(Clone, Copy, Debug)]
 enum Heading {
     /// `[[link]]`
     Link,
     /// `[[link.port]]`
     Port,
-    /// That of another table.
+    /// Heading of another table.
     Other,
-    /// It is none.
+    /// No heading.
     Not,
 }
 
-/// The table in which a fault stands, and its key.
+/// Table of a fault, and its key.
 #[derive(Clone, Copy)]
 struct Sought {
-    /// How many headings of links stand before its keys.
+    /// Number of headings of links before its keys.
     links: u64,
-    /// How many headings of ports of that link.
+    /// Number of headings of ports of that link before its keys.
     ports: u64,
     key: Key,
 }
 
-/// What was seen of a document, line by line.
+/// State of the search, line by line.
 #[derive(Clone, Copy)]
 struct Seen {
-    /// How many lines.
+    /// Number of lines.
     lines: u64,
-    /// How many headings of links.
+    /// Number of headings of links.
     links: u64,
-    /// How many headings of ports of the last of these links.
+    /// Number of headings of ports of the last of these links.
     ports: u64,
     /// Whether the last heading is that of another table.
     elsewhere: bool,
-    /// The line of the key that is sought, or of the heading of its table; 0 if there was none.
+    /// The line of the sought key, or of the heading of its table; 0 if there was none.
     found: u64,
-    /// Whether it is the key's.
+    /// Whether that line is the key's.
     is_key: bool,
 }
 
-/// The line at which this fault stands, from 1: that of the key, or of the heading of its table; 0 if none is found. A
-/// search by lines, which knows the headings `[[link]]` and `[[link.port]]` alone.
+/// Line of this fault, from 1: that of the key, or of the heading of its table; 0 if none is found. A search by lines,
+/// which knows the headings `[[link]]` and `[[link.port]]` alone.
 pub(crate) fn line_in(text: &str, fault: ConfigFault, place: FaultPlace) -> u64
     ensures { result ≡ line_in text.now fault place }
 {
@@ -90,14 +90,14 @@ fn step_octet(line: u64, octet: u8) -> u64
     }
 }
 
-/// One more. A count stops at the greatest number of 64 bits.
+/// The next count. It saturates at 2^64 - 1.
 fn next(count: u64) -> u64
     ensures { result ≡ next count }
 {
     count.saturating_add(1)
 }
 
-/// How many headings stand before the keys of the table at this place, if there is one.
+/// Number of headings before the keys of the table at this place, if any.
 fn passed(place: Option<usize>) -> u64
     ensures { result ≡ passed place }
 {
@@ -117,7 +117,7 @@ fn sought_by(fault: ConfigFault, place: FaultPlace) -> Sought
     }
 }
 
-/// The key at which a fault stands: of what is given twice, that which is; of what is too many, that of the list.
+/// Key of a fault: for a value given twice, the value's; for too many entries, the list's.
 fn key_of(fault: ConfigFault, place: FaultPlace) -> Key
     ensures { result ≡ key_of fault place }
 {
@@ -134,7 +134,7 @@ fn key_of(fault: ConfigFault, place: FaultPlace) -> Key
     }
 }
 
-/// Before the first line. What stands at no link is in the document's own table, which begins at line 1.
+/// The state before the first line. Keys outside of links are in the document's own table, which begins at line 1.
 fn start(sought: Sought) -> Seen
     ensures { result ≡ start sought }
 {
@@ -148,7 +148,7 @@ fn start(sought: Sought) -> Seen
     }
 }
 
-/// After one more line.
+/// The state after one more line.
 fn step(sought: Sought, seen: Seen, line: &str) -> Seen
     ensures { result ≡ step sought seen line.now }
 {
@@ -161,7 +161,7 @@ fn step(sought: Sought, seen: Seen, line: &str) -> Seen
     }
 }
 
-/// What the line says of the table that is sought, in which it stands.
+/// The state after a line of the sought table.
 fn noted(sought: Sought, seen: Seen, heading: Heading, line: &str) -> Seen
     ensures { result ≡ noted sought seen heading line.now }
 {

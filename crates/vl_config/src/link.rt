@@ -20,7 +20,7 @@ use es_base::{
 use std::alloc::Global;
 use toml::Table;
 
-/// How many sequence numbers after another pass if the link's table doesn't say (own).
+/// Default window of integrity checking, in sequence numbers (own).
 const DEFAULT_WINDOW: u64 = 2;
 
 /// The link of this table. `links` are the links of the document that were read before it, `names` the names of
@@ -51,7 +51,7 @@ pub(crate) fn link_from(
     .unwrap())
 }
 
-/// What a link's table says before its ports, and the tables of these.
+/// Head of a link's table, the part before its ports, and the tables of these.
 #[derive(Drop)]
 pub(crate) struct Head<'a> {
     pub(crate) vl: LinkNo,
@@ -62,7 +62,7 @@ pub(crate) struct Head<'a> {
     pub(crate) tables: Vec<&'a Table>,
 }
 
-/// What this table says before its ports. `links` are the links of the document that were read before it.
+/// The head of this table, the part before its ports. `links` are the links of the document that were read before it.
 pub(crate) fn head_from<'a>(
     alloc: Global,
     table: &'a Table,

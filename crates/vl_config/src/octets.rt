@@ -9,7 +9,7 @@ use crate::{Config, ConfigFault, FaultPlace, place_of_fault, read_config};
 use es_base::Memory;
 use std::alloc::{AllocError, Global};
 
-/// The text that these octets are, if they are one, as UTF-8.
+/// The text of these octets, if they are UTF-8.
 pub fn text_of(octets: &[u8]) -> Option<&str>
     ensures { option_map (λ text. text.now) result ≡ text_of octets.now }
 {
@@ -19,8 +19,8 @@ pub fn text_of(octets: &[u8]) -> Option<&str>
     }
 }
 
-/// Reads a configuration from the octets of a TOML document, as [`read_config`] does. Octets that are no text have the fault
-/// Text.
+/// Reads a configuration from the octets of a TOML document, as [`read_config`] does. Octets that are no text have the
+/// fault Text.
 pub fn read_octets(alloc: Global, octets: &[u8]) -> Result<Config, ConfigFault>
     ensures { GivesOrMemory (λ config. config) result (config_of octets.now) }
 {
@@ -30,7 +30,7 @@ pub fn read_octets(alloc: Global, octets: &[u8]) -> Result<Config, ConfigFault>
     }
 }
 
-/// Where the fault stands that [`read_octets`] returns of these octets. It reads them again.
+/// Place of the fault that [`read_octets`] returns of these octets. It reads them again.
 pub fn place_in_octets(alloc: Global, octets: &[u8]) -> Result<FaultPlace, Memory>
     ensures { IfOk result (λ place. place ≡ place_in octets.now) }
 {
@@ -40,9 +40,10 @@ pub fn place_in_octets(alloc: Global, octets: &[u8]) -> Result<FaultPlace, Memor
     }
 }
 
-/// The line, from 1, at which this fault stands that [`read_octets`] returned of these octets, at this place; 0 if none is
-/// found. What is no TOML document has its fault where `toml` refuses it, or at the first octet that is no UTF-8. Any other
-/// fault is at its key, or else at the heading of its table; headings are known as `[[link]]` and `[[link.port]]` alone.
+/// Line, from 1, of this fault that [`read_octets`] returned of these octets, at this place; 0 if none is found. Octets
+/// that are no TOML document have their fault where `toml` refuses them, or at the first octet that is no UTF-8. Any
+/// other fault is at its key, or else at the heading of its table; headings are known as `[[link]]` and `[[link.port]]`
+/// alone.
 pub fn line_in_octets(
     alloc: Global,
     octets: &[u8],

@@ -1,4 +1,4 @@
-//! Where the first fault of a document stands.
+//! Place of a document's first fault.
 ghost use Rattle.std.specs.Prelude.{◌≡◌, ◌≤◌, ◌++◌, List, [], map, length, IfOk};
 ghost use Rattle.std.specs.List.{IsDistinct};
 ghost use Rattle.toml.specs.View.{table_view};
@@ -18,8 +18,7 @@ use es_base::{LinkSettings, Links, Memory, PortSettings};
 use std::alloc::{AllocError, Global};
 use toml::Table;
 
-/// The link at which a fault stands, and the port of it, by their places in the document, from 0. None: it is about
-/// no link, or about no port.
+/// Link and port of a fault, by their places in the document, from 0. None: it is about no link, or about no port.
 #[derive(Clone, Copy, Debug, Drop, PartialEq, Eq)]
 pub struct FaultPlace {
     pub link: Option<usize>,
@@ -32,7 +31,7 @@ pub(crate) const NOWHERE: FaultPlace = FaultPlace {
     port: None,
 };
 
-/// Where the fault stands that [`read_config`](crate::read_config) returns of this text. It reads the text again.
+/// Place of the fault that [`read_config`](crate::read_config) returns of this text. It reads the text again.
 #[tactic(auto, unfolding(crate::specs::Place::place_of), using(crate::proofs::Links::none_distinct))]
 pub fn place_of_fault(alloc: Global, text: &str) -> Result<FaultPlace, Memory>
     ensures { IfOk result (λ place. place ≡ place_of text.now) }
@@ -84,7 +83,8 @@ fn link_place(
 }
 
 /// The place of the first port with a fault at the link of this table. None if the fault is about none of them. The
-/// names of the earlier links are collected anew, since those that were kept up to the fault may have some of this link.
+/// names of the earlier links are collected anew, since those that were kept up to the fault may have some of this
+/// link.
 fn port_place_in(
     alloc: Global,
     table: &Table,

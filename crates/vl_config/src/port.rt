@@ -84,7 +84,7 @@ fn address_from(text: &str) -> Result<u32, ConfigFault>
     }
 }
 
-/// The longest message of a port with this service, in octets.
+/// Longest message of a port with this service, in octets.
 pub(crate) fn largest_message(service: Service) -> u64
     ensures { result ≡ largest_message service }
 {

@@ -58,7 +58,8 @@ pub struct PortRow {
     pub name_len: usize,
     /// Its name, at the beginning.
     pub name: [u8; 16],
-    /// How many readers it has if it samples, 1 to 8; 0: as many as the opening is told. The configuration doesn't have it.
+    /// How many readers it has if it samples, 1 to 8; 0: as many as the opening is told. The configuration doesn't have
+    /// it.
     pub readers: u32,
 }
 
@@ -152,8 +153,8 @@ fn port_of_row(
     Ok(PortSettings::new(name, address, udp, max, kind).unwrap())
 }
 
-/// The ports of these rows, or the first fault with the place of its port. `names` are the names of the ports of earlier
-/// links, to which those of these ports are added.
+/// The ports of these rows, or the first fault with the place of its port. `names` are the names of the ports of
+/// earlier links, to which those of these ports are added.
 fn ports_of_rows(
     alloc: Global,
     rows: &[PortRow],
@@ -191,7 +192,7 @@ pub struct TableFault {
     pub place: FaultPlace,
 }
 
-/// What a link's row says before its ports, and the rows of these.
+/// Head of a link, from its row, and the rows of its ports.
 #[derive(Drop)]
 struct RowHead<'a> {
     vl: LinkNo,
@@ -278,8 +279,9 @@ fn head_of_row<'a>(
     })
 }
 
-/// The link of this row. `links` are the links of the table that were read before it, `rest` the rows of the ports of this
-/// one and of those after it, `names` the names of the ports of earlier links, to which those of this link's are added.
+/// The link of this row. `links` are the links of the table that were read before it, `rest` the rows of the ports of
+/// this one and of those after it, `names` the names of the ports of earlier links, to which those of this link's are
+/// added.
 fn link_of_row(
     alloc: Global,
     row: &LinkRow,
@@ -373,7 +375,8 @@ fn nowhere(fault: ConfigFault) -> TableFault
 }
 
 /// The configuration of a table: the constant field, the links, and their ports one after another. The first fault is
-/// returned, in the order of [`read_config`](crate::read_config), with its place; ports that belong to no link are too many.
+/// returned, in the order of [`read_config`](crate::read_config), with its place; ports that belong to no link are too
+/// many.
 pub fn config_of_table(
     alloc: Global,
     constant: [u8; 4],

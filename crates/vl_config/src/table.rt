@@ -90,7 +90,7 @@ pub(crate) fn text_at<'a>(table: &'a Table, key: Key) -> Result<&'a str, ConfigF
     text_from(required(table, key)?, key)
 }
 
-/// The text that this value is.
+/// The text of this value.
 pub(crate) fn text_from<'a>(value: &'a Value, key: Key) -> Result<&'a str, ConfigFault>
     ensures { Gives (λ text. text.now) result (text_from key (view value.now)) }
 {
@@ -122,7 +122,7 @@ pub(crate) fn tables_from<'a>(
     at_most(tables, most)
 }
 
-/// The values of the array that this value is.
+/// The values of this array.
 fn items_from(value: &Value, key: Key) -> Result<&[Value], ConfigFault>
     ensures { Gives (λ items. items_view items.now) result (items_from key (view value.now)) }
 {

@@ -31,10 +31,10 @@ const PROFILE: Profile = Profile {
     flawed: true,
 };
 
-/// How many frames are sent between two epochs: some 50 on each link, each of which comes twice.
+/// Number of frames sent between two epochs: some 50 on each link, each of which comes twice.
 const SPAN: u64 = 800;
 
-/// How many epochs a round has.
+/// Number of epochs of a round.
 const EPOCHS: u64 = 11;
 
 /// What the partitions have.

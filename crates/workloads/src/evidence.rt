@@ -1,6 +1,6 @@
-//! Link states that are kept for evidence: one thread brings the frames of both networks, each link's epoch is taken out
-//! often, and some frames later what was delivered to each port since then is worked out. Pieces are lost, so datagrams
-//! nearly always wait when an epoch is taken out.
+//! Link states that are kept for evidence: one thread brings the frames of both networks, each link's epoch is taken
+//! out often, and some frames later what was delivered to each port since then is worked out. Pieces are lost, so
+//! datagrams nearly always wait when an epoch is taken out.
 use crate::configs::{Shape, config_of};
 use crate::digest::Digest;
 use crate::outcomes::{add_deliveries, add_epoch, add_verdict};
@@ -28,13 +28,13 @@ const PROFILE: Profile = Profile {
     flawed: true,
 };
 
-/// How many frames are sent between two epochs: some 20 on each link, each of which comes twice.
+/// Number of frames sent between two epochs: some 20 on each link, each of which comes twice.
 const SPAN: u64 = 320;
 
-/// How many frames are sent after an epoch before what was delivered is worked out.
+/// Number of frames sent after an epoch before what was delivered is worked out.
 const LATER: u64 = 80;
 
-/// How many epochs a round has.
+/// Number of epochs of a round.
 const EPOCHS: u64 = 11;
 
 /// A link, and the ends of its ports.

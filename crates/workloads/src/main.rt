@@ -40,7 +40,7 @@ use std::rt::Env;
 use std::sync::Wait;
 use std::thread::Threads;
 
-/// How many rounds a job has if none are asked for.
+/// Number of rounds of a job if none are asked for.
 const ROUNDS: u64 = 100;
 
 /// The names of all jobs.
@@ -61,7 +61,7 @@ struct Job {
     rounds: u64,
 }
 
-/// The number that a word says, if there is one.
+/// The number that a word says, if any.
 fn number_of(word: Option<String>, otherwise: u64) -> io::Result<u64> {
     let Some(word) = word else {
         return Ok(otherwise)

@@ -5,9 +5,9 @@
 //!
 //! Which copy comes first is up to the threads. So the digest has sums over both copies of each frame: over their
 //! verdicts, and over their places among all events of their link. Left out are which of both verdicts and places is
-//! which copy's, the order of the events, and the times of messages, which are those of the copy that came first. Of the
-//! histories, which repeat what was given and replied, it has the events of the first link, and what was delivered to
-//! the first queuing port of each.
+//! which copy's, the order of the events, and the times of messages, which are those of the copy that came first. Of
+//! the histories, which repeat what was given and replied, it has the events of the first link, and what was delivered
+//! to the first queuing port of each.
 ghost use Rattle.std.specs.Prelude.{◌≡◌, IfOk};
 ghost use Rattle.es_base.specs.declared.place.Net.TheVariants.{A, B};
 ghost use Rattle.end_system.specs.System.{IsPassOf};
@@ -47,7 +47,7 @@ const PROFILE: Profile = Profile {
 /// How many frames of a network come between two waits for the other network.
 const BATCH: u64 = 256;
 
-/// How many batches a round has.
+/// Number of batches of a round.
 const BATCHES: u64 = 20;
 
 /// How much later the frames of network B come, in microseconds.

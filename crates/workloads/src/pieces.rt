@@ -21,10 +21,10 @@ const SHAPE: Shape = Shape {
 /// The payload of the longest datagram.
 const LONGEST: u16 = 8192;
 
-/// How many frames are sent in a round.
+/// Number of frames sent in a round.
 const FRAMES: u64 = 40_000;
 
-/// How many frames are sent between two looks of the partitions.
+/// Number of frames sent between two looks of the partitions.
 const SPAN: u64 = 1024;
 
 /// A datagram in pieces of 8 octets: by `way` from its end, the last piece first, or each piece in its place.

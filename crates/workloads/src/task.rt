@@ -31,7 +31,7 @@ const PROFILE: Profile = Profile {
     flawed: true,
 };
 
-/// How many frames are sent in a round, with each configuration.
+/// Number of frames sent in a round, with each configuration.
 const FRAMES: u64 = 7000;
 
 /// A receiver, and the ends of its ports that partitions have.
@@ -172,7 +172,7 @@ fn add_latest(digest: &mut Digest, latest: &Latest, fresh: bool) {
     digest.add_octets(latest.octets());
 }
 
-/// A partition looks at the newest message, all of it, where it stands.
+/// A partition looks at the newest message, all of it, in place.
 fn look(receiving: &mut Receiving, at: usize, now: u64, digest: &mut Digest) {
     let Some(reader) = receiving.readers.get_mut(at) else {
         return;

@@ -1,9 +1,9 @@
 //! Two traces in memory, each played in a thread of its own. Both networks bring samples of eight links that tell no
 //! copies apart, and each has four links more of its own.
 //!
-//! Which network's frame a shared link takes first is up to the threads, and so are two fields of its line: the place of
-//! its event, and the number of its message. These go into the digest as sums over all lines of the link or of the port,
-//! so which line has which of them is left out. All else is taken in its order.
+//! Which network's frame a shared link takes first is up to the threads, and so are two fields of its line: the place
+//! of its event, and the number of its message. These go into the digest as sums over all lines of the link or of the
+//! port, so which line has which of them is left out. All else is taken in its order.
 use crate::configs::{FIRST_LINK, Shape, config_of};
 use crate::digest::{Digest, digest_of, mixed};
 use crate::profiles::{Profile, flow};
@@ -25,7 +25,7 @@ const SHAPE: Shape = Shape {
     redundancy: false,
 };
 
-/// How many links both networks share.
+/// Number of links that both networks share.
 const SHARED: usize = 8;
 
 const SAMPLES: Profile = Profile {
@@ -42,7 +42,7 @@ const MIXED: Profile = Profile {
     flawed: false,
 };
 
-/// How many frames are sent in a round: those of so many pairs of traces.
+/// Number of frames sent in a round: those of so many pairs of traces.
 const FRAMES: u64 = 4000;
 
 const PAIRS: u64 = 4;

@@ -15,7 +15,7 @@ const SHAPE: Shape = Shape {
     redundancy: true,
 };
 
-/// How many frames are sent in a round: those of so many pairs of traces of each kind.
+/// Number of frames sent in a round: those of so many pairs of traces of each kind.
 const FRAMES: u64 = 4000;
 
 const PAIRS: u64 = 3;

@@ -39,7 +39,7 @@ fn number_after(number: u8) -> u8 {
 pub(crate) struct Sent {
     pub link: usize,
     pub frame: usize,
-    /// How many frames were sent until then, counted from a number of the seed's.
+    /// Number of frames sent until then, counted from a number of the seed's.
     pub number: u64,
     /// When it was sent, in microseconds.
     pub time: u64,
@@ -120,7 +120,7 @@ impl Flow {
 pub(crate) struct Traffic {
     flows: Vec<Flow>,
     state: u64,
-    /// How many frames were sent, counted from a number of the seed's.
+    /// Number of frames sent, counted from a number of the seed's.
     sent: u64,
     /// When the latest was sent, in microseconds.
     time: u64,
@@ -158,7 +158,7 @@ impl Traffic {
         }
     }
 
-    /// How many links there are.
+    /// Number of links.
     pub(crate) fn links(&self) -> usize {
         self.flows.len()
     }
