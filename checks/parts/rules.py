@@ -21,10 +21,11 @@ STEPS = 1
 CALLS = {
     "each call that takes frames": (
         "receiver::Receiver::receive", "receiver_c::yelunnavi_receiver_receive", "live_system::LiveSystem::receive",
-        "link_receiver::LinkState::take", "end_system::EndSystem::receive", "trace_player::play", "program::run"),
+        "system_c::yelunnavi_pass_receive", "link_receiver::LinkState::take", "end_system::EndSystem::receive", "trace_player::play", "program::run"),
     "each call of a partition": (
         "mailbox_reader::MailboxReader::read", "partition_reader::PartitionReader::read", "message_ring::RingTaker::take",
         "queuing_port::Taker::take"),
+    "each call of a partition from C": ("receiver_c::yelunnavi_reader_read", "receiver_c::yelunnavi_taker_take"),
     "each call that takes a history out": ("link_receiver::LinkState::take_epoch", "end_system::EndSystem::settle"),
 }
 ENTRIES = tuple(name for names in CALLS.values() for name in names)

@@ -32,6 +32,7 @@ given_up limit groups packet now =
     else given_up_for groups (key_of packet) (found_for limit groups (key_of packet) now)
 
 -- what a count of 64 bits shows of this number: it stops at the greatest
+-- rule: COUNT-3, EMB-5
 abbrev pub shown : ℕ → ℕ
 shown n = min n (2 ^ 64 - 1)
 

@@ -18,6 +18,6 @@ summary_of (frame ∷ earlier) =
     Some (record { latest_number = frame.sequence_number; greatest_time = greatest_time (frame ∷ earlier) })
 
 -- what is kept is SkewMax, and the summary of these frames
--- rule: RM-5
+-- rule: RM-3, RM-4
 abbrev pub StandsFor : Kept → ℕ → List Forwarded → Type 0
 StandsFor kept skew_max frames = (kept.skew_max ≡ skew_max) × (kept.summary ≡ summary_of frames)

@@ -77,7 +77,7 @@ AreTries tries = (0 < tries) × (tries ≤ 8)
 
 -- all that it saw before is still seen, and the last message seen is held: it was the newest at the last of the
 -- looks, the one that held, after so many that failed. A try is two steps; `more` steps follow
--- rule: EMB-36
+-- rule: SAMP-22, EMB-36
 pub record IsHeldAfter (v w : ReaderEnd) (tries more : ℕ) : Type 0 where
   pub seen : StartsWith w.seen v.seen
   pub some : 0 < length w.seen
@@ -88,6 +88,7 @@ pub record IsHeldAfter (v w : ReaderEnd) (tries more : ℕ) : Type 0 where
   pub steps : w.steps ≡ v.steps + (1 + 2 * (1 + failed) + more)
 
 -- nothing was published at its one look
+-- rule: SAMP-22
 pub record IsNothing (v w : ReaderEnd) : Type 0 where
   pub before : v.seen ≡ []
   pub seen : w.seen ≡ []
@@ -95,7 +96,7 @@ pub record IsNothing (v w : ReaderEnd) : Type 0 where
   pub steps : w.steps ≡ v.steps + 1
 
 -- each try found a newer message; the announcement is cleared in the last step
--- rule: EMB-36
+-- rule: SAMP-22, EMB-36
 pub record IsOvertaken (v w : ReaderEnd) (tries newest : ℕ) : Type 0 where
   pub seen : StartsWith w.seen v.seen
   pub newer : length v.seen + tries ≤ length w.seen

@@ -98,7 +98,6 @@ pub record MaySend (longest : ℕ) (me : At) (slot : ℕ) : Type 0 where
   pub number : own.number ≡ length (writer_of me.0).published + 1
 
 -- it published it, and has another buffer
--- rule: CONC-16
 pub record IsSent (longest : ℕ) (before after : At) (sent : Latest) (slot : ℕ) : Type 0 where
   pub view : after.0 ≡ Writes (publishes (writer_of before.0) (message_in sent) slot)
   pub below : slot < 3
@@ -120,7 +119,6 @@ pub record MayReceive (longest : ℕ) (me : At) (slot : ℕ) (has : Option Lates
   pub room : HasRoom longest own
 
 -- it has that buffer now
--- rule: CONC-16
 pub record IsReceived (longest : ℕ) (before after : At) (slot : ℕ) (has : Option Latest) : Type 0 where
   pub all : List Message
   pub view : after.0 ≡ Reads (takes (reader_of before.0) all slot)

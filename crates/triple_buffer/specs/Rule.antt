@@ -41,7 +41,7 @@ abbrev pub place_in : ℕ → ℕ
 place_in word = word % 4
 
 -- what the writer and the reader know is true of the word and of the buffers that no end has
--- rule: CONC-15
+-- rule: CONC-15, CONC-16
 pub record Lawful (longest word : ℕ) (homes : List (maybe.Option (Option Latest))) (w : WriterView) (r : ReaderView) : Type 0 where
   pub count : length homes ≡ 3
   pub places : (place_in word < 3) × (w.slot < 3) × (r.slot < 3)
