@@ -2,20 +2,11 @@
    again. Two partitions close their ends on threads of their own, while the task that opened them closes the receiver and opens
    the next one. Each end reads or takes before it is closed. Fails with a status if a call answers something else, or if a block
    isn't given back. */
-#include "yelunnavi.h"
+#include "wanted.h"
 #include <pthread.h>
-#include <stdlib.h>
 #include <string.h>
 
 enum { TURNS = 200, READERS = 4 };
-
-static const char CONFIG[] =
-    "[[link]]\nvl = 17\nskew_max_us = 1000\nreassembly_us = 50000\n"
-    "[[link.port]]\nname = \"pos\"\nkind = \"sampling\"\naddress = \"224.224.0.17\"\nudp = 5000\nrefresh_us = 20000\n"
-    "[[link.port]]\nname = \"nav\"\nkind = \"queuing\"\naddress = \"224.224.0.17\"\nudp = 5002\nmax = 64\ndepth = 2\n";
-/* A sample of 17 octets for `pos`. */
-static const uint8_t FRAME[60] = {3, 0, 0, 0, 0, 17, 2, 0, 0, 0, 1, 32, 8, 0, 69, 0, 0, 45, 0, 1, 0, 0, 1, 17, 205, 204, 10, 1, 1, 1,
-    224, 224, 0, 17, 19, 137, 19, 136, 0, 25, 0, 0, 1, 2, 3};
 
 /* ---- the pool: a list of blocks that were given back, and where the next one begins, under one lock */
 

@@ -10,13 +10,11 @@
    reply says that there was room; what was read and taken is what was delivered; and the counts are those of the replies. Nothing is
    asked of memory after the opening, and all is given back. The exit status is 1 if anything differed. */
 #define _POSIX_C_SOURCE 200809L
-#include "yelunnavi.h"
+#include "memory.h"
 #include <inttypes.h>
 #include <pthread.h>
 #include <sched.h>
-#include <stdatomic.h>
 #include <stdio.h>
-#include <stdlib.h>
 #include <string.h>
 #include <time.h>
 
@@ -36,7 +34,6 @@ static size_t calls_len[2];
 static atomic_size_t at[2], differences;
 static atomic_bool is_over;
 static atomic_uint_fast64_t told;
-static atomic_long requests, blocks;
 static struct yelunnavi_system both;
 static struct yelunnavi_pass passes[2];
 static struct yelunnavi_reader readers[READERS];
@@ -50,25 +47,6 @@ static void differ(const char *what, uint64_t place) {
 
 static void must(bool is_so, const char *what) {
     if (!is_so) fprintf(stderr, "%s\n", what), exit(2);
-}
-
-struct rattle_tried rattle_alloc(size_t octets, size_t align) {
-    (void)align;
-    void *room = malloc(octets ? octets : 1);
-    if (room) atomic_fetch_add(&requests, 1), atomic_fetch_add(&blocks, 1);
-    return (struct rattle_tried){room != NULL, room ? room : (void *)rooms};
-}
-
-struct rattle_tried rattle_realloc(void *old, size_t kept, size_t octets, size_t align) {
-    (void)kept, (void)align;
-    void *room = realloc(old, octets ? octets : 1);
-    if (room) atomic_fetch_add(&requests, 1);
-    return (struct rattle_tried){room != NULL, room ? room : old};
-}
-
-void rattle_dealloc(void *old) {
-    atomic_fetch_sub(&blocks, 1);
-    free(old);
 }
 
 /* ---- frames */
@@ -331,7 +309,7 @@ static void play_round(void) {
     for (int r = 0; r < READERS; r++) must(yelunnavi_system_hand_reader(&both, &readers[r], (uint8_t *)"s0", 2) == YELUNNAVI_DONE, "no reader");
     must(yelunnavi_system_hand_taker(&both, &taker, (uint8_t *)"q0", 2) == YELUNNAVI_DONE, "no taker");
     atomic_store(&is_over, false), atomic_store(&told, 0);
-    long before = atomic_load(&requests);
+    unsigned long before = atomic_load(&requests);
     for (int r = 0; r <= READERS; r++) seen[r].len = 0;
     for (int r = 0; r < READERS; r++) must(!pthread_create(&partitions[r], NULL, read_all, &readers[r]), "no thread");
     must(!pthread_create(&partitions[READERS], NULL, take_all, NULL), "no thread");
@@ -346,7 +324,7 @@ static void play_round(void) {
     taken_in_all += seen[READERS].len;
     yelunnavi_taker_close(&taker), yelunnavi_system_close(&both);
     for (int net = 0; net < 2; net++) yelunnavi_pass_close(&passes[net]);
-    if (atomic_load(&blocks)) differ("memory isn't given back", (uint64_t)atomic_load(&blocks));
+    if (atomic_load(&blocks)) differ("memory isn't given back", atomic_load(&blocks));
 }
 
 int main(int argc, char **argv) {

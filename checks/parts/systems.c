@@ -2,31 +2,11 @@
    opening with its Nth request for memory refused answers NO_MEMORY, for each N, and gives everything back; passes and ends outlive
    the system, and the last of them gives its memory back. Two threads that give frames of one link at once find BUSY now and then,
    and no frame is lost or taken twice. Fails with the line of the first call that answers something else, or with a status. */
-#include "yelunnavi.h"
+#include "memory.h"
+#include "wanted.h"
 #include <pthread.h>
 #include <sched.h>
-#include <stdatomic.h>
-#include <stdio.h>
-#include <stdlib.h>
 #include <string.h>
-
-#define WANT(code, call)                                                                  \
-    do {                                                                                  \
-        uint32_t found = (call);                                                          \
-        if (found != YELUNNAVI_##code) {                                                  \
-            fprintf(stderr, "line %d: %s, and not %u\n", __LINE__, #code, (unsigned)found); \
-            exit(1);                                                                      \
-        }                                                                                 \
-    } while (0)
-#define TEXT(text) (const uint8_t *)(text), sizeof(text) - 1
-
-static const char CONFIG[] =
-    "[[link]]\nvl = 17\nskew_max_us = 1000\nreassembly_us = 50000\n"
-    "[[link.port]]\nname = \"pos\"\nkind = \"sampling\"\naddress = \"224.224.0.17\"\nudp = 5000\nrefresh_us = 20000\n"
-    "[[link.port]]\nname = \"nav\"\nkind = \"queuing\"\naddress = \"224.224.0.17\"\nudp = 5002\nmax = 64\ndepth = 2\n";
-/* A sample of 17 octets for `pos`. */
-static const uint8_t FRAME[60] = {3, 0, 0, 0, 0, 17, 2, 0, 0, 0, 1, 32, 8, 0, 69, 0, 0, 45, 0, 1, 0, 0, 1, 17, 205, 204, 10, 1, 1, 1,
-    224, 224, 0, 17, 19, 137, 19, 136, 0, 25, 0, 0, 1, 2, 3};
 
 enum { TURNS = 100000 };
 
@@ -37,29 +17,7 @@ static struct yelunnavi_reader reader;
 static struct yelunnavi_taker taker;
 static struct yelunnavi_fault fault;
 
-/* ---- memory: the request with this number is refused, and blocks that weren't given back are counted */
-
-static unsigned long requests, refused, blocks;
-
-static bool is_refused(void) { return ++requests == refused; }
-
-struct rattle_tried rattle_alloc(size_t octets, size_t align) {
-    (void)align;
-    if (is_refused()) return (struct rattle_tried){false, rooms};
-    blocks++;
-    return (struct rattle_tried){true, malloc(octets ? octets : 1)};
-}
-
-struct rattle_tried rattle_realloc(void *at, size_t kept, size_t octets, size_t align) {
-    (void)kept, (void)align;
-    if (is_refused()) return (struct rattle_tried){false, rooms};
-    return (struct rattle_tried){true, realloc(at, octets ? octets : 1)};
-}
-
-void rattle_dealloc(void *at) {
-    blocks--;
-    free(at);
-}
+/* ---- memory */
 
 static void of_memory(void) {
     uint32_t code = YELUNNAVI_NO_MEMORY;
