@@ -34,7 +34,7 @@ def contracts_text(found):
     for kind, names in CALLS.items():
         own = [f"`{name}`" for name in names if name in promised]
         shown += [f"*{kind}*"] if len(own) == len(names) else own
-    return near + (f", through {steps} more" if steps else "") + f"; promised by {', '.join(shown) or 'no call'}"
+    return near + (f", through {steps} more" if steps else "") + (f"; promised by {', '.join(shown)}" if shown else "")
 
 
 SHOWN = {"definition": definitions_text, "contract": contracts_text, "wrong body": names_of, "test": names_of}
