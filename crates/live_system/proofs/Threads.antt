@@ -2,8 +2,9 @@
 use Rattle.std.proofs.Common.{List, [], ◌∷◌, refl}
 use Rattle.es_base.specs.declared.place.Net.{Net}
 use Rattle.es_base.specs.declared.place.Net.TheVariants.{A, B}
+use Rattle.network_calls.specs.Threads.{steps_of}
 use Rattle.live_system.specs.System.{System}
-use Rattle.live_system.specs.Run.{Passes, Ran, RanAlone, Step, steps_of}
+use Rattle.live_system.specs.Run.{Passes, Ran, RanAlone, Step}
 
 pub together : (system : System) (first last : Passes) (steps : List (Net × Step)) → RanAlone system first.a (steps_of A steps) last.a → RanAlone system first.b (steps_of B steps) last.b → Ran system first steps last
 together system first last [] a b = (λ i. record { a = a i; b = b i })

@@ -26,6 +26,7 @@ use Rattle.network_calls.specs.declared.reply.Reply.TheVariants as replies
 use Rattle.network_calls.specs.Calls.{call, calls_from, count_calls}
 use Rattle.network_calls.specs.Counts.{count_on, number_on}
 use Rattle.network_calls.specs.Places.{StandInTheRun}
+use Rattle.network_calls.specs.Threads.{BothPasses, other_of, pass_of}
 use Rattle.live_system.specs.Calls.{LiveLink, events_of, new_outlet}
 use Rattle.live_system.specs.LookUps.{IsCounted}
 use Rattle.live_system.specs.System.{AreOfNewLinks, AreSettled, IsNewPassOf, IsPassOf, KnownCounts, KnownNet, Replies, System}
@@ -43,17 +44,8 @@ abbrev pub Does : System → Step → KnownNet → KnownNet → Type 0
 Does system (came time octets reply) old new = Replies system.config old time octets reply new
 Does system met old new = new ≡ old
 
-pub record Passes : Type 0 where
-  pub a : KnownNet
-  pub b : KnownNet
-
-abbrev pub pass_of : Net → Passes → KnownNet
-pass_of A passes = passes.a
-pass_of B passes = passes.b
-
-abbrev pub other_of : Net → Passes → KnownNet
-other_of A passes = passes.b
-other_of B passes = passes.a
+abbrev pub Passes : Type 0
+Passes = BothPasses KnownNet
 
 -- this network made this call, and the other network's pass stayed as it was
 pub record Makes (system : System) (net : Net) (step : Step) (old new : Passes) : Type 0 where
@@ -66,11 +58,6 @@ pub record Makes (system : System) (net : Net) (step : Step) (old new : Passes) 
 abbrev pub Ran : System → Passes → List (Net × Step) → Passes → Type 0
 Ran system first [] last = last ≡ first
 Ran system first (one ∷ earlier) last = (before : Passes) × Ran system first earlier before × Makes system one.0 one.1 before last
-
--- those of one network
-abbrev pub steps_of : Net → List (Net × Step) → List Step
-steps_of net [] = []
-steps_of net (one ∷ earlier) = if is_same_net one.0 net then one.1 ∷ steps_of net earlier else steps_of net earlier
 
 -- these calls of one thread, one after another, made the one pass of the other, whatever the other thread did
 abbrev pub RanAlone : System → KnownNet → List Step → KnownNet → Type 0

@@ -4,8 +4,9 @@ use Rattle.es_base.specs.declared.place.Net.TheVariants.{A, B}
 use Rattle.mailbox_port.specs.Port.{most_readers}
 use Rattle.receiver.specs.declared.ends.LinkEnds.{LinkEnds}
 use Rattle.receiver.specs.declared.partition.PartitionEnd.{PartitionEnd}
+use Rattle.network_calls.specs.Threads.{steps_of}
 use Rattle.live_system.specs.Burst.{steps_in_turn}
-use Rattle.live_system.specs.Run.{AreOpened, HasSettled, Passes, Ran, RanAlone, Step, came, steps_of}
+use Rattle.live_system.specs.Run.{AreOpened, HasSettled, Passes, Ran, RanAlone, Step, came}
 use Rattle.live_system.specs.System.{System}
 use Rattle.live_system.proofs.Running.{ended}
 use Rattle.live_system.proofs.Threads.{together}
