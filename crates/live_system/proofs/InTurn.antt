@@ -101,7 +101,7 @@ ran_row system old at pass last (f ∷ fs) (r ∷ rs) own there come calls =
     let next = with_link old at mid in
     let own_next : IsPassOf system next = still_passes on_link settings_in old.net system.locks system.config.links old.links at pass mid own there (same_after pass mid (call place f.0 f.1.now verdict) does) in
     let reply : Replies system.config old f.0 f.1.now (replies.Link (addressee_of f.1.now) (shown place) verdict) next =
-    (at, first.1, refl, refl, place, refl, record { before = pass; after = mid; there = there; calls = does; only = refl }) in
+    (at, first.1, refl, refl, place, refl, record { before = pass; after = mid; there = there; does = does; only = refl }) in
     let one : RanAlone system old (came f.0 f.1.now r ∷ []) next = (old, refl, own_next, refl, subst (λ (x : Reply). Replies system.config old f.0 f.1.now x next) (sym calls.3) reply) in
     let there_next : slice_get next.links at ≡ Some mid = slice_get-set_same old.links at mid (slice_get_within old.links at pass there) in
     let later = ran_row system next at mid last fs rs own_next there_next (All-tail (λ (g : Timed). IsFrame g.1.now × ComesToPlace system.config g.1.now at) f fs come) calls.5 in

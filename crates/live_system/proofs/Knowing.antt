@@ -40,7 +40,7 @@ pub knows_still : (config : Configuration) (old new : KnownNet) (now : ℕ) (oct
 knows_still config old new now octets (replies.Filtered cause) links does know = rw does.1 know
 knows_still config old new now octets (replies.Link number shows verdict) links does know =
     let calls = does.6 in
-    rw calls.only (know_set old.links links does.0 calls.before calls.after know calls.there calls.calls.link)
+    rw calls.only (know_set old.links links does.0 calls.before calls.after know calls.there calls.does.link)
 
 -- it leaves the pass on its link that of this link
 pub same_after : (old new : KnownLink) (c : Call) → Calls old c new → IsSame on_link settings_in old new

@@ -4,7 +4,6 @@ pub mod Counting
 pub mod Tallies
 pub mod Opens
 pub mod Running
-pub mod Threads
 pub mod Meets
 pub mod Knowing
 pub mod Turns

@@ -5,11 +5,7 @@ use Rattle.es_base.specs.Settings.{Settings}
 use Rattle.link_lock.specs.Pass.{LockId}
 use Rattle.live_system.specs.Calls.{LiveLink}
 use Rattle.live_system.specs.Pass.{IsNewPass, KnownLink}
-use Rattle.live_system.specs.System.{AreWithoutCalls, IsPassAt, KnowLinks}
-
-pub none_push : (passes : List KnownLink) (pass : KnownLink) → AreWithoutCalls passes → pass.calls ≡ [] → AreWithoutCalls (passes ++ pass ∷ [])
-none_push [] pass are is = (is, tt)
-none_push (p ∷ passes) pass are is = (are.0, none_push passes pass are.1 is)
+use Rattle.live_system.specs.System.{IsPassAt, KnowLinks}
 
 pub know_push : (passes : List KnownLink) (links : List LiveLink) (pass : KnownLink) (link : LiveLink) → KnowLinks passes links → pass.link ≡ Some link → KnowLinks (passes ++ pass ∷ []) (links ++ link ∷ [])
 know_push [] [] pass link know is = (is, tt)

@@ -1,8 +1,8 @@
 -- From the opening of a system to its end.
-use Rattle.std.proofs.Common.{◌≡◌, ◌∙◌, ap, sym, subst, refl, ℕ, zero, suc, ◌+◌, ◌==◌, Bool, true, false, List, [], ◌∷◌, ◌++◌, length, map, if◌then◌else◌, append-nil, Option, Some}
-use Rattle.std.specs.List.{slice_get, slice_set}
+use Rattle.std.proofs.Common.{◌≡◌, ◌∙◌, ap, sym, refl, ℕ, zero, suc, ◌+◌, ◌==◌, Bool, true, false, List, [], ◌∷◌, ◌++◌, length, map, if◌then◌else◌, append-nil, Option, Some}
+use Rattle.std.specs.List.{slice_get}
 use Rattle.std.proofs.lemmas.List.{length-map, map-append, reverse-reverse}
-use Rattle.std.proofs.lemmas.Option.{same_Some, slice_get_within}
+use Rattle.std.proofs.lemmas.Option.{same_Some}
 use Rattle.es_base.specs.declared.place.LinkNo.{LinkNo}
 use Rattle.es_base.specs.declared.place.Net.{Net}
 use Rattle.es_base.specs.declared.place.Net.TheVariants.{A, B}
@@ -18,7 +18,6 @@ use Rattle.es_base.specs.Tally.{IsKind, count_of}
 use Rattle.es_base.specs.Verdict.{kind_of}
 use Rattle.es_base.proofs.Addressed.{link_at}
 use Rattle.es_base.proofs.Counted.{one_frame_more}
-use Rattle.es_base.proofs.Elements.{slice_get-set_other, slice_get-set_same}
 use Rattle.link_core.specs.Counted.{shown}
 use Rattle.link_lock.specs.declared.user.User.TheVariants.{First, Second}
 use Rattle.receiver.specs.declared.ends.LinkEnds.{LinkEnds}
@@ -34,12 +33,14 @@ use Rattle.network_calls.specs.Passes.{calls_of}
 use Rattle.network_calls.proofs.Filtered.{not_filtered}
 use Rattle.network_calls.proofs.Named.{named_at, other_place, this_place}
 use Rattle.network_calls.proofs.Standing.{stand}
-use Rattle.network_calls.proofs.Rows.{at_place, found_pass}
+use Rattle.network_calls.proofs.Rows.{at_place, does_elsewhere, does_here, found_pass, idle_at}
+use Rattle.network_calls.proofs.Settling.{SettledAt, settled_at}
+use Rattle.network_calls.proofs.Threads.{BothKnow, both_know as all_known}
 use Rattle.live_system.specs.Calls.{LiveLink, as_opened, events_of, new_outlet}
 use Rattle.live_system.specs.LookUps.{IsCounted, calls_on}
-use Rattle.live_system.specs.Pass.{IsSettled, KnownLink}
-use Rattle.live_system.specs.System.{AreSettled, AreWithoutCalls, CallsAt, IsNewPassOf, IsPassOf, KnowLinks, KnownCounts, KnownNet, System, on_link, settings_in}
-use Rattle.live_system.specs.Run.{AreOpened, CountsCalls, CountsFiltered, Does, EndsInOneRun, HasEnded, HasSettled, Makes, Passes, Ran, Step, call_in, came, calls_in, frame_in, frames_in, met, shown_call}
+use Rattle.live_system.specs.Pass.{Calls, KnownLink}
+use Rattle.live_system.specs.System.{AreLetGo, CallsAt, IsNewPassOf, IsPassOf, IsWithoutCalls, KnowLinks, KnownCounts, KnownNet, System, on_link, settings_in}
+use Rattle.live_system.specs.Run.{AreOpened, CountsCalls, CountsFiltered, Does, EndsInOneRun, HasEnded, HasSettled, Passes, Ran, Step, call_in, came, calls_in, frame_in, frames_in, met, net_in, shown_call}
 
 -- ---- calls as replies show them
 
@@ -78,35 +79,27 @@ module _ (first : KnownNet) (place : ℕ) (calls : List Call) (old new : KnownNe
   stays_all same = stays (ap (λ (links : List KnownLink). slice_get links place) same)
 
   -- a call at another place
-  stays_other : (at : ℕ) (after : KnownLink) → new.links ≡ slice_set old.links at after → (place ≡ at → ⊥) → AtLink first place (calls ++ []) new
-  stays_other at after is other = stays (ap (λ (links : List KnownLink). slice_get links place) is ∙ slice_get-set_other old.links at place after other)
-
-  set_here : (at : ℕ) (before after : KnownLink) → slice_get old.links at ≡ Some before → new.links ≡ slice_set old.links at after → at ≡ place → (slice_get new.links place ≡ Some after) × (before ≡ was.pass)
-  set_here at before after there is same =
-      let here : slice_get old.links place ≡ Some before = rw same at there in (
-        ap (λ (links : List KnownLink). slice_get links place) is
-            ∙ (ap (λ (k : ℕ). slice_get (slice_set old.links k after) place) same ∙ slice_get-set_same old.links place after (slice_get_within old.links place before here)),
-        same_Some before was.pass (sym here ∙ was.there),
-      )
+  stays_other : (at : ℕ) (c : Call) → CallsAt old.links at c new.links → (place ≡ at → ⊥) → AtLink first place (calls ++ []) new
+  stays_other at c does other = stays (does_elsewhere (λ before after. Calls before c after) old.links new.links at does place other)
 
   calls_one : (at : ℕ) (c : Call) → CallsAt old.links at c new.links → at ≡ place → AtLink first place (calls ++ shown_call c ∷ []) new
   calls_one at c does same =
-      let here = set_here at does.before does.after does.there does.only same in
+      let here = does_here (λ before after. Calls before c after) old.links new.links at does place was.pass was.there same in
       record {
         pass = does.after;
         there = here.0;
-        has_calls = ap shown_calls (does.calls.calls ∙ ap (λ (k : KnownLink). k.calls ++ c ∷ []) here.1)
+        has_calls = ap shown_calls (does.does.calls ∙ ap (λ (k : KnownLink). k.calls ++ c ∷ []) here.1)
             ∙ (map-append shown_call was.pass.calls (c ∷ []) ∙ ap (λ (cs : List Call). cs ++ shown_call c ∷ []) was.has_calls);
         opened = was.opened;
         was_there = was.was_there;
-        link = does.calls.link ∙ (ap (λ (k : KnownLink). k.link) here.1 ∙ was.link);
+        link = does.does.link ∙ (ap (λ (k : KnownLink). k.link) here.1 ∙ was.link);
       }
 
   came_to : (links : List Settings) (vl : LinkNo) → link_of links vl ≡ Some place → (number : LinkNo) (at : ℕ) (c : Call) (b : Bool) → link_of links number ≡ Some at → (number.0 == vl.0) ≡ b
       → CallsAt old.links at c new.links
       → AtLink first place (calls ++ (if b then shown_call c ∷ [] else [])) new
   came_to links vl named number at c true first_at same does = calls_one at c does (this_place links vl place named number at first_at same)
-  came_to links vl named number at c false first_at apart does = stays_other at does.after does.only (other_place links vl place named number at first_at apart)
+  came_to links vl named number at c false first_at apart does = stays_other at c does (other_place links vl place named number at first_at apart)
 
 does_one : (system : System) (first : KnownNet) (vl : LinkNo) (place : ℕ) (calls : List Call) (step : Step) (old new : KnownNet) → link_of system.config.links vl ≡ Some place → Does system step old new
     → AtLink first place calls old → AtLink first place (calls ++ call_in vl step) new
@@ -147,21 +140,14 @@ knows_more system first net one steps old new same own stays does knows = record
   each = λ vl place named. rw same (does_one system first vl place (calls_in net vl steps) one.1 old new named does (knows.each vl place named));
 }
 
-knows_same : (system : System) (first : KnownNet) (net : Net) (one : Net × Step) (steps : List (Net × Step)) (old new : KnownNet) → is_same_net one.0 net ≡ false → new ≡ old → Knows system first net steps old
-    → Knows system first net (one ∷ steps) new
-knows_same system first net one steps old new apart same knows =
-    let here : Knows system first net (one ∷ steps) old = record {
-      own = knows.own;
-      of_net = knows.of_net;
-      filtered = rw apart knows.filtered;
-      each = λ vl place named. rw apart (knows.each vl place named);
-    } in
-    subst (Knows system first net (one ∷ steps)) (sym same) here
-
-without_calls : (links : List KnownLink) (place : ℕ) (pass : KnownLink) → AreWithoutCalls links → slice_get links place ≡ Some pass → pass.calls ≡ []
-without_calls [] place pass are there = cc
-without_calls (k ∷ links) zero pass are there = rw (← same_Some k pass there) are.0
-without_calls (k ∷ links) (suc place) pass are there = without_calls links place pass are.1 there
+knows_still : (system : System) (first : KnownNet) (net : Net) (one : Net × Step) (steps : List (Net × Step)) (now : KnownNet) → is_same_net one.0 net ≡ false → Knows system first net steps now
+    → Knows system first net (one ∷ steps) now
+knows_still system first net one steps now apart knows = record {
+  own = knows.own;
+  of_net = knows.of_net;
+  filtered = rw apart knows.filtered;
+  each = λ vl place named. rw apart (knows.each vl place named);
+}
 
 knows_none : (system : System) (first : KnownNet) (net : Net) → IsPassOf system first → IsNewPassOf net first → Knows system first net [] first
 knows_none system first net own new = record {
@@ -174,7 +160,7 @@ knows_none system first net own new = record {
       record {
         pass = at.pass;
         there = at.pass_there;
-        has_calls = ap shown_calls (without_calls first.links place at.pass new.no_calls at.pass_there);
+        has_calls = ap shown_calls (idle_at IsWithoutCalls first.links place at.pass new.no_calls at.pass_there);
         opened = at.pass;
         was_there = at.pass_there;
         link = refl;
@@ -183,50 +169,13 @@ knows_none system first net own new = record {
 
 -- ---- of both
 
-record BothKnow (system : System) (first : Passes) (steps : List (Net × Step)) (now : Passes) : Type 0 where
-  pub a : Knows system first.a A steps now.a
-  pub b : Knows system first.b B steps now.b
-
-both_know_more : (system : System) (first : Passes) (net : Net) (step : Step) (steps : List (Net × Step)) (old new : Passes) → Makes system net step old new
-    → BothKnow system first steps old
-    → BothKnow system first ((net, step) ∷ steps) new
-both_know_more system first A step steps old new makes know = record {
-  a = knows_more system first.a A (A, step) steps old.a new.a refl makes.own makes.of_net makes.does know.a;
-  b = knows_same system first.b B (A, step) steps old.b new.b refl makes.other know.b;
-}
-both_know_more system first B step steps old new makes know = record {
-  a = knows_same system first.a A (B, step) steps old.a new.a refl makes.other know.a;
-  b = knows_more system first.b B (B, step) steps old.b new.b refl makes.own makes.of_net makes.does know.b;
-}
-
 both_know : (readers : Port → ℕ) (system : System) (first last : Passes) (ends : List (LinkEnds PartitionEnd)) (steps : List (Net × Step))
-    → AreOpened readers system first ends → Ran system first steps last → BothKnow system first steps last
-both_know readers system first last ends [] opened ran = rw ran (record {
-  a = knows_none system first.a A opened.own_a opened.new_a;
-  b = knows_none system first.b B opened.own_b opened.new_b;
-})
-both_know readers system first last ends (one ∷ steps) opened ran =
-    both_know_more system first one.0 one.1 steps ran.0 last ran.2 (both_know readers system first ran.0 ends steps opened ran.1)
+    → AreOpened readers system first ends → Ran system first steps last → BothKnow (Knows system) first steps last
+both_know readers system first last ends steps opened ran =
+    all_known net_in (IsPassOf system) (Does system) (Knows system) (knows_more system) (knows_still system) first last steps
+    (record { a = knows_none system first.a A opened.own_a opened.new_a; b = knows_none system first.b B opened.own_b opened.new_b }) ran
 
 -- ---- the end
-
-record SettledAt (settings : Settings) (place : ℕ) (one other : KnownLink) (links : List LiveLink) : Type 0 where
-  pub link : LiveLink
-  pub there : slice_get links place ≡ Some link
-  pub with_settings : link.core.settings ≡ settings
-  pub settled : IsSettled one.link one.calls other.calls link
-
-settled_at : (links : List Settings) (a b : List KnownLink) (settled : List LiveLink) (place : ℕ) (settings : Settings) (one other : KnownLink) → AreSettled links a b settled → slice_get links place ≡ Some settings
-    → slice_get a place ≡ Some one → slice_get b place ≡ Some other → SettledAt settings place one other settled
-settled_at [] a b settled place settings one other are there in_a in_b = cc
-settled_at (s ∷ links) [] b settled place settings one other are there in_a in_b = cc
-settled_at (s ∷ links) (k ∷ a) [] settled place settings one other are there in_a in_b = cc
-settled_at (s ∷ links) (k ∷ a) (l ∷ b) [] place settings one other are there in_a in_b = absurd are
-settled_at (s ∷ links) (k ∷ a) (l ∷ b) (link ∷ settled) zero settings one other are there in_a in_b =
-    rw (← same_Some s settings there, ← same_Some k one in_a, ← same_Some l other in_b) (record { link = link; there = refl; with_settings = are.0; settled = are.1 })
-settled_at (s ∷ links) (k ∷ a) (l ∷ b) (link ∷ settled) (suc place) settings one other are there in_a in_b =
-    let later = settled_at links a b settled place settings one other are.2 there in_a in_b in
-    record { link = later.link; there = later.there; with_settings = later.with_settings; settled = later.settled }
 
 record EndsAt (readers : Port → ℕ) (settings : Settings) (place : ℕ) (pass : KnownLink) (ends : List (LinkEnds PartitionEnd)) : Type 0 where
   pub link : LiveLink
@@ -249,7 +198,7 @@ ends_at readers (s ∷ settings) (l ∷ links) (k ∷ passes) (e ∷ ends) (suc 
 
 ends_in_one_run : (readers : Port → ℕ) (steps : List (Net × Step)) (settings : Settings) (ends : List (LinkEnds PartitionEnd)) (place : ℕ) (first : Passes) (last : Passes) (links : List LiveLink)
     → (a : AtLink first.a place (calls_in A settings.vl steps) last.a) → (b : AtLink first.b place (calls_in B settings.vl steps) last.b)
-    → EndsAt readers settings place a.opened ends → (at : SettledAt settings place a.pass b.pass links) → EndsInOneRun readers steps settings ends place at.link
+    → EndsAt readers settings place a.opened ends → (at : SettledAt settings_in AreLetGo settings place a.pass b.pass links) → EndsInOneRun readers steps settings ends place at.link
 ends_in_one_run readers steps settings ends place first last links a b its at =
     let agrees = at.settled.agrees in
     let link = at.link in
@@ -302,7 +251,7 @@ ended readers system first last ends steps links a b opened ran has_settled =
           let named_so : link_of system.config.links link.settings.vl ≡ Some place = ap (link_of system.config.links) link.numbered ∙ named in
           let of_a = know.a.each link.settings.vl place named_so in
           let of_b = know.b.each link.settings.vl place named_so in
-          let at = settled_at system.config.links last.a.links last.b.links links place link.settings of_a.pass of_b.pass has_settled.links link.there of_a.there of_b.there in
+          let at = settled_at settings_in AreLetGo system.config.links last.a.links last.b.links links place link.settings of_a.pass of_b.pass has_settled.links link.there of_a.there of_b.there in
           let new = opened.links.new in
           let in_config : AreNewLinks ShowsPort (reads_by ReadsPort readers) system.config.links opened.links.opened.links ends = new.links in
           let its = ends_at readers system.config.links opened.links.opened.links first.a.links ends place link.settings of_a.opened in_config opened.links.known_a link.there of_a.was_there in

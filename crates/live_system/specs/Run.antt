@@ -1,13 +1,12 @@
 -- What the threads of both networks did with a system, from its opening to its end. It exists in contracts alone. The
 -- latest call is first.
-use Rattle.std.specs.Prelude.{◌≡◌, ℕ, ◌==◌, List, [], ◌∷◌, ◌++◌, length, map, slice_get, Some, if◌then◌else◌}
+use Rattle.std.specs.Prelude.{◌≡◌, ℕ, List, [], ◌∷◌, length, map, slice_get, Some}
 use Rattle.es_base.specs.declared.place.LinkNo.{LinkNo}
 use Rattle.es_base.specs.declared.place.Net.{Net}
 use Rattle.es_base.specs.declared.place.Net.TheVariants.{A, B}
 use Rattle.es_base.specs.declared.event.Arrival.{Arrival}
 use Rattle.es_base.specs.Config.{link_of}
 use Rattle.es_base.specs.FilterTally.{filtered_count}
-use Rattle.es_base.specs.Integrity.{is_same_net}
 use Rattle.es_base.specs.Limits.{filter_causes, verdict_kinds}
 use Rattle.es_base.specs.Past.{arrived}
 use Rattle.es_base.specs.Port.{Port}
@@ -22,10 +21,10 @@ use Rattle.receiver.specs.Outlet.{reads_by}
 use Rattle.receiver.specs.Port.{ReadsPort, ShowsPort}
 use Rattle.network_calls.specs.declared.call.Call.{Call}
 use Rattle.network_calls.specs.declared.reply.Reply.{Reply}
-use Rattle.network_calls.specs.declared.reply.Reply.TheVariants as replies
 use Rattle.network_calls.specs.Calls.{call, calls_from, count_calls}
 use Rattle.network_calls.specs.Counts.{count_on, number_on}
 use Rattle.network_calls.specs.Places.{StandInTheRun}
+use Rattle.network_calls.specs.Threads.{BothPasses, MakesBy, RanAloneBy, RanBy, all_in, call_replied, latest_in}
 use Rattle.live_system.specs.Calls.{LiveLink, events_of, new_outlet}
 use Rattle.live_system.specs.LookUps.{IsCounted}
 use Rattle.live_system.specs.System.{AreOfNewLinks, AreSettled, IsNewPassOf, IsPassOf, KnownCounts, KnownNet, Replies, System}
@@ -43,41 +42,26 @@ abbrev pub Does : System → Step → KnownNet → KnownNet → Type 0
 Does system (came time octets reply) old new = Replies system.config old time octets reply new
 Does system met old new = new ≡ old
 
-pub record Passes : Type 0 where
-  pub a : KnownNet
-  pub b : KnownNet
+abbrev pub Passes : Type 0
+Passes = BothPasses KnownNet
 
-abbrev pub pass_of : Net → Passes → KnownNet
-pass_of A passes = passes.a
-pass_of B passes = passes.b
+-- ---- the calls of both
 
-abbrev pub other_of : Net → Passes → KnownNet
-other_of A passes = passes.b
-other_of B passes = passes.a
+abbrev pub net_in : KnownNet → Net
+net_in pass = pass.net
 
 -- this network made this call, and the other network's pass stayed as it was
-pub record Makes (system : System) (net : Net) (step : Step) (old new : Passes) : Type 0 where
-  pub own : IsPassOf system (pass_of net new)
-  pub of_net : (pass_of net new).net ≡ (pass_of net old).net
-  pub does : Does system step (pass_of net old) (pass_of net new)
-  pub other : other_of net new ≡ other_of net old
+abbrev pub Makes : System → Net → Step → Passes → Passes → Type 0
+Makes system net step old new = MakesBy net_in (IsPassOf system) (Does system) net step old new
 
 -- these calls of both networks, one after another, made the one passes of the other
 abbrev pub Ran : System → Passes → List (Net × Step) → Passes → Type 0
-Ran system first [] last = last ≡ first
-Ran system first (one ∷ earlier) last = (before : Passes) × Ran system first earlier before × Makes system one.0 one.1 before last
-
--- those of one network
-abbrev pub steps_of : Net → List (Net × Step) → List Step
-steps_of net [] = []
-steps_of net (one ∷ earlier) = if is_same_net one.0 net then one.1 ∷ steps_of net earlier else steps_of net earlier
+Ran system first steps last = RanBy net_in (IsPassOf system) (Does system) first steps last
 
 -- these calls of one thread, one after another, made the one pass of the other, whatever the other thread did
 -- rule: EMB-32
 abbrev pub RanAlone : System → KnownNet → List Step → KnownNet → Type 0
-RanAlone system first [] last = last ≡ first
-RanAlone system first (step ∷ earlier) last =
-    (before : KnownNet) × RanAlone system first earlier before × IsPassOf system last × (last.net ≡ before.net) × Does system step before last
+RanAlone system first steps last = RanAloneBy net_in (IsPassOf system) (Does system) first steps last
 
 -- as `LiveSystem::open` hands them out; each sampling port has as many readers as this says
 pub record AreOpened (readers : Port → ℕ) (system : System) (passes : Passes) (ends : List (LinkEnds PartitionEnd)) : Type 0 where
@@ -96,14 +80,12 @@ pub record HasSettled (system : System) (passes : Passes) (settled : List LiveLi
 -- ---- what they came to
 
 abbrev pub call_in : LinkNo → Step → List Call
-call_in vl (came time octets (replies.Filtered cause)) = []
-call_in vl (came time octets (replies.Link number place verdict)) = if number.0 == vl.0 then call place time octets verdict ∷ [] else []
+call_in vl (came time octets reply) = call_replied vl time octets reply
 call_in vl met = []
 
 -- the calls of this network's frames on the link with this number, by their replies, the first frame first
 abbrev pub calls_in : Net → LinkNo → List (Net × Step) → List Call
-calls_in net vl [] = []
-calls_in net vl (one ∷ earlier) = if is_same_net one.0 net then calls_in net vl earlier ++ call_in vl one.1 else calls_in net vl earlier
+calls_in net vl steps = all_in (call_in vl) net steps
 
 abbrev pub frame_in : Net → Step → List Arrival
 frame_in net (came time octets reply) = arrived net time octets ∷ []
@@ -111,8 +93,7 @@ frame_in net met = []
 
 -- the frames that came on this network, the latest first
 abbrev pub frames_in : Net → List (Net × Step) → List Arrival
-frames_in net [] = []
-frames_in net (one ∷ earlier) = if is_same_net one.0 net then frame_in net one.1 ++ frames_in net earlier else frames_in net earlier
+frames_in net steps = latest_in (frame_in net) net steps
 
 -- a call as a reply shows it: its place stops at the greatest number of 64 bits
 abbrev pub shown_call : Call → Call

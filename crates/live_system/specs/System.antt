@@ -1,5 +1,5 @@
 -- What a clause sees of the system, and of a network's pass on all of its links.
-use Rattle.std.specs.Prelude.{◌≡◌, ℕ, List, [], ◌∷◌, slice_get, slice_set, Some, Err}
+use Rattle.std.specs.Prelude.{◌≡◌, ℕ, List, [], ◌∷◌, Some, Err}
 use Rattle.es_base.specs.declared.place.Net.{Net}
 use Rattle.es_base.specs.Port.{Port}
 use Rattle.es_base.specs.Settings.{Settings}
@@ -7,7 +7,7 @@ use Rattle.es_base.specs.Config.{Configuration}
 use Rattle.es_base.specs.Addressing.{ComesToPlace, addressed_link, addressee_of}
 use Rattle.es_base.specs.FilterTally.{cause_kind}
 use Rattle.es_base.specs.Limits.{filter_causes}
-use Rattle.es_base.specs.Tally.{AddsOne, Counts, IsZero}
+use Rattle.es_base.specs.Tally.{AddsOne, Counts}
 use Rattle.link_core.specs.Counted.{shown}
 use Rattle.link_lock.specs.Pass.{LockId}
 use Rattle.receiver.specs.declared.ends.LinkEnds.{LinkEnds}
@@ -22,7 +22,7 @@ use Rattle.network_calls.specs.declared.reply.Reply.TheVariants as replies
 use Rattle.network_calls.specs.declared.counts.LinkCounts.{LinkCounts}
 use Rattle.network_calls.specs.Calls.{call}
 use Rattle.network_calls.specs.Counts.{KnownCounts as CountsKnown}
-use Rattle.network_calls.specs.Passes.{AreCountedBy, ArePassesOn, AreSettledBy, IsPassOn, OnLink}
+use Rattle.network_calls.specs.Passes.{AreCountedBy, AreIdle, ArePassesOn, AreSettledBy, DoesAt, IsNewPassBy, IsPassOn, OnLink}
 use Rattle.live_system.specs.Calls.{LiveLink}
 use Rattle.live_system.specs.Pass.{Calls, IsSettled, KnownLink}
 
@@ -58,17 +58,17 @@ ArePasses net locks links passes = ArePassesOn on_link settings_in net locks lin
 abbrev pub IsPassOf : System → KnownNet → Type 0
 IsPassOf system pass = ArePasses pass.net system.locks system.config.links pass.links
 
+abbrev pub IsWithoutCalls : KnownLink → Type 0
+IsWithoutCalls pass = pass.calls ≡ []
+
 -- nothing was done by these
 abbrev pub AreWithoutCalls : List KnownLink → Type 0
-AreWithoutCalls [] = Unit {0}
-AreWithoutCalls (pass ∷ passes) = (pass.calls ≡ []) × AreWithoutCalls passes
+AreWithoutCalls passes = AreIdle IsWithoutCalls passes
 
 -- a pass of that network that made no call and filtered nothing
 -- rule: CONC-2, EMB-29
-pub record IsNewPassOf (net : Net) (pass : KnownNet) : Type 0 where
-  pub of_net : pass.net ≡ net
-  pub no_calls : AreWithoutCalls pass.links
-  pub none_filtered : IsZero filter_causes pass.filtered
+abbrev pub IsNewPassOf : Net → KnownNet → Type 0
+IsNewPassOf net pass = IsNewPassBy IsWithoutCalls net pass.net pass.links pass.filtered
 
 -- these passes know these links, as they were opened
 abbrev pub KnowLinks : List KnownLink → List LiveLink → Type 0
@@ -89,12 +89,8 @@ pub record AreOfNewLinks (readers : Port → ℕ) (config : Configuration) (a b 
 -- ---- a frame
 
 -- one call more, on the link at this place; no other pass changes
-pub record CallsAt (old : List KnownLink) (place : ℕ) (c : Call) (new : List KnownLink) : Type 0 where
-  pub before : KnownLink
-  pub after : KnownLink
-  pub there : slice_get old place ≡ Some before
-  pub calls : Calls before c after
-  pub only : new ≡ slice_set old place after
+abbrev pub CallsAt : List KnownLink → ℕ → Call → List KnownLink → Type 0
+CallsAt old place c new = DoesAt (λ before after. Calls before c after) old place new
 
 -- what a reply says, and what the frame did to the pass; a place that is replied stops at the greatest number of 64
 -- bits

@@ -18,10 +18,11 @@ ghost use Rattle.network_calls.specs.declared.call.Call.{Call};
 ghost use Rattle.network_calls.specs.declared.reply.Reply.{Reply};
 ghost use Rattle.network_calls.specs.Calls.{user_of};
 ghost use Rattle.network_calls.specs.Places.{StandInTheRun};
+ghost use Rattle.network_calls.specs.Threads.{steps_of};
 ghost use Rattle.live_system.specs.Calls.{LiveLink, events_of};
 ghost use Rattle.live_system.specs.Meetings.{KnowsOutlet};
 ghost use Rattle.live_system.specs.Pass.{IsSettled, KnownLink};
-ghost use Rattle.live_system.specs.Run.{AreOpened, HasEnded, HasSettled, Passes, Ran, RanAlone, Step, steps_of};
+ghost use Rattle.live_system.specs.Run.{AreOpened, HasEnded, HasSettled, Passes, Ran, RanAlone, Step};
 ghost use Rattle.live_system.specs.System.{KnowLinks, KnownCounts, KnownNet, Replies, System};
 
 /// Each call of either network that a settled link's passes know is the event at its place of the link: with its

@@ -2,7 +2,8 @@
 use Rattle.std.proofs.Common.{◌≡◌, ap, refl, List, [], ◌∷◌, ◌++◌, map}
 use Rattle.es_base.specs.declared.place.Net.{Net}
 use Rattle.es_base.specs.declared.place.Net.TheVariants.{A, B}
-use Rattle.live_system.specs.Run.{Step, steps_of}
+use Rattle.network_calls.specs.Threads.{steps_of}
+use Rattle.live_system.specs.Run.{Step}
 use Rattle.live_system_example.specs.Whole.{on_b}
 
 pub of_b : (steps : List Step) (one : Step) → steps_of B (map on_b steps ++ (A, one) ∷ []) ≡ steps

@@ -8,3 +8,4 @@ pub mod Filtered
 pub mod Rows
 pub mod Looking
 pub mod Settling
+pub mod Threads

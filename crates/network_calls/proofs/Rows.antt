@@ -1,6 +1,6 @@
 -- The locks, the links and the passes, side by side.
-use Rattle.std.proofs.Common.{◌≡◌, ◌∙◌, ap, sym, ℕ, zero, suc, ◌<◌, List, [], ◌∷◌, ◌++◌, length, position, set, Some, refl}
-use Rattle.std.specs.List.{position_or_len, slice_get}
+use Rattle.std.proofs.Common.{◌≡◌, ◌∙◌, ap, sym, ℕ, zero, suc, ◌<◌, List, [], ◌∷◌, ◌++◌, length, position, set, Some, refl, subst}
+use Rattle.std.specs.List.{position_or_len, slice_get, slice_set}
 use Rattle.std.specs.Prelude.{slice_index_or}
 use Rattle.std.proofs.lemmas.Option.{same_Some, slice_get_read, slice_get_within}
 use Rattle.es_base.specs.declared.place.LinkNo.{LinkNo}
@@ -9,10 +9,11 @@ use Rattle.es_base.specs.Frame.{link_number_of}
 use Rattle.es_base.specs.declared.place.Net.{Net}
 use Rattle.es_base.specs.Config.{has_link_number, link_of}
 use Rattle.es_base.specs.Settings.{Settings}
+use Rattle.es_base.proofs.Elements.{slice_get-set_other, slice_get-set_same}
 use Rattle.es_base.proofs.Firsts.{found_at}
 use Rattle.link_lock.specs.Pass.{LockId}
 use Rattle.network_calls.specs.Counts.{has_number}
-use Rattle.network_calls.specs.Passes.{ArePassesOn, IsPassOn, OnLink, pass_with}
+use Rattle.network_calls.specs.Passes.{AreIdle, ArePassesOn, DoesAt, IsPassOn, OnLink, pass_with}
 
 -- `K` is what is known of a pass, and `L` of a link.
 module _ {K L : Type 0} (on : K → OnLink L) (settings_of : L → Settings) where
@@ -151,3 +152,31 @@ module _ {K L : Type 0} (on : K → OnLink L) (settings_of : L → Settings) whe
   found_pass net vl locks links passes place pass are first at =
       let here : position (λ (k : K). has_number vl (on k).counts) passes ≡ Some place = rw (same_first net vl locks links passes are, as_many net locks links passes are) first in
       found_at (λ (k : K). has_number vl (on k).counts) passes place here ∙ at
+
+-- ---- passes that did nothing
+
+module _ {K : Type 0} (DidNothing : K → Type 0) where
+  pub idle_push : (passes : List K) (pass : K) → AreIdle DidNothing passes → DidNothing pass → AreIdle DidNothing (passes ++ pass ∷ [])
+  idle_push [] pass are is = (is, tt)
+  idle_push (p ∷ passes) pass are is = (are.0, idle_push passes pass are.1 is)
+
+  pub idle_at : (passes : List K) (place : ℕ) (pass : K) → AreIdle DidNothing passes → slice_get passes place ≡ Some pass → DidNothing pass
+  idle_at [] place pass are there = cc
+  idle_at (k ∷ passes) zero pass are there = subst DidNothing (same_Some k pass there) are.0
+  idle_at (k ∷ passes) (suc place) pass are there = idle_at passes place pass are.1 there
+
+-- ---- a place of the row after a call
+
+module _ {K : Type 0} (Did : K → K → Type 0) (old new : List K) (at : ℕ) (does : DoesAt Did old at new) where
+  -- the pass of the call
+  pub does_here : (place : ℕ) (pass : K) → slice_get old place ≡ Some pass → at ≡ place → (slice_get new place ≡ Some does.after) × (does.before ≡ pass)
+  does_here place pass there same =
+      let here : slice_get old place ≡ Some does.before = rw same at does.there in (
+        ap (λ (passes : List K). slice_get passes place) does.only
+            ∙ (ap (λ (k : ℕ). slice_get (slice_set old k does.after) place) same ∙ slice_get-set_same old place does.after (slice_get_within old place does.before here)),
+        same_Some does.before pass (sym here ∙ there),
+      )
+
+  -- another
+  pub does_elsewhere : (place : ℕ) → (place ≡ at → ⊥) → slice_get new place ≡ slice_get old place
+  does_elsewhere place other = ap (λ (passes : List K). slice_get passes place) does.only ∙ slice_get-set_other old at place does.after other

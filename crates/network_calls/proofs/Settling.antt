@@ -1,5 +1,5 @@
 -- Links that are settled one after the other, from the last.
-use Rattle.std.proofs.Common.{◌≡◌, ◌∙◌, ap, sym, refl, ℕ, List, [], ◌∷◌, ◌++◌, ◌<◌, arith, drop, length, length-append, reverse, append_assoc, append-nil, Some}
+use Rattle.std.proofs.Common.{◌≡◌, ◌∙◌, ap, sym, refl, ℕ, zero, suc, List, [], ◌∷◌, ◌++◌, ◌<◌, arith, drop, length, length-append, reverse, append_assoc, append-nil, Some}
 use Rattle.std.specs.List.{slice_get}
 use Rattle.std.proofs.lemmas.List.{reverse-append, reverse-reverse}
 use Rattle.std.proofs.lemmas.Option.{same_Some}
@@ -210,3 +210,24 @@ module _ {K L : Type 0} (on : K → OnLink L) (settings_of : L → Settings) (sh
       nothing_left net (s ∷ rest) [] are = absurd are
       nothing_left net (s ∷ rest) (p ∷ passes) are = absurd are
       nothing_left net [] (p ∷ passes) are = absurd are
+
+-- ---- one of those that are settled
+
+module _ {K L : Type 0} (settings_of : L → Settings) (Settled : K → K → L → Type 0) where
+  pub record SettledAt (settings : Settings) (place : ℕ) (one other : K) (links : List L) : Type 0 where
+    pub link : L
+    pub there : slice_get links place ≡ Some link
+    pub with_settings : settings_of link ≡ settings
+    pub settled : Settled one other link
+
+  pub settled_at : (links : List Settings) (a b : List K) (settled : List L) (place : ℕ) (settings : Settings) (one other : K) → AreSettledBy settings_of Settled links a b settled
+      → slice_get links place ≡ Some settings → slice_get a place ≡ Some one → slice_get b place ≡ Some other → SettledAt settings place one other settled
+  settled_at [] a b settled place settings one other are there in_a in_b = cc
+  settled_at (s ∷ links) [] b settled place settings one other are there in_a in_b = cc
+  settled_at (s ∷ links) (k ∷ a) [] settled place settings one other are there in_a in_b = cc
+  settled_at (s ∷ links) (k ∷ a) (l ∷ b) [] place settings one other are there in_a in_b = absurd are
+  settled_at (s ∷ links) (k ∷ a) (l ∷ b) (link ∷ settled) zero settings one other are there in_a in_b =
+      rw (← same_Some s settings there, ← same_Some k one in_a, ← same_Some l other in_b) (record { link = link; there = refl; with_settings = are.0; settled = are.1 })
+  settled_at (s ∷ links) (k ∷ a) (l ∷ b) (link ∷ settled) (suc place) settings one other are there in_a in_b =
+      let later = settled_at links a b settled place settings one other are.2 there in_a in_b in
+      record { link = later.link; there = later.there; with_settings = later.with_settings; settled = later.settled }

@@ -1,12 +1,12 @@
 -- The passes of a network, one on each link of a configuration, whatever an end system keeps of a link, and whatever
 -- else its pass knows.
-use Rattle.std.specs.Prelude.{◌≡◌, ℕ, List, [], ◌∷◌, Option, None, Some, length}
+use Rattle.std.specs.Prelude.{◌≡◌, ℕ, List, [], ◌∷◌, Option, None, Some, length, slice_get, slice_set}
 use Rattle.std.specs.List.{find}
 use Rattle.es_base.specs.declared.place.LinkNo.{LinkNo}
 use Rattle.es_base.specs.declared.place.Net.{Net}
-use Rattle.es_base.specs.Limits.{verdict_kinds}
+use Rattle.es_base.specs.Limits.{filter_causes, verdict_kinds}
 use Rattle.es_base.specs.Settings.{Settings}
-use Rattle.es_base.specs.Tally.{Counts, IsKind}
+use Rattle.es_base.specs.Tally.{Counts, IsKind, IsZero}
 use Rattle.link_lock.specs.Pass.{LockId}
 use Rattle.network_calls.specs.declared.call.Call.{Call}
 use Rattle.network_calls.specs.declared.counts.LinkCounts.{LinkCounts}
@@ -40,6 +40,31 @@ module _ {K L : Type 0} (on : K → OnLink L) (settings_of : L → Settings) whe
   ArePassesOn net (lock ∷ locks) [] passes = ⊥
   ArePassesOn net [] (settings ∷ links) passes = ⊥
   ArePassesOn net [] [] (pass ∷ passes) = ⊥
+
+-- ---- the opening
+
+module _ {K : Type 0} (DidNothing : K → Type 0) where
+  -- nothing was done by these
+  abbrev pub AreIdle : List K → Type 0
+  AreIdle [] = Unit {0}
+  AreIdle (pass ∷ passes) = DidNothing pass × AreIdle passes
+
+  -- A pass has this network, these passes on the links and these counts of filtered frames: it is of that network, did
+  -- nothing, and filtered nothing.
+  pub record IsNewPassBy (net : Net) (its_net : Net) (links : List K) (filtered : Counts) : Type 0 where
+    pub of_net : its_net ≡ net
+    pub no_calls : AreIdle links
+    pub none_filtered : IsZero filter_causes filtered
+
+-- ---- a call
+
+-- what the pass on the link at this place did; no other pass changes
+pub record DoesAt {K : Type 0} (Did : K → K → Type 0) (old : List K) (place : ℕ) (new : List K) : Type 0 where
+  pub before : K
+  pub after : K
+  pub there : slice_get old place ≡ Some before
+  pub does : Did before after
+  pub only : new ≡ slice_set old place after
 
 -- ---- by a link's number
 

@@ -4,11 +4,12 @@ use Rattle.es_base.specs.declared.place.Net.TheVariants.{A, B}
 use Rattle.mailbox_port.specs.Port.{most_readers}
 use Rattle.receiver.specs.declared.ends.LinkEnds.{LinkEnds}
 use Rattle.receiver.specs.declared.partition.PartitionEnd.{PartitionEnd}
+use Rattle.network_calls.specs.Threads.{steps_of}
+use Rattle.network_calls.proofs.Threads.{together}
 use Rattle.live_system.specs.Burst.{steps_in_turn}
-use Rattle.live_system.specs.Run.{AreOpened, HasSettled, Passes, Ran, RanAlone, Step, came, steps_of}
-use Rattle.live_system.specs.System.{System}
+use Rattle.live_system.specs.Run.{AreOpened, Does, HasSettled, Passes, Ran, RanAlone, Step, came, net_in}
+use Rattle.live_system.specs.System.{IsPassOf, System}
 use Rattle.live_system.proofs.Running.{ended}
-use Rattle.live_system.proofs.Threads.{together}
 use Rattle.live_system_example.specs.Whole.{Gave, GaveAll, frame_and_burst}
 use Rattle.live_system_example.proofs.Steps.{of_a, of_b}
 use Rattle.live_system_example.proofs.run.Goals as goal
@@ -35,7 +36,7 @@ returns g c =
     } in
     let ran_a : RanAlone system opening.a (steps_of A steps) last.a = rw (of_a calls_b call_a) (opening.a, refl, on_a.own, on_a.net, on_a.replies) in
     let ran_b : RanAlone system opening.b (steps_of B steps) last.b = rw (of_b calls_b call_a) on_b.replied in
-    let ran : Ran system first steps last = together system first last steps ran_a ran_b in
+    let ran : Ran system first steps last = together net_in (IsPassOf system) (Does system) first last steps ran_a ran_b in
     let settles : HasSettled system last c.settle.result.links.items c.settle.result.a c.settle.result.b = record {
       links = c.settle.ensures.links;
       counted_a = c.settle.ensures.a;

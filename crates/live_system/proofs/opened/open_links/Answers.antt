@@ -4,9 +4,9 @@ use Rattle.es_base.specs.declared.place.Net.TheVariants.{A, B}
 use Rattle.receiver.specs.Outlet.{reads_by}
 use Rattle.receiver.specs.Port.{ReadsPort, ShowsPort}
 use Rattle.receiver.proofs.Opens.{links_push}
-use Rattle.network_calls.proofs.Rows.{as_many, passes_push}
-use Rattle.live_system.specs.System.{on_link, settings_in}
-use Rattle.live_system.proofs.Opens.{know_push, none_push, opened_pass}
+use Rattle.network_calls.proofs.Rows.{as_many, idle_push, passes_push}
+use Rattle.live_system.specs.System.{IsWithoutCalls, on_link, settings_in}
+use Rattle.live_system.proofs.Opens.{know_push, opened_pass}
 use Rattle.live_system.proofs.opened.open_links.Goals as goal
 
 pub links-preserved : goal.links-preserved
@@ -21,11 +21,11 @@ links-preserved g c =
     rw (longer, c.in_ok-push.ensures.items, c.in_ok-push-2.ensures.items, c.in_ok-push-3.ensures.items, c.in_ok-push-4.ensures.items) (record {
       a = (
         passes_push on_link settings_in A _ (take place links) _ _ settings _ so_far.a.0 (opened_pass settings link _ A _ one.1.with_settings one.2),
-        none_push _ _ so_far.a.1 one.2.calls,
+        idle_push IsWithoutCalls _ _ so_far.a.1 one.2.calls,
       );
       b = (
         passes_push on_link settings_in B _ (take place links) _ _ settings _ so_far.b.0 (opened_pass settings link _ B _ one.1.with_settings one.3),
-        none_push _ _ so_far.b.1 one.3.calls,
+        idle_push IsWithoutCalls _ _ so_far.b.1 one.3.calls,
       );
       links = (
         so_far.links.0 ++ link ∷ [],

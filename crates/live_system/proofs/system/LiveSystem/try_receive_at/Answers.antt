@@ -60,7 +60,7 @@ returns-clause-replies c =
         before = c.index_mut.result.now;
         after = c.try_receive.new.self;
         there = here.there;
-        calls = call.2;
+        does = call.2;
         only = refl;
       },
     )

@@ -1,0 +1,64 @@
+-- The passes of two threads, one a network, and the calls of both, whatever a pass and a call are. It exists in contracts
+-- alone. The latest call stands first.
+use Rattle.std.specs.Prelude.{◌≡◌, ℕ, ◌==◌, List, [], ◌∷◌, ◌++◌, if◌then◌else◌}
+use Rattle.es_base.specs.declared.place.LinkNo.{LinkNo}
+use Rattle.es_base.specs.declared.place.Net.{Net}
+use Rattle.es_base.specs.declared.place.Net.TheVariants.{A, B}
+use Rattle.es_base.specs.Integrity.{is_same_net}
+use Rattle.network_calls.specs.declared.call.Call.{Call}
+use Rattle.network_calls.specs.declared.reply.Reply.{Reply}
+use Rattle.network_calls.specs.declared.reply.Reply.TheVariants as replies
+use Rattle.network_calls.specs.Calls.{call}
+
+pub record BothPasses (P : Type 0) : Type 0 where
+  pub a : P
+  pub b : P
+
+abbrev pub pass_of : {P : Type 0} → Net → BothPasses P → P
+pass_of A passes = passes.a
+pass_of B passes = passes.b
+
+abbrev pub other_of : {P : Type 0} → Net → BothPasses P → P
+other_of A passes = passes.b
+other_of B passes = passes.a
+
+-- the calls of one network among those of both
+abbrev pub steps_of : {S : Type 0} → Net → List (Net × S) → List S
+steps_of net [] = []
+steps_of net (one ∷ earlier) = if is_same_net one.0 net then one.1 ∷ steps_of net earlier else steps_of net earlier
+
+-- `P` is what is known of a pass, and `S` what a call was; a pass has a network, may be of the system, and does its calls.
+module _ {P S : Type 0} (net_in : P → Net) (IsOwn : P → Type 0) (Does : S → P → P → Type 0) where
+  -- this network made this call, and the other network's pass stayed as it was
+  pub record MakesBy (net : Net) (step : S) (old new : BothPasses P) : Type 0 where
+    pub own : IsOwn (pass_of net new)
+    pub of_net : net_in (pass_of net new) ≡ net_in (pass_of net old)
+    pub does : Does step (pass_of net old) (pass_of net new)
+    pub other : other_of net new ≡ other_of net old
+
+  -- these calls of both networks, one after another, made the one passes of the other
+  abbrev pub RanBy : BothPasses P → List (Net × S) → BothPasses P → Type 0
+  RanBy first [] last = last ≡ first
+  RanBy first (one ∷ earlier) last = (before : BothPasses P) × RanBy first earlier before × MakesBy one.0 one.1 before last
+
+  -- these calls of one thread, one after another, made the one pass of the other, whatever the other thread did
+  abbrev pub RanAloneBy : P → List S → P → Type 0
+  RanAloneBy first [] last = last ≡ first
+  RanAloneBy first (step ∷ earlier) last = (before : P) × RanAloneBy first earlier before × IsOwn last × (net_in last ≡ net_in before) × Does step before last
+
+-- ---- what they came to
+
+-- what each call of this network came to, that of the first call first
+abbrev pub all_in : {S X : Type 0} → (S → List X) → Net → List (Net × S) → List X
+all_in each_in net [] = []
+all_in each_in net (one ∷ earlier) = if is_same_net one.0 net then all_in each_in net earlier ++ each_in one.1 else all_in each_in net earlier
+
+-- that of the latest call first
+abbrev pub latest_in : {S X : Type 0} → (S → List X) → Net → List (Net × S) → List X
+latest_in each_in net [] = []
+latest_in each_in net (one ∷ earlier) = if is_same_net one.0 net then each_in one.1 ++ latest_in each_in net earlier else latest_in each_in net earlier
+
+-- the call on the link with this number, if a frame of these octets, which came at this time, had this reply
+abbrev pub call_replied : LinkNo → ℕ → List ℕ → Reply → List Call
+call_replied vl time octets (replies.Filtered cause) = []
+call_replied vl time octets (replies.Link number place verdict) = if number.0 == vl.0 then call place time octets verdict ∷ [] else []
