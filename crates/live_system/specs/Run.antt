@@ -24,7 +24,7 @@ use Rattle.network_calls.specs.declared.reply.Reply.{Reply}
 use Rattle.network_calls.specs.Calls.{call, calls_from, count_calls}
 use Rattle.network_calls.specs.Counts.{count_on, number_on}
 use Rattle.network_calls.specs.Places.{StandInTheRun}
-use Rattle.network_calls.specs.Threads.{BothPasses, MakesBy, RanAloneBy, RanBy, all_in, call_replied, latest_in}
+use Rattle.network_calls.specs.Threads.{BothPasses, RanAloneBy, RanBy, all_in, call_replied, latest_in}
 use Rattle.live_system.specs.Calls.{LiveLink, events_of, new_outlet}
 use Rattle.live_system.specs.LookUps.{IsCounted}
 use Rattle.live_system.specs.System.{AreOfNewLinks, AreSettled, IsNewPassOf, IsPassOf, KnownCounts, KnownNet, Replies, System}
@@ -49,10 +49,6 @@ Passes = BothPasses KnownNet
 
 abbrev pub net_in : KnownNet → Net
 net_in pass = pass.net
-
--- this network made this call, and the other network's pass stayed as it was
-abbrev pub Makes : System → Net → Step → Passes → Passes → Type 0
-Makes system net step old new = MakesBy net_in (IsPassOf system) (Does system) net step old new
 
 -- these calls of both networks, one after another, made the one passes of the other
 abbrev pub Ran : System → Passes → List (Net × Step) → Passes → Type 0
