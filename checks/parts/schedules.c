@@ -1,8 +1,8 @@
 /* schedules SECONDS [SEED]: systems under threads, round after round. Two threads, one a network, give both networks' copies of one
    schedule of frames to 2 or 32 links: samples, messages for queues, datagrams in four fragments out of order, bad headers and
    datagrams, frames that are filtered; each network loses, repeats and swaps some, and may be 16 to 100,000 frames ahead of the other.
-   Half of all frames are for the first two links. Of the first link eight threads read, hold and copy the newest message as fast as they
-   can, and one takes the messages of its queue; all other queues fill.
+   Half of all frames are for the first two links. Of the first link eight threads read, hold and copy the newest message, and one
+   takes the messages of its queue; all other queues fill.
 
    On the spot: a message's octets follow from its first one, so one that is torn shows; a reader's numbers never fall, and none is less
    than one that a network was told of before the look. After a round, link by link: the replies of both networks stand at places 0, 1,
@@ -162,7 +162,9 @@ static void keep(struct seen *one, struct message found, const uint8_t *octets, 
     one->list[one->len++] = found;
 }
 
-/* Reads the newest message, or holds it for a while. */
+static void rest(void) { nanosleep(&(struct timespec){0, 20000}, NULL); }
+
+/* Reads the newest message, or holds it for a while, 32 times between two rests. */
 static void *read_all(void *of_reader) {
     struct yelunnavi_reader *reader = of_reader;
     struct seen *one = &seen[reader - readers];
@@ -172,6 +174,7 @@ static void *read_all(void *of_reader) {
         struct yelunnavi_read read;
         struct yelunnavi_octets held = {out, 0};
         bool is_held = one->looks % 3 == 2;
+        if (one->looks % 32 == 0) rest();
         is_last = atomic_load(&is_over);
         uint64_t least = atomic_load(&told);
         uint32_t code = is_held ? yelunnavi_reader_hold(reader, 0, &read) : yelunnavi_reader_read(reader, 0, out, sizeof out, &read);
@@ -196,7 +199,7 @@ static void *take_all(void *unused) {
             must(yelunnavi_taker_take(&taker, out, sizeof out, &taken) == YELUNNAVI_DONE, "a take is refused");
             if (taken.found) keep(&seen[READERS], (struct message){0, taken.time, taken.len, 0}, out, taken.len);
         } while (taken.found);
-        sched_yield();
+        rest();
     }
     return unused;
 }
