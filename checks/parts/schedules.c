@@ -18,7 +18,11 @@
 #include <string.h>
 #include <time.h>
 
-enum { FRAMES = 100000, MOST_LINKS = 32, READERS = 8, DEPTH = 8, HEADERS = 14 + 20, MOST = 1514, GROUP = 4, PART = 1472, FILTERED = UINT16_MAX };
+/* How many a round has of each network. */
+#ifndef FRAMES
+#define FRAMES 100000
+#endif
+enum { MOST_LINKS = 32, READERS = 8, DEPTH = 8, HEADERS = 14 + 20, MOST = 1514, GROUP = 4, PART = 1472, FILTERED = UINT16_MAX };
 
 /* A message as the schedule says it: the first octet says the others. */
 struct message { uint64_t number, time; size_t len; uint8_t first; };
