@@ -8,6 +8,7 @@ import pytest
 import release
 from conftest import ROOT
 from marks import Product, sum_of
+from version import version
 
 CONFIG = ROOT / "examples" / "two_links.toml"
 
@@ -63,6 +64,11 @@ def test_a_release_of_one_commit_is_always_the_same_octets(tmp_path):
     assert files["evidence/gate"][1] == b"12 passed, 0 failed\n"
     rows = csv.DictReader(io.StringIO(files["evidence/TRACEABILITY.csv"][1].decode()))
     assert {row["part"] for row in rows} == {"definition", "contract", "wrong body", "test"}
+
+
+def test_the_workbench_tells_the_version():
+    done = subprocess.run([ROOT / "tools" / "yelunnavi", "--version"], capture_output=True, text=True, timeout=10)
+    assert (done.returncode, done.stdout) == (0, f"yelunnavi {version()}\n")
 
 
 @pytest.mark.parametrize("words, told", [

@@ -6,6 +6,7 @@ import os
 import signal
 import sys
 
+from version import version
 from workbench.faults import NO_MEMORY, NOT_READ, Fault, plain
 
 INPUTS = """\
@@ -164,10 +165,19 @@ def add_others(commands):
     traces.add_argument("--to", metavar="FOLDER", required=True, help="where they are written")
 
 
+class TellVersion(argparse.Action):
+    """Tells the version, which is looked up only then."""
+
+    def __call__(self, parser, *rest):
+        print(parser.prog, version())
+        parser.exit()
+
+
 def words():
     parser = argparse.ArgumentParser(prog="yelunnavi", allow_abbrev=False, description="Plays captures of two AFDX networks "
                                      "with the proved receiver: what became of each frame, and whether the networks are "
                                      "healthy.")
+    parser.add_argument("--version", nargs=0, action=TellVersion, help="tell the version, and end")
     commands = parser.add_subparsers(metavar="COMMAND", required=True)
     add_play(commands)
     add_health(commands)
