@@ -5,8 +5,11 @@ read, and to run what is a program.
 """
 import io
 import os
+import shutil
 import subprocess
 import tarfile
+import tempfile
+from pathlib import Path
 
 from evidence import evidence, git
 from marks import OUT, sum_of
@@ -17,6 +20,17 @@ NAME = "yelunnavi"
 # What of the tree goes along: what runs without the toolchain, and what is read.
 PACKED = ("README.md", "CHANGELOG.md", "afdx_play", "docs", "examples", "tools")
 SUMS, EVIDENCE = "SUMS", "evidence"
+# Where Debian's package lays the same files, and what one calls.
+PLACE, COMMANDS = f"usr/lib/{NAME}", {"afdx_play": "afdx_play", NAME: f"tools/{NAME}"}
+CONTROL = f"""\
+Package: {NAME}
+Version: {{version}}
+Architecture: amd64
+Maintainer: Yelunnavi
+Depends: libc6, python3 (>= 3.11)
+Recommends: python3-cffi, python3-rich, tshark
+Description: receiving half of an AFDX end system, proved
+"""
 
 
 def files_of_tree():
@@ -34,12 +48,36 @@ def contents(folders, gate):
     return {**files, SUMS: (sums.encode(), False)}
 
 
+def write(path, octets, is_run=False):
+    path.parent.mkdir(parents=True, exist_ok=True)
+    path.write_bytes(octets)
+    path.chmod(0o755 if is_run else 0o644)
+
+
+def pack_for_debian(files, time, to):
+    """Packs the files of a release for dpkg."""
+    with tempfile.TemporaryDirectory() as folder:
+        top = Path(folder)
+        top.chmod(0o755)
+        for name, (octets, is_run) in files.items():
+            write(top / PLACE / name, octets, is_run)
+        write(top / "DEBIAN" / "control", CONTROL.format(version=version()).encode())
+        (top / "usr" / "bin").mkdir()
+        for name, command in COMMANDS.items():
+            (top / "usr" / "bin" / name).symlink_to(f"/{PLACE}/{command}")
+        subprocess.run(["dpkg-deb", "--root-owner-group", "-Zxz", "--build", top, to], stdout=subprocess.DEVNULL, check=True,
+                       env={**os.environ, "SOURCE_DATE_EPOCH": str(time)})
+
+
 def pack(folders, gate=None):
-    """Packs the tree's files, these folders and the evidence, with what the gate printed. Returns the archive's path."""
+    """Packs the tree's files, these folders and the evidence, with what the gate printed, as an archive and, where dpkg-deb
+    is, as a package. Returns the archive's path."""
     made, time = f"{NAME}-{version()}", int(git("log", "-1", "--format=%ct"))
-    to = OUT / f"{made}.tar.xz"
+    to, files = OUT / f"{made}.tar.xz", contents(folders, gate)
+    if shutil.which("dpkg-deb"):
+        pack_for_debian(files, time, OUT / f"{NAME}_{version()}_amd64.deb")
     with tarfile.open(to, "w:xz", format=tarfile.GNU_FORMAT) as archive:
-        for name, (octets, is_run) in contents(folders, gate).items():
+        for name, (octets, is_run) in files.items():
             entry = tarfile.TarInfo(f"{made}/{name}")
             entry.size, entry.mtime, entry.mode = len(octets), time, 0o755 if is_run else 0o644
             archive.addfile(entry, io.BytesIO(octets))

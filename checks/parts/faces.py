@@ -13,6 +13,7 @@ from verdict_words import ALLOWED, FILTER_CAUSES, HEADER_CAUSES, KINDS, NETWORKS
 CALLS = ("crates/receiver_c/src/lib.rt", *(f"crates/system_c/src/{name}_calls.rt" for name in ("system", "pass")))
 HELD = "crates/receiver_c/src/held_octets.rt"
 REPLIES, CODES, NUMBERS = (f"crates/receiver_slots/src/{name}.rt" for name in ("replies", "codes", "numbers"))
+VERDICTS = "crates/es_base/src/verdict.rt"
 FAULTS, ROWS = "crates/vl_config/src/fault.rt", "crates/vl_config/src/rows.rt"
 BOUNDS = ("crates/es_base/src/config.rt", "crates/es_base/src/settings.rt", "crates/es_base/src/port.rt",
           "crates/es_base/src/name.rt", "crates/mailbox_port/src/count.rt")
@@ -144,7 +145,7 @@ def structs_of_source(tree):
 
 
 def function(text, name):
-    return found(rf"^(?:pub(?:\(crate\))? )?fn {name}\(.*?^\}}", text, name)[0]
+    return found(rf"^( *)(?:pub(?:\(crate\))? )?fn {name}\(.*?^\1\}}", text, name)[0]
 
 
 def upper(variant):
@@ -176,15 +177,15 @@ def bounds(tree):
 
 def numbers_of_source(tree):
     """The numbers by their groups and names."""
-    read = ((tree / path).read_text(encoding="utf-8") for path in (CALLS[0], CODES, NUMBERS, REPLIES))
-    calls, codes, numbers, replies = read
+    read = ((tree / path).read_text(encoding="utf-8") for path in (CALLS[0], CODES, NUMBERS, REPLIES, VERDICTS))
+    calls, codes, numbers, replies, verdicts = read
     filtered = found(r"Reply::Filtered\(cause\) => FrameReply \{\s*kind: (\d+),", replies, "a filtered frame's kind")
     no_key = found(r"ConfigFault::Memory => (\d+)", function(numbers, "fault_key"), "no key")
     faults = numbered(function(numbers, "fault_number"))
     return {
         "Code": {name: int(number) for name, number in re.findall(r"^pub const (\w+): u32 = (\d+);", codes, re.M)},
         "Network": of_number(function(numbers, "net_of")),
-        "Verdict": {"FILTERED": int(filtered[1]), **of_number(function(numbers, "kind_of"))},
+        "Verdict": {"FILTERED": int(filtered[1]), **of_number(function(verdicts, "from_number"))},
         "FilterCause": of_number(function(numbers, "cause_of")),
         "HeaderFault": numbered(function(numbers, "header_number")),
         "ConfigFault": {name: number for name, number in faults.items() if name != UNTOLD},

@@ -17,7 +17,8 @@ CRATES = ROOT / "crates"
 TAG = re.compile(r"^\s*(?:--|//|#) rule: (?!none)(.+)$")
 REASON = re.compile(r"^-- rule: none \((.*)\)$")
 USE = re.compile(r"\buse Rattle\.([\w.]+?)(?:\.\{([^}]*)\}| as (\w+))")
-DEFINITION = re.compile(r"^(?:\w+ )?pub (?:(?:record|data) )?(?!mod |use )(\S+)")
+# At the left margin, or in a module with parameters, where fields of records are indented too.
+DEFINITION = re.compile(r"^(?:(?:\w+ )?pub (?:(?:record|data) )?|  (?:abbrev pub|pub record|pub data) )(?!mod |use )(\S+)")
 BLOCK = re.compile(r"^(?:pub(?:\(\w+\))? )?(impl|trait|struct|enum)\b(?:<.*?>)? ?(.*)")
 FUNCTION = re.compile(r"^(\s*)(pub(?:\(\w+\))? )?(?:const )?(?:unsafe )?(?:extern \"C\" )?fn (\w+)")
 CLAUSE = re.compile(r"^\s*(requires|ensures|decreases)\*?(?: (\w+))? \{", re.M)

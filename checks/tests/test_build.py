@@ -1,6 +1,7 @@
 """What ./build keeps, and the words of ./afdx_play that are refused before anything is built."""
 import csv
 import io
+import shutil
 import subprocess
 import tarfile
 
@@ -64,6 +65,21 @@ def test_a_release_of_one_commit_is_always_the_same_octets(tmp_path):
     assert files["evidence/gate"][1] == b"12 passed, 0 failed\n"
     rows = csv.DictReader(io.StringIO(files["evidence/TRACEABILITY.csv"][1].decode()))
     assert {row["part"] for row in rows} == {"definition", "contract", "wrong body", "test"}
+
+
+@pytest.mark.skipif(not shutil.which("dpkg-deb"), reason="no dpkg-deb")
+def test_a_package_for_debian_has_the_files_of_the_archive(tmp_path):
+    with tarfile.open(fileobj=io.BytesIO(packed(tmp_path, None))) as archive:
+        files = {entry.name.partition("/")[2]: archive.extractfile(entry).read() for entry in archive}
+    package, laid = tmp_path / f"yelunnavi_{version()}_amd64.deb", tmp_path / "laid"
+    made = package.read_bytes()
+    packed(tmp_path, None)
+    assert made == package.read_bytes()
+    subprocess.run(["dpkg-deb", "-x", package, laid], check=True)
+    assert files == {str(path.relative_to(laid / release.PLACE)): path.read_bytes()
+                     for path in (laid / release.PLACE).rglob("*") if path.is_file()}
+    assert {path.name: str(path.readlink()) for path in (laid / "usr" / "bin").iterdir()} == {
+        name: f"/{release.PLACE}/{command}" for name, command in release.COMMANDS.items()}
 
 
 def test_the_workbench_tells_the_version():

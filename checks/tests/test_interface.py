@@ -9,7 +9,7 @@ from parts import faces
 
 C, WORDS, RUST, ADA = faces.C, faces.WORDS, faces.RUST, faces.ADA
 HANDLES, CALLS = [*faces.HANDLES.values()], faces.CALLS[0]
-SOURCES = [*faces.CALLS, *HANDLES, faces.HELD, faces.REPLIES, faces.CODES, faces.NUMBERS, faces.FAULTS, faces.ROWS, *faces.BOUNDS]
+SOURCES = [*faces.CALLS, *HANDLES, faces.HELD, faces.REPLIES, faces.CODES, faces.NUMBERS, faces.VERDICTS, faces.FAULTS, faces.ROWS, *faces.BOUNDS]
 READ = [*SOURCES, C, WORDS, RUST, ADA]
 
 # A file, what stands there, what is planted in its place where it stands first, and what is told of it.

@@ -22,7 +22,7 @@ use Rattle.clap.proofs.FaultLemmas.{past}
 use Rattle.clap.proofs.WalkLemmas.{both}
 use Rattle.std.specs.Prelude.{String}
 use Rattle.std.specs.declared.alloc.Global.{Global}
-use Rattle.command_line.specs.Command.{HasFault, IsFaultOf, play_command, texts_of, fault_from}
+use Rattle.command_line.specs.Command.{HasWordFault, IsFaultOfWords, play_command, texts_of, fault_from}
 
 -- there is one kind at most, and none only if the test passes
 pub record Says (kinds : Kinds) (passes : Bool) : Type 0 where
@@ -308,15 +308,16 @@ fault_says words = go (walk top.rules [] nothing_held words).stopped
     go (Some p) = play_says [] nothing_held words
 
 -- the fault that an error of the command becomes is of the words
-pub fault_of_words : (words : List (String Global)) (e : Error) → HasKind (fault_of play_command (texts_of words)) e → IsFaultOf words (fault_from (kind_of e) e)
-unfolding HasFault
-fault_of_words words e (inl none) = subst (λ (k : ErrorKind). IsFaultOf words (fault_from k e)) (sym none) tt
+pub fault_of_words : (words : List (String Global)) (e : Error) → HasKind (fault_of play_command (texts_of words)) e → IsFaultOfWords words (fault_from (kind_of e) e)
+unfolding HasWordFault
+fault_of_words words e (inl none) = subst (λ (k : ErrorKind). IsFaultOfWords words (fault_from k e)) (sym none) tt
 fault_of_words words e (inr among) = go (kind_of e) refl ((fault_says (texts_of words)).one (kind_of e) among)
   where
-    go : (k : ErrorKind) → kind_of e ≡ k → HasFault (kind_of e) words → IsFaultOf words (fault_from k e)
-    go kind.DisplayHelp is has = (has, is)
+    go : (k : ErrorKind) → kind_of e ≡ k → HasWordFault (kind_of e) words → IsFaultOfWords words (fault_from k e)
+    go kind.DisplayHelp is has = (has, inl is)
+    go kind.DisplayVersion is has = (has, inr is)
     go kind.OutOfMemory is has = tt
-    go other is has = (has, λ help. cc)
+    go other is has = (has, λ request. elim request [ inl help ↦ cc | inr version ↦ cc ])
 
 pub free : is_simple_and_free play_command ≡ true
 free = refl

@@ -1,6 +1,6 @@
 -- The command line of the program, `afdx_play --config FILE --a FILE --b FILE [--at MICROSECONDS] [--threads]`,
 -- as `clap` reads it.
-use Rattle.std.specs.Prelude.{◌≡◌, ◌≢◌, ◌≤◌, ℕ, List, [], ◌∷◌, map, Bool, true, false, Option, Some, None, IfSome, option_map, ⊤, String, codes, string_bytes}
+use Rattle.std.specs.Prelude.{◌≡◌, ◌≤◌, ℕ, List, [], ◌∷◌, map, Bool, true, false, Option, Some, None, IfSome, option_map, ⊤, ◌⊎◌, String, codes, string_bytes}
 use Rattle.std.specs.Str.Parse.{digits_value, without_leading_plus}
 use Rattle.std.specs.declared.alloc.Global.{Global}
 use Rattle.clap.specs.Simple.{on_top}
@@ -9,10 +9,10 @@ use Rattle.clap.specs.declared.builder.action.ArgAction.TheVariants.{Set, SetTru
 use Rattle.clap.specs.declared.builder.value_parser.ValueParser.TheVariants.{Unsigned}
 use Rattle.clap.specs.declared.error.Error.{Error}
 use Rattle.clap.specs.declared.error.kind.ErrorKind.{ErrorKind}
-use Rattle.clap.specs.declared.error.kind.ErrorKind.TheVariants.{DisplayHelp, OutOfMemory}
+use Rattle.clap.specs.declared.error.kind.ErrorKind.TheVariants.{DisplayHelp, DisplayVersion, OutOfMemory}
 use Rattle.clap.specs.declared.parser.matches.ArgMatches.{ArgMatches}
 use Rattle.command_line.specs.declared.fault.LineFault.{LineFault}
-use Rattle.command_line.specs.declared.fault.LineFault.TheVariants.{Help, Refused, Memory}
+use Rattle.command_line.specs.declared.fault.LineFault.TheVariants.{Shown, Refused, Memory}
 use Rattle.command_line.specs.declared.line.Line.{Line}
 
 -- an option that has to be given, with one value: `--NAME FILE`
@@ -48,7 +48,7 @@ flag_option name = record (new_rule name) {
 
 -- the words are those after the program's name
 abbrev pub bare_command : App
-bare_command = on_top (λ top. record top { no_binary_name = true }) (new_app (codes "afdx_play"))
+bare_command = on_top (λ top. record top { no_binary_name = true; has_version = true }) (new_app (codes "afdx_play"))
 
 -- rule: CMD-1
 abbrev pub play_command : App
@@ -61,12 +61,12 @@ texts_of = map string_bytes
 
 -- the command takes the words (crates above need not look at the command, so this is unfoldable, and so
 -- are the other two statements of words)
-unfoldable pub IsTaken : List (String Global) → Type 0
-IsTaken words = takes play_command (texts_of words) ≡ true
+unfoldable pub IsTakenByCommand : List (String Global) → Type 0
+IsTakenByCommand words = takes play_command (texts_of words) ≡ true
 
 -- what a parse matched
-abbrev pub given : ArgMatches → List Row
-given matches = rows_of (found_of matches)
+abbrev pub given_rows : ArgMatches → List Row
+given_rows matches = rows_of (found_of matches)
 
 -- decimal digits, before which a plus may stand, of a number up to the latest time
 abbrev pub IsTime : Text → Type 0
@@ -99,23 +99,28 @@ abbrev pub HasTimeInRange : Line → Type 0
 HasTimeInRange line = IfSome line.at (λ at. at ≤ latest_time)
 
 -- the line is what the command matches in these words
-unfoldable pub IsLineOf : List (String Global) → Line → Type 0
-IsLineOf words line = IsLineIn (matches_of play_command (texts_of words)) line
+unfoldable pub IsLineOfWords : List (String Global) → Line → Type 0
+IsLineOfWords words line = IsLineIn (matches_of play_command (texts_of words)) line
 
 -- the one fault that the command finds in the words
-unfoldable pub HasFault : ErrorKind → List (String Global) → Type 0
-HasFault kind words = fault_of play_command (texts_of words) ≡ kind ∷ []
+unfoldable pub HasWordFault : ErrorKind → List (String Global) → Type 0
+HasWordFault kind words = fault_of play_command (texts_of words) ≡ kind ∷ []
 
--- the error is of the fault in the words: help if they ask for it, and else a refusal
+-- the words ask for a text: the help, or the version
+abbrev pub IsRequest : ErrorKind → Type 0
+IsRequest kind = (kind ≡ DisplayHelp) ⊎ (kind ≡ DisplayVersion)
+
+-- the error is of the fault in the words: a text if they ask for one, and else a refusal
 -- rule: CMD-5, FAULT-3
-abbrev pub IsFaultOf : List (String Global) → LineFault → Type 0
-IsFaultOf words (Help error) = HasFault (kind_of error) words × (kind_of error ≡ DisplayHelp)
-IsFaultOf words (Refused error) = HasFault (kind_of error) words × (kind_of error ≢ DisplayHelp)
-IsFaultOf words Memory = ⊤
+abbrev pub IsFaultOfWords : List (String Global) → LineFault → Type 0
+IsFaultOfWords words (Shown error) = HasWordFault (kind_of error) words × IsRequest (kind_of error)
+IsFaultOfWords words (Refused error) = HasWordFault (kind_of error) words × (IsRequest (kind_of error) → ⊥)
+IsFaultOfWords words Memory = ⊤
 
--- the fault of an error: help if the words ask for it, memory if it ran out, else a refusal
+-- the fault of an error: a text if the words ask for one, memory if it ran out, else a refusal
 -- rule: CMD-5, FAULT-3
 abbrev pub fault_from : ErrorKind → Error → LineFault
-fault_from DisplayHelp error = Help error
+fault_from DisplayHelp error = Shown error
+fault_from DisplayVersion error = Shown error
 fault_from OutOfMemory error = Memory
 fault_from other error = Refused error

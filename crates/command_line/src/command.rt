@@ -12,12 +12,16 @@ const THREADS: &str =
 const TIME_OF_THE_REPORT: &str =
     "the time of the report, in microseconds; by default the greatest arrival time";
 
+/// The version that `--version` tells: that of the newest heading of CHANGELOG.
+const VERSION: &str = "0.3.0";
+
 /// The command of the program, with its five options.
 pub(crate) fn play_command<'a>(alloc: Global) -> Result<Command<'a>, AllocError>
     ensures { IfOk result (λ command. app_of command ≡ play_command) }
 {
     Command::new(alloc, "afdx_play")
         .about("Plays the hex traces of two redundant networks through a receiver")
+        .version(VERSION)
         .no_binary_name(true)
         .arg(file_option(alloc, "config", "the configuration, a TOML file"))?
         .arg(file_option(alloc, "a", "the trace of network A"))?

@@ -8,8 +8,8 @@ use std::alloc::AllocError;
 /// Fault of a command line. The texts are those that `clap` writes for the user.
 #[derive(Debug, Drop)]
 pub enum LineFault {
-    /// `--help` was given: the text of the help.
-    Help(Error),
+    /// `--help` or `--version` was given: the text of the help, or the version.
+    Shown(Error),
     /// The words are no command line of the program: the text gives the reason.
     Refused(Error),
     /// Memory ran out.

@@ -1,7 +1,7 @@
 //! From the words after the program's name to the files and the time that they name, and to what else they ask for.
 ghost use Rattle.std.specs.Prelude.{◌≡◌, ◌≤◌, IfOk, IfErr, IfSome, Some, true, is_some, option_map, codes, string_bytes};
 ghost use Rattle.clap.specs.Words.{first_of, kind_of, one_of};
-ghost use Rattle.command_line.specs.Command.{given, HasTimeInRange, IsFaultOf, IsFlag, IsLineIn, IsLineOf, IsTaken, IsTime, fault_from, latest_time, microseconds_in};
+ghost use Rattle.command_line.specs.Command.{given_rows, HasTimeInRange, IsFaultOfWords, IsFlag, IsLineIn, IsLineOfWords, IsTakenByCommand, IsTime, fault_from, latest_time, microseconds_in};
 ghost use Rattle.command_line.specs.declared.fault.LineFault.TheVariants.{Memory};
 
 use crate::LineFault;
@@ -26,16 +26,16 @@ pub struct Line {
     pub threads: bool,
 }
 
-/// Reads the words after the program's name. The fault is Help if they ask for help, Refused if
+/// Reads the words after the program's name. The fault is Shown if they ask for help or the version, Refused if
 /// they are no command line of the program, each with the text for the user, and Memory if memory
 /// ran out.
-#[tactic(auto, unfolding(crate::specs::Command::IsLineOf))]
+#[tactic(auto, unfolding(crate::specs::Command::IsLineOfWords))]
 pub fn line_of(alloc: Global, words: &[String]) -> Result<Line, LineFault>
-    ensures taken { IfOk result (λ _. IsTaken words.now) }
-    ensures line { IfOk result (λ line. IsLineOf words.now line) }
+    ensures taken { IfOk result (λ _. IsTakenByCommand words.now) }
+    ensures line { IfOk result (λ line. IsLineOfWords words.now line) }
     ensures time { IfOk result HasTimeInRange }
-    ensures fault { IfErr result (λ fault. IsFaultOf words.now fault) }
-    ensures memory { IfErr result (λ fault. IsTaken words.now → fault ≡ Memory) }
+    ensures fault { IfErr result (λ fault. IsFaultOfWords words.now fault) }
+    ensures memory { IfErr result (λ fault. IsTakenByCommand words.now → fault ≡ Memory) }
 {
     match play_command(alloc)?.try_get_matches_from(words) {
         Ok(matches) => Ok(line_from(alloc, &matches)?),
@@ -45,12 +45,12 @@ pub fn line_of(alloc: Global, words: &[String]) -> Result<Line, LineFault>
 
 /// The line of a command line that names all three files.
 fn line_from(alloc: Global, matches: &ArgMatches<'_>) -> Result<Line, AllocError>
-    requires config { is_some (first_of (codes "config") (given matches.now)) ≡ true }
-    requires a { is_some (first_of (codes "a") (given matches.now)) ≡ true }
-    requires b { is_some (first_of (codes "b") (given matches.now)) ≡ true }
-    requires read { one_of (codes "at") (given matches.now) ≡ first_of (codes "at") (given matches.now) }
-    requires at { IfSome (first_of (codes "at") (given matches.now)) IsTime }
-    ensures line { IfOk result (λ line. IsLineIn (given matches.now) line) }
+    requires config { is_some (first_of (codes "config") (given_rows matches.now)) ≡ true }
+    requires a { is_some (first_of (codes "a") (given_rows matches.now)) ≡ true }
+    requires b { is_some (first_of (codes "b") (given_rows matches.now)) ≡ true }
+    requires read { one_of (codes "at") (given_rows matches.now) ≡ first_of (codes "at") (given_rows matches.now) }
+    requires at { IfSome (first_of (codes "at") (given_rows matches.now)) IsTime }
+    ensures line { IfOk result (λ line. IsLineIn (given_rows matches.now) line) }
     ensures time { IfOk result HasTimeInRange }
 {
     Ok(Line {
@@ -64,9 +64,9 @@ fn line_from(alloc: Global, matches: &ArgMatches<'_>) -> Result<Line, AllocError
 
 /// The value of an option that was given.
 fn value_of(alloc: Global, matches: &ArgMatches<'_>, name: &str) -> Result<String, AllocError>
-    requires { is_some (first_of name.now (given matches.now)) ≡ true }
+    requires { is_some (first_of name.now (given_rows matches.now)) ≡ true }
     ensures { IfOk result (λ value.
-        first_of name.now (given matches.now) ≡ Some (string_bytes value)) }
+        first_of name.now (given_rows matches.now) ≡ Some (string_bytes value)) }
 {
     let value = matches.get_str(name).unwrap();
     String::from_str(alloc, value)
@@ -74,9 +74,9 @@ fn value_of(alloc: Global, matches: &ArgMatches<'_>, name: &str) -> Result<Strin
 
 /// The time of an option, in microseconds. None if it wasn't given.
 fn time_of(matches: &ArgMatches<'_>, name: &str) -> Option<u64>
-    requires read { one_of name.now (given matches.now) ≡ first_of name.now (given matches.now) }
-    requires time { IfSome (first_of name.now (given matches.now)) IsTime }
-    ensures value { option_map microseconds_in (first_of name.now (given matches.now)) ≡ result }
+    requires read { one_of name.now (given_rows matches.now) ≡ first_of name.now (given_rows matches.now) }
+    requires time { IfSome (first_of name.now (given_rows matches.now)) IsTime }
+    ensures value { option_map microseconds_in (first_of name.now (given_rows matches.now)) ≡ result }
     ensures range { IfSome result (λ time. time ≤ latest_time) }
 {
     matches.get_one(name)
@@ -84,7 +84,7 @@ fn time_of(matches: &ArgMatches<'_>, name: &str) -> Option<u64>
 
 /// Whether a flag was given.
 fn flag_of(matches: &ArgMatches<'_>, name: &str) -> bool
-    ensures { IsFlag (one_of name.now (given matches.now)) result }
+    ensures { IsFlag (one_of name.now (given_rows matches.now)) result }
 {
     matches.get_flag(name)
 }
@@ -94,7 +94,7 @@ fn fault_from(error: Error) -> LineFault
     ensures { result ≡ fault_from (kind_of error) error }
 {
     match error.kind() {
-        ErrorKind::DisplayHelp => LineFault::Help(error),
+        ErrorKind::DisplayHelp | ErrorKind::DisplayVersion => LineFault::Shown(error),
         ErrorKind::OutOfMemory => LineFault::Memory,
         _ => LineFault::Refused(error),
     }

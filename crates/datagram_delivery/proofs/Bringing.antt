@@ -4,12 +4,12 @@ use Rattle.es_base.specs.declared.event.Event.{Event}
 use Rattle.es_base.specs.declared.place.PortNo.{PortNo}
 use Rattle.es_base.specs.Deliveries.{deliveries}
 use Rattle.es_base.specs.Settings.{Settings}
-use Rattle.frame_delivery.specs.Sending.{events_of}
+use Rattle.frame_delivery.specs.Sending.{events_of_copies}
 use Rattle.datagram_delivery.specs.Interleaved.{Carried, messages_ended}
 use Rattle.datagram_delivery.specs.Bringing.{BringDatagrams, copies_of}
 use Rattle.datagram_delivery.proofs.Messages.{interleaved_delivered}
 
-events_are : (indices : List ℕ) (past : List Event) → length indices ≡ length past → events_of (copies_of indices past) ≡ past
+events_are : (indices : List ℕ) (past : List Event) → length indices ≡ length past → events_of_copies (copies_of indices past) ≡ past
 events_are [] [] each = refl
 events_are [] (event ∷ past) each = absurd (omega arith)
 events_are (index ∷ indices) [] each = absurd (omega arith)

@@ -14,7 +14,7 @@ use Rattle.es_base.specs.Settings.{Settings}
 use Rattle.es_base.proofs.Keys.{key_itself}
 use Rattle.frame_delivery.specs.Messages.{goes_to}
 use Rattle.datagram_delivery.specs.Splitting.{is_of, AreFronts, Offer, LeavesRoom, groups_after_offers, joined, pieces_of}
-use Rattle.datagram_delivery.specs.Datagrams.{AreOf, AreSent, IsSent, Sent, all_offers, messages_by, messages_sent, room_of, time_of}
+use Rattle.datagram_delivery.specs.Datagrams.{AreOf, AreSent, IsSent, Sent, all_offers, messages_by, messages_sent, room_of, time_of_last}
 use Rattle.frame_delivery.proofs.Delivered.{takes}
 use Rattle.datagram_delivery.proofs.Splits.{fronts_are_held, gone_after, last_completes}
 
@@ -80,7 +80,7 @@ number_sent port (sent ∷ before) =
     let rest = number_sent port before in
     ⊎_elim
     (λ (to : goes_to port sent.payload (room_of sent.offers) ≡ true).
-    rw (to, length-append (messages_sent port before) (record { time = time_of sent.offers; octets = sent.payload.octets } ∷ [])) (omega (arith, rest)))
+    rw (to, length-append (messages_sent port before) (record { time = time_of_last sent.offers; octets = sent.payload.octets } ∷ [])) (omega (arith, rest)))
     (λ (other : goes_to port sent.payload (room_of sent.offers) ≡ false). rw other (omega (arith, rest)))
     (cases_Bool (goes_to port sent.payload (room_of sent.offers)))
 

@@ -10,15 +10,15 @@ use Rattle.es_base.specs.Packet.{PacketParts}
 use Rattle.es_base.specs.Reassembly.{packet_in}
 use Rattle.es_base.specs.Deliveries.{deliveries}
 use Rattle.es_base.specs.Groups.{fate, groups_after, held, place_of}
-use Rattle.frame_delivery.specs.Sending.{HaveNumbers, events_of}
+use Rattle.frame_delivery.specs.Sending.{HaveNumbers, events_of_copies}
 use Rattle.frame_delivery.specs.Once.{first_copies}
 use Rattle.frame_delivery.specs.Network.{ComeWhole}
 use Rattle.frame_delivery.specs.Examples.{numbering, timing}
-use Rattle.datagram_delivery.specs.Splitting.{AreFronts, IsLast, LeavesRoom, groups_after_offers, is_of, pieces_of}
+use Rattle.datagram_delivery.specs.Splitting.{AreFronts, IsLastFragment, LeavesRoom, groups_after_offers, is_of, pieces_of}
 use Rattle.datagram_delivery.specs.Datagrams.{AreSent, CarryPackets, all_offers, messages_by, offers_of}
-use Rattle.datagram_delivery.specs.Interleaved.{AreInterleaved, GoesOn, SendsNext, carried_offers}
+use Rattle.datagram_delivery.specs.Interleaved.{AreInterleaved, SendsOn, SendsNext, carried_offers}
 use Rattle.datagram_delivery.specs.Parts.{HaveParts, IsPartOf}
-use Rattle.datagram_delivery.specs.Examples.{among_one_another, datagram_at, datagram_octets, datagram_of, eight, first_key, first_third, five_begun, four_begun, four_in_parts, fragment, in_two_fragments, last_third, link_of_100, link_with_queue, message, message_sent, one_identification, packet_sent, part_sent, second_third}
+use Rattle.datagram_delivery.specs.Examples.{among_one_another, datagram_at, datagram_octets, datagram_of, eight, first_key, first_third, five_begun, four_begun, four_in_parts, fragment, in_two_fragments, last_third, link_of_100, link_with_queue, sixteen_octets, message_sent, one_identification, packet_sent, part_sent, second_third}
 use Rattle.datagram_delivery.proofs.Messages.{datagrams_delivered}
 
 -- ---- a message in two fragments
@@ -64,7 +64,7 @@ split_sent = (
 pub split_offered : offers_of packet_sent (first_copies in_two_fragments) ≡ all_offers (message_sent ∷ [])
 split_offered = refl
 
-pub split_message_delivered : deliveries link_with_queue (events_of in_two_fragments) (record { 0 = 0 }) ≡ record { time = 1500; octets = message } ∷ []
+pub split_message_delivered : deliveries link_with_queue (events_of_copies in_two_fragments) (record { 0 = 0 }) ≡ record { time = 1500; octets = sixteen_octets } ∷ []
 split_message_delivered =
     datagrams_delivered link_with_queue numbering timing packet_sent in_two_fragments (message_sent ∷ []) (record { 0 = 0 }) split_met split_carries split_offered split_sent (omega arith)
 
@@ -75,7 +75,7 @@ read_as packet = Ok packet
 same_packet : (one two : PacketParts) → read_as one ≡ read_as two → one ≡ two
 same_packet one two is = cc
 
-pub parts_met : HaveParts 50000 (λ e. datagram_octets) (events_of in_two_fragments)
+pub parts_met : HaveParts 50000 (λ e. datagram_octets) (events_of_copies in_two_fragments)
 parts_met = (
   λ packet read. subst (IsPartOf datagram_octets) (same_packet (packet_sent 1) packet (sym split_carries.0 ∙ read)) (record { within = omega arith; octets = refl; ends = λ last. refl }),
   (λ one other read read_too same soon. refl, tt),
@@ -107,7 +107,7 @@ among_sent = (
 fifth_fronts : AreFronts 50000 first_key five_begun
 fifth_fronts = (λ is. cc, (λ is. cc, (λ is. cc, (λ is. cc, (λ is. record { next = record { begins = refl; good = refl; soon = omega arith }; more = refl }, tt)))))
 
-fifth_last : IsLast 50000 (pieces_of first_key five_begun) (fragment 1 8 false 1)
+fifth_last : IsLastFragment 50000 (pieces_of first_key five_begun) (fragment 1 8 false 1)
 fifth_last = record { next = record { begins = refl; good = refl; soon = omega arith }; more = refl; after = omega arith }
 
 room_for_four : LeavesRoom 50000 [] first_key four_begun
@@ -122,7 +122,7 @@ fifth_is_held : fate 50000 (groups_after_offers 50000 [] five_begun) (fragment 1
 unfolding fate groups_after fragments.octets_below
 fifth_is_held = refl
 
-pub fifth_gives_up : (place_of first_key [] ≡ None) × (is_of first_key (fragment 1 8 false 1) ≡ true) × AreFronts 50000 first_key five_begun × IsLast 50000 (pieces_of first_key five_begun) (fragment 1 8 false 1) × LeavesRoom 50000 [] first_key four_begun × (LeavesRoom 50000 [] first_key five_begun → ⊥)
+pub fifth_gives_up : (place_of first_key [] ≡ None) × (is_of first_key (fragment 1 8 false 1) ≡ true) × AreFronts 50000 first_key five_begun × IsLastFragment 50000 (pieces_of first_key five_begun) (fragment 1 8 false 1) × LeavesRoom 50000 [] first_key four_begun × (LeavesRoom 50000 [] first_key five_begun → ⊥)
     × (fate 50000 (groups_after_offers 50000 [] five_begun) (fragment 1 8 false 1).packet 100 ≡ held)
 fifth_gives_up = (refl, refl, fifth_fronts, fifth_last, room_for_four, no_room_for_five, fifth_is_held)
 
@@ -142,7 +142,7 @@ four_interleaved = (
   ),
 )
 
-fifth_goes_on : GoesOn link_with_queue four_in_parts (part_sent 5 0 500)
+fifth_goes_on : SendsOn link_with_queue four_in_parts (part_sent 5 0 500)
 unfolding outcomes.datagram_payload words.u16_at words.u32_at
 fifth_goes_on = record { next = record { begins = refl; good = refl; soon = omega arith }; first = refl; admits = λ last. cc }
 
@@ -157,7 +157,7 @@ first_is_lost : messages_by link_with_queue (carried_offers (part_sent 1 1 600 �
 unfolding fate groups_after fragments.octets_below outcomes.datagram_payload words.u16_at words.u32_at
 first_is_lost = refl
 
-pub fifth_in_parts : AreInterleaved link_with_queue four_in_parts × GoesOn link_with_queue four_in_parts (part_sent 5 0 500) × SendsNext link_with_queue (part_sent 5 0 500 ∷ four_in_parts) (part_sent 1 1 600)
+pub fifth_in_parts : AreInterleaved link_with_queue four_in_parts × SendsOn link_with_queue four_in_parts (part_sent 5 0 500) × SendsNext link_with_queue (part_sent 5 0 500 ∷ four_in_parts) (part_sent 1 1 600)
     × (SendsNext link_with_queue four_in_parts (part_sent 5 0 500) → ⊥)
     × (messages_by link_with_queue (carried_offers (part_sent 1 1 600 ∷ part_sent 5 0 500 ∷ four_in_parts)) (record { 0 = 0 }) ≡ [])
 fifth_in_parts = (four_interleaved, fifth_goes_on, first_ends, fifth_is_one_too_many, first_is_lost)
@@ -186,7 +186,7 @@ reads_new_last : packet_in (last_third 2 4) ≡ Ok (third 16 false (eight 2))
 unfolding packets.ones_sum words.u16_at words.u32_at third
 reads_new_last = refl
 
-pub parts_of_two : HaveParts 99 datagram_at (events_of one_identification)
+pub parts_of_two : HaveParts 99 datagram_at (events_of_copies one_identification)
 unfolding third head_of_both
 parts_of_two = (
   λ packet read. subst (IsPartOf (datagram_of 2)) (same_packet (third 16 false (eight 2)) packet (sym reads_new_last ∙ read)) (record { within = omega arith; octets = refl; ends = λ last. refl }),
@@ -206,14 +206,14 @@ parts_of_two = (
   ),
 )
 
-pub not_of_one : HaveParts 100 datagram_at (events_of one_identification) → ⊥
+pub not_of_one : HaveParts 100 datagram_at (events_of_copies one_identification) → ⊥
 unfolding third
 not_of_one have = let same : datagram_of 1 ≡ datagram_of 2 = have.1.1.0 (third 16 false (eight 2)) (third 8 true (eight 1)) reads_new_last reads_old_second refl (omega arith) in cc
 
-mixed : deliveries link_of_100 (events_of one_identification) (record { 0 = 0 }) ≡ record { time = 200; octets = eight 1 ++ eight 2 } ∷ []
+mixed : deliveries link_of_100 (events_of_copies one_identification) (record { 0 = 0 }) ≡ record { time = 200; octets = eight 1 ++ eight 2 } ∷ []
 unfolding fate groups_after fragments.octets_below packets.ones_sum words.u16_at words.u32_at outcomes.outcome outcomes.frame_payload outcomes.datagram_payload
 mixed = refl
 
-pub are_mixed : HaveParts 99 datagram_at (events_of one_identification) × (HaveParts 100 datagram_at (events_of one_identification) → ⊥)
-    × (deliveries link_of_100 (events_of one_identification) (record { 0 = 0 }) ≡ record { time = 200; octets = eight 1 ++ eight 2 } ∷ [])
+pub are_mixed : HaveParts 99 datagram_at (events_of_copies one_identification) × (HaveParts 100 datagram_at (events_of_copies one_identification) → ⊥)
+    × (deliveries link_of_100 (events_of_copies one_identification) (record { 0 = 0 }) ≡ record { time = 200; octets = eight 1 ++ eight 2 } ∷ [])
 are_mixed = (parts_of_two, not_of_one, mixed)

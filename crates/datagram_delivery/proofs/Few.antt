@@ -6,7 +6,7 @@ use Rattle.std.proofs.lemmas.Option.{same_Some}
 use Rattle.es_base.specs.declared.fragment.DatagramKey.{DatagramKey}
 use Rattle.es_base.specs.Packet.{PacketParts}
 use Rattle.es_base.specs.Fragments.{Piece, is_bad, is_whole, key_of, piece_of}
-use Rattle.es_base.specs.Groups.{Found, Group, begins, datagram_with, found_for, group_with, groups_after, groups_with, has_key, is_same_key, joins, place_of, with_room, without}
+use Rattle.es_base.specs.Groups.{Found, Group, begins, datagram_with, found_for, group_with, groups_after, groups_with, has_key, is_same_key, joins, place_of, with_room, without_group}
 use Rattle.es_base.specs.Outcome.{Payload}
 use Rattle.es_base.specs.Settings.{Settings}
 use Rattle.es_base.proofs.Keys.{key_itself, same_key}
@@ -81,7 +81,7 @@ behind_after limit key keys offer before groups have behind counted = go (is_who
     now : ℕ
     now = offer.time
 
-    without_it : (place : Option ℕ) → AreBehind key keys (without groups place)
+    without_it : (place : Option ℕ) → AreBehind key keys (without_group groups place)
     without_it None = behind
     without_it (Some place) = behind_remove key keys groups place behind
 

@@ -7,12 +7,12 @@ use Rattle.es_base.specs.declared.place.PortNo.{PortNo}
 use Rattle.es_base.specs.declared.event.Message.{Message}
 use Rattle.es_base.specs.Limits.{most_partials, most_samples}
 use Rattle.es_base.specs.Fragments.{Piece, is_whole, key_of, piece_of}
-use Rattle.es_base.specs.Groups.{Found, Group, begins, datagram_with, fate, found_at, found_for, groups_after, groups_with, held, is_same_key, place_of, whole, without}
+use Rattle.es_base.specs.Groups.{Found, Group, begins, datagram_with, fate, found_at, found_for, groups_after, groups_with, held, is_same_key, place_of, whole, without_group}
 use Rattle.es_base.specs.Outcome.{datagram_payload}
 use Rattle.es_base.specs.Settings.{Settings}
 use Rattle.es_base.proofs.Keys.{key_itself, other_way, same_key}
 use Rattle.frame_delivery.specs.Messages.{goes_to}
-use Rattle.datagram_delivery.specs.Splitting.{ComesNext, IsFront, IsLast, Offer, are_some, groups_after_offers, joined}
+use Rattle.datagram_delivery.specs.Splitting.{ComesNext, IsFront, IsLastFragment, Offer, are_some, groups_after_offers, joined}
 use Rattle.datagram_delivery.specs.Datagrams.{messages_by}
 use Rattle.datagram_delivery.specs.Interleaved.{AreInterleaved, Carried, SendsNext, carried_offers, messages_ended, open_keys, pieces_now, without_key}
 use Rattle.datagram_delivery.proofs.Each.{IsAbsent}
@@ -119,7 +119,7 @@ have_more one two (key ∷ keys) more have = (more key have.0, have_more one two
 
 whole_keeps : (limit : ℕ) (groups : List Group) (offer : Offer) → is_whole offer.packet ≡ true → place_of (key_of offer.packet) groups ≡ None → groups_after limit groups offer.packet offer.time ≡ groups
 unfolding groups_after
-whole_keeps limit groups offer is none = rw is (ap (without groups) none)
+whole_keeps limit groups offer is none = rw is (ap (without_group groups) none)
 
 first_groups : (limit : ℕ) (groups : List Group) (offer : Offer) → IsAbsent (key_of offer.packet) groups → length groups < most_partials → IsFront limit [] offer
     → groups_after limit groups offer.packet offer.time ≡ groups ++ record { key = key_of offer.packet; pieces = piece_of offer.packet offer.time ∷ [] } ∷ []
@@ -150,7 +150,7 @@ next_groups limit groups offer (first ∷ earlier) n some stands front followed 
           (ap (λ (complete : Bool). groups_with groups key piece (found_for limit groups key offer.time) complete) none ∙ ap (λ (f : Found). groups_with groups key piece f false) found),
     )
 
-last_groups : (limit : ℕ) (groups : List Group) (offer : Offer) (pieces : List Piece) (n : ℕ) → are_some pieces ≡ true → Stands (key_of offer.packet) pieces n groups → IsLast limit pieces offer → AreInRow pieces
+last_groups : (limit : ℕ) (groups : List Group) (offer : Offer) (pieces : List Piece) (n : ℕ) → are_some pieces ≡ true → Stands (key_of offer.packet) pieces n groups → IsLastFragment limit pieces offer → AreInRow pieces
     → (place : ℕ) × (place_of (key_of offer.packet) groups ≡ Some place) × (groups_after limit groups offer.packet offer.time ≡ remove groups place)
 unfolding groups_after
 last_groups limit groups offer [] n some stands is_last row = cc
@@ -378,7 +378,7 @@ one_more settings port carried before sends done few =
     })
     (λ (last : offer.packet.more ≡ false).
     let after = positive offer.packet.offset later in
-    let is_last : IsLast limit pieces offer = record { next = sends.on.next; more = last; after = after } in
+    let is_last : IsLastFragment limit pieces offer = record { next = sends.on.next; more = last; after = after } in
     let admits = ap (λ (b : Bool). datagram_payload settings.ports (record { destination = offer.packet.destination; joined = not b; octets = joined pieces ++ offer.packet.octets })) (sym later) ∙ sends.on.admits last in
     record {
       opened = open_last limit offer offers done.opened sends.on.next last after some;

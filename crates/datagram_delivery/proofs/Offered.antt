@@ -14,7 +14,7 @@ use Rattle.es_base.specs.Redundancy.{forwarded, is_forwarded, is_redundant}
 use Rattle.es_base.specs.Outcome.{brought, frame_payload, outcome, packet_payload}
 use Rattle.es_base.specs.Deliveries.{delivered, deliveries, number_delivered}
 use Rattle.es_base.specs.Settings.{Settings}
-use Rattle.frame_delivery.specs.Sending.{Copy, EachCopy, events_of}
+use Rattle.frame_delivery.specs.Sending.{Copy, EachCopy, events_of_copies}
 use Rattle.frame_delivery.specs.Once.{IsForwardedIfFirst, first_copies, has_come}
 use Rattle.datagram_delivery.specs.Splitting.{groups_after_offers}
 use Rattle.datagram_delivery.specs.Datagrams.{CarryPackets, messages_by, offers_of}
@@ -23,17 +23,17 @@ use Rattle.frame_delivery.proofs.Delivered.{nothing_delivered}
 -- ---- the groups
 
 pub groups_are : (settings : Settings) (packet : ℕ → PacketParts) (copies : List Copy) → EachCopy (IsForwardedIfFirst settings) copies → CarryPackets packet copies
-    → groups_in settings (events_of copies) ≡ groups_after_offers settings.reassembly [] (offers_of packet (first_copies copies))
+    → groups_in settings (events_of_copies copies) ≡ groups_after_offers settings.reassembly [] (offers_of packet (first_copies copies))
 groups_are settings packet [] each carry = refl
 groups_are settings packet (copy ∷ before) each carry =
     let rest = groups_are settings packet before each.1 carry.1 in
-    let standing : List Group = groups_in settings (events_of before) in
+    let standing : List Group = groups_in settings (events_of_copies before) in
     ⊎_elim
     (λ (come : has_come copy.index before ≡ true).
-    let is : is_forwarded settings (events_of before) (arrival_of copy.event) ≡ false = each.0 ∙ ap not come in
+    let is : is_forwarded settings (events_of_copies before) (arrival_of copy.event) ≡ false = each.0 ∙ ap not come in
     rw come (ap (λ (b : Bool). groups_by settings.reassembly standing (offered b copy.event.frame) copy.event.time) is ∙ rest))
     (λ (first : has_come copy.index before ≡ false).
-    let is : is_forwarded settings (events_of before) (arrival_of copy.event) ≡ true = each.0 ∙ ap not first in
+    let is : is_forwarded settings (events_of_copies before) (arrival_of copy.event) ≡ true = each.0 ∙ ap not first in
     rw first (ap (λ (b : Bool). groups_by settings.reassembly standing (offered b copy.event.frame) copy.event.time) is ∙ rw (carry.0, rest) refl))
     (cases_Bool (has_come copy.index before))
 
@@ -54,7 +54,7 @@ forwarded_brings settings past a packet is reads =
 -- ---- all deliveries
 
 pub deliveries_are : (settings : Settings) (packet : ℕ → PacketParts) (port : PortNo) (copies : List Copy) → EachCopy (IsForwardedIfFirst settings) copies → CarryPackets packet copies
-    → deliveries settings (events_of copies) port ≡ messages_by settings (offers_of packet (first_copies copies)) port
+    → deliveries settings (events_of_copies copies) port ≡ messages_by settings (offers_of packet (first_copies copies)) port
 deliveries_are settings packet port [] each carry = refl
 deliveries_are settings packet port (copy ∷ before) each carry =
     let rest = deliveries_are settings packet port before each.1 carry.1 in
@@ -62,13 +62,13 @@ deliveries_are settings packet port (copy ∷ before) each carry =
     let groups = groups_are settings packet before each.1 carry.1 in
     ⊎_elim
     (λ (come : has_come copy.index before ≡ true).
-    let is : is_forwarded settings (events_of before) a ≡ false = each.0 ∙ ap not come in
-    rw come (ap (λ messages. deliveries settings (events_of before) port ++ messages) (nothing_delivered settings (events_of before) a copy.event.room copy.event.time port (number_delivered settings (events_of before) port) is)
-    ∙ append-nil (deliveries settings (events_of before) port) ∙ rest))
+    let is : is_forwarded settings (events_of_copies before) a ≡ false = each.0 ∙ ap not come in
+    rw come (ap (λ messages. deliveries settings (events_of_copies before) port ++ messages) (nothing_delivered settings (events_of_copies before) a copy.event.room copy.event.time port (number_delivered settings (events_of_copies before) port) is)
+    ∙ append-nil (deliveries settings (events_of_copies before) port) ∙ rest))
     (λ (first : has_come copy.index before ≡ false).
-    let is : is_forwarded settings (events_of before) a ≡ true = each.0 ∙ ap not first in
-    let brings_it = forwarded_brings settings (events_of before) a (packet copy.index) is carry.0
+    let is : is_forwarded settings (events_of_copies before) a ≡ true = each.0 ∙ ap not first in
+    let brings_it = forwarded_brings settings (events_of_copies before) a (packet copy.index) is carry.0
     ∙ ap (λ groups. brought (packet_payload settings.ports settings.reassembly groups (packet copy.index) a.time)) groups in
-    rw first (ap (λ out. deliveries settings (events_of before) port ++ delivered out copy.event.room copy.event.time port (number_delivered settings (events_of before) port)) brings_it
+    rw first (ap (λ out. deliveries settings (events_of_copies before) port ++ delivered out copy.event.room copy.event.time port (number_delivered settings (events_of_copies before) port)) brings_it
     ∙ rw rest refl))
     (cases_Bool (has_come copy.index before))

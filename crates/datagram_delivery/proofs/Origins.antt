@@ -6,7 +6,7 @@ use Rattle.es_base.specs.declared.fragment.DatagramKey.{DatagramKey}
 use Rattle.es_base.specs.Packet.{PacketParts}
 use Rattle.es_base.specs.Copies.{elapsed}
 use Rattle.es_base.specs.Fragments.{is_bad, is_whole, key_of, piece_of}
-use Rattle.es_base.specs.Groups.{Found, Group, bad, begin_of, begins, datagram_with, fate, fate_if, found_at, found_for, found_if, group_with, groups_after, groups_with, has_key, is_over, is_same_key, joins, pieces_with, place_of, whole, with_room, without}
+use Rattle.es_base.specs.Groups.{Found, Group, bad, begin_of, begins, datagram_with, fate, fate_if, found_at, found_for, found_if, group_with, groups_after, groups_with, has_key, is_over, is_same_key, joins, pieces_with, place_of, whole, with_room, without_group}
 use Rattle.es_base.proofs.Firsts.{found_at as found_place, passes_found}
 use Rattle.datagram_delivery.specs.Splitting.{Offer, are_some, groups_after_offers}
 use Rattle.datagram_delivery.specs.Parts.{IsPartOf}
@@ -139,7 +139,7 @@ origins_after limit part before groups is_part agree have = go (is_whole part.of
     kept : HaveOrigins (part ∷ before) groups
     kept = origins_later part before groups have
 
-    without_it : (place : Option ℕ) → HaveOrigins (part ∷ before) (without groups place)
+    without_it : (place : Option ℕ) → HaveOrigins (part ∷ before) (without_group groups place)
     without_it None = kept
     without_it (Some place) = each_remove (Origin (part ∷ before)) groups place kept
 

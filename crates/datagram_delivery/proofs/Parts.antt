@@ -20,7 +20,7 @@ use Rattle.es_base.specs.Outcome.{Outcome, Payload, brings, brought, datagram_pa
 use Rattle.es_base.specs.Deliveries.{delivered, deliveries, is_same_port, number_delivered, takes_one_more}
 use Rattle.es_base.specs.Settings.{Settings}
 use Rattle.datagram_delivery.specs.Splitting.{groups_after_offers}
-use Rattle.datagram_delivery.specs.Parts.{AreOfOne, AreOfOneWith, HaveParts, IsMessageOf, IsPart, WereSentIn}
+use Rattle.datagram_delivery.specs.Parts.{AreOfOne, AreOfOneWith, HaveParts, IsMessageOfDatagram, IsPart, WereSentIn}
 use Rattle.datagram_delivery.proofs.Origins.{Agree, AreParts, Part, handed_on_is_sent, offers_in}
 
 -- ---- the parts that reassembly is offered
@@ -118,7 +118,7 @@ brought_by settings past a payload is = go (passes settings past a) (is_redundan
     go true false e f = paid (frame_payload settings (groups_in settings past) a) (rw (e, f) at is)
 
 pub brought_was_sent : (settings : Settings) (datagram : Event → List ℕ) (e : Event) (past : List Event) (payload : Payload) → HaveParts settings.reassembly datagram (e ∷ past)
-    → outcome settings past (arrival_of e) ≡ brings payload → IsMessageOf settings e.frame (datagram e) payload
+    → outcome settings past (arrival_of e) ≡ brings payload → IsMessageOfDatagram settings e.frame (datagram e) payload
 unfolding frame_payload part_of
 brought_was_sent settings datagram e past payload have is =
     go (packet_in e.frame) refl (brought_by settings past (arrival_of e) payload is)
@@ -130,7 +130,7 @@ brought_was_sent settings datagram e past payload have is =
     before = parts_in settings datagram past
 
     handed : (packet : PacketParts) → packet_in e.frame ≡ Ok packet → (found : Fate) → fate limit (groups_in settings past) packet e.time ≡ found
-        → reassembled_payload settings packet found ≡ Ok payload → IsMessageOf settings e.frame (datagram e) payload
+        → reassembled_payload settings packet found ≡ Ok payload → IsMessageOfDatagram settings e.frame (datagram e) payload
     handed packet read bad e2 made = cc
     handed packet read held e2 made = cc
     handed packet read (whole octets joined) e2 made =
@@ -144,7 +144,7 @@ brought_was_sent settings datagram e past payload have is =
           admits = ap (λ (o : List ℕ). datagram_payload settings.ports (record { destination = packet.destination; joined = joined; octets = o })) (sym same) ∙ made;
         }
 
-    go : (read : Result PacketParts PacketFault) → packet_in e.frame ≡ read → read_payload settings (groups_in settings past) e.time read ≡ Ok payload → IsMessageOf settings e.frame (datagram e) payload
+    go : (read : Result PacketParts PacketFault) → packet_in e.frame ≡ read → read_payload settings (groups_in settings past) e.time read ≡ Ok payload → IsMessageOfDatagram settings e.frame (datagram e) payload
     go (Ok packet) read made = handed packet read (fate limit (groups_in settings past) packet e.time) refl made
     go (Err fault) read made = cc
 
@@ -161,7 +161,7 @@ sent_join settings datagram port past [] two sent sent_too = sent_too
 sent_join settings datagram port past (message ∷ one) two sent sent_too = (sent.0, sent_join settings datagram port past one two sent.1 sent_too)
 
 sent_here : (settings : Settings) (datagram : Event → List ℕ) (port : PortNo) (e : Event) (past : List Event) (out : Outcome) (before : ℕ)
-    → ((payload : Payload) → out ≡ brings payload → IsMessageOf settings e.frame (datagram e) payload) → WereSentIn settings datagram port (e ∷ past) (delivered out e.room e.time port before)
+    → ((payload : Payload) → out ≡ brings payload → IsMessageOfDatagram settings e.frame (datagram e) payload) → WereSentIn settings datagram port (e ∷ past) (delivered out e.room e.time port before)
 sent_here settings datagram port e past out_of_sequence before was = tt
 sent_here settings datagram port e past redundant before was = tt
 sent_here settings datagram port e past (refused verdict) before was = tt

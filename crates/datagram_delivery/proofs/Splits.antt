@@ -8,7 +8,7 @@ use Rattle.es_base.specs.Copies.{elapsed}
 use Rattle.es_base.specs.Fragments.{Piece, datagram_from, is_whole, key_of, piece_of}
 use Rattle.es_base.specs.Groups.{Found, Group, begin_or, begins, datagram_with, fate, fate_if, found_at, found_for, found_if, groups_after, groups_with, has_key, held, is_over, is_same_key, joins, pieces_with, place_of, whole, with_room}
 use Rattle.es_base.proofs.Keys.{key_itself, same_key}
-use Rattle.datagram_delivery.specs.Splitting.{AreFronts, IsFront, IsLast, Offer, LeavesRoom, begins_group, begun_meanwhile, begun_since, groups_after_offers, is_of, joined, pieces_of}
+use Rattle.datagram_delivery.specs.Splitting.{AreFronts, IsFront, IsLastFragment, Offer, LeavesRoom, begins_group, begun_meanwhile, begun_since, groups_after_offers, is_of, joined, pieces_of}
 use Rattle.datagram_delivery.specs.Datagrams.{AreOf}
 use Rattle.datagram_delivery.proofs.Places.{place_here, place_later}
 use Rattle.datagram_delivery.proofs.Each.{HasOther, IsAbsent, each_room}
@@ -174,7 +174,7 @@ pub last_not_whole : (packet : PacketParts) → 0 < packet.offset → is_whole p
 last_not_whole packet after = rw (ne_eqb packet.offset 0 (λ e. omega arith)) refl
 
 pub last_completes : (limit : ℕ) (groups : List Group) (key : DatagramKey) (before : List Offer) (last : Offer) → place_of key groups ≡ None → AreFronts limit key before
-    → LeavesRoom limit groups key before → is_of key last ≡ true → IsLast limit (pieces_of key before) last
+    → LeavesRoom limit groups key before → is_of key last ≡ true → IsLastFragment limit (pieces_of key before) last
     → fate limit (groups_after_offers limit groups before) last.packet last.time ≡ whole (joined (pieces_of key before) ++ last.packet.octets) true
 unfolding fate
 last_completes limit groups key before last none fronts room ours is_last =
@@ -247,7 +247,7 @@ alone_after limit key (offer ∷ before) ours fronts =
 
 -- and is gone with its last piece
 pub gone_after : (limit : ℕ) (key : DatagramKey) (front : Offer) (earlier : List Offer) (last : Offer) → AreOf key (front ∷ earlier) → AreFronts limit key (front ∷ earlier) → is_of key last ≡ true
-    → IsLast limit (pieces_of key (front ∷ earlier)) last → groups_after limit (groups_after_offers limit [] (front ∷ earlier)) last.packet last.time ≡ []
+    → IsLastFragment limit (pieces_of key (front ∷ earlier)) last → groups_after limit (groups_after_offers limit [] (front ∷ earlier)) last.packet last.time ≡ []
 unfolding groups_after
 gone_after limit key front earlier last all fronts ours is_last =
     let same : key_of last.packet ≡ key = same_key (key_of last.packet) key ours in
@@ -255,7 +255,7 @@ gone_after limit key front earlier last all fronts ours is_last =
     let before : List Piece = pieces_of key earlier in
     let pieces : pieces_of key (front ∷ earlier) ≡ first ∷ before = rw all.0 refl in
     let standing : groups_after_offers limit [] (front ∷ earlier) ≡ alone key (first ∷ before) = alone_after limit key (front ∷ earlier) all fronts ∙ ap (alone key) pieces in
-    let next : IsLast limit (first ∷ before) last = subst (λ (ps : List Piece). IsLast limit ps last) pieces is_last in
+    let next : IsLastFragment limit (first ∷ before) last = subst (λ (ps : List Piece). IsLastFragment limit ps last) pieces is_last in
     let row : AreInRow (first ∷ before) = subst AreInRow pieces (fronts_row limit key (front ∷ earlier) fronts).0 in
     let piece : Piece = piece_of last.packet last.time in
     let complete : is_some (datagram_with limit (alone key (first ∷ before)) last.packet last.time) ≡ true =
@@ -279,7 +279,7 @@ found_ours limit key first earlier n groups now stands soon =
     (found.place, found.there, ap (found_at limit groups now) found.there ∙ ap (found_if limit groups now found.place) found.got ∙ rw not_over refl)
 
 pub last_is_whole : (limit : ℕ) (key : DatagramKey) (earlier : List Piece) (n : ℕ) (groups : List Group) (offer : Offer) → key_of offer.packet ≡ key → IsState key earlier n groups → AreInRow earlier
-    → IsLast limit earlier offer → fate limit groups offer.packet offer.time ≡ whole (joined earlier ++ offer.packet.octets) true
+    → IsLastFragment limit earlier offer → fate limit groups offer.packet offer.time ≡ whole (joined earlier ++ offer.packet.octets) true
 unfolding fate
 last_is_whole limit key earlier n groups offer same state row is_last =
     let piece : Piece = piece_of offer.packet offer.time in
@@ -290,7 +290,7 @@ last_is_whole limit key earlier n groups offer same state row is_last =
     rw (last_not_whole offer.packet is_last.after, is_last.next.good) (ap fate_if datagram)
 
 pub last_found : (limit : ℕ) (key : DatagramKey) (earlier : List Piece) (n : ℕ) (groups : List Group) (offer : Offer) → key_of offer.packet ≡ key → IsState key earlier n groups → AreInRow earlier
-    → IsLast limit earlier offer → is_some (datagram_with limit groups offer.packet offer.time) ≡ true
+    → IsLastFragment limit earlier offer → is_some (datagram_with limit groups offer.packet offer.time) ≡ true
 last_found limit key earlier n groups offer same state row is_last =
     let piece : Piece = piece_of offer.packet offer.time in
     ap is_some (ap (λ (k : DatagramKey). datagram_from (pieces_with piece (found_for limit groups k offer.time))) same

@@ -7,7 +7,7 @@ use Rattle.es_base.specs.declared.fragment.DatagramKey.{DatagramKey}
 use Rattle.es_base.specs.Limits.{most_partials}
 use Rattle.es_base.specs.Packet.{PacketParts}
 use Rattle.es_base.specs.Fragments.{Piece, is_bad, is_whole, key_of, piece_of}
-use Rattle.es_base.specs.Groups.{Found, Group, begins, datagram_with, found_at, found_for, found_if, group_with, groups_after, groups_with, has_key, is_over, is_same_key, joins, place_of, with_room, without}
+use Rattle.es_base.specs.Groups.{Found, Group, begins, datagram_with, found_at, found_for, found_if, group_with, groups_after, groups_with, has_key, is_over, is_same_key, joins, place_of, with_room, without_group}
 use Rattle.es_base.proofs.Keys.{key_itself, other_way}
 use Rattle.datagram_delivery.specs.Splitting.{begins_group, begun_meanwhile, begun_since, is_beginning, others_in}
 use Rattle.datagram_delivery.proofs.Each.{AreDistinct, HasOther, IsAbsent, absent_set, each_push, each_remove, each_room}
@@ -168,7 +168,7 @@ after_other limit groups packet now P Q before removed put room push = go (is_wh
     complete : Bool
     complete = is_some (datagram_with limit groups packet now)
 
-    given_up : (place : Option ℕ) → place_of key groups ≡ place → P (without groups place)
+    given_up : (place : Option ℕ) → place_of key groups ≡ place → P (without_group groups place)
     given_up None is = before
     given_up (Some place) is = removed place is
 

@@ -7,7 +7,7 @@ use Rattle.es_base.specs.declared.fragment.DatagramKey.{DatagramKey}
 use Rattle.es_base.specs.Packet.{PacketParts}
 use Rattle.es_base.specs.Copies.{elapsed}
 use Rattle.es_base.specs.Fragments.{Piece, datagram_from, is_bad, is_whole, key_of, piece_of}
-use Rattle.es_base.specs.Groups.{Found, Group, begin_of, begin_or, begins, datagram_with, found_at, found_for, found_if, group_with, groups_after, groups_with, has_key, is_over, is_same_key, joins, pieces_with, place_of, with_room, without}
+use Rattle.es_base.specs.Groups.{Found, Group, begin_of, begin_or, begins, datagram_with, found_at, found_for, found_if, group_with, groups_after, groups_with, has_key, is_over, is_same_key, joins, pieces_with, place_of, with_room, without_group}
 use Rattle.es_base.proofs.Firsts.{found_at as found_place, passes_found}
 use Rattle.es_base.proofs.Keys.{same_key}
 use Rattle.datagram_delivery.specs.Splitting.{AreFronts, IsFront, LeavesRoom, Offer, are_some, begins_group, begun_meanwhile, groups_after_offers, is_of}
@@ -120,7 +120,7 @@ begun_after limit offer before groups have = go (is_whole offer.packet) (is_bad 
     kept : AreBegun (offer ∷ before) groups
     kept = begun_later offer before groups have
 
-    without_it : (place : Option ℕ) → AreBegun (offer ∷ before) (without groups place)
+    without_it : (place : Option ℕ) → AreBegun (offer ∷ before) (without_group groups place)
     without_it None = kept
     without_it (Some place) = begun_remove (offer ∷ before) groups place kept
 

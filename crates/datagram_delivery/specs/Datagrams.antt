@@ -13,7 +13,7 @@ use Rattle.es_base.specs.Deliveries.{delivered}
 use Rattle.es_base.specs.Settings.{Settings}
 use Rattle.frame_delivery.specs.Sending.{Copy, EachCopy}
 use Rattle.frame_delivery.specs.Messages.{goes_to}
-use Rattle.datagram_delivery.specs.Splitting.{AreFronts, IsLast, Offer, LeavesRoom, groups_after_offers, is_of, joined, pieces_of}
+use Rattle.datagram_delivery.specs.Splitting.{AreFronts, IsLastFragment, Offer, LeavesRoom, groups_after_offers, is_of, joined, pieces_of}
 
 -- ---- the packets of the frames
 
@@ -51,7 +51,7 @@ AreOf key (offer ∷ before) = (is_of key offer ≡ true) × AreOf key before
 pub record IsSentSplit (settings : Settings) (payload : Payload) (last : Offer) (others : List Offer) : Type 0 where
   pub ours : AreOf (key_of last.packet) others
   pub fronts : AreFronts settings.reassembly (key_of last.packet) others
-  pub ends : IsLast settings.reassembly (pieces_of (key_of last.packet) others) last
+  pub ends : IsLastFragment settings.reassembly (pieces_of (key_of last.packet) others) last
   pub admits : datagram_payload settings.ports (record {
     destination = last.packet.destination;
     joined = true;
@@ -75,7 +75,7 @@ pub record IsSplitInOrder (settings : Settings) (payload : Payload) (earlier : L
   pub begins : is_of (key_of last.packet) first ≡ true
   pub unused : IsUnused settings.reassembly (key_of last.packet) first.time earlier
   pub fronts : AreFronts settings.reassembly (key_of last.packet) (during ++ first ∷ [])
-  pub ends : IsLast settings.reassembly (pieces_of (key_of last.packet) (during ++ first ∷ [])) last
+  pub ends : IsLastFragment settings.reassembly (pieces_of (key_of last.packet) (during ++ first ∷ [])) last
   pub admits : datagram_payload settings.ports (record {
     destination = last.packet.destination;
     joined = true;
@@ -106,9 +106,9 @@ all_offers [] = []
 all_offers (sent ∷ before) = sent.offers ++ all_offers before
 
 -- when the last of some packets came
-abbrev pub time_of : List Offer → ℕ
-time_of [] = 0
-time_of (offer ∷ before) = offer.time
+abbrev pub time_of_last : List Offer → ℕ
+time_of_last [] = 0
+time_of_last (offer ∷ before) = offer.time
 
 -- whether the queue had room when the last of some packets came
 abbrev pub room_of : List Offer → Bool
@@ -120,5 +120,5 @@ room_of (offer ∷ before) = offer.room
 abbrev pub messages_sent : PortNo → List Sent → List Message
 messages_sent port [] = []
 messages_sent port (sent ∷ before) =
-    if goes_to port sent.payload (room_of sent.offers) then messages_sent port before ++ record { time = time_of sent.offers; octets = sent.payload.octets } ∷ []
+    if goes_to port sent.payload (room_of sent.offers) then messages_sent port before ++ record { time = time_of_last sent.offers; octets = sent.payload.octets } ∷ []
     else messages_sent port before

@@ -28,12 +28,12 @@ link_with_queue = record {
   ports = record { name = []; address = 3772776465; udp = 5002; max = 100; kind = Queuing 4 } ∷ [];
 }
 
-abbrev pub message : List ℕ
-message = 1 ∷ 2 ∷ 3 ∷ 4 ∷ 5 ∷ 6 ∷ 7 ∷ 8 ∷ 9 ∷ 10 ∷ 11 ∷ 12 ∷ 13 ∷ 14 ∷ 15 ∷ 16 ∷ []
+abbrev pub sixteen_octets : List ℕ
+sixteen_octets = 1 ∷ 2 ∷ 3 ∷ 4 ∷ 5 ∷ 6 ∷ 7 ∷ 8 ∷ 9 ∷ 10 ∷ 11 ∷ 12 ∷ 13 ∷ 14 ∷ 15 ∷ 16 ∷ []
 
 -- the octets of its datagram: the UDP header, and the message
 abbrev pub datagram_octets : List ℕ
-datagram_octets = 19 ∷ 136 ∷ 19 ∷ 138 ∷ 0 ∷ 24 ∷ 0 ∷ 0 ∷ [] ++ message
+datagram_octets = 19 ∷ 136 ∷ 19 ∷ 138 ∷ 0 ∷ 24 ∷ 0 ∷ 0 ∷ [] ++ sixteen_octets
 
 -- the packets of the first frame and of those after it
 abbrev pub packet_sent : ℕ → PacketParts
@@ -65,7 +65,7 @@ in_two_fragments = came_with nets.B 1 second_frame 1500 ∷ came_with nets.A 0 f
 
 abbrev pub message_sent : Sent
 message_sent = record {
-  payload = record { port = record { 0 = 0 }; kind = Queuing 4; joined = true; octets = message };
+  payload = record { port = record { 0 = 0 }; kind = Queuing 4; joined = true; octets = sixteen_octets };
   offers = record { packet = packet_sent 1; time = 1500; room = true } ∷ record { packet = packet_sent 0; time = 100; room = true } ∷ [];
 }
 
@@ -74,7 +74,7 @@ message_sent = record {
 abbrev pub part_sent : ℕ → ℕ → ℕ → Carried
 part_sent ident index time = record {
   offer = record { packet = record (packet_sent index) { ident = ident }; time = time; room = true };
-  payload = record { port = record { 0 = 0 }; kind = Queuing 4; joined = true; octets = message };
+  payload = record { port = record { 0 = 0 }; kind = Queuing 4; joined = true; octets = sixteen_octets };
 }
 
 abbrev pub among_one_another : List Carried

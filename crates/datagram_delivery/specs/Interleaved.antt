@@ -47,7 +47,7 @@ open_keys (offer ∷ before) =
 
 -- A packet is sent after others: it is the whole of a datagram, or the next fragment of one that is in parts, or the
 -- first of another. With the last octets of a datagram its message goes to a port that admits it.
-pub record GoesOn (settings : Settings) (before : List Carried) (carried : Carried) : Type 0 where
+pub record SendsOn (settings : Settings) (before : List Carried) (carried : Carried) : Type 0 where
   pub next : ComesNext settings.reassembly (pieces_now (key_of carried.offer.packet) (carried_offers before)) carried.offer
   pub first : (carried.offer.packet.offset == 0) ≡ not (are_some (pieces_now (key_of carried.offer.packet) (carried_offers before)))
   pub admits : carried.offer.packet.more ≡ false → datagram_payload settings.ports (record {
@@ -58,7 +58,7 @@ pub record GoesOn (settings : Settings) (before : List Carried) (carried : Carri
 
 -- and it begins no datagram in parts while four are
 pub record SendsNext (settings : Settings) (before : List Carried) (carried : Carried) : Type 0 where
-  pub on : GoesOn settings before carried
+  pub on : SendsOn settings before carried
   pub few : carried.offer.packet.more ≡ true → (carried.offer.packet.offset == 0) ≡ true → length (open_keys (carried_offers before)) < most_partials
 
 -- rule: DELIV-11

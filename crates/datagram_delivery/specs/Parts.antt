@@ -44,7 +44,7 @@ HaveParts limit datagram (e ∷ past) = IsPart datagram e × AreOfOneWith limit 
 
 -- a message is that which a datagram has for a port of the link, where this frame has the datagram or a part of it
 -- rule: DELIV-2
-pub record IsMessageOf (settings : Settings) (frame datagram : List ℕ) (payload : Payload) : Type 0 where
+pub record IsMessageOfDatagram (settings : Settings) (frame datagram : List ℕ) (payload : Payload) : Type 0 where
   pub packet : PacketParts
   pub reads : packet_in frame ≡ Ok packet
   pub joined : Bool
@@ -55,7 +55,7 @@ pub record IsMessageOf (settings : Settings) (frame datagram : List ℕ) (payloa
 -- a message at a port, with the time of an event, was sent: it is that of the datagram of this event
 pub record WasSent (settings : Settings) (datagram : Event → List ℕ) (port : PortNo) (e : Event) (message : Message) : Type 0 where
   pub payload : Payload
-  pub of : IsMessageOf settings e.frame (datagram e) payload
+  pub of : IsMessageOfDatagram settings e.frame (datagram e) payload
   pub to : is_same_port payload.port port ≡ true
   pub time : message.time ≡ e.time
   pub octets : message.octets ≡ payload.octets

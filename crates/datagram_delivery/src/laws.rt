@@ -11,15 +11,15 @@ ghost use Rattle.es_base.specs.Fragments.{key_of};
 ghost use Rattle.es_base.specs.Groups.{Group, fate, held, place_of, whole};
 ghost use Rattle.es_base.specs.Outcome.{Payload, brings, outcome};
 ghost use Rattle.es_base.specs.Deliveries.{deliveries};
-ghost use Rattle.frame_delivery.specs.Sending.{Copy, Numbering, events_of};
+ghost use Rattle.frame_delivery.specs.Sending.{Copy, Numbering, events_of_copies};
 ghost use Rattle.frame_delivery.specs.Once.{first_copies, has_come};
 ghost use Rattle.frame_delivery.specs.Network.{ComeWhole, Timing};
-ghost use Rattle.datagram_delivery.specs.Splitting.{AreFronts, IsLast, Offer, LeavesRoom, groups_after_offers, is_of, joined, other_keys, pieces_of};
+ghost use Rattle.datagram_delivery.specs.Splitting.{AreFronts, IsLastFragment, Offer, LeavesRoom, groups_after_offers, is_of, joined, other_keys, pieces_of};
 ghost use Rattle.datagram_delivery.specs.Datagrams.{AreSent, CarryPackets, IsSplitAmong, IsSplitInOrder, Sent, all_offers, messages_by, messages_sent, offers_of};
-ghost use Rattle.datagram_delivery.specs.Interleaved.{AreInterleaved, Carried, GoesOn, SendsNext, carried_offers, messages_ended};
-ghost use Rattle.datagram_delivery.specs.Parts.{HaveParts, IsMessageOf, WereSentIn};
+ghost use Rattle.datagram_delivery.specs.Interleaved.{AreInterleaved, Carried, SendsOn, SendsNext, carried_offers, messages_ended};
+ghost use Rattle.datagram_delivery.specs.Parts.{HaveParts, IsMessageOfDatagram, WereSentIn};
 ghost use Rattle.frame_delivery.specs.Examples.{numbering, timing};
-ghost use Rattle.datagram_delivery.specs.Examples.{among_one_another, datagram_at, datagram_octets, eight, first_key, five_begun, four_begun, four_in_parts, fragment, in_two_fragments, link_of_100, link_with_queue, message, message_sent, one_identification, packet_sent, part_sent};
+ghost use Rattle.datagram_delivery.specs.Examples.{among_one_another, datagram_at, datagram_octets, eight, first_key, five_begun, four_begun, four_in_parts, fragment, in_two_fragments, link_of_100, link_with_queue, sixteen_octets, message_sent, one_identification, packet_sent, part_sent};
 
 /// A datagram that is split into fragments is joined whole: each fragment but the last is held, and the last brings
 /// exactly the octets of all, one after the other. They come in order and within the limit of time, none is missing,
@@ -29,7 +29,7 @@ pub fn a_split_datagram_is_joined()
         → LeavesRoom limit groups key before → is_of key offer ≡ true
         → fate limit (groups_after_offers limit groups before) offer.packet offer.time ≡ held }
     ensures whole { (limit : ℕ) (groups : List Group) (key : DatagramKey) (before : List Offer) (last : Offer) → place_of key groups ≡ None → AreFronts limit key before
-        → LeavesRoom limit groups key before → is_of key last ≡ true → IsLast limit (pieces_of key before) last
+        → LeavesRoom limit groups key before → is_of key last ≡ true → IsLastFragment limit (pieces_of key before) last
         → fate limit (groups_after_offers limit groups before) last.packet last.time ≡ whole (joined (pieces_of key before) ++ last.packet.octets) true }
 {}
 
@@ -48,7 +48,7 @@ pub fn three_others_leave_room()
 pub fn each_packet_is_offered_once()
     ensures { (settings : Settings) (numbering : Numbering) (timing : Timing) (packet : ℕ → PacketParts) (copies : List Copy) (port : PortNo) → ComeWhole settings numbering timing copies
         → CarryPackets packet copies
-        → deliveries settings (events_of copies) port ≡ messages_by settings (offers_of packet (first_copies copies)) port }
+        → deliveries settings (events_of_copies copies) port ≡ messages_by settings (offers_of packet (first_copies copies)) port }
 {}
 
 /// If a sender sends its datagrams one after another, each whole or in fragments, and a copy comes of each frame, a
@@ -58,14 +58,14 @@ pub fn each_datagram_is_delivered_once()
     ensures { (settings : Settings) (numbering : Numbering) (timing : Timing) (packet : ℕ → PacketParts) (copies : List Copy) (sents : List Sent) (port : PortNo)
         → ComeWhole settings numbering timing copies → CarryPackets packet copies
         → offers_of packet (first_copies copies) ≡ all_offers sents → AreSent settings sents → length sents ≤ most_samples
-        → deliveries settings (events_of copies) port ≡ messages_sent port sents }
+        → deliveries settings (events_of_copies copies) port ≡ messages_sent port sents }
 {}
 
 /// The same if it sends the fragments of up to four datagrams among one another, as its sub-virtual links do.
 pub fn each_datagram_among_others_is_delivered_once()
     ensures { (settings : Settings) (numbering : Numbering) (timing : Timing) (packet : ℕ → PacketParts) (copies : List Copy) (carried : List Carried) (port : PortNo)
         → ComeWhole settings numbering timing copies → CarryPackets packet copies → offers_of packet (first_copies copies) ≡ carried_offers carried → AreInterleaved settings carried
-        → length carried ≤ most_samples → deliveries settings (events_of copies) port ≡ messages_ended port carried }
+        → length carried ≤ most_samples → deliveries settings (events_of_copies copies) port ≡ messages_ended port carried }
 {}
 
 /// Whatever else comes on the link, and whatever was lost before: a message in fragments, of each of which a copy
@@ -76,7 +76,7 @@ pub fn a_split_message_is_delivered()
         → ComeWhole settings numbering timing (copy ∷ before) → CarryPackets packet (copy ∷ before) → has_come copy.index before ≡ false
         → offers_of packet (first_copies before) ≡ during ++ first ∷ earlier
         → IsSplitAmong settings payload earlier first during (record { packet = packet copy.index; time = copy.event.time; room = copy.event.room })
-        → outcome settings (events_of before) (arrival_of copy.event) ≡ brings payload }
+        → outcome settings (events_of_copies before) (arrival_of copy.event) ≡ brings payload }
 {}
 
 /// Nothing is made up, mixed or cut, whatever is lost, brought twice or out of order: a message that a port gets is
@@ -84,7 +84,7 @@ pub fn a_split_message_is_delivered()
 /// come within the limit of time of each other are of different datagrams with one identification.
 pub fn each_message_was_sent()
     ensures brought { (settings : Settings) (datagram : Event → List ℕ) (e : Event) (past : List Event) (payload : Payload) → HaveParts settings.reassembly datagram (e ∷ past)
-        → outcome settings past (arrival_of e) ≡ brings payload → IsMessageOf settings e.frame (datagram e) payload }
+        → outcome settings past (arrival_of e) ≡ brings payload → IsMessageOfDatagram settings e.frame (datagram e) payload }
     ensures delivered { (settings : Settings) (datagram : Event → List ℕ) (past : List Event) (port : PortNo) → HaveParts settings.reassembly datagram past
         → WereSentIn settings datagram port past (deliveries settings past port) }
 {}
@@ -97,19 +97,19 @@ pub fn the_conditions_can_be_met()
     ensures offered { offers_of packet_sent (first_copies in_two_fragments) ≡ all_offers (message_sent ∷ []) }
     ensures sent { AreSent link_with_queue (message_sent ∷ []) }
     ensures among { AreInterleaved link_with_queue among_one_another }
-    ensures parts { HaveParts 50000 (λ e. datagram_octets) (events_of in_two_fragments) }
-    ensures delivered { deliveries link_with_queue (events_of in_two_fragments) (record { 0 = 0 }) ≡ record { time = 1500; octets = message } ∷ [] }
+    ensures parts { HaveParts 50000 (λ e. datagram_octets) (events_of_copies in_two_fragments) }
+    ensures delivered { deliveries link_with_queue (events_of_copies in_two_fragments) (record { 0 = 0 }) ≡ record { time = 1500; octets = sixteen_octets } ∷ [] }
 {}
 
 /// Counterexamples with one condition not met, and all others met: with a fifth datagram in parts the first isn't
 /// completed, so its message isn't delivered; and within the limit of time, to the microsecond, one identification for
 /// two datagrams mixes them.
 pub fn each_condition_is_needed()
-    ensures fifth_group { (place_of first_key [] ≡ None) × (is_of first_key (fragment 1 8 false 1) ≡ true) × AreFronts 50000 first_key five_begun × IsLast 50000 (pieces_of first_key five_begun) (fragment 1 8 false 1) × LeavesRoom 50000 [] first_key four_begun × (LeavesRoom 50000 [] first_key five_begun → ⊥)
+    ensures fifth_group { (place_of first_key [] ≡ None) × (is_of first_key (fragment 1 8 false 1) ≡ true) × AreFronts 50000 first_key five_begun × IsLastFragment 50000 (pieces_of first_key five_begun) (fragment 1 8 false 1) × LeavesRoom 50000 [] first_key four_begun × (LeavesRoom 50000 [] first_key five_begun → ⊥)
         × (fate 50000 (groups_after_offers 50000 [] five_begun) (fragment 1 8 false 1).packet 100 ≡ held) }
-    ensures fifth_in_parts { AreInterleaved link_with_queue four_in_parts × GoesOn link_with_queue four_in_parts (part_sent 5 0 500) × SendsNext link_with_queue (part_sent 5 0 500 ∷ four_in_parts) (part_sent 1 1 600)
+    ensures fifth_in_parts { AreInterleaved link_with_queue four_in_parts × SendsOn link_with_queue four_in_parts (part_sent 5 0 500) × SendsNext link_with_queue (part_sent 5 0 500 ∷ four_in_parts) (part_sent 1 1 600)
         × (SendsNext link_with_queue four_in_parts (part_sent 5 0 500) → ⊥)
         × (messages_by link_with_queue (carried_offers (part_sent 1 1 600 ∷ part_sent 5 0 500 ∷ four_in_parts)) (record { 0 = 0 }) ≡ []) }
-    ensures identification_again { HaveParts 99 datagram_at (events_of one_identification) × (HaveParts 100 datagram_at (events_of one_identification) → ⊥)
-        × (deliveries link_of_100 (events_of one_identification) (record { 0 = 0 }) ≡ record { time = 200; octets = eight 1 ++ eight 2 } ∷ []) }
+    ensures identification_again { HaveParts 99 datagram_at (events_of_copies one_identification) × (HaveParts 100 datagram_at (events_of_copies one_identification) → ⊥)
+        × (deliveries link_of_100 (events_of_copies one_identification) (record { 0 = 0 }) ≡ record { time = 200; octets = eight 1 ++ eight 2 } ∷ []) }
 {}

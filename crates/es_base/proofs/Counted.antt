@@ -9,9 +9,9 @@ use Rattle.es_base.specs.declared.event.Event.{Event}
 use Rattle.es_base.specs.Config.{Configuration}
 use Rattle.es_base.specs.Addressing.{addressed_link}
 use Rattle.es_base.specs.FilterTally.{HasFiltered, cause_kind}
-use Rattle.es_base.specs.Limits.{filter_causes, verdict_kinds}
+use Rattle.es_base.specs.Limits.{filter_causes}
 use Rattle.es_base.specs.Tally.{AddsOne, Counts, HasCounts, count_of, is_counted, one_more}
-use Rattle.es_base.specs.Verdict.{kind_of}
+use Rattle.es_base.specs.Verdict.{kind_of, verdict_kinds}
 
 -- ---- events
 

@@ -11,9 +11,9 @@ ghost use Rattle.es_base.specs.Deliveries.{deliveries, number_delivered};
 ghost use Rattle.es_base.specs.Config.{Configuration};
 ghost use Rattle.es_base.specs.Addressing.{addressed_link};
 ghost use Rattle.es_base.specs.FilterTally.{HasFiltered, cause_kind};
-ghost use Rattle.es_base.specs.Limits.{filter_causes, verdict_kinds};
+ghost use Rattle.es_base.specs.Limits.{filter_causes};
 ghost use Rattle.es_base.specs.Tally.{AddsOne, Counts, HasCounts, IsKind};
-ghost use Rattle.es_base.specs.Verdict.{kind_of};
+ghost use Rattle.es_base.specs.Verdict.{kind_of, verdict_kinds};
 
 /// A tally with one more of an event's kind counts the event. No count saturates while the number of all events fits in
 /// 64 bits.

@@ -2,7 +2,7 @@
 use Rattle.std.proofs.Common.{List, refl}
 use Rattle.es_base.specs.Settings.{Settings}
 use Rattle.frame_delivery.specs.Sending.{Copy, Numbering}
-use Rattle.frame_delivery.specs.Once.{passing}
+use Rattle.frame_delivery.specs.Once.{passing_copies}
 use Rattle.frame_delivery.specs.Network.{BeginNear, ComeTimely, ComeWhole, IsNeverLate, Timing}
 use Rattle.frame_delivery.specs.Conditions.{MeetAll, apart, covers, is_asked_for_all, is_asked_for_once, late, late_restart, losses, near, restarts}
 
@@ -23,7 +23,7 @@ come_whole settings numbering timing copies meet =
     }
 
 pub come_once : (settings : Settings) (numbering : Numbering) (timing : Timing) (copies : List Copy) → MeetAll is_asked_for_once settings numbering timing copies
-    → ComeTimely settings numbering timing copies × IsNeverLate timing × BeginNear settings.skew_max (passing settings copies)
+    → ComeTimely settings numbering timing copies × IsNeverLate timing × BeginNear settings.skew_max (passing_copies settings copies)
 come_once settings numbering timing copies meet =
     let (are, met) = meet in (
       record {

@@ -17,7 +17,7 @@ use Rattle.es_base.specs.Redundancy.{forwarded, is_forwarded, is_redundant}
 use Rattle.es_base.specs.Outcome.{Payload, brings, brought, frame_payload, outcome}
 use Rattle.es_base.specs.Deliveries.{delivered, deliveries, number_delivered, takes_one_more}
 use Rattle.es_base.specs.Settings.{Settings}
-use Rattle.frame_delivery.specs.Sending.{Copy, EachCopy, events_of}
+use Rattle.frame_delivery.specs.Sending.{Copy, EachCopy, events_of_copies}
 use Rattle.frame_delivery.specs.Once.{IsForwardedIfFirst, first_copies, has_come}
 use Rattle.frame_delivery.specs.Messages.{CarriesWhole, CarryWhole, goes_to, has_room, messages_of}
 
@@ -74,23 +74,23 @@ number_of_messages payload port (copy ∷ before) =
 -- ---- all messages
 
 pub first_are_delivered : (settings : Settings) (payload : ℕ → Payload) (port : PortNo) (copies : List Copy) → EachCopy (IsForwardedIfFirst settings) copies → CarryWhole settings payload copies
-    → length copies ≤ most_samples → deliveries settings (events_of copies) port ≡ messages_of payload port (first_copies copies)
+    → length copies ≤ most_samples → deliveries settings (events_of_copies copies) port ≡ messages_of payload port (first_copies copies)
 first_are_delivered settings payload port [] each carry few = refl
 first_are_delivered settings payload port (copy ∷ before) each carry few =
     let fewer : length before ≤ most_samples = omega (arith, few) in
-    let rest : deliveries settings (events_of before) port ≡ messages_of payload port (first_copies before) = first_are_delivered settings payload port before each.1 carry.1 fewer in
+    let rest : deliveries settings (events_of_copies before) port ≡ messages_of payload port (first_copies before) = first_are_delivered settings payload port before each.1 carry.1 fewer in
     let number = number_of_messages payload port before in
     let a : Arrival = arrival_of copy.event in
     ⊎_elim
     (λ (come : has_come copy.index before ≡ true).
-    let is : is_forwarded settings (events_of before) a ≡ false = each.0 ∙ ap not come in
-    rw come (ap (λ messages. deliveries settings (events_of before) port ++ messages) (nothing_delivered settings (events_of before) a copy.event.room copy.event.time port (number_delivered settings (events_of before) port) is)
-    ∙ append-nil (deliveries settings (events_of before) port) ∙ rest))
+    let is : is_forwarded settings (events_of_copies before) a ≡ false = each.0 ∙ ap not come in
+    rw come (ap (λ messages. deliveries settings (events_of_copies before) port ++ messages) (nothing_delivered settings (events_of_copies before) a copy.event.room copy.event.time port (number_delivered settings (events_of_copies before) port) is)
+    ∙ append-nil (deliveries settings (events_of_copies before) port) ∙ rest))
     (λ (first : has_come copy.index before ≡ false).
-    let is : is_forwarded settings (events_of before) a ≡ true = each.0 ∙ ap not first in
-    let taken = takes (payload copy.index).kind copy.event.room (number_delivered settings (events_of before) port) (rw rest (omega (arith, number, few))) in
-    let brings_it = forwarded_outcome settings (events_of before) a (payload copy.index) is carry.0 in
-    rw first (ap (λ out. deliveries settings (events_of before) port ++ delivered out copy.event.room copy.event.time port (number_delivered settings (events_of before) port)) brings_it
+    let is : is_forwarded settings (events_of_copies before) a ≡ true = each.0 ∙ ap not first in
+    let taken = takes (payload copy.index).kind copy.event.room (number_delivered settings (events_of_copies before) port) (rw rest (omega (arith, number, few))) in
+    let brings_it = forwarded_outcome settings (events_of_copies before) a (payload copy.index) is carry.0 in
+    rw first (ap (λ out. deliveries settings (events_of_copies before) port ++ delivered out copy.event.room copy.event.time port (number_delivered settings (events_of_copies before) port)) brings_it
     ∙ rw (taken, rest) (added (goes_to port (payload copy.index) copy.event.room) (messages_of payload port (first_copies before)) _)))
     (cases_Bool (has_come copy.index before))
   where

@@ -3,7 +3,7 @@ use Rattle.std.proofs.Common.{◌≡◌, ◌+◌, ◌≤◌, inl, inr, true, [],
 use Rattle.std.specs.Prelude.{◌⊎◌}
 use Rattle.std.proofs.lemmas.Bool.{false≢true}
 use Rattle.es_base.specs.Redundancy.{forwarded}
-use Rattle.frame_delivery.specs.Sending.{EachCopy, HaveNumbers, RunsOn, events_of}
+use Rattle.frame_delivery.specs.Sending.{EachCopy, HaveNumbers, RunsOn, events_of_copies}
 use Rattle.frame_delivery.specs.Network.{BeginNear, ComeWhole, IsOnItsWay, KeepsTimes, LosesFew, time_of_all}
 use Rattle.frame_delivery.specs.Conditions.{Condition, IsMet, MeetAllBut, apart, covers, is_asked_for_all, is_asked_for_once, late, late_restart, losses, near, restarts}
 use Rattle.frame_delivery.specs.Examples.{after_skew_max, behind_a_restart, far_apart, far_behind, frame_at, from_57, from_one, link, numbering, overtaken, soon_restarted, timed, timing, two_lost, wide_link, with_losses}
@@ -80,10 +80,10 @@ long_met = record {
   apart = omega arith;
 }
 
-pub long_forwarded : forwarded (link 1000000) (events_of with_losses) ≡ frame_at 2 3100 ∷ frame_at 1 2200 ∷ frame_at 255 1500 ∷ frame_at 254 100 ∷ []
+pub long_forwarded : forwarded (link 1000000) (events_of_copies with_losses) ≡ frame_at 2 3100 ∷ frame_at 1 2200 ∷ frame_at 255 1500 ∷ frame_at 254 100 ∷ []
 long_forwarded = refl
 
-pub met_forwarded : forwarded (link 1000) (events_of with_losses) ≡ frame_at 2 3100 ∷ frame_at 1 2200 ∷ frame_at 255 1500 ∷ frame_at 254 100 ∷ []
+pub met_forwarded : forwarded (link 1000) (events_of_copies with_losses) ≡ frame_at 2 3100 ∷ frame_at 1 2200 ∷ frame_at 255 1500 ∷ frame_at 254 100 ∷ []
 met_forwarded = refl
 
 -- ---- one thing isn't
@@ -101,7 +101,7 @@ after_skew_max_others late asked differ = cc
 after_skew_max_others late_restart asked differ = cc
 
 pub forwarded_twice : MeetAllBut is_asked_for_all covers (link 1000) from_one (timed 2000 4000 100 1101 0) after_skew_max
-    × (forwarded (link 1000) (events_of after_skew_max) ≡ frame_at 1 1101 ∷ frame_at 1 100 ∷ [])
+    × (forwarded (link 1000) (events_of_copies after_skew_max) ≡ frame_at 1 1101 ∷ frame_at 1 100 ∷ [])
 forwarded_twice = (
   record {
     are = record { redundancy = refl; first = omega arith; numbers = (refl, (refl, tt)); times = after_skew_max_times };
@@ -125,7 +125,7 @@ overtaken_others late asked differ = cc
 overtaken_others late_restart asked differ = cc
 
 pub overtaken_is_lost : MeetAllBut is_asked_for_all apart (link 1000) from_one (timed 1000 4000 100 1100 0) overtaken
-    × (forwarded (link 1000) (events_of overtaken) ≡ frame_at 3 2100 ∷ frame_at 1 100 ∷ [])
+    × (forwarded (link 1000) (events_of_copies overtaken) ≡ frame_at 3 2100 ∷ frame_at 1 100 ∷ [])
 overtaken_is_lost = (
   record {
     are = record { redundancy = refl; first = omega arith; numbers = (refl, (refl, (refl, (refl, (refl, tt))))); times = overtaken_times };
@@ -156,7 +156,7 @@ two_are_too_many is = go is.0
     go (inr again) = cc
 
 pub after_two_is_lost : MeetAllBut is_asked_for_all losses (link 1000) from_one timing two_lost
-    × (forwarded (link 1000) (events_of two_lost) ≡ frame_at 1 100 ∷ [])
+    × (forwarded (link 1000) (events_of_copies two_lost) ≡ frame_at 1 100 ∷ [])
 after_two_is_lost = (
   record {
     are = record { redundancy = refl; first = omega arith; numbers = (refl, (refl, (refl, (refl, tt)))); times = two_lost_times };
@@ -180,7 +180,7 @@ far_apart_others late asked differ = cc
 far_apart_others late_restart asked differ = cc
 
 pub far_is_lost : MeetAllBut is_asked_for_all near (link 128000) from_one (timed 1000 200000 100 100 0) far_apart
-    × (forwarded (link 128000) (events_of far_apart) ≡ frame_at 1 100 ∷ [])
+    × (forwarded (link 128000) (events_of_copies far_apart) ≡ frame_at 1 100 ∷ [])
 far_is_lost = (
   record {
     are = record { redundancy = refl; first = omega arith; numbers = (refl, (refl, tt)); times = far_apart_times };
@@ -204,7 +204,7 @@ soon_restarted_others late asked differ = cc
 soon_restarted_others late_restart asked differ = cc
 
 pub restart_is_lost : MeetAllBut is_asked_for_all restarts (link 1000) from_57 (timed 1000 1000 100 100 0) soon_restarted
-    × (forwarded (link 1000) (events_of soon_restarted) ≡ frame_at 57 100 ∷ [])
+    × (forwarded (link 1000) (events_of_copies soon_restarted) ≡ frame_at 57 100 ∷ [])
 restart_is_lost = (
   record {
     are = record { redundancy = refl; first = omega arith; numbers = (refl, (refl, tt)); times = soon_restarted_times };
@@ -228,7 +228,7 @@ far_behind_others late asked differ = absurd (differ refl)
 far_behind_others late_restart asked differ = omega arith
 
 pub far_behind_is_forwarded : MeetAllBut is_asked_for_once late wide_link from_one (timed 1000 300000 100 128100 0) far_behind
-    × (forwarded wide_link (events_of far_behind) ≡ frame_at 1 128100 ∷ frame_at 129 128100 ∷ frame_at 65 64100 ∷ frame_at 1 100 ∷ [])
+    × (forwarded wide_link (events_of_copies far_behind) ≡ frame_at 1 128100 ∷ frame_at 129 128100 ∷ frame_at 65 64100 ∷ frame_at 1 100 ∷ [])
 far_behind_is_forwarded = (
   record {
     are = record { redundancy = refl; first = omega arith; numbers = (refl, (refl, (refl, (refl, tt)))); times = far_behind_times };
@@ -252,7 +252,7 @@ behind_a_restart_others late asked differ = omega arith
 behind_a_restart_others late_restart asked differ = absurd (differ refl)
 
 pub behind_a_restart_is_forwarded : MeetAllBut is_asked_for_once late_restart (link 1000) from_57 (timed 2000 2000 100 100 2000) behind_a_restart
-    × (forwarded (link 1000) (events_of behind_a_restart) ≡ frame_at 57 100 ∷ frame_at 0 2100 ∷ frame_at 57 100 ∷ [])
+    × (forwarded (link 1000) (events_of_copies behind_a_restart) ≡ frame_at 57 100 ∷ frame_at 0 2100 ∷ frame_at 57 100 ∷ [])
 behind_a_restart_is_forwarded = (
   record {
     are = record { redundancy = refl; first = omega arith; numbers = (refl, (refl, (refl, tt))); times = behind_a_restart_times };

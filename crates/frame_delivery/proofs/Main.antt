@@ -7,8 +7,8 @@ use Rattle.es_base.specs.Integrity.{passes}
 use Rattle.es_base.specs.Copies.{greatest_time}
 use Rattle.es_base.specs.Redundancy.{forwarded}
 use Rattle.es_base.specs.Settings.{Settings}
-use Rattle.frame_delivery.specs.Sending.{Copy, EachCopy, HaveNumbers, Numbering, events_of}
-use Rattle.frame_delivery.specs.Once.{AreInOrder, ComesInTime, IsForwardedIfFirst, IsForwardedIfNew, IsNotOvertaken, as_forwarded, first_copies, greatest_index, has_come, is_new, new_copies, newest_time, passing}
+use Rattle.frame_delivery.specs.Sending.{Copy, EachCopy, HaveNumbers, Numbering, events_of_copies}
+use Rattle.frame_delivery.specs.Once.{AreInOrder, ComesInTime, IsForwardedIfFirst, IsForwardedIfNew, IsNotOvertaken, as_forwarded, first_copies, greatest_index, has_come, is_new, new_copies, newest_time, passing_copies}
 use Rattle.frame_delivery.specs.Network.{BeginNear, BeginsNear, ComeTimely, ComeWhole, IsNeverLate, HasAge, HasNoOvertaking, IsOnItsWay, IsOverSoon, KeepsOrder, KeepsTimes, LosesFew, Timing}
 use Rattle.frame_delivery.proofs.Kept.{each_passing, order_of_passing}
 use Rattle.frame_delivery.proofs.Forwarding.{copies_are_forwarded, new_are_forwarded, new_in_order, same_greatest}
@@ -20,19 +20,19 @@ use Rattle.frame_delivery.proofs.Firsts.{new_are_first, new_has_not_come, new_is
 -- ---- at most once, in order
 
 pub passing_in_time : (settings : Settings) (numbering : Numbering) (timing : Timing) (copies : List Copy) → ComeTimely settings numbering timing copies → AreNotLate numbering timing
-    → BeginNear settings.skew_max (passing settings copies) → EachCopy (ComesInTime numbering settings.skew_max) (passing settings copies)
+    → BeginNear settings.skew_max (passing_copies settings copies) → EachCopy (ComesInTime numbering settings.skew_max) (passing_copies settings copies)
 passing_in_time settings numbering timing copies timely on_time near =
     let times = timely.times in
-    all_in_time numbering timing times.gaps times.pauses settings.skew_max (passing settings copies) timely.fits on_time near (each_passing (IsOnItsWay timing) settings copies times.ways) (order_of_passing timing.wait settings copies times.order)
+    all_in_time numbering timing times.gaps times.pauses settings.skew_max (passing_copies settings copies) timely.fits on_time near (each_passing (IsOnItsWay timing) settings copies times.ways) (order_of_passing timing.wait settings copies times.order)
 
 pub forwarded_once : (settings : Settings) (numbering : Numbering) (timing : Timing) (copies : List Copy) → ComeTimely settings numbering timing copies → AreNotLate numbering timing
-    → BeginNear settings.skew_max (passing settings copies)
-    → (forwarded settings (events_of copies) ≡ as_forwarded (new_copies (passing settings copies))) × AreInOrder (new_copies (passing settings copies))
+    → BeginNear settings.skew_max (passing_copies settings copies)
+    → (forwarded settings (events_of_copies copies) ≡ as_forwarded (new_copies (passing_copies settings copies))) × AreInOrder (new_copies (passing_copies settings copies))
 forwarded_once settings numbering timing copies timely on_time near =
-    (new_are_forwarded settings numbering copies timely.redundancy timely.first timely.numbers (passing_in_time settings numbering timing copies timely on_time near), new_in_order (passing settings copies))
+    (new_are_forwarded settings numbering copies timely.redundancy timely.first timely.numbers (passing_in_time settings numbering timing copies timely on_time near), new_in_order (passing_copies settings copies))
 
 pub forwarded_at_most_once : (settings : Settings) (numbering : Numbering) (timing : Timing) (copies : List Copy) → ComeTimely settings numbering timing copies → IsNeverLate timing
-    → BeginNear settings.skew_max (passing settings copies) → forwarded settings (events_of copies) ≡ as_forwarded (new_copies (passing settings copies))
+    → BeginNear settings.skew_max (passing_copies settings copies) → forwarded settings (events_of_copies copies) ≡ as_forwarded (new_copies (passing_copies settings copies))
 forwarded_at_most_once settings numbering timing copies timely on_time near =
     (forwarded_once settings numbering timing copies timely (not_late numbering timing timely.times.gaps timely.times.pauses on_time) near).0
 
@@ -41,7 +41,7 @@ forwarded_at_most_once settings numbering timing copies timely on_time near =
 -- what holds of each copy: it is new and passes, if it is the first of its frame
 abbrev IsNewIfFirst : Settings → List Copy → Copy → Type 0
 IsNewIfFirst settings before copy =
-    has_come copy.index before ≡ false → (is_new copy.index before ≡ true) × (passes settings (events_of before) (arrival_of copy.event) ≡ true)
+    has_come copy.index before ≡ false → (is_new copy.index before ≡ true) × (passes settings (events_of_copies before) (arrival_of copy.event) ≡ true)
 
 firsts_are_new : (settings : Settings) (numbering : Numbering) (copies : List Copy) → HaveNumbers numbering copies → LosesFew numbering settings.window copies → EachCopy IsNotOvertaken copies
     → EachCopy (IsNewIfFirst settings) copies
@@ -54,7 +54,7 @@ firsts_are_new settings numbering (copy ∷ before) numbers losses apart = (
 )
 
 -- a copy of each frame passes
-come_passing : (settings : Settings) (index : ℕ) (copies : List Copy) → EachCopy (IsNewIfFirst settings) copies → has_come index copies ≡ true → has_come index (passing settings copies) ≡ true
+come_passing : (settings : Settings) (index : ℕ) (copies : List Copy) → EachCopy (IsNewIfFirst settings) copies → has_come index copies ≡ true → has_come index (passing_copies settings copies) ≡ true
 come_passing settings index [] each come = come
 come_passing settings index (copy ∷ before) each come =
     let later = λ (is : has_come index before ≡ true). more settings index copy before (come_passing settings index before each.1 is) in
@@ -68,45 +68,45 @@ come_passing settings index (copy ∷ before) each come =
     (λ (is : has_come index before ≡ true). later is)
     (or_cases (copy.index == index) (has_come index before) come)
   where
-    more : (settings : Settings) (index : ℕ) (copy : Copy) (before : List Copy) → has_come index (passing settings before) ≡ true → has_come index (passing settings (copy ∷ before)) ≡ true
+    more : (settings : Settings) (index : ℕ) (copy : Copy) (before : List Copy) → has_come index (passing_copies settings before) ≡ true → has_come index (passing_copies settings (copy ∷ before)) ≡ true
     more settings index copy before come =
         ⊎_elim
-        (λ (is : passes settings (events_of before) (arrival_of copy.event) ≡ true). rw is (or_right _ _ come))
-        (λ (is : passes settings (events_of before) (arrival_of copy.event) ≡ false). rw is come)
-        (cases_Bool (passes settings (events_of before) (arrival_of copy.event)))
+        (λ (is : passes settings (events_of_copies before) (arrival_of copy.event) ≡ true). rw is (or_right _ _ come))
+        (λ (is : passes settings (events_of_copies before) (arrival_of copy.event) ≡ false). rw is come)
+        (cases_Bool (passes settings (events_of_copies before) (arrival_of copy.event)))
 
 -- what is new after some copies is new after those that pass
-new_passing : (settings : Settings) (index : ℕ) (before : List Copy) → is_new index before ≡ true → is_new index (passing settings before) ≡ true
+new_passing : (settings : Settings) (index : ℕ) (before : List Copy) → is_new index before ≡ true → is_new index (passing_copies settings before) ≡ true
 new_passing settings index [] new = refl
 new_passing settings index (copy ∷ before) new =
     let less : greatest_index (copy ∷ before) < index = ltb-true (greatest_index (copy ∷ before)) index new in
     let most = greatest_passing settings (copy ∷ before) in
-    new_after index (passing settings (copy ∷ before)) (omega (arith, less, most))
+    new_after index (passing_copies settings (copy ∷ before)) (omega (arith, less, most))
   where
-    greatest_passing : (settings : Settings) (copies : List Copy) → greatest_index (passing settings copies) ≤ greatest_index copies
+    greatest_passing : (settings : Settings) (copies : List Copy) → greatest_index (passing_copies settings copies) ≤ greatest_index copies
     greatest_passing settings [] = omega arith
     greatest_passing settings (copy ∷ before) =
         let rest = greatest_passing settings before in
         ⊎_elim
-        (λ (is : passes settings (events_of before) (arrival_of copy.event) ≡ true). rw is (omega (arith, rest)))
-        (λ (is : passes settings (events_of before) (arrival_of copy.event) ≡ false). rw is (omega (arith, rest)))
-        (cases_Bool (passes settings (events_of before) (arrival_of copy.event)))
+        (λ (is : passes settings (events_of_copies before) (arrival_of copy.event) ≡ true). rw is (omega (arith, rest)))
+        (λ (is : passes settings (events_of_copies before) (arrival_of copy.event) ≡ false). rw is (omega (arith, rest)))
+        (cases_Bool (passes settings (events_of_copies before) (arrival_of copy.event)))
 
     new_after : (index : ℕ) (copies : List Copy) → greatest_index copies < index → is_new index copies ≡ true
     new_after index [] less = refl
     new_after index (copy ∷ before) less = lt-ltb (greatest_index (copy ∷ before)) index less
 
-old_passing : (settings : Settings) (index : ℕ) (before : List Copy) → EachCopy (IsNewIfFirst settings) before → has_come index before ≡ true → is_new index (passing settings before) ≡ false
+old_passing : (settings : Settings) (index : ℕ) (before : List Copy) → EachCopy (IsNewIfFirst settings) before → has_come index before ≡ true → is_new index (passing_copies settings before) ≡ false
 old_passing settings index before each come =
     ⊎_elim
-    (λ (new : is_new index (passing settings before) ≡ true).
-    absurd (both_ways (has_come index (passing settings before)) (new_has_not_come index (passing settings before) new) (come_passing settings index before each come)))
-    (λ (old : is_new index (passing settings before) ≡ false). old)
-    (cases_Bool (is_new index (passing settings before)))
+    (λ (new : is_new index (passing_copies settings before) ≡ true).
+    absurd (both_ways (has_come index (passing_copies settings before)) (new_has_not_come index (passing_copies settings before) new) (come_passing settings index before each come)))
+    (λ (old : is_new index (passing_copies settings before) ≡ false). old)
+    (cases_Bool (is_new index (passing_copies settings before)))
 
 -- a copy passes and is new exactly if it is the first of its frame
 new_if_first : (settings : Settings) (copy : Copy) (before : List Copy) → EachCopy (IsNewIfFirst settings) (copy ∷ before)
-    → (passes settings (events_of before) (arrival_of copy.event) && is_new copy.index (passing settings before)) ≡ not (has_come copy.index before)
+    → (passes settings (events_of_copies before) (arrival_of copy.event) && is_new copy.index (passing_copies settings before)) ≡ not (has_come copy.index before)
 new_if_first settings copy before each =
     ⊎_elim
     (λ (come : has_come copy.index before ≡ true). and_right _ _ (old_passing settings copy.index before each.1 come) ∙ sym (ap not come))
@@ -120,16 +120,16 @@ if_first settings [] firsts each = tt
 if_first settings (copy ∷ before) firsts each = (each.0 ∙ new_if_first settings copy before firsts, if_first settings before firsts.1 each.1)
 
 -- so the new ones of those that pass are the first copies
-passing_are_first : (settings : Settings) (copies : List Copy) → EachCopy (IsNewIfFirst settings) copies → new_copies (passing settings copies) ≡ first_copies copies
+passing_are_first : (settings : Settings) (copies : List Copy) → EachCopy (IsNewIfFirst settings) copies → new_copies (passing_copies settings copies) ≡ first_copies copies
 passing_are_first settings [] each = refl
 passing_are_first settings (copy ∷ before) each =
     let rest = passing_are_first settings before each.1 in
     ⊎_elim
     (λ (come : has_come copy.index before ≡ true).
     ⊎_elim
-    (λ (is : passes settings (events_of before) (arrival_of copy.event) ≡ true). rw (come, is, old_passing settings copy.index before each.1 come) rest)
-    (λ (is : passes settings (events_of before) (arrival_of copy.event) ≡ false). rw (come, is) rest)
-    (cases_Bool (passes settings (events_of before) (arrival_of copy.event))))
+    (λ (is : passes settings (events_of_copies before) (arrival_of copy.event) ≡ true). rw (come, is, old_passing settings copy.index before each.1 come) rest)
+    (λ (is : passes settings (events_of_copies before) (arrival_of copy.event) ≡ false). rw (come, is) rest)
+    (cases_Bool (passes settings (events_of_copies before) (arrival_of copy.event))))
     (λ (first : has_come copy.index before ≡ false).
     let both = each.0 first in
     rw (first, both.1, new_passing settings copy.index before both.0) (ap (λ copies. copy ∷ copies) rest))
@@ -141,20 +141,20 @@ whole_firsts settings numbering timing copies come =
     firsts_are_new settings numbering copies come.timely.numbers come.losses (none_overtaken numbering timing times.gaps times.pauses copies come.apart times.ways times.order)
 
 -- where few are lost, the copies that pass are as near as all
-newest_passing : (settings : Settings) (copies : List Copy) → EachCopy (IsNewIfFirst settings) copies → EachCopy IsNotOvertaken copies → new_copies (passing settings copies) ≡ new_copies copies
+newest_passing : (settings : Settings) (copies : List Copy) → EachCopy (IsNewIfFirst settings) copies → EachCopy IsNotOvertaken copies → new_copies (passing_copies settings copies) ≡ new_copies copies
 newest_passing settings copies firsts apart = passing_are_first settings copies firsts ∙ sym (new_are_first copies apart)
 
 passing_near : (settings : Settings) (copies : List Copy) → EachCopy (IsNewIfFirst settings) copies → EachCopy IsNotOvertaken copies → BeginNear settings.skew_max copies
-    → BeginNear settings.skew_max (passing settings copies)
+    → BeginNear settings.skew_max (passing_copies settings copies)
 passing_near settings [] firsts apart near = tt
 passing_near settings (copy ∷ before) firsts apart near =
     let rest = passing_near settings before firsts.1 apart.1 near.1 in
     ⊎_elim
-    (λ (is : passes settings (events_of before) (arrival_of copy.event) ≡ true). rw is (begins copy before (passing settings before) refl firsts.1 apart.1 near.0, rest))
-    (λ (is : passes settings (events_of before) (arrival_of copy.event) ≡ false). rw is rest)
-    (cases_Bool (passes settings (events_of before) (arrival_of copy.event)))
+    (λ (is : passes settings (events_of_copies before) (arrival_of copy.event) ≡ true). rw is (begins copy before (passing_copies settings before) refl firsts.1 apart.1 near.0, rest))
+    (λ (is : passes settings (events_of_copies before) (arrival_of copy.event) ≡ false). rw is rest)
+    (cases_Bool (passes settings (events_of_copies before) (arrival_of copy.event)))
   where
-    begins : (copy : Copy) (before some : List Copy) → passing settings before ≡ some → EachCopy (IsNewIfFirst settings) before → EachCopy IsNotOvertaken before → BeginsNear settings.skew_max before copy
+    begins : (copy : Copy) (before some : List Copy) → passing_copies settings before ≡ some → EachCopy (IsNewIfFirst settings) before → EachCopy IsNotOvertaken before → BeginsNear settings.skew_max before copy
         → BeginsNear settings.skew_max some copy
     begins copy before [] is firsts apart near = tt
     begins copy [] (one ∷ some) is firsts apart near = cc
@@ -165,7 +165,7 @@ passing_near settings (copy ∷ before) firsts apart near =
         let close = near_the_newest settings.skew_max other before copy near (omega (arith, soon, newest)) in
         omega (arith, close, greatest)
 
-whole_near : (settings : Settings) (numbering : Numbering) (timing : Timing) (copies : List Copy) → ComeWhole settings numbering timing copies → BeginNear settings.skew_max (passing settings copies)
+whole_near : (settings : Settings) (numbering : Numbering) (timing : Timing) (copies : List Copy) → ComeWhole settings numbering timing copies → BeginNear settings.skew_max (passing_copies settings copies)
 whole_near settings numbering timing copies come =
     let times = come.timely.times in
     passing_near settings copies (whole_firsts settings numbering timing copies come) (none_overtaken numbering timing times.gaps times.pauses copies come.apart times.ways times.order) come.near
@@ -182,37 +182,37 @@ each_first_is_forwarded settings numbering timing copies come =
     (passing_in_time settings numbering timing copies timely (whole_on_time settings numbering timing copies come) (whole_near settings numbering timing copies come)))
 
 pub firsts_are_forwarded : (settings : Settings) (numbering : Numbering) (timing : Timing) (copies : List Copy) → ComeWhole settings numbering timing copies
-    → (forwarded settings (events_of copies) ≡ as_forwarded (first_copies copies)) × AreInOrder (first_copies copies)
+    → (forwarded settings (events_of_copies copies) ≡ as_forwarded (first_copies copies)) × AreInOrder (first_copies copies)
 firsts_are_forwarded settings numbering timing copies come =
     let once = forwarded_once settings numbering timing copies come.timely (whole_on_time settings numbering timing copies come) (whole_near settings numbering timing copies come) in
-    let firsts : new_copies (passing settings copies) ≡ first_copies copies = passing_are_first settings copies (whole_firsts settings numbering timing copies come) in
+    let firsts : new_copies (passing_copies settings copies) ≡ first_copies copies = passing_are_first settings copies (whole_firsts settings numbering timing copies come) in
     (once.0 ∙ ap as_forwarded firsts, subst AreInOrder firsts once.1)
 
 -- ---- where copies are overtaken
 
 pub new_ones_forwarded : (settings : Settings) (numbering : Numbering) (timing : Timing) (copies : List Copy) → ComeTimely settings numbering timing copies → IsNeverLate timing → BeginNear settings.skew_max copies
-    → KeepsOrder copies → LosesFew numbering settings.window copies → forwarded settings (events_of copies) ≡ as_forwarded (new_copies copies)
+    → KeepsOrder copies → LosesFew numbering settings.window copies → forwarded settings (events_of_copies copies) ≡ as_forwarded (new_copies copies)
 new_ones_forwarded settings numbering timing copies timely on_time near keeps losses =
-    let all : passing settings copies ≡ copies = all_pass settings numbering copies timely.numbers keeps losses in
+    let all : passing_copies settings copies ≡ copies = all_pass settings numbering copies timely.numbers keeps losses in
     forwarded_at_most_once settings numbering timing copies timely on_time (subst (BeginNear settings.skew_max) (sym all) near) ∙ ap (λ copies. as_forwarded (new_copies copies)) all
 
 -- ---- where more are lost
 
 pub passing_forwarded : (settings : Settings) (numbering : Numbering) (timing : Timing) (copies : List Copy) → ComeTimely settings numbering timing copies → HasNoOvertaking timing
-    → BeginNear settings.skew_max (passing settings copies) → forwarded settings (events_of copies) ≡ as_forwarded (first_copies (passing settings copies))
+    → BeginNear settings.skew_max (passing_copies settings copies) → forwarded settings (events_of_copies copies) ≡ as_forwarded (first_copies (passing_copies settings copies))
 passing_forwarded settings numbering timing copies timely apart near =
     let times = timely.times in
     (forwarded_once settings numbering timing copies timely (apart_not_late numbering timing times.gaps times.pauses apart) near).0
-    ∙ ap as_forwarded (new_are_first (passing settings copies)
-    (none_overtaken numbering timing times.gaps times.pauses (passing settings copies) apart (each_passing (IsOnItsWay timing) settings copies times.ways) (order_of_passing timing.wait settings copies times.order)))
+    ∙ ap as_forwarded (new_are_first (passing_copies settings copies)
+    (none_overtaken numbering timing times.gaps times.pauses (passing_copies settings copies) apart (each_passing (IsOnItsWay timing) settings copies times.ways) (order_of_passing timing.wait settings copies times.order)))
 
 -- ---- where SkewMax is short
 
 pub short_is_near : (settings : Settings) (numbering : Numbering) (timing : Timing) (copies : List Copy) → KeepsTimes numbering timing copies → IsOverSoon timing settings.skew_max
-    → BeginNear settings.skew_max copies × BeginNear settings.skew_max (passing settings copies)
+    → BeginNear settings.skew_max copies × BeginNear settings.skew_max (passing_copies settings copies)
 short_is_near settings numbering timing copies times over = (
   begin_near numbering timing times.gaps times.pauses settings.skew_max copies over times.ways,
-  begin_near numbering timing times.gaps times.pauses settings.skew_max (passing settings copies) over (each_passing (IsOnItsWay timing) settings copies times.ways),
+  begin_near numbering timing times.gaps times.pauses settings.skew_max (passing_copies settings copies) over (each_passing (IsOnItsWay timing) settings copies times.ways),
 )
 
 -- ---- the age of a message
@@ -229,7 +229,7 @@ ages : (timing : Timing) (now : ℕ) (copies : List Copy) → EachCopy (λ befor
 ages timing now [] ways = tt
 ages timing now (copy ∷ before) ways =
     let (soonest, latest) = ways.0 in
-    (λ came. (omega (arith, soonest, latest, came), omega (arith, soonest, latest, came)), ages timing now before ways.1)
+    (λ received. (omega (arith, soonest, latest, received), omega (arith, soonest, latest, received)), ages timing now before ways.1)
 
 pub first_ages : (numbering : Numbering) (timing : Timing) (copies : List Copy) (now : ℕ) → KeepsTimes numbering timing copies → EachCopy (λ before copy. HasAge timing now copy) (first_copies copies)
 first_ages numbering timing copies now times = ages timing now (first_copies copies) (first_ways timing copies times.ways)

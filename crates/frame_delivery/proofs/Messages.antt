@@ -5,21 +5,21 @@ use Rattle.es_base.specs.Limits.{most_samples}
 use Rattle.es_base.specs.Outcome.{Payload}
 use Rattle.es_base.specs.Deliveries.{deliveries}
 use Rattle.es_base.specs.Settings.{Settings}
-use Rattle.frame_delivery.specs.Sending.{Copy, Numbering, events_of}
+use Rattle.frame_delivery.specs.Sending.{Copy, Numbering, events_of_copies}
 use Rattle.frame_delivery.specs.Once.{first_copies}
 use Rattle.frame_delivery.specs.Network.{ComeWhole, Timing}
-use Rattle.frame_delivery.specs.Messages.{AllCame, CarryWhole, HaveRoom, messages_of, octets_of, octets_sent}
+use Rattle.frame_delivery.specs.Messages.{AllCame, CarryWhole, HaveRoom, messages_of, octets_of_messages, octets_sent}
 use Rattle.frame_delivery.proofs.Main.{each_first_is_forwarded, firsts_are_forwarded}
 use Rattle.frame_delivery.proofs.Delivered.{first_are_delivered}
 use Rattle.frame_delivery.proofs.Whole.{all_first_octets}
 
 pub messages_delivered : (settings : Settings) (numbering : Numbering) (timing : Timing) (payload : ℕ → Payload) (copies : List Copy) (port : PortNo) → ComeWhole settings numbering timing copies
-    → CarryWhole settings payload copies → length copies ≤ most_samples → deliveries settings (events_of copies) port ≡ messages_of payload port (first_copies copies)
+    → CarryWhole settings payload copies → length copies ≤ most_samples → deliveries settings (events_of_copies copies) port ≡ messages_of payload port (first_copies copies)
 messages_delivered settings numbering timing payload copies port come carry few =
     first_are_delivered settings payload port copies (each_first_is_forwarded settings numbering timing copies come) carry few
 
 pub all_delivered : (settings : Settings) (numbering : Numbering) (timing : Timing) (payload : ℕ → Payload) (copies : List Copy) (port : PortNo) (n : ℕ) → ComeWhole settings numbering timing copies
-    → CarryWhole settings payload copies → length copies ≤ most_samples → HaveRoom payload copies → AllCame n copies → octets_of (deliveries settings (events_of copies) port) ≡ octets_sent payload port n
+    → CarryWhole settings payload copies → length copies ≤ most_samples → HaveRoom payload copies → AllCame n copies → octets_of_messages (deliveries settings (events_of_copies copies) port) ≡ octets_sent payload port n
 all_delivered settings numbering timing payload copies port n come carry few room all =
-    ap octets_of (messages_delivered settings numbering timing payload copies port come carry few)
+    ap octets_of_messages (messages_delivered settings numbering timing payload copies port come carry few)
     ∙ all_first_octets payload port n copies (firsts_are_forwarded settings numbering timing copies come).1 room all

@@ -4,7 +4,7 @@ use Rattle.std.specs.Prelude.{◌&&◌, nat_le}
 use Rattle.std.proofs.lemmas.Bool.{cases_Bool, cases_lt, eq-eqb, ne_eqb, le-leb, lt-leb, and_right}
 use Rattle.es_base.specs.Integrity.{next_number}
 use Rattle.es_base.specs.Copies.{is_ahead}
-use Rattle.frame_delivery.specs.Sending.{Numbering, RunsOn, number_of}
+use Rattle.frame_delivery.specs.Sending.{Numbering, RunsOn, number_of_frame}
 
 -- ---- the number j frames later
 
@@ -14,7 +14,7 @@ number_after p zero = p
 number_after p (suc j) = next_number (number_after p j)
 
 -- where the sender runs on, the numbers go on
-pub number_later : (numbering : Numbering) (k j : ℕ) → RunsOn numbering k (k + j) → number_of numbering (k + j) ≡ number_after (number_of numbering k) j
+pub number_later : (numbering : Numbering) (k j : ℕ) → RunsOn numbering k (k + j) → number_of_frame numbering (k + j) ≡ number_after (number_of_frame numbering k) j
 number_later numbering k zero runs = let e : k + 0 ≡ k = omega arith in rw e refl
 number_later numbering k (suc j) runs =
     let e : k + suc j ≡ suc (k + j) = omega arith in
@@ -35,12 +35,12 @@ next_bound n small =
     (cases_lt n 255)
 
 -- a sequence number has 8 bits
-pub number_bound : (numbering : Numbering) (k : ℕ) → numbering.first ≤ 255 → number_of numbering k ≤ 255
+pub number_bound : (numbering : Numbering) (k : ℕ) → numbering.first ≤ 255 → number_of_frame numbering k ≤ 255
 number_bound numbering zero small = small
 number_bound numbering (suc k) small =
     ⊎_elim
     (λ (again : numbering.restarts (suc k) ≡ true). rw again (omega arith))
-    (λ (on : numbering.restarts (suc k) ≡ false). rw on (next_bound (number_of numbering k) (number_bound numbering k small)))
+    (λ (on : numbering.restarts (suc k) ≡ false). rw on (next_bound (number_of_frame numbering k) (number_bound numbering k small)))
     (cases_Bool (numbering.restarts (suc k)))
 
 -- up to 255 it counts up
@@ -123,22 +123,22 @@ earlier_is_not (suc p) j small least most =
 
 -- a frame that is at most 127 after another is ahead of it
 pub ahead_of_earlier : (numbering : Numbering) (k i : ℕ) → numbering.first ≤ 255 → k < i → i ≤ k + 127 → RunsOn numbering k i
-    → is_ahead (number_of numbering k) (number_of numbering i) ≡ true
+    → is_ahead (number_of_frame numbering k) (number_of_frame numbering i) ≡ true
 ahead_of_earlier numbering k i small later near runs =
     let e : i ≡ k + (i - k) = omega arith in
     rw (e, number_later numbering k (i - k) (λ index after within. runs index after (omega arith)))
-    (later_is_ahead (number_of numbering k) (i - k) (number_bound numbering k small) (omega arith) (omega arith))
+    (later_is_ahead (number_of_frame numbering k) (i - k) (number_bound numbering k small) (omega arith) (omega arith))
 
 -- a frame that is the same or at most 127 before another isn't ahead of it
 pub not_ahead_of_later : (numbering : Numbering) (k i : ℕ) → numbering.first ≤ 255 → i ≤ k → k ≤ i + 127 → RunsOn numbering i k
-    → is_ahead (number_of numbering k) (number_of numbering i) ≡ false
+    → is_ahead (number_of_frame numbering k) (number_of_frame numbering i) ≡ false
 not_ahead_of_later numbering k i small earlier near runs =
     ⊎_elim
     (λ (less : i < k).
     let e : k ≡ i + (k - i) = omega arith in
     rw (e, number_later numbering i (k - i) (λ index after within. runs index after (omega arith)))
-    (earlier_is_not (number_of numbering i) (k - i) (number_bound numbering i small) (omega arith) (omega arith)))
+    (earlier_is_not (number_of_frame numbering i) (k - i) (number_bound numbering i small) (omega arith) (omega arith)))
     (λ (same : k ≤ i).
     let e : k ≡ i = omega arith in
-    rw e (itself (number_of numbering i)))
+    rw e (itself (number_of_frame numbering i)))
     (cases_lt i k)

@@ -7,8 +7,8 @@ use Rattle.es_base.specs.Frame.{sequence_number_of}
 use Rattle.es_base.specs.Past.{arrival_of}
 use Rattle.es_base.specs.Integrity.{is_among_next, is_same_net, latest, may_follow, next_number, passes, sequence_numbers_on}
 use Rattle.es_base.specs.Settings.{Settings}
-use Rattle.frame_delivery.specs.Sending.{Copy, HaveNumbers, Numbering, RunsOn, events_of, number_of}
-use Rattle.frame_delivery.specs.Once.{greatest_index, is_new, passing}
+use Rattle.frame_delivery.specs.Sending.{Copy, HaveNumbers, Numbering, RunsOn, events_of_copies, number_of_frame}
+use Rattle.frame_delivery.specs.Once.{greatest_index, is_new, passing_copies}
 use Rattle.frame_delivery.specs.Network.{IsLater, KeepsOrder, LosesFew, MayFollow, indices_on}
 use Rattle.frame_delivery.proofs.Numbers.{number_after, number_later}
 
@@ -26,23 +26,23 @@ among_next (suc window) n (suc d) within =
     or_right _ _ (ap (λ (r : ℕ). is_among_next window (next_number n) (next_number r)) (sym (next_first n d)) ∙ among_next window (next_number n) d (omega arith))
 
 follows : (numbering : Numbering) (window before index : ℕ) → before < index → index ≤ before + window → RunsOn numbering before index
-    → is_among_next window (number_of numbering before) (number_of numbering index) ≡ true
+    → is_among_next window (number_of_frame numbering before) (number_of_frame numbering index) ≡ true
 follows numbering window before index later near runs =
     let d : ℕ = index - before - 1 in
     let e : index ≡ before + suc d = omega arith in
-    ap (λ (r : ℕ). is_among_next window (number_of numbering before) (number_of numbering r)) e
-    ∙ ap (is_among_next window (number_of numbering before)) (number_later numbering before (suc d) (λ one after within. runs one after (omega arith)))
-    ∙ among_next window (number_of numbering before) d (omega arith)
+    ap (λ (r : ℕ). is_among_next window (number_of_frame numbering before) (number_of_frame numbering r)) e
+    ∙ ap (is_among_next window (number_of_frame numbering before)) (number_later numbering before (suc d) (λ one after within. runs one after (omega arith)))
+    ∙ among_next window (number_of_frame numbering before) d (omega arith)
 
 -- a restart has the number 0
-restart_is_zero : (numbering : Numbering) (before index : ℕ) → before < index → numbering.restarts index ≡ true → number_of numbering index ≡ 0
+restart_is_zero : (numbering : Numbering) (before index : ℕ) → before < index → numbering.restarts index ≡ true → number_of_frame numbering index ≡ 0
 restart_is_zero numbering before zero later again = absurd (omega arith)
 restart_is_zero numbering before (suc index) later again = rw again refl
 
 -- ---- the latest number on a network is that of the latest frame
 
 latest_on : (numbering : Numbering) (copies : List Copy) (net : Net) → HaveNumbers numbering copies
-    → latest (sequence_numbers_on (events_of copies) net) ≡ option_map (number_of numbering) (latest (indices_on copies net))
+    → latest (sequence_numbers_on (events_of_copies copies) net) ≡ option_map (number_of_frame numbering) (latest (indices_on copies net))
 latest_on numbering [] net numbers = refl
 latest_on numbering (copy ∷ before) net numbers =
     ⊎_elim
@@ -51,12 +51,12 @@ latest_on numbering (copy ∷ before) net numbers =
     (cases_Bool (is_same_net copy.event.net net))
 
 may_follow_too : (numbering : Numbering) (window : ℕ) (before : Option ℕ) (index : ℕ) → IsLater before index → MayFollow numbering window before index
-    → may_follow window (option_map (number_of numbering) before) (number_of numbering index) ≡ true
+    → may_follow window (option_map (number_of_frame numbering) before) (number_of_frame numbering index) ≡ true
 may_follow_too numbering window None index later may = refl
 may_follow_too numbering window (Some before) index later may =
     ⊎_elim
     (λ (near : (index ≤ before + window) × RunsOn numbering before index). or_right _ _ (follows numbering window before index later near.0 near.1))
-    (λ (again : numbering.restarts index ≡ true). or_left _ _ (eq-eqb (number_of numbering index) 0 (restart_is_zero numbering before index later again)))
+    (λ (again : numbering.restarts index ≡ true). or_left _ _ (eq-eqb (number_of_frame numbering index) 0 (restart_is_zero numbering before index later again)))
     may
 
 abbrev IsAtMost : Option ℕ → ℕ → Type 0
@@ -67,18 +67,18 @@ IsAtMost (Some i) n = i ≤ n
 
 passes_here : (settings : Settings) (numbering : Numbering) (copy : Copy) (before : List Copy) → HaveNumbers numbering (copy ∷ before)
     → IsLater (latest (indices_on before copy.event.net)) copy.index → MayFollow numbering settings.window (latest (indices_on before copy.event.net)) copy.index
-    → passes settings (events_of before) (arrival_of copy.event) ≡ true
+    → passes settings (events_of_copies before) (arrival_of copy.event) ≡ true
 passes_here settings numbering copy before numbers later may =
     ap (λ last. may_follow settings.window last (sequence_number_of copy.event.frame)) (latest_on numbering before copy.event.net numbers.1)
-    ∙ ap (λ (n : ℕ). may_follow settings.window (option_map (number_of numbering) (latest (indices_on before copy.event.net))) n) numbers.0
+    ∙ ap (λ (n : ℕ). may_follow settings.window (option_map (number_of_frame numbering) (latest (indices_on before copy.event.net))) n) numbers.0
     ∙ may_follow_too numbering settings.window (latest (indices_on before copy.event.net)) copy.index later may
 
 pub copy_passes : (settings : Settings) (numbering : Numbering) (copy : Copy) (before : List Copy) → HaveNumbers numbering (copy ∷ before) → KeepsOrder (copy ∷ before)
-    → LosesFew numbering settings.window (copy ∷ before) → passes settings (events_of before) (arrival_of copy.event) ≡ true
+    → LosesFew numbering settings.window (copy ∷ before) → passes settings (events_of_copies before) (arrival_of copy.event) ≡ true
 copy_passes settings numbering copy before numbers keeps losses = passes_here settings numbering copy before numbers keeps.0 losses.0
 
 pub all_pass : (settings : Settings) (numbering : Numbering) (copies : List Copy) → HaveNumbers numbering copies → KeepsOrder copies → LosesFew numbering settings.window copies
-    → passing settings copies ≡ copies
+    → passing_copies settings copies ≡ copies
 all_pass settings numbering [] numbers keeps losses = refl
 all_pass settings numbering (copy ∷ before) numbers keeps losses =
     rw (copy_passes settings numbering copy before numbers keeps losses) (ap (λ copies. copy ∷ copies) (all_pass settings numbering before numbers.1 keeps.1 losses.1))
@@ -110,5 +110,5 @@ new_is_later index (other ∷ before) net new =
     go (Some i) most = let l = less in omega (arith, l, most)
 
 pub new_passes : (settings : Settings) (numbering : Numbering) (copy : Copy) (before : List Copy) → HaveNumbers numbering (copy ∷ before) → LosesFew numbering settings.window (copy ∷ before)
-    → is_new copy.index before ≡ true → passes settings (events_of before) (arrival_of copy.event) ≡ true
+    → is_new copy.index before ≡ true → passes settings (events_of_copies before) (arrival_of copy.event) ≡ true
 new_passes settings numbering copy before numbers losses new = passes_here settings numbering copy before numbers (new_is_later copy.index before copy.event.net new) losses.0

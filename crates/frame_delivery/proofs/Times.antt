@@ -112,11 +112,11 @@ module _ (numbering : Numbering) (timing : Timing) (gaps : KeepsGap timing) (pau
       → IsOnItsWay timing copy → time_of_all (other ∷ before) ≤ copy.event.time + timing.wait → IsInTime numbering skew_max (other ∷ before) copy
   in_time skew_max other before copy fits on_time near ways way order =
       let all = other ∷ before in
-      let (soonest, latest, came) = newest_in_time other before ways in
+      let (soonest, latest, received) = newest_in_time other before ways in
       let greatest : ℕ = greatest_index all in
       let covers = fits.covers in
       let restarts = fits.restarts in
-      let not_behind = on_time copy.index greatest (omega (arith, way.1, came, order)) in
+      let not_behind = on_time copy.index greatest (omega (arith, way.1, received, order)) in
       record {
         late = λ not_new.
             let old : copy.index ≤ greatest = ltb-false greatest copy.index not_new in
@@ -142,7 +142,7 @@ module _ (numbering : Numbering) (timing : Timing) (gaps : KeepsGap timing) (pau
   begins_near skew_max copy [] over ways way = tt
   begins_near skew_max copy (other ∷ before) over ways way = λ cut soon.
       let greatest : ℕ = greatest_index (other ∷ before) in
-      let (soonest, latest, came) = newest_in_time other before ways in
+      let (soonest, latest, received) = newest_in_time other before ways in
       ⊎_elim
       (λ (far : greatest + 127 < copy.index).
       let sent = sent_far_apart greatest copy.index (omega arith) in
@@ -173,12 +173,12 @@ module _ (numbering : Numbering) (timing : Timing) (gaps : KeepsGap timing) (pau
   not_overtaken copy [] apart ways way order = λ old. cc
   not_overtaken copy (other ∷ before) apart ways way order = λ old.
       let greatest : ℕ = greatest_index (other ∷ before) in
-      let (soonest, latest, came) = newest_in_time other before ways in
+      let (soonest, latest, received) = newest_in_time other before ways in
       let at_most : copy.index ≤ greatest = ltb-false greatest copy.index old in
       ⊎_elim
       (λ (less : copy.index < greatest).
       let sent = sent_apart copy.index greatest less in
-      absurd (omega (arith, way.1, came, sent, order, apart)))
+      absurd (omega (arith, way.1, received, sent, order, apart)))
       (λ (more : greatest ≤ copy.index).
       let e : copy.index ≡ greatest = omega arith in
       ap (λ (index : ℕ). has_come index (other ∷ before)) e ∙ latest_has_come other before)

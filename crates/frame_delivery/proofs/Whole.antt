@@ -8,7 +8,7 @@ use Rattle.es_base.specs.Outcome.{Payload}
 use Rattle.es_base.specs.Deliveries.{is_same_port}
 use Rattle.frame_delivery.specs.Sending.{Copy}
 use Rattle.frame_delivery.specs.Once.{AreInOrder, first_copies, greatest_index, has_come, is_new}
-use Rattle.frame_delivery.specs.Messages.{AllCame, HaveRoom, goes_to, has_room, messages_of, octets_of, octets_sent}
+use Rattle.frame_delivery.specs.Messages.{AllCame, HaveRoom, goes_to, has_room, messages_of, octets_of_messages, octets_sent}
 use Rattle.frame_delivery.proofs.Firsts.{all_have_first, come_at_most, new_has_not_come}
 
 -- of copies in order, of the first n frames, the latest is of the last of these
@@ -48,18 +48,18 @@ others_are copy before new all index =
         (λ (more : n ≤ i). le-ltb i (suc n) (omega arith) ∙ sym (le-ltb i n more))
         (cases_lt i n)
 
-octets_join : (one : List Message) (message : Message) → octets_of (one ++ message ∷ []) ≡ octets_of one ++ message.octets ∷ []
+octets_join : (one : List Message) (message : Message) → octets_of_messages (one ++ message ∷ []) ≡ octets_of_messages one ++ message.octets ∷ []
 octets_join [] message = refl
 octets_join (first ∷ one) message = ap (λ all. first.octets ∷ all) (octets_join one message)
 
 pub all_octets : (payload : ℕ → Payload) (port : PortNo) (n : ℕ) (copies : List Copy) → AreInOrder copies → HaveRoom payload copies → AllCame n copies
-    → octets_of (messages_of payload port copies) ≡ octets_sent payload port n
+    → octets_of_messages (messages_of payload port copies) ≡ octets_sent payload port n
 all_octets payload port zero [] order room all = refl
 all_octets payload port (suc n) [] order room all = let e = all 0 ∙ lt-ltb 0 (suc n) (omega arith) in cc
 all_octets payload port n (copy ∷ before) order room all =
     let e : suc copy.index ≡ n = latest_is n copy before order.0 all in
     let all_too : AllCame (suc copy.index) (copy ∷ before) = subst (λ (m : ℕ). AllCame m (copy ∷ before)) (sym e) all in
-    let rest : octets_of (messages_of payload port before) ≡ octets_sent payload port copy.index = all_octets payload port copy.index before order.1 room.1 (others_are copy before order.0 all_too) in
+    let rest : octets_of_messages (messages_of payload port before) ≡ octets_sent payload port copy.index = all_octets payload port copy.index before order.1 room.1 (others_are copy before order.0 all_too) in
     ⊎_elim
     (λ (to : is_same_port (payload copy.index).port port ≡ true).
     rw (goes copy.index copy.event.room room.0, to) (octets_join (messages_of payload port before) (record { time = copy.event.time; octets = (payload copy.index).octets }) ∙ ap (λ octets. octets ++ (payload copy.index).octets ∷ []) rest)
@@ -83,5 +83,5 @@ first_rooms payload (copy ∷ before) room =
     (cases_Bool (has_come copy.index before))
 
 pub all_first_octets : (payload : ℕ → Payload) (port : PortNo) (n : ℕ) (copies : List Copy) → AreInOrder (first_copies copies) → HaveRoom payload copies → AllCame n copies
-    → octets_of (messages_of payload port (first_copies copies)) ≡ octets_sent payload port n
+    → octets_of_messages (messages_of payload port (first_copies copies)) ≡ octets_sent payload port n
 all_first_octets payload port n copies order room all = all_octets payload port n (first_copies copies) order (first_rooms payload copies room) (λ index. all_have_first index copies ∙ all index)

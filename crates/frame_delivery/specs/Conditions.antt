@@ -2,7 +2,7 @@
 use Rattle.std.specs.Prelude.{◌≡◌, ◌+◌, ◌*◌, ◌≤◌, ◌<◌, Bool, true, false, List}
 use Rattle.es_base.specs.Settings.{Settings}
 use Rattle.frame_delivery.specs.Sending.{Copy, HaveNumbers, Numbering}
-use Rattle.frame_delivery.specs.Once.{passing}
+use Rattle.frame_delivery.specs.Once.{passing_copies}
 use Rattle.frame_delivery.specs.Network.{BeginNear, HasNoOvertaking, KeepsTimes, LosesFew, Timing}
 
 pub data Condition : Type 0 where
@@ -25,7 +25,7 @@ pub data Condition : Type 0 where
 abbrev pub IsMet : Condition → Settings → Numbering → Timing → List Copy → Type 0
 IsMet covers settings numbering timing copies = timing.greatest ≤ timing.least + settings.skew_max
 IsMet restarts settings numbering timing copies = timing.greatest + settings.skew_max < timing.least + timing.pause
-IsMet near settings numbering timing copies = BeginNear settings.skew_max copies × BeginNear settings.skew_max (passing settings copies)
+IsMet near settings numbering timing copies = BeginNear settings.skew_max copies × BeginNear settings.skew_max (passing_copies settings copies)
 IsMet losses settings numbering timing copies = LosesFew numbering settings.window copies
 IsMet apart settings numbering timing copies = HasNoOvertaking timing
 IsMet late settings numbering timing copies = timing.greatest + timing.wait < timing.least + 128 * timing.gap

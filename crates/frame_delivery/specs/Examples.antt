@@ -14,8 +14,8 @@ abbrev pub link : ℕ → Settings
 link skew_max = record { vl = record { 0 = 17 }; skew_max = skew_max; redundancy = true; reassembly = 50000; window = 2; ports = [] }
 
 -- a copy of a frame: its network, the index and the sequence number of its frame, its time
-abbrev pub came : Net → ℕ → ℕ → ℕ → Copy
-came net index number time = record { index = index; event = record { net = net; time = time; frame = number ∷ []; room = true; verdict = verdicts.OutOfSequence } }
+abbrev pub received : Net → ℕ → ℕ → ℕ → Copy
+received net index number time = record { index = index; event = record { net = net; time = time; frame = number ∷ []; room = true; verdict = verdicts.OutOfSequence } }
 
 abbrev pub frame_at : ℕ → ℕ → Forwarded
 frame_at number time = record { sequence_number = number; time = time }
@@ -38,7 +38,7 @@ timing = timed 1000 2000 100 900 100
 -- of four frames network A loses the second, and B the third
 abbrev pub with_losses : List Copy
 with_losses =
-    came nets.B 3 2 3900 ∷ came nets.A 3 2 3100 ∷ came nets.A 2 1 2200 ∷ came nets.B 1 255 1500 ∷ came nets.B 0 254 900 ∷ came nets.A 0 254 100 ∷ []
+    received nets.B 3 2 3900 ∷ received nets.A 3 2 3100 ∷ received nets.A 2 1 2200 ∷ received nets.B 1 255 1500 ∷ received nets.B 0 254 900 ∷ received nets.A 0 254 100 ∷ []
 
 -- ---- one thing isn't met
 
@@ -48,19 +48,19 @@ from_one = record { first = 1; restarts = λ index. false }
 
 -- the second copy comes 1 microsecond later than SkewMax after the first
 abbrev pub after_skew_max : List Copy
-after_skew_max = came nets.B 0 1 1101 ∷ came nets.A 0 1 100 ∷ []
+after_skew_max = received nets.B 0 1 1101 ∷ received nets.A 0 1 100 ∷ []
 
 -- A brings three frames, 1100 microseconds on their way; B, which takes 100, loses the second
 abbrev pub overtaken : List Copy
-overtaken = came nets.A 2 3 3100 ∷ came nets.A 1 2 2100 ∷ came nets.B 2 3 2100 ∷ came nets.A 0 1 1100 ∷ came nets.B 0 1 100 ∷ []
+overtaken = received nets.A 2 3 3100 ∷ received nets.A 1 2 2100 ∷ received nets.B 2 3 2100 ∷ received nets.A 0 1 1100 ∷ received nets.B 0 1 100 ∷ []
 
 -- each network loses two frames in a row, which is the window
 abbrev pub two_lost : List Copy
-two_lost = came nets.B 3 4 3900 ∷ came nets.A 3 4 3100 ∷ came nets.B 0 1 900 ∷ came nets.A 0 1 100 ∷ []
+two_lost = received nets.B 3 4 3900 ∷ received nets.A 3 4 3100 ∷ received nets.B 0 1 900 ∷ received nets.A 0 1 100 ∷ []
 
 -- A is cut off after a frame, and B begins 128 frames later, just before SkewMax is over
 abbrev pub far_apart : List Copy
-far_apart = came nets.B 128 129 128100 ∷ came nets.A 0 1 100 ∷ []
+far_apart = received nets.B 128 129 128100 ∷ received nets.A 0 1 100 ∷ []
 
 -- the sender restarts after its first frame
 abbrev pub from_57 : Numbering
@@ -68,15 +68,15 @@ from_57 = record { first = 57; restarts = λ index. index == 1 }
 
 -- it does so just before SkewMax is over
 abbrev pub soon_restarted : List Copy
-soon_restarted = came nets.A 1 0 1100 ∷ came nets.A 0 57 100 ∷ []
+soon_restarted = received nets.A 1 0 1100 ∷ received nets.A 0 57 100 ∷ []
 
 -- A's first frame comes just after B brought one 128 frames later; with a window of 64, so that the list is short
 abbrev pub wide_link : Settings
 wide_link = record (link 128000) { window = 64 }
 
 abbrev pub far_behind : List Copy
-far_behind = came nets.A 0 1 128100 ∷ came nets.B 128 129 128100 ∷ came nets.B 64 65 64100 ∷ came nets.B 0 1 100 ∷ []
+far_behind = received nets.A 0 1 128100 ∷ received nets.B 128 129 128100 ∷ received nets.B 64 65 64100 ∷ received nets.B 0 1 100 ∷ []
 
 -- B's copy of the last frame before a restart is taken after A's of the first after it
 abbrev pub behind_a_restart : List Copy
-behind_a_restart = came nets.B 0 57 100 ∷ came nets.A 1 0 2100 ∷ came nets.A 0 57 100 ∷ []
+behind_a_restart = received nets.B 0 57 100 ∷ received nets.A 1 0 2100 ∷ received nets.A 0 57 100 ∷ []

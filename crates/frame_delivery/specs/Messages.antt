@@ -59,8 +59,8 @@ octets_sent payload port (suc n) =
     if is_same_port (payload n).port port then octets_sent payload port n ++ (payload n).octets ∷ [] else octets_sent payload port n
 
 -- the octets of some messages
-abbrev pub octets_of : List Message → List (List ℕ)
-octets_of messages = map (λ message. message.octets) messages
+abbrev pub octets_of_messages : List Message → List (List ℕ)
+octets_of_messages messages = map (λ message. message.octets) messages
 
 -- a copy came of each of the first n frames, on one network or on both, and of no other
 -- rule: DELIV-9

@@ -6,7 +6,7 @@ use Rattle.es_base.specs.Integrity.{passes}
 use Rattle.es_base.specs.Copies.{Forwarded, greatest_time}
 use Rattle.es_base.specs.Redundancy.{is_forwarded}
 use Rattle.es_base.specs.Settings.{Settings}
-use Rattle.frame_delivery.specs.Sending.{Copy, EachCopy, Numbering, RunsOn, events_of}
+use Rattle.frame_delivery.specs.Sending.{Copy, EachCopy, Numbering, RunsOn, events_of_copies}
 
 -- ---- copies of later and later frames
 
@@ -48,20 +48,20 @@ first_copies (copy ∷ before) = if has_come copy.index before then first_copies
 
 -- the copies that pass integrity checking
 -- rule: DELIV-5
-abbrev pub passing : Settings → List Copy → List Copy
-passing settings [] = []
-passing settings (copy ∷ before) =
-    if passes settings (events_of before) (arrival_of copy.event) then copy ∷ passing settings before else passing settings before
+abbrev pub passing_copies : Settings → List Copy → List Copy
+passing_copies settings [] = []
+passing_copies settings (copy ∷ before) =
+    if passes settings (events_of_copies before) (arrival_of copy.event) then copy ∷ passing_copies settings before else passing_copies settings before
 
 -- a copy is forwarded exactly if it passes and is new after those that passed before
 abbrev pub IsForwardedIfNew : Settings → List Copy → Copy → Type 0
 IsForwardedIfNew settings before copy =
-    is_forwarded settings (events_of before) (arrival_of copy.event) ≡ (passes settings (events_of before) (arrival_of copy.event) && is_new copy.index (passing settings before))
+    is_forwarded settings (events_of_copies before) (arrival_of copy.event) ≡ (passes settings (events_of_copies before) (arrival_of copy.event) && is_new copy.index (passing_copies settings before))
 
 -- a copy is forwarded exactly if it is the first of its frame
 -- rule: DELIV-6
 abbrev pub IsForwardedIfFirst : Settings → List Copy → Copy → Type 0
-IsForwardedIfFirst settings before copy = is_forwarded settings (events_of before) (arrival_of copy.event) ≡ not (has_come copy.index before)
+IsForwardedIfFirst settings before copy = is_forwarded settings (events_of_copies before) (arrival_of copy.event) ≡ not (has_come copy.index before)
 
 -- what redundancy management keeps of some copies that were forwarded
 abbrev pub as_forwarded : List Copy → List Forwarded

@@ -12,25 +12,25 @@ ghost use Rattle.es_base.specs.Copies.{Forwarded, is_ahead};
 ghost use Rattle.es_base.specs.Redundancy.{forwarded, is_forwarded};
 ghost use Rattle.es_base.specs.Outcome.{Payload};
 ghost use Rattle.es_base.specs.Deliveries.{deliveries};
-ghost use Rattle.frame_delivery.specs.Sending.{Copy, EachCopy, HaveNumbers, Numbering, RunsOn, events_of, number_of};
-ghost use Rattle.frame_delivery.specs.Once.{AreInOrder, ComesInTime, IsForwardedIfFirst, IsForwardedIfNew, IsOvertaken, as_forwarded, first_copies, has_come, new_copies, passing};
+ghost use Rattle.frame_delivery.specs.Sending.{Copy, EachCopy, HaveNumbers, Numbering, RunsOn, events_of_copies, number_of_frame};
+ghost use Rattle.frame_delivery.specs.Once.{AreInOrder, ComesInTime, IsForwardedIfFirst, IsForwardedIfNew, IsOvertaken, as_forwarded, first_copies, has_come, new_copies, passing_copies};
 ghost use Rattle.frame_delivery.specs.Running.{EachForwarded, SomeForwarded};
 ghost use Rattle.frame_delivery.specs.Network.{BeginNear, ComeTimely, ComeWhole, IsNeverLate, HasAge, HasNoOvertaking, IsOverSoon, KeepsOrder, KeepsTimes, LosesFew, Timing};
 ghost use Rattle.frame_delivery.specs.Conditions.{MeetAll, MeetAllBut, apart, covers, is_asked_for_all, is_asked_for_once, late, late_restart, losses, near, restarts};
-ghost use Rattle.frame_delivery.specs.Messages.{AllCame, CarryWhole, HaveRoom, messages_of, octets_of, octets_sent};
+ghost use Rattle.frame_delivery.specs.Messages.{AllCame, CarryWhole, HaveRoom, messages_of, octets_of_messages, octets_sent};
 ghost use Rattle.frame_delivery.specs.Examples.{after_skew_max, behind_a_restart, far_apart, far_behind, frame_at, from_57, from_one, link, numbering, overtaken, soon_restarted, timed, timing, two_lost, wide_link, with_losses};
 
 /// The sequence number of a frame is ahead of those of the 127 frames before it, and of no later one up to 127.
 pub fn a_later_frame_is_ahead()
-    ensures later { (numbering : Numbering) (k i : ℕ) → numbering.first ≤ 255 → k < i → i ≤ k + 127 → RunsOn numbering k i → is_ahead (number_of numbering k) (number_of numbering i) ≡ true }
-    ensures earlier { (numbering : Numbering) (k i : ℕ) → numbering.first ≤ 255 → i ≤ k → k ≤ i + 127 → RunsOn numbering i k → is_ahead (number_of numbering k) (number_of numbering i) ≡ false }
+    ensures later { (numbering : Numbering) (k i : ℕ) → numbering.first ≤ 255 → k < i → i ≤ k + 127 → RunsOn numbering k i → is_ahead (number_of_frame numbering k) (number_of_frame numbering i) ≡ true }
+    ensures earlier { (numbering : Numbering) (k i : ℕ) → numbering.first ≤ 255 → i ≤ k → k ≤ i + 127 → RunsOn numbering i k → is_ahead (number_of_frame numbering k) (number_of_frame numbering i) ≡ false }
 {}
 
 /// Each frame passes integrity checking, if each network keeps the order of the frames and loses fewer than the window
 /// in a row.
 pub fn each_frame_passes()
     ensures { (settings : Settings) (numbering : Numbering) (copy : Copy) (before : List Copy) → HaveNumbers numbering (copy ∷ before)
-        → KeepsOrder (copy ∷ before) → LosesFew numbering settings.window (copy ∷ before) → passes settings (events_of before) (arrival_of copy.event) ≡ true }
+        → KeepsOrder (copy ∷ before) → LosesFew numbering settings.window (copy ∷ before) → passes settings (events_of_copies before) (arrival_of copy.event) ≡ true }
 {}
 
 /// SkewMax runs from each frame that was forwarded, and from no other. Once it is over since all of them, the next
@@ -46,15 +46,15 @@ pub fn skew_max_runs_from_each_forwarded_frame()
 /// Of the copies that pass those are forwarded that are of a later frame than all before, if the copies come in time.
 pub fn new_frames_are_forwarded()
     ensures { (settings : Settings) (numbering : Numbering) (copies : List Copy) → settings.redundancy ≡ true → numbering.first ≤ 255 → HaveNumbers numbering copies
-        → EachCopy (ComesInTime numbering settings.skew_max) (passing settings copies) → EachCopy (IsForwardedIfNew settings) copies }
+        → EachCopy (ComesInTime numbering settings.skew_max) (passing_copies settings copies) → EachCopy (IsForwardedIfNew settings) copies }
 {}
 
 /// No frame is forwarded twice, and none after a later one, whatever the networks lose, bring twice or out of order:
 /// if the copies come at times that fit SkewMax, none is too late, and networks begin near each other.
 pub fn no_frame_is_forwarded_twice()
     ensures forwarded { (settings : Settings) (numbering : Numbering) (timing : Timing) (copies : List Copy) → ComeTimely settings numbering timing copies → IsNeverLate timing
-        → BeginNear settings.skew_max (passing settings copies) → forwarded settings (events_of copies) ≡ as_forwarded (new_copies (passing settings copies)) }
-    ensures in_order { (settings : Settings) (copies : List Copy) → AreInOrder (new_copies (passing settings copies)) }
+        → BeginNear settings.skew_max (passing_copies settings copies) → forwarded settings (events_of_copies copies) ≡ as_forwarded (new_copies (passing_copies settings copies)) }
+    ensures in_order { (settings : Settings) (copies : List Copy) → AreInOrder (new_copies (passing_copies settings copies)) }
 {}
 
 /// And none is lost of which a copy comes: the first copy of each frame is forwarded, and no other, if each network
@@ -64,7 +64,7 @@ pub fn no_frame_is_lost()
     ensures first { (settings : Settings) (numbering : Numbering) (timing : Timing) (copies : List Copy) → ComeWhole settings numbering timing copies
         → EachCopy (IsForwardedIfFirst settings) copies }
     ensures forwarded { (settings : Settings) (numbering : Numbering) (timing : Timing) (copies : List Copy) → ComeWhole settings numbering timing copies
-        → forwarded settings (events_of copies) ≡ as_forwarded (first_copies copies) }
+        → forwarded settings (events_of_copies copies) ≡ as_forwarded (first_copies copies) }
     ensures in_order { (settings : Settings) (numbering : Numbering) (timing : Timing) (copies : List Copy) → ComeWhole settings numbering timing copies
         → AreInOrder (first_copies copies) }
     ensures all { (copies : List Copy) (index : ℕ) → has_come index (first_copies copies) ≡ has_come index copies }
@@ -74,7 +74,7 @@ pub fn no_frame_is_lost()
 /// later frame.
 pub fn a_frame_is_lost_only_if_it_is_overtaken()
     ensures forwarded { (settings : Settings) (numbering : Numbering) (timing : Timing) (copies : List Copy) → ComeTimely settings numbering timing copies → IsNeverLate timing
-        → BeginNear settings.skew_max copies → KeepsOrder copies → LosesFew numbering settings.window copies → forwarded settings (events_of copies) ≡ as_forwarded (new_copies copies) }
+        → BeginNear settings.skew_max copies → KeepsOrder copies → LosesFew numbering settings.window copies → forwarded settings (events_of_copies copies) ≡ as_forwarded (new_copies copies) }
     ensures lost { (copies : List Copy) (index : ℕ) → has_come index (new_copies copies) ≡ false → IsOvertaken index copies }
 {}
 
@@ -82,7 +82,7 @@ pub fn a_frame_is_lost_only_if_it_is_overtaken()
 /// the first that passes, and no other.
 pub fn no_frame_that_passes_is_lost()
     ensures { (settings : Settings) (numbering : Numbering) (timing : Timing) (copies : List Copy) → ComeTimely settings numbering timing copies → HasNoOvertaking timing
-        → BeginNear settings.skew_max (passing settings copies) → forwarded settings (events_of copies) ≡ as_forwarded (first_copies (passing settings copies)) }
+        → BeginNear settings.skew_max (passing_copies settings copies) → forwarded settings (events_of_copies copies) ≡ as_forwarded (first_copies (passing_copies settings copies)) }
 {}
 
 /// Networks begin near each other if SkewMax is over before 128 frames more are sent. So it is only for a longer
@@ -91,7 +91,7 @@ pub fn a_short_skew_max_is_near()
     ensures all { (settings : Settings) (numbering : Numbering) (timing : Timing) (copies : List Copy) → KeepsTimes numbering timing copies → IsOverSoon timing settings.skew_max
         → BeginNear settings.skew_max copies }
     ensures passing { (settings : Settings) (numbering : Numbering) (timing : Timing) (copies : List Copy) → KeepsTimes numbering timing copies → IsOverSoon timing settings.skew_max
-        → BeginNear settings.skew_max (passing settings copies) }
+        → BeginNear settings.skew_max (passing_copies settings copies) }
 {}
 
 /// The age of a message, since the time of its first copy, is less than its age since it was sent by what this copy was
@@ -104,14 +104,14 @@ pub fn each_message_has_its_age()
 /// of the first copy; but for those whose queue was full then.
 pub fn each_message_is_delivered_once()
     ensures { (settings : Settings) (numbering : Numbering) (timing : Timing) (payload : ℕ → Payload) (copies : List Copy) (port : PortNo) → ComeWhole settings numbering timing copies
-        → CarryWhole settings payload copies → length copies ≤ most_samples → deliveries settings (events_of copies) port ≡ messages_of payload port (first_copies copies) }
+        → CarryWhole settings payload copies → length copies ≤ most_samples → deliveries settings (events_of_copies copies) port ≡ messages_of payload port (first_copies copies) }
 {}
 
 /// And if a copy of each frame comes, on one network or on both, and its queue is never full, it gets all that was sent
 /// to it.
 pub fn all_messages_are_delivered()
     ensures { (settings : Settings) (numbering : Numbering) (timing : Timing) (payload : ℕ → Payload) (copies : List Copy) (port : PortNo) (n : ℕ) → ComeWhole settings numbering timing copies
-        → CarryWhole settings payload copies → length copies ≤ most_samples → HaveRoom payload copies → AllCame n copies → octets_of (deliveries settings (events_of copies) port) ≡ octets_sent payload port n }
+        → CarryWhole settings payload copies → length copies ≤ most_samples → HaveRoom payload copies → AllCame n copies → octets_of_messages (deliveries settings (events_of_copies copies) port) ≡ octets_sent payload port n }
 {}
 
 /// The conditions that `no_frame_is_lost` and `no_frame_is_forwarded_twice` ask, one by one: where each of them is met,
@@ -119,7 +119,7 @@ pub fn all_messages_are_delivered()
 pub fn these_are_the_conditions()
     ensures all { (settings : Settings) (numbering : Numbering) (timing : Timing) (copies : List Copy) → MeetAll is_asked_for_all settings numbering timing copies → ComeWhole settings numbering timing copies }
     ensures once { (settings : Settings) (numbering : Numbering) (timing : Timing) (copies : List Copy) → MeetAll is_asked_for_once settings numbering timing copies
-        → ComeTimely settings numbering timing copies × IsNeverLate timing × BeginNear settings.skew_max (passing settings copies) }
+        → ComeTimely settings numbering timing copies × IsNeverLate timing × BeginNear settings.skew_max (passing_copies settings copies) }
 {}
 
 /// The conditions can be met: by four frames that two networks bring, each with a loss, over the end of the sequence
@@ -127,23 +127,23 @@ pub fn these_are_the_conditions()
 pub fn the_conditions_can_be_met()
     ensures met { ComeWhole (link 1000) numbering timing with_losses }
     ensures with_a_long_skew_max { ComeWhole (link 1000000) numbering (timed 1000 2000000 100 900 100) with_losses }
-    ensures forwarded { forwarded (link 1000) (events_of with_losses) ≡ frame_at 2 3100 ∷ frame_at 1 2200 ∷ frame_at 255 1500 ∷ frame_at 254 100 ∷ [] }
-    ensures forwarded_with_it { forwarded (link 1000000) (events_of with_losses) ≡ frame_at 2 3100 ∷ frame_at 1 2200 ∷ frame_at 255 1500 ∷ frame_at 254 100 ∷ [] }
+    ensures forwarded { forwarded (link 1000) (events_of_copies with_losses) ≡ frame_at 2 3100 ∷ frame_at 1 2200 ∷ frame_at 255 1500 ∷ frame_at 254 100 ∷ [] }
+    ensures forwarded_with_it { forwarded (link 1000000) (events_of_copies with_losses) ≡ frame_at 2 3100 ∷ frame_at 1 2200 ∷ frame_at 255 1500 ∷ frame_at 254 100 ∷ [] }
 {}
 
 /// Counterexamples with one condition not met, by a microsecond or by one frame, and all others that the law asks met:
 /// a frame of which a copy comes is lost, or one is forwarded twice or after a later one.
 pub fn each_condition_is_needed()
     ensures second_copy_after_skew_max { MeetAllBut is_asked_for_all covers (link 1000) from_one (timed 2000 4000 100 1101 0) after_skew_max
-        × (forwarded (link 1000) (events_of after_skew_max) ≡ frame_at 1 1101 ∷ frame_at 1 100 ∷ []) }
+        × (forwarded (link 1000) (events_of_copies after_skew_max) ≡ frame_at 1 1101 ∷ frame_at 1 100 ∷ []) }
     ensures overtaken_though_one_network_loses_nothing { MeetAllBut is_asked_for_all apart (link 1000) from_one (timed 1000 4000 100 1100 0) overtaken
-        × (forwarded (link 1000) (events_of overtaken) ≡ frame_at 3 2100 ∷ frame_at 1 100 ∷ []) }
-    ensures window_lost_on_both_networks { MeetAllBut is_asked_for_all losses (link 1000) from_one timing two_lost × (forwarded (link 1000) (events_of two_lost) ≡ frame_at 1 100 ∷ []) }
-    ensures begun_far_apart { MeetAllBut is_asked_for_all near (link 128000) from_one (timed 1000 200000 100 100 0) far_apart × (forwarded (link 128000) (events_of far_apart) ≡ frame_at 1 100 ∷ []) }
+        × (forwarded (link 1000) (events_of_copies overtaken) ≡ frame_at 3 2100 ∷ frame_at 1 100 ∷ []) }
+    ensures window_lost_on_both_networks { MeetAllBut is_asked_for_all losses (link 1000) from_one timing two_lost × (forwarded (link 1000) (events_of_copies two_lost) ≡ frame_at 1 100 ∷ []) }
+    ensures begun_far_apart { MeetAllBut is_asked_for_all near (link 128000) from_one (timed 1000 200000 100 100 0) far_apart × (forwarded (link 128000) (events_of_copies far_apart) ≡ frame_at 1 100 ∷ []) }
     ensures restart_in_skew_max { MeetAllBut is_asked_for_all restarts (link 1000) from_57 (timed 1000 1000 100 100 0) soon_restarted
-        × (forwarded (link 1000) (events_of soon_restarted) ≡ frame_at 57 100 ∷ []) }
+        × (forwarded (link 1000) (events_of_copies soon_restarted) ≡ frame_at 57 100 ∷ []) }
     ensures late_by_128_frames { MeetAllBut is_asked_for_once late wide_link from_one (timed 1000 300000 100 128100 0) far_behind
-        × (forwarded wide_link (events_of far_behind) ≡ frame_at 1 128100 ∷ frame_at 129 128100 ∷ frame_at 65 64100 ∷ frame_at 1 100 ∷ []) }
+        × (forwarded wide_link (events_of_copies far_behind) ≡ frame_at 1 128100 ∷ frame_at 129 128100 ∷ frame_at 65 64100 ∷ frame_at 1 100 ∷ []) }
     ensures late_by_a_restart { MeetAllBut is_asked_for_once late_restart (link 1000) from_57 (timed 2000 2000 100 100 2000) behind_a_restart
-        × (forwarded (link 1000) (events_of behind_a_restart) ≡ frame_at 57 100 ∷ frame_at 0 2100 ∷ frame_at 57 100 ∷ []) }
+        × (forwarded (link 1000) (events_of_copies behind_a_restart) ≡ frame_at 57 100 ∷ frame_at 0 2100 ∷ frame_at 57 100 ∷ []) }
 {}

@@ -63,14 +63,14 @@ pub fn read_udp_head(head: &[u8; UDP_HEADER], len: usize) -> Result<UdpHead, Udp
 }
 
 /// The header in these octets, the first of `came`.
-fn udp_head_in(octets: &[u8; UDP_HEADER], came: usize) -> Result<UdpHead, UdpFault>
-    ensures { Gives udp_head_parts result (udp_head_of came octets.now) }
+fn udp_head_in(octets: &[u8; UDP_HEADER], received: usize) -> Result<UdpHead, UdpFault>
+    ensures { Gives udp_head_parts result (udp_head_of received octets.now) }
 {
-    if came < UDP_HEADER {
+    if received < UDP_HEADER {
         return Err(UdpFault::Short);
     }
     let length = u16_at(octets, LENGTH) as usize;
-    if length < UDP_HEADER || came < length {
+    if length < UDP_HEADER || received < length {
         return Err(UdpFault::Length);
     }
     Ok(UdpHead {

@@ -2,11 +2,11 @@
 use Rattle.std.proofs.Common.{◌≡◌, ◌∙◌, ap, subst, sym, ℕ, suc, ◌+◌, ◌<◌, List, [], ◌∷◌, ◌++◌, length, drop, append-nil, append_assoc, arith}
 use Rattle.std.specs.List.{slice_index_or}
 use Rattle.std.proofs.Math.Seq.{drop-append_seam}
-use Rattle.hex_trace.specs.Frames.{TimedFrame, IsInFirst, NoneIsEmpty, joined}
+use Rattle.hex_trace.specs.Frames.{TimedFrame, IsInFirst, NoneIsEmpty, joined_blocks}
 
-pub joined_append : (blocks : List (List TimedFrame)) (block : List TimedFrame) → joined (blocks ++ block ∷ []) ≡ joined blocks ++ block
+pub joined_append : (blocks : List (List TimedFrame)) (block : List TimedFrame) → joined_blocks (blocks ++ block ∷ []) ≡ joined_blocks blocks ++ block
 joined_append [] block = append-nil block
-joined_append (b ∷ bs) block = ap (λ (t : List TimedFrame). b ++ t) (joined_append bs block) ∙ sym (append_assoc b (joined bs) block)
+joined_append (b ∷ bs) block = ap (λ (t : List TimedFrame). b ++ t) (joined_append bs block) ∙ sym (append_assoc b (joined_blocks bs) block)
 
 later_blocks : (b : List TimedFrame) (bs : List (List TimedFrame)) → NoneIsEmpty (b ∷ bs) → NoneIsEmpty bs
 later_blocks b bs none = λ k d low. none (suc k) d (omega (arith, low))
@@ -28,7 +28,7 @@ after_pop (b ∷ bs) rest new none =
     subst (λ (l : List (List TimedFrame)). NoneIsEmpty l × IsInFirst 0 l) (sym new) (later, first_is_there bs later)
 
 pub last_of_first : (at : ℕ) (blocks rest : List (List TimedFrame)) (block : List TimedFrame) → block ≡ slice_index_or blocks 0 block → 0 < length blocks → at + 1 ≡ length block → rest ≡ drop 1 blocks
-    → joined rest ≡ drop (at + 1) (joined blocks)
+    → joined_blocks rest ≡ drop (at + 1) (joined_blocks blocks)
 last_of_first at [] rest block is some last new = absurd (omega (arith, some))
 last_of_first at (b ∷ bs) rest block is some last new =
-    ap joined new ∙ sym (drop-append_seam b (joined bs)) ∙ ap (λ (n : ℕ). drop n (b ++ joined bs)) (sym (last ∙ ap length is))
+    ap joined_blocks new ∙ sym (drop-append_seam b (joined_blocks bs)) ∙ ap (λ (n : ℕ). drop n (b ++ joined_blocks bs)) (sym (last ∙ ap length is))

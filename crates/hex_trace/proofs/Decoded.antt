@@ -9,7 +9,7 @@ use Rattle.hex.specs.Hex.{decode_of, digit_or_error, hex_digit_value, is_hex_dig
 use Rattle.hex.specs.declared.error.FromHexError.{FromHexError}
 use Rattle.hex.proofs.HexLemmas.{decode_of-ok}
 use Rattle.hex.proofs.Pairs.{decode_step, decode_start}
-use Rattle.hex_trace.specs.Digits.{AreMarks, IsMark, IsMarkFor, IsPairAt, octet_at, value_or_none}
+use Rattle.hex_trace.specs.Digits.{AreMarks, IsMark, IsMarkFor, IsPairAt, octet_of_pair, value_or_none}
 use Rattle.hex_trace.proofs.Pairs.{Decoded, all_pairs}
 
 -- ---- one block
@@ -54,7 +54,7 @@ module _ (digits marks : List ℕ) (at : ℕ) (are : (i : ℕ) → i < 32 → Is
 
   pub octet_written : (before octets : List ℕ) → length octets ≡ 16 → at + 16 ≤ length before
       → ((i : ℕ) → i < 16 → 240 ≤ get_or marks (2 * i) 0 → 240 ≤ get_or marks (2 * i + 1) 0 → get_or octets i 0 ≡ (get_or marks (2 * i) 0 - 240) * 16 + (get_or marks (2 * i + 1) 0 - 240))
-      → (i : ℕ) → at ≤ i → i < at + 16 → IsPairAt digits i → get_or (put_chunk at before octets) i 0 ≡ octet_at digits i
+      → (i : ℕ) → at ≤ i → i < at + 16 → IsPairAt digits i → get_or (put_chunk at before octets) i 0 ≡ octet_of_pair digits i
   octet_written before octets long room said i from to pair =
       let there : at + (i - at) ≡ i = omega arith in
       let first : 2 * i - 2 * at ≡ 2 * (i - at) = omega arith in
@@ -78,21 +78,21 @@ pair_ok a b place None low is_high is_low some _ = cc some
 
 -- the octets of the first `count` pairs
 so_far : (digits octets : List ℕ) → length digits ≡ 2 * length octets
-    → ((i : ℕ) → i < length octets → IsPairAt digits i) → ((i : ℕ) → i < length octets → get_or octets i 0 ≡ octet_at digits i)
+    → ((i : ℕ) → i < length octets → IsPairAt digits i) → ((i : ℕ) → i < length octets → get_or octets i 0 ≡ octet_of_pair digits i)
     → (count : ℕ) → count ≤ length octets → Decoded true digits octets count
 so_far digits octets twice pairs said zero within = decode_start digits octets
 so_far digits octets twice pairs said (suc i) within =
     let pair = pairs i (omega arith) in
     let value = pair_ok (slice_index digits (2 * i)) (slice_index digits (2 * i + 1)) (2 * i) _ _ refl refl pair.0 pair.1 in
-    let same : slice_set octets i (octet_at digits i) ≡ octets = ap (slice_set octets i) (sym (said i (omega arith))) ∙ set-get_or octets i 0 in
+    let same : slice_set octets i (octet_of_pair digits i) ≡ octets = ap (slice_set octets i) (sym (said i (omega arith))) ∙ set-get_or octets i 0 in
     let next : suc i ≡ i + 1 = omega arith in
     rw next (subst (λ out. Decoded true digits out (i + 1)) same
-    (decode_step digits octets i (octet_at digits i) (omega (arith, twice)) (omega arith) value (so_far digits octets twice pairs said i (omega arith))))
+    (decode_step digits octets i (octet_of_pair digits i) (omega (arith, twice)) (omega arith) value (so_far digits octets twice pairs said i (omega arith))))
 
 -- if all pairs are digits, their octets are what the digits say
 pub decoded : (fine : Bool) (digits octets : List ℕ) → length digits ≡ 2 * length octets
     → (fine ≡ true) ↔ ((i : ℕ) → i < length octets → IsPairAt digits i)
-    → ((i : ℕ) → i < length octets → IsPairAt digits i → get_or octets i 0 ≡ octet_at digits i)
+    → ((i : ℕ) → i < length octets → IsPairAt digits i → get_or octets i 0 ≡ octet_of_pair digits i)
     → MatchResult (decode_of digits) (λ said. (fine ≡ true) × (octets ≡ said)) (λ _. fine ≡ false)
 decoded true digits octets twice pairs said =
     let are = pairs.0 refl in
@@ -120,9 +120,9 @@ more_marks digits least marks both count at next no_gap within end joined first 
 
 -- the octets of the first `count` pairs, and a block more
 pub more_octets : (digits before after : List ℕ) (count at next : ℕ) → at ≤ count → next ≡ at + 16
-    → ((i : ℕ) → i < count → IsPairAt digits i → get_or before i 0 ≡ octet_at digits i) → ((i : ℕ) → i < at → get_or after i 0 ≡ get_or before i 0)
-    → ((i : ℕ) → at ≤ i → i < at + 16 → IsPairAt digits i → get_or after i 0 ≡ octet_at digits i)
-    → (i : ℕ) → i < next → IsPairAt digits i → get_or after i 0 ≡ octet_at digits i
+    → ((i : ℕ) → i < count → IsPairAt digits i → get_or before i 0 ≡ octet_of_pair digits i) → ((i : ℕ) → i < at → get_or after i 0 ≡ get_or before i 0)
+    → ((i : ℕ) → at ≤ i → i < at + 16 → IsPairAt digits i → get_or after i 0 ≡ octet_of_pair digits i)
+    → (i : ℕ) → i < next → IsPairAt digits i → get_or after i 0 ≡ octet_of_pair digits i
 more_octets digits before after count at next no_gap end first kept block i early pair =
     elim (cases_lt i at) [ inl old ↦ kept i old ∙ first i (omega arith) pair | inr new ↦ block i new (omega arith) pair ]
 

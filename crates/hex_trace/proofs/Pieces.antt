@@ -8,11 +8,11 @@ use Rattle.hex_trace.specs.Frames.{TimedFrame}
 use Rattle.hex_trace.specs.declared.fault.TraceCause.{TraceCause}
 use Rattle.hex_trace.specs.declared.fault.TraceFault.{TraceFault}
 use Rattle.hex_trace.specs.declared.fault.TraceFault.TheVariants.{Line, Read, Memory}
-use Rattle.hex_trace.specs.Source.{Given, IsWhole, ReadsMore, given}
-use Rattle.hex_trace.specs.Lines.{Tells, said_by}
+use Rattle.hex_trace.specs.Source.{Given, IsWholeText, ReadsMore, given_source}
+use Rattle.hex_trace.specs.Lines.{TellsTrace, said_by}
 use Rattle.hex_trace.specs.Reading.{Read as ReadSoFar, said_after}
 use Rattle.hex_trace.specs.Progress.{IsEnd, ReadsOn}
-use Rattle.hex_trace.specs.Trace.{Says, frames_in, ReadsTrace, with_front}
+use Rattle.hex_trace.specs.Trace.{Says, frames_of_text, ReadsTrace, with_front}
 
 -- the front of a list, and then the front of the rest
 pub take-add : (n m : ℕ) (xs : List ℕ) → n ≤ length xs → take n xs ++ take m (drop n xs) ≡ take (n + m) xs
@@ -44,7 +44,7 @@ last_line before bytes last none is = ap (said_by before.lines) (is ∙ ap (λ b
 
 -- the fault that the last line told
 pub last_fault : (old new : Option (List ℕ)) (failed : Bool) (before : ReadSoFar) (said : Result (List TimedFrame) (ℕ × TraceCause)) (fault : TraceFault)
-    → IsEnd old new failed → said ≡ said_after before [] → Tells said (Err fault) → ReadsOn old new failed before (Err fault)
+    → IsEnd old new failed → said ≡ said_after before [] → TellsTrace said (Err fault) → ReadsOn old new failed before (Err fault)
 last_fault old new failed before said (Line line cause) end same told = (end, sym same ∙ told)
 last_fault old new failed before said Read end same told = absurd told
 last_fault old new failed before said Memory end same told = end.0
@@ -52,7 +52,7 @@ last_fault old new failed before said Memory end same told = end.0
 -- ---- a whole trace
 
 -- these are all bytes of a source that has ended
-pub ended_whole : (start old new : Option (List ℕ)) (failed : Bool) (bytes : List ℕ) → Consumes start old bytes → IsEnd old new failed → IsWhole (given start failed) bytes
+pub ended_whole : (start old new : Option (List ℕ)) (failed : Bool) (bytes : List ℕ) → Consumes start old bytes → IsEnd old new failed → IsWholeText (given_source start failed) bytes
 ended_whole start old new failed bytes consumed end =
     Consumes-all start new bytes [] bytes (subst (Consumes start new) (append-nil bytes) (Consumes-trans start old new bytes [] consumed end.1)) end.2 refl
 
@@ -67,16 +67,16 @@ with_both first then (Ok frames) = ap (λ (xs : List TimedFrame). let read : Res
 with_both first then (Err fault) = refl
 
 -- what a trace said that was read to its end, and whose first frames were taken out before
-pub whole_said : (given : Given) (text : List ℕ) (taken : List TimedFrame) (before : ReadSoFar) (said : Result (List TimedFrame) (ℕ × TraceCause))
-    → given.failed ≡ false → IsWhole given text → ((more : List ℕ) → frames_in (text ++ more) ≡ with_front taken (said_after before more))
-    → said_after before [] ≡ said → Says given (with_front taken said)
-whole_said given text taken before said fine whole so_far is = (fine, (text, whole, ap frames_in (sym (append-nil text)) ∙ so_far [] ∙ ap (with_front taken) is))
+pub whole_said : (given_source : Given) (text : List ℕ) (taken : List TimedFrame) (before : ReadSoFar) (said : Result (List TimedFrame) (ℕ × TraceCause))
+    → given_source.failed ≡ false → IsWholeText given_source text → ((more : List ℕ) → frames_of_text (text ++ more) ≡ with_front taken (said_after before more))
+    → said_after before [] ≡ said → Says given_source (with_front taken said)
+whole_said given_source text taken before said fine whole so_far is = (fine, (text, whole, ap frames_of_text (sym (append-nil text)) ∙ so_far [] ∙ ap (with_front taken) is))
 
 -- the fault with which a trace ended
 pub whole_fault : (start old new : Option (List ℕ)) (failed : Bool) (bytes : List ℕ) (taken : List TimedFrame) (before : ReadSoFar) (fault : TraceFault)
-    → Consumes start old bytes → ((more : List ℕ) → frames_in (bytes ++ more) ≡ with_front taken (said_after before more)) → ReadsOn old new failed before (Err fault)
-    → ReadsTrace (given start failed) (Err fault)
+    → Consumes start old bytes → ((more : List ℕ) → frames_of_text (bytes ++ more) ≡ with_front taken (said_after before more)) → ReadsOn old new failed before (Err fault)
+    → ReadsTrace (given_source start failed) (Err fault)
 whole_fault start old new failed bytes taken before (Line line cause) consumed so_far told =
-    whole_said (given start failed) bytes taken before (Err (line, cause)) told.0.0 (ended_whole start old new failed bytes consumed told.0) so_far told.1
+    whole_said (given_source start failed) bytes taken before (Err (line, cause)) told.0.0 (ended_whole start old new failed bytes consumed told.0) so_far told.1
 whole_fault start old new failed bytes taken before Read consumed so_far told = told
 whole_fault start old new failed bytes taken before Memory consumed so_far told = told

@@ -12,6 +12,6 @@ failed_by Interrupted = None
 failed_by _ = Some (Err (record {}))
 
 -- rule: TRACE-11
-abbrev pub told : Result ℕ Error → Option (Result ℕ Failed)
-told (Ok count) = Some (Ok count)
-told (Err error) = failed_by (error_kind error)
+abbrev pub told_count : Result ℕ Error → Option (Result ℕ Failed)
+told_count (Ok count) = Some (Ok count)
+told_count (Err error) = failed_by (error_kind error)

@@ -18,8 +18,8 @@ abbrev pub IsPairAt : List ℕ → ℕ → Type 0
 IsPairAt digits i = (is_hex_digit (slice_index digits (2 * i)) ≡ true) × (is_hex_digit (slice_index digits (2 * i + 1)) ≡ true)
 
 -- what this pair says
-abbrev pub octet_at : List ℕ → ℕ → ℕ
-octet_at digits i = digit_value (slice_index digits (2 * i)) * 16 + digit_value (slice_index digits (2 * i + 1))
+abbrev pub octet_of_pair : List ℕ → ℕ → ℕ
+octet_of_pair digits i = digit_value (slice_index digits (2 * i)) * 16 + digit_value (slice_index digits (2 * i + 1))
 
 -- the mark of the digit 0
 abbrev pub least_mark : ℕ

@@ -9,16 +9,16 @@ pub record TimedFrame : Type 0 where
   pub time : ℕ
   pub frame : List ℕ
 
-abbrev pub timed : ℕ → List ℕ → TimedFrame
-timed time octets = record { time = time; frame = octets }
+abbrev pub timed_frame : ℕ → List ℕ → TimedFrame
+timed_frame time octets = record { time = time; frame = octets }
 
 -- a frame as it was lent
 abbrev pub lent_as : LentFrame → TimedFrame
-lent_as lent = timed lent.time lent.octets.now
+lent_as lent = timed_frame lent.time lent.octets.now
 
 -- the frame of an entry, whose octets lie in the block
-abbrev pub frame_in : List ℕ → Entry → TimedFrame
-frame_in block entry = timed entry.time (take (entry.end - entry.start) (drop entry.start block))
+abbrev pub frame_of_entry : List ℕ → Entry → TimedFrame
+frame_of_entry block entry = timed_frame entry.time (take (entry.end - entry.start) (drop entry.start block))
 
 abbrev pub AreWithin : List ℕ → List Entry → Type 0
 AreWithin block entries = All (λ (e : Entry). (e.start ≤ e.end) × (e.end ≤ length block)) entries
@@ -29,9 +29,9 @@ first_time [] = None
 first_time (frame ∷ frames) = Some frame.time
 
 -- the frames of all blocks, one block after another
-abbrev pub joined : List (List TimedFrame) → List TimedFrame
-joined [] = []
-joined (block ∷ blocks) = block ++ joined blocks
+abbrev pub joined_blocks : List (List TimedFrame) → List TimedFrame
+joined_blocks [] = []
+joined_blocks (block ∷ blocks) = block ++ joined_blocks blocks
 
 abbrev pub NoneIsEmpty : List (List TimedFrame) → Type 0
 NoneIsEmpty blocks = All (λ (block : List TimedFrame). 0 < length block) blocks

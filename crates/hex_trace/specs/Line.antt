@@ -41,14 +41,14 @@ time_from digits = if nat_lt 0 (length digits) && nat_lt (digits_value 10 digits
 abbrev pub after_space : List ℕ → Result (List ℕ) TraceCause
 after_space rest = if slice_index rest 0 == space then Ok (drop 1 rest) else Err causes.Space
 
-abbrev pub octets_if : Result (List ℕ) FromHexError → Result (List ℕ) TraceCause
-octets_if (Ok octets) = Ok octets
-octets_if (Err fault) = Err causes.Hex
+abbrev pub octets_if_decoded : Result (List ℕ) FromHexError → Result (List ℕ) TraceCause
+octets_if_decoded (Ok octets) = Ok octets
+octets_if_decoded (Err fault) = Err causes.Hex
 
 -- the octets that hexadecimal digits say
 -- rule: TRACE-3
-abbrev pub octets_from : List ℕ → Result (List ℕ) TraceCause
-octets_from digits = octets_if (decode_of digits)
+abbrev pub octets_of_digits : List ℕ → Result (List ℕ) TraceCause
+octets_of_digits digits = octets_if_decoded (decode_of digits)
 
 -- a line without a frame: it is empty, or begins with #
 -- rule: TRACE-6
@@ -65,5 +65,5 @@ frame_from before line =
     else do
       time ← time_from (time_digits line)
       digits ← after_space (drop (length (time_digits line)) line)
-      octets ← octets_from digits
+      octets ← octets_of_digits digits
       if nat_lt time before then Err causes.Falls else Ok (Some (record { time = time; frame = octets }))

@@ -32,8 +32,8 @@ abbrev pub HasNoEnd : List ℕ → Type 0
 HasNoEnd text = All (λ b. is_line_end b ≡ false) text
 
 -- what is returned is what the trace says, unless memory ran out
-abbrev pub Tells : Result (List TimedFrame) (ℕ × TraceCause) → Result (List TimedFrame) TraceFault → Type 0
-Tells said (Ok frames) = said ≡ Ok frames
-Tells said (Err (Line line cause)) = said ≡ Err (line, cause)
-Tells said (Err Read) = ⊥
-Tells said (Err Memory) = Unit {0}
+abbrev pub TellsTrace : Result (List TimedFrame) (ℕ × TraceCause) → Result (List TimedFrame) TraceFault → Type 0
+TellsTrace said (Ok frames) = said ≡ Ok frames
+TellsTrace said (Err (Line line cause)) = said ≡ Err (line, cause)
+TellsTrace said (Err Read) = ⊥
+TellsTrace said (Err Memory) = Unit {0}

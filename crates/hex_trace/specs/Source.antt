@@ -10,12 +10,12 @@ pub record Given : Type 0 where
   pub failed : Bool
 
 -- a source that had these bytes, if they are known, and has failed or not
-abbrev pub given : Option (List ℕ) → Bool → Given
-given bytes failed = record { bytes = bytes; failed = failed }
+abbrev pub given_source : Option (List ℕ) → Bool → Given
+given_source bytes failed = record { bytes = bytes; failed = failed }
 
 -- the text is all that the source had, if that is known
-abbrev pub IsWhole : Given → List ℕ → Type 0
-IsWhole given text = IfSome given.bytes (λ bytes. text ≡ bytes)
+abbrev pub IsWholeText : Given → List ℕ → Type 0
+IsWholeText given_source text = IfSome given_source.bytes (λ bytes. text ≡ bytes)
 
 -- some bytes of a source were read, and follow the front of a text, which is `text count` then; none
 -- only at its end; or a read failed, exactly if one did; or memory ran out

@@ -6,7 +6,7 @@ use Rattle.hex_trace.specs.declared.fault.TraceCause.{TraceCause}
 use Rattle.hex_trace.specs.declared.fault.TraceFault.{TraceFault}
 use Rattle.hex_trace.specs.declared.fault.TraceFault.TheVariants.{Line, Read, Memory}
 use Rattle.hex_trace.specs.Line.{frame_from}
-use Rattle.hex_trace.specs.Source.{Given, IsWhole}
+use Rattle.hex_trace.specs.Source.{Given, IsWholeText}
 
 -- the byte with which a line ends, 0a
 abbrev pub line_end : ℕ
@@ -37,12 +37,12 @@ frames_from line_number before (line ∷ lines) = and_then line_number before (f
 
 -- the frames in a text, or its first fault
 -- rule: TRACE-1, TRACE-4, TRACE-7
-abbrev pub frames_in : List ℕ → Result (List TimedFrame) (ℕ × TraceCause)
-frames_in text = frames_from 1 0 (slice_split is_line_end text)
+abbrev pub frames_of_text : List ℕ → Result (List TimedFrame) (ℕ × TraceCause)
+frames_of_text text = frames_from 1 0 (slice_split is_line_end text)
 
 -- the whole of a source was read, no read failed, and its text says this
 abbrev pub Says : Given → Result (List TimedFrame) (ℕ × TraceCause) → Type 0
-Says given said = (given.failed ≡ false) × ((text : List ℕ) × IsWhole given text × (frames_in text ≡ said))
+Says given said = (given.failed ≡ false) × ((text : List ℕ) × IsWholeText given text × (frames_of_text text ≡ said))
 
 -- reading a trace returns this: its frames, or its first fault; that a read failed, exactly if one
 -- did; or that memory ran out

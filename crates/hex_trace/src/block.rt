@@ -1,7 +1,7 @@
 //! Some frames, whose octets lie in one block.
 ghost use Rattle.std.specs.Prelude.{◌≡◌, ◌++◌, ◌<◌, [], ◌∷◌, IfOk, OnOk, length, slice_get, true};
 ghost use Rattle.std.specs.Option.{option_map};
-ghost use Rattle.hex_trace.specs.Frames.{lent_as, timed};
+ghost use Rattle.hex_trace.specs.Frames.{lent_as, timed_frame};
 
 use crate::LentFrame;
 use crate::line::MOST_OCTETS;
@@ -32,11 +32,11 @@ pub(crate) struct Block {
 
 impl Model for Block {
     ghost use Rattle.std.specs.Prelude.{List, map};
-    ghost use Rattle.hex_trace.specs.Frames.{TimedFrame, AreWithin, frame_in};
+    ghost use Rattle.hex_trace.specs.Frames.{TimedFrame, AreWithin, frame_of_entry};
 
     ghost Value = { List TimedFrame };
 
-    ghost view = { λ b. map (frame_in b.octets.items) b.entries.items };
+    ghost view = { λ b. map (frame_of_entry b.octets.items) b.entries.items };
 
     ghost invariant = { λ b. AreWithin b.octets.items b.entries.items };
 }
@@ -64,7 +64,7 @@ impl Block {
 
     /// Adds a frame that came at `time`, in microseconds, after the others.
     pub(crate) fn push(&mut self, time: u64, octets: &[u8]) -> Result<(), Memory>
-        ensures { OnOk result (self.new ≡ self.old ++ timed time octets.now ∷ []) }
+        ensures { OnOk result (self.new ≡ self.old ++ timed_frame time octets.now ∷ []) }
     {
         let start = self.octets.len();
         self.octets.extend_from_slice(octets)?;

@@ -2,7 +2,7 @@
 ghost use Rattle.std.specs.Prelude.{◌≡◌, ℕ, ◌+◌, ◌-◌, ◌*◌, ◌%◌, ◌<◌, ◌≤◌, ◌⊎◌, ◌↔◌, slice_index, IsTrue, IfOk, IfErr, Ok, Err, MatchResult, true, false, length};
 ghost use Rattle.hex.specs.Hex.{decode_of};
 ghost use Rattle.hex.specs.declared.error.FromHexError.TheVariants.{OddLength, OutOfMemory};
-ghost use Rattle.hex_trace.specs.Digits.{digit_value, octet_at, octet_by, least_mark, IsPairAt, IsMark, AreMarks};
+ghost use Rattle.hex_trace.specs.Digits.{digit_value, octet_of_pair, octet_by, least_mark, IsPairAt, IsMark, AreMarks};
 
 use hex::FromHexError;
 use std::alloc::Global;
@@ -88,7 +88,7 @@ fn decode_block(digits: &[u8], octets: &mut [u8], at: usize) -> u8x32
     requires block { at + 16 ≤ length octets.old }
     ensures marks { AreMarks result ↔ ((i : ℕ) → at ≤ i → i < at + 16 → IsPairAt digits.now i) }
     ensures octets { (i : ℕ) → at ≤ i → i < at + 16 → IsPairAt digits.now i
-        → slice_index octets.new i ≡ octet_at digits.now i }
+        → slice_index octets.new i ≡ octet_of_pair digits.now i }
     ensures before { (i : ℕ) → i < at → slice_index octets.new i ≡ slice_index octets.old i }
     ensures length { length octets.new ≡ length octets.old }
 {

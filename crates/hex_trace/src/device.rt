@@ -1,6 +1,6 @@
 //! Devices over the standard library's readers and writers.
 ghost use Rattle.std.specs.Prelude.{◌≡◌, false};
-ghost use Rattle.hex_trace.specs.Device.{told};
+ghost use Rattle.hex_trace.specs.Device.{told_count};
 
 use std::io::{self, ErrorKind};
 
@@ -32,7 +32,7 @@ impl<T> Device<T> {
 /// Answer of a standard reader or writer, as a source's or a sink's. None if the call was interrupted,
 /// and is to be made again.
 pub fn told(answer: io::Result<usize>) -> Option<Result<usize, Failed>>
-    ensures { result ≡ told answer }
+    ensures { result ≡ told_count answer }
 {
     match answer {
         Ok(count) => Some(Ok(count)),

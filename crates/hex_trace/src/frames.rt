@@ -1,7 +1,7 @@
 //! The frames of a trace, in their order.
 ghost use Rattle.std.specs.Prelude.{◌≡◌, ◌++◌, [], ◌∷◌, IfOk, OnOk, drop, slice_get};
 ghost use Rattle.std.specs.Option.{option_map};
-ghost use Rattle.hex_trace.specs.Frames.{first_time, lent_as, timed};
+ghost use Rattle.hex_trace.specs.Frames.{first_time, lent_as, timed_frame};
 
 use crate::block::Block;
 use es_base::Memory;
@@ -27,11 +27,11 @@ pub(crate) struct ReadFrames {
 
 impl Model for ReadFrames {
     ghost use Rattle.std.specs.Prelude.{◌++◌, List};
-    ghost use Rattle.hex_trace.specs.Frames.{TimedFrame, NoneIsEmpty, joined};
+    ghost use Rattle.hex_trace.specs.Frames.{TimedFrame, NoneIsEmpty, joined_blocks};
 
     ghost Value = { List TimedFrame };
 
-    ghost view = { λ f. joined f.full.items ++ f.last };
+    ghost view = { λ f. joined_blocks f.full.items ++ f.last };
 
     ghost invariant = { λ f. NoneIsEmpty f.full.items };
 }
@@ -59,7 +59,7 @@ impl ReadFrames {
 
     /// Adds a frame that came at `time`, in microseconds, after the others.
     pub(crate) fn push(&mut self, alloc: Global, time: u64, octets: &[u8]) -> Result<(), Memory>
-        ensures { OnOk result (self.new ≡ self.old ++ timed time octets.now ∷ []) }
+        ensures { OnOk result (self.new ≡ self.old ++ timed_frame time octets.now ∷ []) }
     {
         if !self.last.is_full() {
             return self.last.push(time, octets);
@@ -94,11 +94,11 @@ pub struct Frames {
 
 impl Model for Frames {
     ghost use Rattle.std.specs.Prelude.{List, drop};
-    ghost use Rattle.hex_trace.specs.Frames.{TimedFrame, NoneIsEmpty, IsInFirst, joined};
+    ghost use Rattle.hex_trace.specs.Frames.{TimedFrame, NoneIsEmpty, IsInFirst, joined_blocks};
 
     ghost Value = { List TimedFrame };
 
-    ghost view = { λ f. drop f.at (joined f.blocks.items) };
+    ghost view = { λ f. drop f.at (joined_blocks f.blocks.items) };
 
     ghost invariant = { λ f. NoneIsEmpty f.blocks.items × IsInFirst f.at f.blocks.items };
 }

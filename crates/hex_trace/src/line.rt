@@ -6,7 +6,7 @@ ghost use Rattle.std.specs.List.{prefix_len};
 ghost use Rattle.std.specs.Str.{all_ascii_digits};
 ghost use Rattle.std.specs.Str.Parse.{digits_value};
 ghost use Rattle.hex_trace.specs.Frames.{lent_as};
-ghost use Rattle.hex_trace.specs.Line.{longest_line, time_digits, time_from, after_space, octets_from, frame_from};
+ghost use Rattle.hex_trace.specs.Line.{longest_line, time_digits, time_from, after_space, octets_of_digits, frame_from};
 
 use crate::decode::decode_pairs;
 use crate::{LentFrame, TraceCause};
@@ -168,8 +168,8 @@ fn octets_from<'s>(
     scratch: &'s mut [u8; MOST_OCTETS],
 ) -> Result<&'s [u8], TraceCause>
     requires { length digits.now ≤ longest_line }
-    ensures octets { IfOk result (λ octets. octets_from digits.now ≡ Ok octets.now) }
-    ensures cause { IfErr result (λ cause. octets_from digits.now ≡ Err cause) }
+    ensures octets { IfOk result (λ octets. octets_of_digits digits.now ≡ Ok octets.now) }
+    ensures cause { IfErr result (λ cause. octets_of_digits digits.now ≡ Err cause) }
 {
     if digits.len() % 2 == 1 {
         return Err(TraceCause::Hex);

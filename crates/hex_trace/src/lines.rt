@@ -2,8 +2,8 @@
 ghost use Rattle.std.specs.Prelude.{◌≡◌, ◌≤◌, ◌<◌, ◌-◌, ◌∷◌, ◌++◌, ℕ, List, [], None, IfOk, IfSome, IfNone, OnOk, length, drop};
 ghost use Rattle.std.specs.List.{slice_split};
 ghost use Rattle.hex_trace.specs.Line.{frame_from};
-ghost use Rattle.hex_trace.specs.Trace.{is_line_end, frames_in, with_front};
-ghost use Rattle.hex_trace.specs.Lines.{said_with, said_by, skipped_after, HasNoEnd, Tells};
+ghost use Rattle.hex_trace.specs.Trace.{is_line_end, frames_of_text, with_front};
+ghost use Rattle.hex_trace.specs.Lines.{said_with, said_by, skipped_after, HasNoEnd, TellsTrace};
 
 use crate::frames::ReadFrames;
 use crate::line::{LONGEST_LINE, MOST_OCTETS, frame_from};
@@ -34,7 +34,7 @@ pub(crate) struct Lines {
 impl Lines {
     /// Before the first line.
     pub(crate) fn new(alloc: Global) -> Lines
-        ensures said { (text : List ℕ) → said_by result text ≡ frames_in text }
+        ensures said { (text : List ℕ) → said_by result text ≡ frames_of_text text }
         ensures fault { result.fault ≡ None }
     {
         Lines {
@@ -79,7 +79,7 @@ impl Lines {
     /// The frames of the trace, or its first fault, if this line is the last.
     pub(crate) fn finish(mut self, alloc: Global, last: &[u8]) -> Result<Frames, TraceFault>
         requires { self.fault ≡ None → HasNoEnd last.now }
-        ensures { Tells (said_by self last.now) result }
+        ensures { TellsTrace (said_by self last.now) result }
     {
         if self.fault.is_none() {
             self.take_line(alloc, last, &mut [0; MOST_OCTETS])?;

@@ -1,7 +1,7 @@
 //! A trace that is read piece by piece.
 ghost use Rattle.std.specs.Prelude.{◌≡◌, ℕ, List, [], IfOk};
 ghost use Rattle.hex_trace.specs.Reading.{said_after};
-ghost use Rattle.hex_trace.specs.Trace.{frames_in, with_front};
+ghost use Rattle.hex_trace.specs.Trace.{frames_of_text, with_front};
 
 use crate::Frames;
 use crate::lines::Lines;
@@ -34,7 +34,7 @@ impl Model for Reading {
 impl Reading {
     /// Before the first byte.
     pub fn new(alloc: Global) -> Reading
-        ensures { (text : List ℕ) → said_after result text ≡ frames_in text }
+        ensures { (text : List ℕ) → said_after result text ≡ frames_of_text text }
     {
         Reading {
             text: Vec::new(alloc),

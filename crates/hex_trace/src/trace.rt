@@ -1,6 +1,6 @@
 //! A whole trace, from its source to its frames.
 ghost use Rattle.std.specs.Prelude.{◌≡◌, ◌≤◌, ◌-◌, ◌++◌, ℕ, List, None, IfOk, false, length, take, drop};
-ghost use Rattle.hex_trace.specs.Source.{given};
+ghost use Rattle.hex_trace.specs.Source.{given_source};
 ghost use Rattle.hex_trace.specs.Trace.{ReadsTrace};
 ghost use Rattle.hex_trace.specs.Lines.{said_by, HasNoEnd};
 ghost use Rattle.hex_trace.specs.Progress.{ReadsOn};
@@ -56,7 +56,7 @@ impl Reading {
 /// after a fault all bytes.
 pub fn read_trace<S: Source>(alloc: Global, source: &mut S) -> Result<Frames, TraceFault>
     requires { S.has_failed source.old ≡ false }
-    ensures { ReadsTrace (given (S.remaining source.old) (S.has_failed source.new)) result }
+    ensures { ReadsTrace (given_source (S.remaining source.old) (S.has_failed source.new)) result }
 {
     let mut reading = Reading::new(alloc);
     'pieces: for _ in 0..u64::MAX {

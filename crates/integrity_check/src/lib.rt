@@ -29,7 +29,7 @@ impl Model for Sequence {
 impl Sequence {
     /// The state before the first frame. `window` is the number of sequence numbers after the latest
     /// that pass.
-    pub fn opening(window: u8) -> Sequence
+    pub fn new(window: u8) -> Sequence
         ensures { StandsFor result window [] }
     {
         Sequence { window, last: None }

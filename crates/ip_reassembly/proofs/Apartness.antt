@@ -10,7 +10,7 @@ use Rattle.es_base.specs.Packet.{PacketParts}
 use Rattle.es_base.specs.Fragments.{Piece, is_whole, is_bad, key_of, piece_of}
 use Rattle.es_base.proofs.Keys.{other_way, same_key}
 use Rattle.es_base.proofs.Firsts.{found_nowhere, passes_found, found_at as found_at_place}
-use Rattle.es_base.specs.Groups.{Group, is_same_key, has_key, place_of, is_over, Found, begins, joins, found_if, found_at, found_for, with_room, without, groups_with, group_with, groups_after, datagram_with}
+use Rattle.es_base.specs.Groups.{Group, is_same_key, has_key, place_of, is_over, Found, begins, joins, found_if, found_at, found_for, with_room, without_group, groups_with, group_with, groups_after, datagram_with}
 use Rattle.ip_reassembly.specs.Apart.{HaveDistinctKeys, AreApart}
 
 -- ---- groups without one of them
@@ -38,7 +38,7 @@ fewer (g ∷ gs) (suc i) = let less = fewer gs i in omega arith
 apart_rest : (gs : List Group) (i : ℕ) → AreApart gs → AreApart (remove gs i)
 apart_rest gs i apart = let less = fewer gs i in record { few = omega (arith, apart.few); distinct = distinct_rest gs i apart.distinct }
 
-apart_without : (gs : List Group) (place : Option ℕ) → AreApart gs → AreApart (without gs place)
+apart_without : (gs : List Group) (place : Option ℕ) → AreApart gs → AreApart (without_group gs place)
 apart_without gs None apart = apart
 apart_without gs (Some i) apart = apart_rest gs i apart
 

@@ -5,7 +5,7 @@ use Rattle.std.proofs.lemmas.List.{replicate-append-replicate, take-append-drop}
 use Rattle.std.proofs.lemmas.Grind.{common_steps}
 use Rattle.ip_reassembly.specs.declared.runs.Runs.{Runs}
 use Rattle.ip_reassembly.specs.Covering.{AreCovered}
-use Rattle.ip_reassembly.specs.Runs.{AreRuns, CameWithin, IsRun, with_marks}
+use Rattle.ip_reassembly.specs.Runs.{AreRuns, CameWithin, IsRunOfMarks, with_marks}
 
 -- ---- a mark with those of a piece
 
@@ -33,7 +33,7 @@ set_after marks offset end i order within (inr on) =
     (cases_lt i offset)
 
 run_after : (marks : List Bool) (offset end from to : ℕ) → offset ≤ end → end ≤ length marks
-    → ((i : ℕ) → from ≤ i → i < to → ((offset ≤ i) × (i < end)) ⊎ (slice_index_or marks i false ≡ true)) → IsRun (with_marks marks offset end) from to
+    → ((i : ℕ) → from ≤ i → i < to → ((offset ≤ i) × (i < end)) ⊎ (slice_index_or marks i false ≡ true)) → IsRunOfMarks (with_marks marks offset end) from to
 run_after marks offset end from to order within each = λ i above below. set_after marks offset end i order within (each i above below)
 
 -- no piece
@@ -44,8 +44,8 @@ no_piece marks offset =
 
 -- ---- the first run
 
-pub first_that_goes_on : (marks : List Bool) (offset end gap to : ℕ) → offset ≤ end → end ≤ length marks → IsRun marks 0 gap → offset ≤ gap → IsRun marks end to
-    → IsRun (with_marks marks offset end) 0 to
+pub first_that_goes_on : (marks : List Bool) (offset end gap to : ℕ) → offset ≤ end → end ≤ length marks → IsRunOfMarks marks 0 gap → offset ≤ gap → IsRunOfMarks marks end to
+    → IsRunOfMarks (with_marks marks offset end) 0 to
 first_that_goes_on marks offset end gap to order within first near rest =
     run_after marks offset end 0 to order within (λ i from below.
     ⊎_elim
@@ -59,8 +59,8 @@ first_that_goes_on marks offset end gap to order within first near rest =
 
 -- ---- a run in parts
 
-pub run_goes_on : (marks : List Bool) (from place n m : ℕ) → n ≤ m → IsRun marks from place → ((i : ℕ) → i < n → slice_index_or (take m (drop place marks)) i false ≡ true)
-    → IsRun marks from (place + n)
+pub run_goes_on : (marks : List Bool) (from place n m : ℕ) → n ≤ m → IsRunOfMarks marks from place → ((i : ℕ) → i < n → slice_index_or (take m (drop place marks)) i false ≡ true)
+    → IsRunOfMarks marks from (place + n)
 run_goes_on marks from place n m most run part = λ i above below.
     ⊎_elim
     (λ (before : i < place). run i above before)

@@ -5,7 +5,7 @@ use Rattle.std.proofs.lemmas.Bool.{eq-eqb, false≢true, cases_lt}
 use Rattle.std.proofs.lemmas.Option.{same_Some}
 use Rattle.es_base.specs.Packet.{PacketParts}
 use Rattle.es_base.specs.Fragments.{is_whole, is_bad, key_of, piece_of, octet_at, octets_if, total_of, datagram_from}
-use Rattle.es_base.specs.Groups.{Group, whole, bad, held, begins, joins, found_for, place_of, with_room, without, fate, fate_if, groups_after}
+use Rattle.es_base.specs.Groups.{Group, whole, bad, held, begins, joins, found_for, place_of, with_room, without_group, fate, fate_if, groups_after}
 use Rattle.ip_reassembly.specs.declared.answer.Preview.TheVariants as previews
 use Rattle.es_base.specs.Udp.{head_of}
 use Rattle.ip_reassembly.specs.Answers.{preview_of}
@@ -70,7 +70,7 @@ module _ (limit : ℕ) (groups : List Group) (packet : PacketParts) (now : ℕ) 
   unfolding fate
   joins_fate place group part good found = rw (part, good, found) refl
 
-  pub whole_groups : is_whole packet ≡ true → groups_after limit groups packet now ≡ without groups (place_of (key_of packet) groups)
+  pub whole_groups : is_whole packet ≡ true → groups_after limit groups packet now ≡ without_group groups (place_of (key_of packet) groups)
   unfolding groups_after
   whole_groups is = rw is refl
 

@@ -5,10 +5,10 @@ use Rattle.std.specs.List.{position_or_len}
 use Rattle.std.proofs.lemmas.Option.{same_Some}
 use Rattle.es_base.specs.declared.fragment.DatagramKey.{DatagramKey}
 use Rattle.es_base.specs.Fragments.{Piece}
-use Rattle.es_base.specs.Groups.{Group, has_key, place_of, is_over, found_for, begins, joins, without, with_room, group_with}
+use Rattle.es_base.specs.Groups.{Group, has_key, place_of, is_over, found_for, begins, joins, without_group, with_room, group_with}
 use Rattle.es_base.specs.Limits.{most_partials}
 use Rattle.ip_reassembly.specs.declared.partial.Partial.{Partial}
-use Rattle.ip_reassembly.specs.Held.{Holds}
+use Rattle.ip_reassembly.specs.Held.{HoldsPieces}
 use Rattle.ip_reassembly.specs.Kept.{IsPartial, StandFor, has_key_of}
 
 pub stand_length : (ss : List Partial) (gs : List Group) → StandFor ss gs → length ss ≡ length gs
@@ -56,7 +56,7 @@ stand_place key ss gs stand = rw (first_at key ss gs stand, stand_length ss gs s
 -- ---- what a piece finds
 
 pub found_over : (limit : ℕ) (gs : List Group) (key : DatagramKey) (now place : ℕ) (g : Group) → place_of key gs ≡ Some place → slice_get gs place ≡ Some g → is_over limit now g ≡ true
-    → found_for limit gs key now ≡ begins (without gs (place_of key gs))
+    → found_for limit gs key now ≡ begins (without_group gs (place_of key gs))
 found_over limit gs key now place g first there over = rw (first, there, over) refl
 
 pub found_joins : (limit : ℕ) (gs : List Group) (key : DatagramKey) (now place : ℕ) (g : Group) → place_of key gs ≡ Some place → slice_get gs place ≡ Some g → is_over limit now g ≡ false
@@ -77,7 +77,7 @@ room_made ss new gs stand full made =
 
 -- ---- one piece more
 
-pub joined_partial : (old new : Partial) (g : Group) (p : Piece) → IsPartial old g → new.key ≡ old.key → new.begin ≡ old.begin → Holds new.buffer (p ∷ g.pieces) → IsPartial new (group_with g p)
+pub joined_partial : (old new : Partial) (g : Group) (p : Piece) → IsPartial old g → new.key ≡ old.key → new.begin ≡ old.begin → HoldsPieces new.buffer (p ∷ g.pieces) → IsPartial new (group_with g p)
 joined_partial old new g p is key begin holds = record {
   key_is = key ∙ is.key_is;
   begin_is = λ time. is.begin_is p.time ∙ sym begin;

@@ -6,8 +6,8 @@ use Rattle.std.proofs.lemmas.Grind.{common_steps}
 use Rattle.es_base.specs.Fragments.{Piece}
 use Rattle.es_base.specs.Limits.{longest_joined}
 use Rattle.ip_reassembly.specs.Runs.{CameWithin}
-use Rattle.ip_reassembly.specs.Held.{Held, Holds, held_at}
-use Rattle.ip_reassembly.specs.Stretch.{octets_marked, held_from, held_of, placed}
+use Rattle.ip_reassembly.specs.Held.{Held, HoldsPieces, held_at}
+use Rattle.ip_reassembly.specs.Stretch.{octets_marked, held_from, held_of, placed_among}
 use Rattle.ip_reassembly.proofs.Came.{none_first, none_last}
 
 -- ---- what is held, with whatever octets stand where none came
@@ -27,13 +27,13 @@ same_at : (total : Option ℕ) (octets : List ℕ) (marks : List Bool) (i : ℕ)
 same_at total octets marks i true on = rw (on, came_at octets marks i on) refl
 same_at total octets marks i false off = rw off refl
 
-pub all_held : (total : Option ℕ) (octets : List ℕ) (marks : List Bool) (pieces : List Piece) → Holds (held_of total octets marks) pieces → Holds (all_of total octets marks) pieces
+pub all_held : (total : Option ℕ) (octets : List ℕ) (marks : List Bool) (pieces : List Piece) → HoldsPieces (held_of total octets marks) pieces → HoldsPieces (all_of total octets marks) pieces
 all_held total octets marks pieces holds = record {
   total_is = holds.total_is;
   octets_are = λ i. holds.octets_are i ∙ same_at total octets marks i (slice_index_or marks i false) refl;
 }
 
-pub came_held : (total : Option ℕ) (octets : List ℕ) (marks : List Bool) (pieces : List Piece) → Holds (all_of total octets marks) pieces → Holds (held_of total octets marks) pieces
+pub came_held : (total : Option ℕ) (octets : List ℕ) (marks : List Bool) (pieces : List Piece) → HoldsPieces (all_of total octets marks) pieces → HoldsPieces (held_of total octets marks) pieces
 came_held total octets marks pieces holds = record {
   total_is = holds.total_is;
   octets_are = λ i. holds.octets_are i ∙ sym (same_at total octets marks i (slice_index_or marks i false) refl);
@@ -97,16 +97,16 @@ stretch_is total octets marks least reach long marks_long order within stretch =
     let front_long : length (take least octets) ≡ least = grind (arith, common_steps) in
     let back_long : length (drop reach octets) ≡ rest = grind (arith, common_steps) in
     let marks_is = marks_are marks least reach marks_long order within stretch in
-    let came = came_long some some_marks same_long in
+    let received = came_long some some_marks same_long in
     let octets_is : octets_marked octets marks ≡ replicate least 0 ++ (octets_marked some some_marks ++ replicate rest 0) =
     ap (λ (xs : List ℕ). octets_marked xs marks) (in_parts octets least reach order)
     ∙ ap (λ (ms : List Bool). octets_marked (take least octets ++ (some ++ drop reach octets)) ms) marks_is
     ∙ came_placed (take least octets) some (drop reach octets) some_marks least rest front_long back_long same_long
     in
-    let after : longest_joined - (least + length (octets_marked some some_marks)) ≡ rest = omega (arith, came, some_long, order) in
+    let after : longest_joined - (least + length (octets_marked some some_marks)) ≡ rest = omega (arith, received, some_long, order) in
     let after_marks : longest_joined - (least + length some_marks) ≡ rest = omega (arith, same_long, some_long, order) in
     let held : List ℕ → List Bool → Held = λ octets marks. record { total = total; octets = octets; marks = marks } in
-    ap (λ (n : ℕ). held (replicate least 0 ++ (octets_marked some some_marks ++ replicate n 0)) (placed false least some_marks)) after
+    ap (λ (n : ℕ). held (replicate least 0 ++ (octets_marked some some_marks ++ replicate n 0)) (placed_among false least some_marks)) after
     ∙ ap (λ (n : ℕ). held (replicate least 0 ++ (octets_marked some some_marks ++ replicate rest 0)) (replicate least false ++ (some_marks ++ replicate n false))) after_marks
     ∙ ap (λ (xs : List ℕ). held xs (replicate least false ++ (some_marks ++ replicate rest false))) (sym octets_is)
     ∙ ap (λ (ms : List Bool). held (octets_marked octets marks) ms) (sym marks_is)
@@ -115,7 +115,7 @@ stretch_is total octets marks least reach long marks_long order within stretch =
 
 -- filled up before and after
 pub placed_by : {T : Type 0} (other : T) (least n : ℕ) (some first more all : List T) → least + length some ≤ longest_joined → first ≡ replicate least other → more ≡ first ++ some
-    → n ≡ least + length some → all ≡ take longest_joined more ++ replicate (longest_joined - n) other → all ≡ placed other least some
+    → n ≡ least + length some → all ≡ take longest_joined more ++ replicate (longest_joined - n) other → all ≡ placed_among other least some
 placed_by {T} other least n some first more all within first_is more_is many all_is =
     let more_now : more ≡ replicate least other ++ some = more_is ∙ ap (λ (xs : List T). xs ++ some) first_is in
     let long : length more ≡ least + length some = rw more_now (grind (arith, common_steps)) in
@@ -125,12 +125,12 @@ placed_by {T} other least n some first more all within first_is more_is many all
     ∙ ap (λ (n : ℕ). (replicate least other ++ some) ++ replicate (longest_joined - n) other) many
     ∙ append_assoc (replicate least other) some (replicate (longest_joined - (least + length some)) other)
 
-pub placed_long : {T : Type 0} (other : T) (least : ℕ) (some : List T) → least + length some ≤ longest_joined → length (placed other least some) ≡ longest_joined
+pub placed_long : {T : Type 0} (other : T) (least : ℕ) (some : List T) → least + length some ≤ longest_joined → length (placed_among other least some) ≡ longest_joined
 placed_long other least some within = grind (arith, common_steps)
 
 -- the marks of a stretch in their places are those of the buffer
 pub placed_marks : (marks : List Bool) (least reach : ℕ) → length marks ≡ longest_joined → least ≤ reach → reach ≤ longest_joined → CameWithin marks least reach
-    → marks ≡ placed false least (take (reach - least) (drop least marks))
+    → marks ≡ placed_among false least (take (reach - least) (drop least marks))
 placed_marks marks least reach long order within stretch =
     let some = take (reach - least) (drop least marks) in
     let some_long : length some ≡ reach - least = grind (arith, common_steps) in
@@ -139,17 +139,17 @@ placed_marks marks least reach long order within stretch =
 
 -- what is held of all is what is held of the stretch
 pub placed_is : (total : Option ℕ) (least : ℕ) (octets : List ℕ) (marks : List Bool) → length octets ≡ length marks
-    → held_of total (placed 0 least octets) (placed false least marks) ≡ held_from total least octets marks
+    → held_of total (placed_among 0 least octets) (placed_among false least marks) ≡ held_from total least octets marks
 placed_is total least octets marks long =
     let rest = longest_joined - (least + length marks) in
     let front : List ℕ = replicate least 0 in
     let back : List ℕ = replicate rest 0 in
     let front_long : length front ≡ least = grind (arith, common_steps) in
     let back_long : length back ≡ rest = grind (arith, common_steps) in
-    let came = came_long octets marks long in
+    let received = came_long octets marks long in
     let same_rest : longest_joined - (least + length octets) ≡ rest = omega (arith, long) in
-    let after : rest ≡ longest_joined - (least + length (octets_marked octets marks)) = omega (arith, came, long) in
-    let held : List ℕ → Held = λ octets. record { total = total; octets = octets; marks = placed false least marks } in
-    ap (λ (n : ℕ). held (octets_marked (replicate least 0 ++ (octets ++ replicate n 0)) (placed false least marks))) same_rest
+    let after : rest ≡ longest_joined - (least + length (octets_marked octets marks)) = omega (arith, received, long) in
+    let held : List ℕ → Held = λ octets. record { total = total; octets = octets; marks = placed_among false least marks } in
+    ap (λ (n : ℕ). held (octets_marked (replicate least 0 ++ (octets ++ replicate n 0)) (placed_among false least marks))) same_rest
     ∙ ap held (came_placed front octets back marks least rest front_long back_long long)
     ∙ ap (λ (n : ℕ). held (replicate least 0 ++ (octets_marked octets marks ++ replicate n 0))) after

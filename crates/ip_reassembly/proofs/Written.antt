@@ -5,13 +5,13 @@ use Rattle.std.proofs.lemmas.Bool.{cases_lt, lt-ltb, le-ltb, le-leb, lt-leb}
 use Rattle.std.proofs.lemmas.Option.{cond_some, same_Some}
 use Rattle.std.proofs.lemmas.Grind.{common_steps, elements}
 use Rattle.es_base.specs.Fragments.{Piece, end_of, octet_in, octet_at, total_of, datagram_from}
-use Rattle.ip_reassembly.specs.Held.{Held, Holds, held_at, written_at}
+use Rattle.ip_reassembly.specs.Held.{Held, HoldsPieces, held_at, written_at}
 use Rattle.ip_reassembly.specs.Covering.{AreCovered}
 use Rattle.ip_reassembly.proofs.Datagrams.{octet_before, octet_inside, octet_past, all_there, one_missing, datagram_each}
 
 -- ---- no piece
 
-pub nothing_held : (octets : List ℕ) (n : ℕ) → Holds (record { total = None; octets = octets; marks = replicate n false }) []
+pub nothing_held : (octets : List ℕ) (n : ℕ) → HoldsPieces (record { total = None; octets = octets; marks = replicate n false }) []
 nothing_held octets n = record {
   total_is = refl;
   octets_are = λ i.
@@ -31,7 +31,7 @@ or_some : (a b : Option ℕ) (x : ℕ) → b ≡ Some x → IsSome (option_or a 
 or_some None b x is = rw is refl
 or_some (Some y) b x is = refl
 
-covered : (held : Held) (pieces : List Piece) (p : Piece) (total : ℕ) → Holds held pieces → AreCovered held.marks p.offset (end_of p) total true
+covered : (held : Held) (pieces : List Piece) (p : Piece) (total : ℕ) → HoldsPieces held pieces → AreCovered held.marks p.offset (end_of p) total true
     → (i : ℕ) → i < total → IsSome (octet_at (p ∷ pieces) i)
 covered held pieces p total holds all i less =
     ⊎_elim
@@ -39,7 +39,7 @@ covered held pieces p total holds all i less =
     (λ inside. rw (octet_inside p i inside.0 inside.1) refl)
     (all i less)
 
-missing : (held : Held) (pieces : List Piece) (p : Piece) (total : ℕ) → Holds held pieces → (gap : AreCovered held.marks p.offset (end_of p) total false)
+missing : (held : Held) (pieces : List Piece) (p : Piece) (total : ℕ) → HoldsPieces held pieces → (gap : AreCovered held.marks p.offset (end_of p) total false)
     → octet_at (p ∷ pieces) gap.0 ≡ None
 missing held pieces p total holds (i, less, off, outside) =
     ⊎_elim
@@ -48,10 +48,10 @@ missing held pieces p total holds (i, less, off, outside) =
     outside
 
 -- where the datagram ends after a piece
-pub total_is : (held : Held) (pieces : List Piece) (p : Piece) → Holds held pieces → total_of (p ∷ pieces) ≡ (if p.more then held.total else Some (end_of p))
+pub total_is : (held : Held) (pieces : List Piece) (p : Piece) → HoldsPieces held pieces → total_of (p ∷ pieces) ≡ (if p.more then held.total else Some (end_of p))
 total_is held pieces p holds = rw (holds.total_is) refl
 
-length_if : (held : Held) (pieces : List Piece) (p : Piece) (total : ℕ) (all : Bool) → Holds held pieces → (if p.more then held.total else Some (end_of p)) ≡ Some total
+length_if : (held : Held) (pieces : List Piece) (p : Piece) (total : ℕ) (all : Bool) → HoldsPieces held pieces → (if p.more then held.total else Some (end_of p)) ≡ Some total
     → AreCovered held.marks p.offset (end_of p) total all → (if all then Some total else None) ≡ option_map length (datagram_from (p ∷ pieces))
 length_if held pieces p total true holds end all =
     rw (total_is held pieces p holds ∙ end) (sym (all_there total (p ∷ pieces) (covered held pieces p total holds all)))
@@ -59,7 +59,7 @@ length_if held pieces p total false holds end gap =
     rw (total_is held pieces p holds ∙ end) (rw (one_missing total (p ∷ pieces) gap.0 gap.1 (missing held pieces p total holds gap)) refl)
 
 -- the length of the datagram that a piece completes, if it does
-pub joined_length : (held : Held) (pieces : List Piece) (p : Piece) (more : Bool) (offset len total : ℕ) (all : Bool) → Holds held pieces
+pub joined_length : (held : Held) (pieces : List Piece) (p : Piece) (more : Bool) (offset len total : ℕ) (all : Bool) → HoldsPieces held pieces
     → p.more ≡ more → p.offset ≡ offset → length p.octets ≡ len → (if more then held.total else Some (offset + len)) ≡ Some total
     → AreCovered held.marks offset (offset + len) total all → (if all then Some total else None) ≡ option_map length (datagram_from (p ∷ pieces))
 joined_length held pieces p more offset len total all holds m o l end cover =
@@ -83,10 +83,10 @@ with_piece held p octets marks = record { total = if p.more then held.total else
 same_place : (old new : Held) (i : ℕ) → slice_index_or new.marks i false ≡ slice_index_or old.marks i false → slice_index new.octets i ≡ slice_index old.octets i → held_at new i ≡ held_at old i
 same_place old new i mark octet = rw (mark, octet) refl
 
-pub holds_one_more : (held : Held) (pieces : List Piece) (p : Piece) (octets : List ℕ) (marks : List Bool) → Holds held pieces → end_of p ≤ length held.marks
+pub holds_one_more : (held : Held) (pieces : List Piece) (p : Piece) (octets : List ℕ) (marks : List Bool) → HoldsPieces held pieces → end_of p ≤ length held.marks
     → ((i : ℕ) → slice_index octets i ≡ written_at held.octets p.offset p.octets i)
     → marks ≡ take p.offset held.marks ++ (replicate (end_of p - p.offset) true ++ drop (end_of p) held.marks)
-    → Holds (with_piece held p octets marks) (p ∷ pieces)
+    → HoldsPieces (with_piece held p octets marks) (p ∷ pieces)
 holds_one_more held pieces p octets marks holds within places are = record {
   total_is = total_is held pieces p holds;
   octets_are = λ i.
@@ -114,7 +114,7 @@ holds_one_more held pieces p octets marks holds within places are = record {
 held_octet : (held : Held) (i x : ℕ) → held_at held i ≡ Some x → slice_index held.octets i ≡ x
 held_octet held i x at = (cond_some _ _ _ at).1
 
-pub read_octets : (held : Held) (pieces : List Piece) (d : List ℕ) (len : ℕ) → len ≤ length held.octets → Holds held pieces → datagram_from pieces ≡ Some d → length d ≡ len
+pub read_octets : (held : Held) (pieces : List Piece) (d : List ℕ) (len : ℕ) → len ≤ length held.octets → HoldsPieces held pieces → datagram_from pieces ≡ Some d → length d ≡ len
     → take len held.octets ≡ d
 read_octets held pieces d len within holds made long =
     let same : length (take len held.octets) ≡ length d = grind (arith, common_steps) in
@@ -122,7 +122,7 @@ read_octets held pieces d len within holds made long =
     grind (arith, elements)
 
 -- the octet of a datagram that a piece completes
-pub read_with : (held : Held) (pieces : List Piece) (p : Piece) (d : List ℕ) (i : ℕ) → Holds held pieces → datagram_from (p ∷ pieces) ≡ Some d → i < length d
+pub read_with : (held : Held) (pieces : List Piece) (p : Piece) (d : List ℕ) (i : ℕ) → HoldsPieces held pieces → datagram_from (p ∷ pieces) ≡ Some d → i < length d
     → written_at held.octets p.offset p.octets i ≡ slice_index d i
 read_with held pieces p d i holds made less =
     let there = datagram_each (p ∷ pieces) d made i less in

@@ -14,7 +14,7 @@ held_at held i = if slice_index_or held.marks i false then Some (slice_index hel
 
 -- these pieces are what is held
 -- rule: REAS-8
-pub record Holds (held : Held) (pieces : List Piece) : Type 0 where
+pub record HoldsPieces (held : Held) (pieces : List Piece) : Type 0 where
   pub total_is : total_of pieces ≡ held.total
   pub octets_are : (i : ℕ) → octet_at pieces i ≡ held_at held i
 

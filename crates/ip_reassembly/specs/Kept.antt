@@ -4,9 +4,9 @@ use Rattle.std.specs.List.{AllZip}
 use Rattle.es_base.specs.declared.fragment.DatagramKey.{DatagramKey}
 use Rattle.es_base.specs.Packet.{PacketParts}
 use Rattle.es_base.specs.Fragments.{key_of, piece_of, datagram_from}
-use Rattle.es_base.specs.Groups.{Group, Found, joins, begins, begin_or, is_same_key, place_of, without, groups_with}
+use Rattle.es_base.specs.Groups.{Group, Found, joins, begins, begin_or, is_same_key, place_of, without_group, groups_with}
 use Rattle.ip_reassembly.specs.declared.partial.Partial.{Partial}
-use Rattle.ip_reassembly.specs.Held.{Holds}
+use Rattle.ip_reassembly.specs.Held.{HoldsPieces}
 
 -- the time limit, in microseconds; the number of partial datagrams given up; and those that stand, in the order in
 -- which they began
@@ -20,7 +20,7 @@ pub record Kept : Type 0 where
 pub record IsPartial (partial : Partial) (group : Group) : Type 0 where
   pub key_is : partial.key ≡ group.key
   pub begin_is : (time : ℕ) → begin_or time group.pieces ≡ partial.begin
-  pub holds : Holds partial.buffer group.pieces
+  pub holds : HoldsPieces partial.buffer group.pieces
 
 -- these are what is kept of these groups, each of one
 abbrev pub StandFor : List Partial → List Group → Type 0
@@ -38,7 +38,7 @@ has_key_of key partial = is_same_key partial.key key
 -- its key
 -- rule: REAS-5, REAS-14
 abbrev pub Finds : Option ℕ → List Group → DatagramKey → Found → Type 0
-Finds None groups key found = found ≡ begins (without groups (place_of key groups))
+Finds None groups key found = found ≡ begins (without_group groups (place_of key groups))
 Finds (Some place) groups key found = (group : Group) × (found ≡ joins place group) × (slice_get groups place ≡ Some group)
 
 -- the groups after a piece that joins the group at a place, and completes its datagram or doesn't

@@ -13,16 +13,16 @@ pub record CameWithin (marks : List Bool) (least reach : ℕ) : Type 0 where
   pub none_from : (i : ℕ) → reach ≤ i → slice_index_or marks i false ≡ false
 
 -- each mark from a place on is set, up to another
-abbrev pub IsRun : List Bool → ℕ → ℕ → Type 0
-IsRun marks from to = (i : ℕ) → from ≤ i → i < to → slice_index_or marks i false ≡ true
+abbrev pub IsRunOfMarks : List Bool → ℕ → ℕ → Type 0
+IsRunOfMarks marks from to = (i : ℕ) → from ≤ i → i < to → slice_index_or marks i false ≡ true
 
 -- these marks are set up to a gap, which isn't, and from a last place up to the reach; none is set before the least
 -- place or from the reach on
 pub record AreRuns (marks : List Bool) (runs : Runs) : Type 0 where
   pub within : CameWithin marks runs.least runs.reach
-  pub first : IsRun marks 0 runs.gap
+  pub first : IsRunOfMarks marks 0 runs.gap
   pub gap : slice_index_or marks runs.gap false ≡ false
-  pub last : IsRun marks runs.last runs.reach
+  pub last : IsRunOfMarks marks runs.last runs.reach
   pub order : runs.last ≤ runs.reach
   pub gap_bound : runs.gap ≤ longest_joined
   pub reach_bound : runs.reach ≤ longest_joined

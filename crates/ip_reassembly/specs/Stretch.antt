@@ -15,9 +15,9 @@ abbrev pub held_of : Option ℕ → List ℕ → List Bool → Held
 held_of total octets marks = record { total = total; octets = octets_marked octets marks; marks = marks }
 
 -- these from a least place on, with others before and after them up to the longest datagram
-abbrev pub placed : {T : Type 0} → T → ℕ → List T → List T
-placed other least xs = replicate least other ++ (xs ++ replicate (longest_joined - (least + length xs)) other)
+abbrev pub placed_among : {T : Type 0} → T → ℕ → List T → List T
+placed_among other least xs = replicate least other ++ (xs ++ replicate (longest_joined - (least + length xs)) other)
 
 -- what is held, of the octets and marks from a least place on
 abbrev pub held_from : Option ℕ → ℕ → List ℕ → List Bool → Held
-held_from total least octets marks = record { total = total; octets = placed 0 least (octets_marked octets marks); marks = placed false least marks }
+held_from total least octets marks = record { total = total; octets = placed_among 0 least (octets_marked octets marks); marks = placed_among false least marks }

@@ -3,7 +3,7 @@ ghost use Rattle.std.specs.Prelude.{◌≡◌, ℕ, ◌+◌, ◌<◌, ◌≤◌,
 ghost use Rattle.es_base.specs.Limits.{longest_joined};
 ghost use Rattle.es_base.specs.Fragments.{Piece, datagram_from};
 ghost use Rattle.es_base.specs.Udp.{head_of};
-ghost use Rattle.ip_reassembly.specs.Held.{Holds, written_at};
+ghost use Rattle.ip_reassembly.specs.Held.{HoldsPieces, written_at};
 
 use crate::marks::{mark, unset, unset_all};
 use crate::runs::Runs;
@@ -43,8 +43,8 @@ impl Model for Buffer {
 
 impl Buffer {
     /// An empty buffer for 8200 octets.
-    pub(crate) fn new(alloc: Global) -> Result<Buffer, Memory>
-        ensures { IfOk result (λ buffer. Holds buffer []) }
+    pub(crate) fn open(alloc: Global) -> Result<Buffer, Memory>
+        ensures { IfOk result (λ buffer. HoldsPieces buffer []) }
     {
         let octets = zeros(alloc, LONGEST_JOINED)?;
         let marks = unset(alloc, LONGEST_JOINED)?;
@@ -97,7 +97,7 @@ impl Buffer {
 
     /// Empties the buffer.
     pub(crate) fn clear(&mut self)
-        ensures { Holds self.new [] }
+        ensures { HoldsPieces self.new [] }
     {
         self.total = None;
         unset_all(&mut self.marks, self.runs.least, self.runs.reach);
@@ -107,8 +107,8 @@ impl Buffer {
     /// Adds a piece. Its octets replace earlier ones.
     pub(crate) fn join(&mut self, more: bool, offset: usize, octets: &[u8])
         requires { offset + length octets.now ≤ longest_joined }
-        ensures { (pieces : List Piece) (time : ℕ) → Holds self.old pieces →
-            Holds self.new (record { offset = offset; more = more; octets = octets.now; time = time } ∷ pieces) }
+        ensures { (pieces : List Piece) (time : ℕ) → HoldsPieces self.old pieces →
+            HoldsPieces self.new (record { offset = offset; more = more; octets = octets.now; time = time } ∷ pieces) }
     {
         let end = offset + octets.len();
         self.total = total_with(self.total, more, end);
@@ -120,7 +120,7 @@ impl Buffer {
     /// Length of the datagram, if a piece of `len` octets from `offset` on completes it.
     pub(crate) fn joined_with(&self, more: bool, offset: usize, len: usize) -> Option<usize>
         requires { offset + len ≤ longest_joined }
-        ensures joined { (pieces : List Piece) (piece : Piece) → Holds self.now pieces →
+        ensures joined { (pieces : List Piece) (piece : Piece) → HoldsPieces self.now pieces →
             piece.more ≡ more → piece.offset ≡ offset → length piece.octets ≡ len →
             result ≡ option_map length (datagram_from (piece ∷ pieces)) }
         ensures bound { IfSome result (λ total. total ≤ longest_joined) }
@@ -134,7 +134,7 @@ impl Buffer {
     /// The first `len` octets: the datagram's, if it is complete and has this length.
     pub(crate) fn octets(&self, len: usize) -> &[u8]
         requires { len ≤ longest_joined }
-        ensures { (pieces : List Piece) (datagram : List ℕ) → Holds self.now pieces →
+        ensures { (pieces : List Piece) (datagram : List ℕ) → HoldsPieces self.now pieces →
             datagram_from pieces ≡ Some datagram → length datagram ≡ len → result.now ≡ datagram }
     {
         &self.octets[..len]
@@ -143,7 +143,7 @@ impl Buffer {
     /// The first octets, as many as a UDP header has, of a datagram of `len` octets that this piece completes;
     /// zeros past its end.
     pub(crate) fn head_with(&self, offset: usize, octets: &[u8], len: usize) -> [u8; UDP_HEADER]
-        ensures { (pieces : List Piece) (piece : Piece) (datagram : List ℕ) → Holds self.now pieces →
+        ensures { (pieces : List Piece) (piece : Piece) (datagram : List ℕ) → HoldsPieces self.now pieces →
             piece.offset ≡ offset → piece.octets ≡ octets.now →
             datagram_from (piece ∷ pieces) ≡ Some datagram → length datagram ≡ len →
             result ≡ head_of datagram }

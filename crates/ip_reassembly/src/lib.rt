@@ -11,7 +11,7 @@
 //! ```
 //! fn receive(alloc: Global) -> Result<(), Memory> {
 //!     // Pieces are waited for half a second.
-//!     let mut reassembly = Reassembly::new(alloc, 500_000)?;
+//!     let mut reassembly = Reassembly::open(alloc, 500_000)?;
 //!     let end = Packet {
 //!         source: 0x0a00_0001,
 //!         destination: 0x0a00_0002,

@@ -5,7 +5,7 @@ ghost use Rattle.es_base.specs.Fragments.{Piece, piece_of, datagram_from};
 ghost use Rattle.es_base.specs.Groups.{Group, is_over, fate_if};
 ghost use Rattle.frame_reader.specs.Parts.{packet_parts};
 ghost use Rattle.ip_reassembly.specs.Answers.{preview_of};
-ghost use Rattle.ip_reassembly.specs.Held.{Holds};
+ghost use Rattle.ip_reassembly.specs.Held.{HoldsPieces};
 ghost use Rattle.ip_reassembly.specs.Kept.{IsPartial, has_key_of};
 
 use crate::Preview;
@@ -27,14 +27,14 @@ pub struct Partial {
 impl Partial {
     /// An empty spare one.
     pub(crate) fn spare(alloc: Global) -> Result<Partial, Memory>
-        ensures { IfOk result (λ partial. Holds partial.buffer []) }
+        ensures { IfOk result (λ partial. HoldsPieces partial.buffer []) }
     {
         let key = DatagramKey {
             source: 0,
             destination: 0,
             ident: 0,
         };
-        let buffer = Buffer::new(alloc)?;
+        let buffer = Buffer::open(alloc)?;
         Ok(Partial {
             key,
             begin: 0,
@@ -70,8 +70,8 @@ impl Partial {
         requires { packet.now.offset + length packet.now.octets.now ≤ longest_joined }
         ensures key { self.new.key ≡ self.old.key }
         ensures begin { self.new.begin ≡ self.old.begin }
-        ensures holds { (pieces : List Piece) (time : ℕ) → Holds self.old.buffer pieces →
-            Holds self.new.buffer (piece_of (packet_parts packet.now) time ∷ pieces) }
+        ensures holds { (pieces : List Piece) (time : ℕ) → HoldsPieces self.old.buffer pieces →
+            HoldsPieces self.new.buffer (piece_of (packet_parts packet.now) time ∷ pieces) }
     {
         self.buffer
             .join(packet.more, packet.offset as usize, packet.octets);
@@ -80,7 +80,7 @@ impl Partial {
     /// Length of the datagram, if this piece completes it.
     pub(crate) fn joined_with(&self, packet: &Packet<'_>) -> Option<usize>
         requires { packet.now.offset + length packet.now.octets.now ≤ longest_joined }
-        ensures joined { (pieces : List Piece) (time : ℕ) → Holds self.now.buffer pieces →
+        ensures joined { (pieces : List Piece) (time : ℕ) → HoldsPieces self.now.buffer pieces →
             result ≡ option_map length (datagram_from (piece_of (packet_parts packet.now) time ∷ pieces)) }
         ensures bound { IfSome result (λ len. len ≤ longest_joined) }
     {
@@ -91,7 +91,7 @@ impl Partial {
     /// The answer that one more piece would get.
     pub(crate) fn preview_with(&self, packet: &Packet<'_>) -> Preview
         requires { packet.now.offset + length packet.now.octets.now ≤ longest_joined }
-        ensures { (pieces : List Piece) (time : ℕ) → Holds self.now.buffer pieces → result
+        ensures { (pieces : List Piece) (time : ℕ) → HoldsPieces self.now.buffer pieces → result
             ≡ preview_of (fate_if (datagram_from (piece_of (packet_parts packet.now) time ∷ pieces))) }
     {
         match self.joined_with(packet) {

@@ -5,7 +5,7 @@ ghost use Rattle.arrayvec.specs.ArrayVec.{array_vec_len};
 ghost use Rattle.es_base.specs.Limits.{longest_joined, most_partials};
 ghost use Rattle.es_base.specs.Tally.{one_more};
 ghost use Rattle.es_base.specs.Fragments.{piece_of, key_of, datagram_from};
-ghost use Rattle.es_base.specs.Groups.{Group, place_of, found_for, group_with, with_room, without, fate, fate_if, groups_after};
+ghost use Rattle.es_base.specs.Groups.{Group, place_of, found_for, group_with, with_room, without_group, fate, fate_if, groups_after};
 ghost use Rattle.frame_reader.specs.Parts.{packet_parts};
 ghost use Rattle.ip_reassembly.specs.Kept.{StandFor, StandsFor, Finds, joined_group};
 ghost use Rattle.ip_reassembly.specs.GivenUp.{GoesOn, one_at, one_for_room, shown};
@@ -64,7 +64,7 @@ impl Reassembly {
     ///
     /// All memory is taken here, and none after it: buffers for four datagrams of 8200 octets. The only error is that
     /// memory ran out.
-    pub fn new(alloc: Global, limit: u64) -> Result<Reassembly, Memory>
+    pub fn open(alloc: Global, limit: u64) -> Result<Reassembly, Memory>
         ensures pieces { IfOk result (λ reassembly. StandsFor reassembly limit []) }
         ensures given_up { IfOk result (λ reassembly. reassembly.given_up ≡ 0) }
     {
@@ -241,7 +241,7 @@ impl Reassembly {
     /// Gives up the partial datagram with a key, if any.
     fn give_up_key(&mut self, key: DatagramKey)
         ensures stand { (groups : List Group) → StandFor self.old.partials groups →
-            StandFor self.new.partials (without groups (place_of key groups)) }
+            StandFor self.new.partials (without_group groups (place_of key groups)) }
         ensures limit { self.new.limit ≡ self.old.limit }
         ensures given_up { (groups : List Group) (n : ℕ) → StandFor self.old.partials groups → self.old.given_up ≡ shown n →
             self.new.given_up ≡ shown (n + one_at (place_of key groups)) }
@@ -304,11 +304,11 @@ impl Reassembly {
     fn begin_anew(&mut self, key: DatagramKey, packet: &Packet<'_>, now: u64)
         requires { packet.now.offset + length packet.now.octets.now ≤ longest_joined }
         ensures stand { (groups : List Group) → StandFor self.old.partials groups → StandFor self.new.partials
-            (with_room (without groups (place_of key groups))
+            (with_room (without_group groups (place_of key groups))
             ++ record { key = key; pieces = piece_of (packet_parts packet.now) now ∷ [] } ∷ []) }
         ensures limit { self.new.limit ≡ self.old.limit }
         ensures given_up { (groups : List Group) (n : ℕ) → StandFor self.old.partials groups → self.old.given_up ≡ shown n →
-            self.new.given_up ≡ shown (n + (one_at (place_of key groups) + one_for_room (without groups (place_of key groups)))) }
+            self.new.given_up ≡ shown (n + (one_at (place_of key groups) + one_for_room (without_group groups (place_of key groups)))) }
     {
         self.give_up_key(key);
         self.make_room();

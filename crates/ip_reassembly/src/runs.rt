@@ -2,7 +2,7 @@
 ghost use Rattle.std.specs.Prelude.{◌≡◌, ℕ, ◌<◌, ◌≤◌, Bool, false, List, length, max, replicate, slice_index_or};
 ghost use Rattle.es_base.specs.Limits.{longest_joined};
 ghost use Rattle.ip_reassembly.specs.Covering.{AreSet};
-ghost use Rattle.ip_reassembly.specs.Runs.{AreRuns, IsRun, with_marks};
+ghost use Rattle.ip_reassembly.specs.Runs.{AreRuns, IsRunOfMarks, with_marks};
 
 use crate::buffer::LONGEST_JOINED;
 
@@ -61,7 +61,7 @@ impl Runs {
         requires within { end ≤ length marks.now }
         requires bound { length marks.now ≡ longest_joined }
         requires runs { AreRuns marks.now self }
-        ensures run { IsRun (with_marks marks.now offset end) 0 result }
+        ensures run { IsRunOfMarks (with_marks marks.now offset end) 0 result }
         ensures gap { slice_index_or (with_marks marks.now offset end) result false ≡ false }
         ensures bound { result ≤ longest_joined }
     {
@@ -78,7 +78,7 @@ impl Runs {
     fn last_with(self, offset: usize, end: usize) -> usize
         requires { offset < end }
         ensures run { (marks : List Bool) → end ≤ length marks → AreRuns marks self →
-            IsRun (with_marks marks offset end) result (max self.reach end) }
+            IsRunOfMarks (with_marks marks offset end) result (max self.reach end) }
         ensures order { self.last ≤ self.reach → result ≤ max self.reach end }
     {
         if offset > self.reach {
@@ -95,7 +95,7 @@ impl Runs {
 fn run_end(marks: &[bool], from: usize, to: usize) -> usize
     requires order { from ≤ to }
     requires within { to ≤ length marks.now }
-    ensures run { IsRun marks.now from result }
+    ensures run { IsRunOfMarks marks.now from result }
     ensures gap { result < to → slice_index_or marks.now result false ≡ false }
     ensures order { from ≤ result }
     ensures bound { result ≤ to }
@@ -112,7 +112,7 @@ fn run_end(marks: &[bool], from: usize, to: usize) -> usize
 
 /// Number of set marks before the first that isn't.
 fn set_first(marks: &[bool]) -> usize
-    ensures run { IsRun marks.now 0 result }
+    ensures run { IsRunOfMarks marks.now 0 result }
     ensures gap { slice_index_or marks.now result false ≡ false }
     ensures bound { result ≤ length marks.now }
 {

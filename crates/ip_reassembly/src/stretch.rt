@@ -2,7 +2,7 @@
 ghost use Rattle.std.specs.Prelude.{◌≡◌, ◌+◌, ◌≤◌, false, length, IfOk};
 ghost use Rattle.es_base.specs.Limits.{longest_joined};
 ghost use Rattle.ip_reassembly.specs.Runs.{AreRuns};
-ghost use Rattle.ip_reassembly.specs.Stretch.{held_from, placed};
+ghost use Rattle.ip_reassembly.specs.Stretch.{held_from, placed_among};
 
 use crate::buffer::LONGEST_JOINED;
 use crate::runs::Runs;
@@ -29,18 +29,18 @@ impl Model for Stretch {
     ghost use Rattle.es_base.specs.Limits.{longest_joined};
     ghost use Rattle.ip_reassembly.specs.Held.{Held};
     ghost use Rattle.ip_reassembly.specs.Runs.{AreRuns};
-    ghost use Rattle.ip_reassembly.specs.Stretch.{held_from, placed};
+    ghost use Rattle.ip_reassembly.specs.Stretch.{held_from, placed_among};
 
     ghost Value = { Held };
 
     ghost view = { λ s. held_from s.total s.least s.octets.items s.marks.items };
 
-    ghost invariant = { λ s. (length s.octets.items ≡ length s.marks.items) × (s.least + length s.octets.items ≤ longest_joined) × AreRuns (placed false s.least s.marks.items) s.runs };
+    ghost invariant = { λ s. (length s.octets.items ≡ length s.marks.items) × (s.least + length s.octets.items ≤ longest_joined) × AreRuns (placed_among false s.least s.marks.items) s.runs };
 }
 
 impl Stretch {
     /// A stretch of no octets. It takes no memory.
-    pub(crate) fn empty(alloc: Global) -> Stretch {
+    pub(crate) fn new(alloc: Global) -> Stretch {
         Stretch {
             total: None,
             runs: Runs::none(),
@@ -61,7 +61,7 @@ impl Stretch {
     ) -> Result<Stretch, Memory>
         requires marks { length octets.now ≡ length marks.now }
         requires within { least + length octets.now ≤ longest_joined }
-        requires runs { AreRuns (placed false least marks.now) runs }
+        requires runs { AreRuns (placed_among false least marks.now) runs }
         ensures { IfOk result (λ stretch. stretch ≡ held_from total least octets.now marks.now) }
     {
         let octets = Vec::from_slice(alloc, octets)?;
@@ -84,7 +84,7 @@ pub(crate) fn placed<T: Copy>(
     some: &[T],
 ) -> Result<Vec<T>, Memory>
     requires { least + length some.now ≤ longest_joined }
-    ensures { IfOk result (λ all. all.items ≡ placed other least some.now) }
+    ensures { IfOk result (λ all. all.items ≡ placed_among other least some.now) }
 {
     let mut all = Vec::with_capacity(alloc, LONGEST_JOINED)?;
     all.resize(least, other)?;

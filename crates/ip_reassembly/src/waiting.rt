@@ -32,7 +32,7 @@ impl Model for WaitingDatagram {
 
 impl WaitingDatagram {
     /// One of no datagram. It takes no memory.
-    fn empty(alloc: Global) -> WaitingDatagram {
+    fn new(alloc: Global) -> WaitingDatagram {
         let key = DatagramKey {
             source: 0,
             destination: 0,
@@ -41,7 +41,7 @@ impl WaitingDatagram {
         WaitingDatagram {
             key,
             begin: 0,
-            stretch: Stretch::empty(alloc),
+            stretch: Stretch::new(alloc),
         }
     }
 }
@@ -119,7 +119,7 @@ fn copy_or_empty(
 {
     match partials.get(place) {
         Some(partial) => copy_of(alloc, partial),
-        None => Ok(WaitingDatagram::empty(alloc)),
+        None => Ok(WaitingDatagram::new(alloc)),
     }
 }
 

@@ -10,7 +10,7 @@ use Rattle.link_core.specs.Past.{latest_on}
 
 pub noted : (old new : Checks) (past : List Event) (e : Event) (net : Net) (now : ℕ) → HasTimes old past → e.net ≡ net → e.time ≡ now
     → ((other : Net) → latest_in new other ≡ (if is_same_net net other then Some now else latest_in old other)) → HasTimes new (e ∷ past)
-noted old new past e net now has came at becomes = λ other. rw (came, at, ← has other) (becomes other)
+noted old new past e net now has received at becomes = λ other. rw (received, at, ← has other) (becomes other)
 
 pub same_times : (one other : Checks) (past : List Event) → other.latest_a ≡ one.latest_a → other.latest_b ≡ one.latest_b → HasTimes one past → HasTimes other past
 same_times one other past a b has = λ net. by net

@@ -127,7 +127,7 @@ fn reassembly_from(
         StandsFor reassembly settings.now.reassembly (groups_in settings.now earlier)) }
 {
     match before {
-        None => Reassembly::new(alloc, settings.reassembly()),
+        None => Reassembly::open(alloc, settings.reassembly()),
         Some(before) => before.copy(alloc),
     }
 }
@@ -143,7 +143,7 @@ fn reassembly_after(
         StandsFor reassembly settings.now.reassembly (groups_in settings.now earlier)) }
 {
     match before {
-        None => Reassembly::new(alloc, settings.reassembly()),
+        None => Reassembly::open(alloc, settings.reassembly()),
         Some(before) => before.begin(alloc),
     }
 }

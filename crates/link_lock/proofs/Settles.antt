@@ -9,8 +9,8 @@ use Rattle.link_lock.specs.declared.user.User.TheVariants.{First, Second}
 use Rattle.link_lock.specs.declared.rule.Whose.TheVariants.{Both}
 use Rattle.link_lock.specs.declared.rule.View.{View}
 use Rattle.link_lock.specs.Lists.{both_lists}
-use Rattle.link_lock.specs.Pass.{Known, LockId}
-use Rattle.link_lock.specs.Rule.{Locked, joined, known_of, lists_in}
+use Rattle.link_lock.specs.Pass.{KnownPass, LockId}
+use Rattle.link_lock.specs.Rule.{Locked, joined_views, known_of, lists_in}
 use Rattle.link_lock.proofs.Steps.{nobody_has, is_of_both}
 
 module _ {S L : Type 0} (fixed_of : S → S) (agree : (User → L) → S → Type 0) (goes_on : User → S → S → L → L) (fixed : S) where
@@ -33,13 +33,13 @@ module _ {S L : Type 0} (fixed_of : S → S) (agree : (User → L) → S → Typ
         )
 
     -- the same, by what the two passes know
-    pub settled : (v a b : View S L) → v ≡ joined a b → Closed v → (lock lock' : LockId) (user user' : User) (first second : Known S L) → known_of lock user a ≡ first → known_of lock' user' b ≡ second
+    pub settled : (v a b : View S L) → v ≡ joined_views a b → Closed v → (lock lock' : LockId) (user user' : User) (first second : KnownPass S L) → known_of lock user a ≡ first → known_of lock' user' b ≡ second
         → first.user ≡ First → second.user ≡ Second → (Some (fixed_of value) ≡ first.fixed) × agree (both_lists first.list second.list) value
     settled v a b both final lock lock' user user' first second was was' is is' =
         let known = whole v (ap (λ (u : View S L). u.whose) both) (ap (λ (u : View S L). u.held) both) final in
-        let list : a.first ≡ first.list = ap (lists_in a) (sym (ap (λ (k : Known S L). k.user) was ∙ is)) ∙ ap (λ (k : Known S L). k.list) was in
-        let list' : b.second ≡ second.list = ap (lists_in b) (sym (ap (λ (k : Known S L). k.user) was' ∙ is')) ∙ ap (λ (k : Known S L). k.list) was' in
+        let list : a.first ≡ first.list = ap (lists_in a) (sym (ap (λ (k : KnownPass S L). k.user) was ∙ is)) ∙ ap (λ (k : KnownPass S L). k.list) was in
+        let list' : b.second ≡ second.list = ap (lists_in b) (sym (ap (λ (k : KnownPass S L). k.user) was' ∙ is')) ∙ ap (λ (k : KnownPass S L). k.list) was' in
         let lists : lists_in v ≡ both_lists first.list second.list = ap lists_in both ∙ λ i. both_lists (list i) (list' i) in (
-          known.0 ∙ (ap (λ (u : View S L). u.fixed) both ∙ ap (λ (k : Known S L). k.fixed) was),
+          known.0 ∙ (ap (λ (u : View S L). u.fixed) both ∙ ap (λ (k : KnownPass S L). k.fixed) was),
           subst (λ (l : User → L). agree l value) lists known.1,
         )

@@ -12,7 +12,7 @@ use Rattle.link_lock.specs.declared.rule.Whose.{Whose}
 use Rattle.link_lock.specs.declared.rule.Whose.TheVariants.{One, Both, Nobody}
 use Rattle.link_lock.specs.declared.rule.View.{View}
 use Rattle.link_lock.specs.Lists.{both_lists, with_list}
-use Rattle.link_lock.specs.Rule.{is_for, view, lists_in, opened, first_part, second_part, joined, spent, Fits, Away, AtHome, Locked, holding, tried, lists_after, after, gave, MayGive}
+use Rattle.link_lock.specs.Rule.{is_for, view, lists_in, opened_view, first_part, second_part, joined_views, spent, FitsSeat, Away, AtHome, Locked, holding, tried, lists_after, after, gave, MayGive}
 
 -- ---- users
 
@@ -82,10 +82,10 @@ module _ {S L : Type 0} (fixed_of : S → S) (agree : (User → L) → S → Typ
   table words homes views = record { words = words; homes = homes; views = views }
 
   abbrev FitsIn : (User → L) → (User → ℕ) → ℕ → ℕ → ℕ → V → Type 0
-  FitsIn = Fits fixed
+  FitsIn = FitsSeat fixed
 
   abbrev Each : (User → L) → (User → ℕ) → ℕ → ℕ → List V → Type 0
-  Each lists seat_of word holder views = (number : ℕ) (v : V) → get_elem? views number ≡ some v → Fits fixed lists seat_of word holder number v
+  Each lists seat_of word holder views = (number : ℕ) (v : V) → get_elem? views number ≡ some v → FitsSeat fixed lists seat_of word holder number v
 
   -- what a step owes of a table with these words, homes and views
   abbrev Goes : ℕ → Me S V → (ℕ → ℕ) → (ℕ → Me S V → Type 0) → List V → List ℕ → List (maybe.Option S) → Type 0
@@ -232,7 +232,7 @@ module _ {S L : Type 0} (fixed_of : S → S) (agree : (User → L) → S → Typ
   is_of_both whose both n = ap (is_for n) both ∙ for_both n
 
   -- a table begins with the value at home, and with lists of nothing
-  pub begins : (value : S) (nothing : L) → fixed_of value ≡ fixed → agree (λ n. nothing) value → Rule (table (0 ∷ []) (some value ∷ []) (opened fixed nothing ∷ []))
+  pub begins : (value : S) (nothing : L) → fixed_of value ≡ fixed → agree (λ n. nothing) value → Rule (table (0 ∷ []) (some value ∷ []) (opened_view fixed nothing ∷ []))
   begins value nothing same agrees = record {
     lists = λ n. nothing;
     seat_of = λ n. 0;
@@ -240,7 +240,7 @@ module _ {S L : Type 0} (fixed_of : S → S) (agree : (User → L) → S → Typ
     holder = 0;
     words = refl;
     placed = inl (refl, (value, refl, same, agrees));
-    each = each_set (FitsIn (λ n. nothing) (λ n. 0) 0 0) (opened fixed nothing ∷ []) 0 (opened fixed nothing)
+    each = each_set (FitsIn (λ n. nothing) (λ n. 0) 0 0) (opened_view fixed nothing ∷ []) 0 (opened_view fixed nothing)
         (record { own = λ n is. (refl, refl, split_lists (λ m. nothing) n); holds = λ p has. absurd (never p has) })
         (λ j u other here. absurd (other (at_end [] _ u j (λ x. some-ne-none u (sym x)) here)));
   }
@@ -255,7 +255,7 @@ module _ {S L : Type 0} (fixed_of : S → S) (agree : (User → L) → S → Typ
       let fixed_is : v.fixed ≡ Some fixed = (mine.own First (is_of_both v.whose both First)).0 in
       let taken : (j : ℕ) (u : V) → j ≢ number → get_elem? t.views j ≡ some u → (n : User) → is_for n u.whose ≡ true → ⊥ =
       λ j u other here n is. other (((r.each j u here).own n is).1 ∙ sym (mine.own n (is_of_both v.whose both n)).1) in
-      let Old : ℕ → V → Type 0 = λ j u. Fits fixed r.lists seats r.word r.holder j u × (is_for Second u.whose ≡ true → ⊥) in
+      let Old : ℕ → V → Type 0 = λ j u. FitsSeat fixed r.lists seats r.word r.holder j u × (is_for Second u.whose ≡ true → ⊥) in
       let old : (j : ℕ) (u : V) → get_elem? vs j ≡ some u → Old j u =
       each_set Old t.views number (first_part v)
       (record { own = own_first (length vs) r.lists fixed_is known; holds = λ p has. absurd (never p has) }, λ is. true≢false (sym is))
@@ -268,7 +268,7 @@ module _ {S L : Type 0} (fixed_of : S → S) (agree : (User → L) → S → Typ
         words = r.words;
         placed = inl home;
         each = λ j u here. ⊎_elim (λ x. (old j u x).0)
-            (λ (is : second_part v ≡ u). subst (Fits fixed r.lists seats r.word r.holder j) is
+            (λ (is : second_part v ≡ u). subst (FitsSeat fixed r.lists seats r.word r.holder j) is
             record {
               own = own_second (length vs) r.lists fixed_is known j (at_end vs (second_part v) u j (λ x. (old j u x).1 (sym (ap (λ (y : V). is_for Second y.whose) is))) here);
               holds = λ p has. absurd (never p has);
@@ -287,15 +287,15 @@ module _ {S L : Type 0} (fixed_of : S → S) (agree : (User → L) → S → Typ
       own_second end lists fixed_is known j last Second is = (fixed_is, last, known Second)
 
   module _ (nothing : L) (number other : ℕ) (v w : V) (first : v.whose ≡ One First) (second : w.whose ≡ One Second) (free : v.held ≡ None) (free' : w.held ≡ None) where
-    pub joins : Joins Rule number v other w (joined v w) (spent nothing)
+    pub joins : Joins Rule number v other w (joined_views v w) (spent nothing)
     joins t r at two there =
-        let both : V = joined v w in
+        let both : V = joined_views v w in
         let vs : List V = set t.views number both in
         let was : get_elem? t.views other ≡ some w = ⊎_elim (λ (x : (other ≡ number) × (both ≡ w)). absurd (two x.0)) (λ (x : (other ≢ number) × (get_elem? t.views other ≡ some w)). x.1) (at_set t.views number other both w there) in
         let mine = (r.each number v at).own First (is_own v.whose First first) in
         let theirs = (r.each other w was).own Second (is_own w.whose Second second) in
         let home = nobody_has t r (both_lists number other) (seats t.views at was) in
-        let Now : ℕ → V → Type 0 = λ j u. j ≢ other → Fits fixed r.lists (λ n. number) r.word r.holder j u in
+        let Now : ℕ → V → Type 0 = λ j u. j ≢ other → FitsSeat fixed r.lists (λ n. number) r.word r.holder j u in
         let now : (j : ℕ) (u : V) → get_elem? vs j ≡ some u → Now j u =
         each_set Now t.views number both
         (λ _. record { own = own_both r.lists mine.0 mine.2 theirs.2; holds = λ p has. absurd (never p has) })
@@ -318,7 +318,7 @@ module _ {S L : Type 0} (fixed_of : S → S) (agree : (User → L) → S → Typ
         seats views at was Second = (w, was, is_own w.whose Second second, free')
 
         own_both : (lists : User → L) → v.fixed ≡ Some fixed → v.first ≡ lists First → w.second ≡ lists Second
-            → (n : User) → is_for n Both ≡ true → (v.fixed ≡ Some fixed) × (number ≡ number) × (lists_in (joined v w) n ≡ lists n)
+            → (n : User) → is_for n Both ≡ true → (v.fixed ≡ Some fixed) × (number ≡ number) × (lists_in (joined_views v w) n ≡ lists n)
         own_both lists fixed_is a b First is = (fixed_is, refl, a)
         own_both lists fixed_is a b Second is = (fixed_is, refl, b)
 

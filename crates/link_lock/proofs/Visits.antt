@@ -5,7 +5,7 @@ use Rattle.link_lock.specs.declared.user.User.{User}
 use Rattle.link_lock.specs.declared.user.User.TheVariants.{First, Second}
 use Rattle.link_lock.specs.declared.rule.View.{View}
 use Rattle.link_lock.specs.Lists.{with_list}
-use Rattle.link_lock.specs.Pass.{Known, LockId, MayFind, MayLeave, Visited, with_list_of}
+use Rattle.link_lock.specs.Pass.{KnownPass, LockId, MayFind, MayLeave, Visited, with_list_of}
 use Rattle.link_lock.specs.Rule.{IsReady, known_of, lists_in, holding, lists_after, after, Took, Worked, gave, MayGive}
 use Rattle.link_lock.proofs.Steps.{split_lists, top}
 
@@ -14,8 +14,8 @@ own_list lists First list = refl
 own_list lists Second list = refl
 
 module _ {S L : Type 0} (fixed_of : S → S) (agree : (User → L) → S → Type 0) (goes_on : User → S → S → L → L) (did : S → S → Type 0) where
-  module _ (lock : LockId) (user : User) (m m1 m2 : Me S (View S L)) (ready : IsReady user m) (took : Took fixed_of agree m m1) (worked : Worked did m1 m2) (old : Known S L) (was : known_of lock user m.0 ≡ old) where
-    abbrev pass : Known S L
+  module _ (lock : LockId) (user : User) (m m1 m2 : Me S (View S L)) (ready : IsReady user m) (took : Took fixed_of agree m m1) (worked : Worked did m1 m2) (old : KnownPass S L) (was : known_of lock user m.0 ≡ old) where
+    abbrev pass : KnownPass S L
     pass = known_of lock user m.0
 
     abbrev v : View S L
@@ -25,7 +25,7 @@ module _ {S L : Type 0} (fixed_of : S → S) (agree : (User → L) → S → Typ
     own_is = took.own user ready.0
 
     finds : MayFind fixed_of agree old took.lists took.value
-    finds = subst (λ (k : Known S L). MayFind fixed_of agree k took.lists took.value) was record { fixed = took.fixed; own = own_is; agrees = took.agrees }
+    finds = subst (λ (k : KnownPass S L). MayFind fixed_of agree k took.lists took.value) was record { fixed = took.fixed; own = own_is; agrees = took.agrees }
 
     same : worked.found ≡ took.value
     same = sym (ap (top took.value) (sym (ap (λ (x : Me S (View S L)). x.1) took.has) ∙ worked.carried))
@@ -41,7 +41,7 @@ module _ {S L : Type 0} (fixed_of : S → S) (agree : (User → L) → S → Typ
 
     pub may_give : ((lists : User → L) (found left : S) → MayFind fixed_of agree old lists found → did found left → MayLeave fixed_of agree goes_on old lists found left) → MayGive goes_on fixed_of agree m2
     may_give keeps =
-        let leaves = subst (λ (k : Known S L). MayLeave fixed_of agree goes_on k took.lists took.value worked.left) (sym was) (keeps took.lists took.value worked.left finds does) in
+        let leaves = subst (λ (k : KnownPass S L). MayLeave fixed_of agree goes_on k took.lists took.value worked.left) (sym was) (keeps took.lists took.value worked.left finds does) in
         subst (λ (x : Me S (View S L)). MayGive goes_on fixed_of agree x) (sym now)
         record {
           user = user;
@@ -68,7 +68,7 @@ module _ {S L : Type 0} (fixed_of : S → S) (agree : (User → L) → S → Typ
         left = worked.left;
         finds = finds;
         does = does;
-        knows = subst (λ (k : Known S L). known_of lock' user m3.0 ≡ with_list_of k (goes_on k.user took.value worked.left k.list)) was ((λ i. known_of (same_lock i) user (left_as i).0)
+        knows = subst (λ (k : KnownPass S L). known_of lock' user m3.0 ≡ with_list_of k (goes_on k.user took.value worked.left k.list)) was ((λ i. known_of (same_lock i) user (left_as i).0)
             ∙ ap (λ (list : L). with_list_of pass list)
             (split_lists (lists_after goes_on user v took.value worked.left) user ∙ own_list (lists_in v) user (goes_on user took.value worked.left (lists_in v user)) ∙ ap (goes_on user took.value worked.left) own));
       }

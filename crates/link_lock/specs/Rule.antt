@@ -11,7 +11,7 @@ use Rattle.link_lock.specs.declared.rule.Whose.{Whose}
 use Rattle.link_lock.specs.declared.rule.Whose.TheVariants.{One, Both, Nobody}
 use Rattle.link_lock.specs.declared.rule.View.{View}
 use Rattle.link_lock.specs.Lists.{both_lists, with_list}
-use Rattle.link_lock.specs.Pass.{Known, LockId}
+use Rattle.link_lock.specs.Pass.{KnownPass, LockId}
 
 -- ---- what a seat knows
 
@@ -30,8 +30,8 @@ abbrev pub lists_in : {S L : Type 0} → View S L → User → L
 lists_in v = both_lists v.first v.second
 
 -- the seat with which a lock is opened is that of both users
-abbrev pub opened : {S L : Type 0} → S → L → View S L
-opened fixed nothing = view (Some fixed) Both (λ _. nothing) None
+abbrev pub opened_view : {S L : Type 0} → S → L → View S L
+opened_view fixed nothing = view (Some fixed) Both (λ _. nothing) None
 
 abbrev pub first_part : {S L : Type 0} → View S L → View S L
 first_part v = view v.fixed (One First) (lists_in v) None
@@ -39,8 +39,8 @@ first_part v = view v.fixed (One First) (lists_in v) None
 abbrev pub second_part : {S L : Type 0} → View S L → View S L
 second_part v = view v.fixed (One Second) (lists_in v) None
 
-abbrev pub joined : {S L : Type 0} → View S L → View S L → View S L
-joined v w = view v.fixed Both (both_lists v.first w.second) None
+abbrev pub joined_views : {S L : Type 0} → View S L → View S L → View S L
+joined_views v w = view v.fixed Both (both_lists v.first w.second) None
 
 -- a seat that was joined to another
 abbrev pub spent : {S L : Type 0} → L → View S L
@@ -56,7 +56,7 @@ abbrev pub IsReady : {S L : Type 0} → User → Me S (View S L) → Type 0
 IsReady user m = (m.0.whose ≡ One user) × (m.0.held ≡ None) × (m.1 ≡ [])
 
 -- what a ready seat tells its pass
-abbrev pub known_of : {S L : Type 0} → LockId → User → View S L → Known S L
+abbrev pub known_of : {S L : Type 0} → LockId → User → View S L → KnownPass S L
 known_of lock user v = record { lock = lock; user = user; fixed = v.fixed; list = lists_in v user }
 
 -- ---- the rule
@@ -64,7 +64,7 @@ known_of lock user v = record { lock = lock; user = user; fixed = v.fixed; list 
 -- A seat that is some user's is the only one, and knows that user's list. A seat that has the value is the only one,
 -- and knows both lists.
 -- rule: CONC-11
-pub record Fits {S L : Type 0} (fixed : S) (lists : User → L) (seat_of : User → ℕ) (word holder number : ℕ) (v : View S L) : Type 0 where
+pub record FitsSeat {S L : Type 0} (fixed : S) (lists : User → L) (seat_of : User → ℕ) (word holder number : ℕ) (v : View S L) : Type 0 where
   pub own : (user : User) → is_for user v.whose ≡ true → (v.fixed ≡ Some fixed) × (number ≡ seat_of user) × (lists_in v user ≡ lists user)
   pub holds : (s : S) → v.held ≡ Some s → (word ≡ 1) × (number ≡ holder) × ((user : User) → lists_in v user ≡ lists user)
 
@@ -87,7 +87,7 @@ pub record Locked {S L : Type 0} (fixed_of : S → S) (agree : (User → L) → 
   pub holder : ℕ
   pub words : s.words ≡ word ∷ []
   pub placed : AtHome fixed_of agree fixed lists word s.homes ⊎ Away word holder s.homes s.views
-  pub each : (number : ℕ) (v : View S L) → get_elem? s.views number ≡ some v → Fits fixed lists seat_of word holder number v
+  pub each : (number : ℕ) (v : View S L) → get_elem? s.views number ≡ some v → FitsSeat fixed lists seat_of word holder number v
 
 -- ---- the steps
 

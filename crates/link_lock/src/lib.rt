@@ -12,7 +12,7 @@
 //! let value = lock.settle(first, second);                   // both changes stand in it
 //! ```
 //!
-//! The tests of this crate (`test_lock`) have a whole example: a book in which two users write numbers, and whose
+//! The tests of this crate (`test_link_lock`) have a whole example: a book in which two users write numbers, and whose
 //! written pages may be taken out.
 #![tactic(auto)]
 

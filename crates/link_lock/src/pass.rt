@@ -15,10 +15,10 @@ pub struct Pass<S, L> {
 }
 
 impl<S, L> Model for Pass<S, L> {
-    ghost use Rattle.link_lock.specs.Pass.{Known};
+    ghost use Rattle.link_lock.specs.Pass.{KnownPass};
     ghost use Rattle.link_lock.specs.Rule.{IsReady, known_of};
 
-    ghost Value = { Known S L };
+    ghost Value = { KnownPass S L };
 
     ghost view = { λ p. known_of p.right.table_id p.user p.right.me.0 };
 

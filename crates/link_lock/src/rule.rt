@@ -1,5 +1,5 @@
 //! The rule of the table, and its steps. No value of these types is made.
-ghost use Rattle.link_lock.specs.Rule.{Locked, first_part, gave, joined, opened, second_part, spent, tried};
+ghost use Rattle.link_lock.specs.Rule.{Locked, first_part, gave, joined_views, opened_view, second_part, spent, tried};
 
 use crate::recorded::Recorded;
 use crate::user::User;
@@ -33,7 +33,7 @@ pub(crate) struct OneHolder;
 impl<S: Recorded> TableRule<S, View<S, S::List>, Snapshot<S>> for OneHolder {
     ghost holds = { λ begun. Locked S.fixed S.agree (S.fixed begun.value) };
 
-    ghost first = { λ begun. opened (S.fixed begun.value) S.nothing };
+    ghost first = { λ begun. opened_view (S.fixed begun.value) S.nothing };
 }
 
 /// The value is taken, or found to be away.
@@ -60,7 +60,7 @@ impl<S: Recorded> Split<View<S, S::List>> for Users {
 }
 
 impl<S: Recorded> Join<View<S, S::List>> for Users {
-    ghost both = { joined };
+    ghost both = { joined_views };
 
     ghost spent = { spent S.nothing };
 }

@@ -3,7 +3,7 @@ ghost use Rattle.std.specs.Prelude.{◌≡◌, ◌<◌, ◌≤◌, ◌+◌, ◌�
 ghost use Rattle.std.specs.List.{All};
 ghost use Rattle.std.specs.Vec.{vec_capacity};
 ghost use Rattle.es_base.specs.declared.event.Event.{Event};
-ghost use Rattle.es_base.specs.Limits.{most_events, verdict_kinds};
+ghost use Rattle.es_base.specs.Limits.{most_events};
 ghost use Rattle.es_base.specs.Frame.{IsFrame, link_number_of};
 ghost use Rattle.es_base.specs.Past.{AreFramesOf, arrived};
 ghost use Rattle.es_base.specs.Reassembly.{groups_in};
@@ -12,9 +12,10 @@ ghost use Rattle.es_base.specs.Tally.{HasCounts};
 ghost use Rattle.ip_reassembly.specs.Kept.{StandsFor};
 ghost use Rattle.link_core.specs.Offer.{IsPlaceAt};
 ghost use Rattle.slot_core.specs.Octets.{AreOctets};
-ghost use Rattle.slot_core.specs.State.{StartsWith};
+ghost use Rattle.slot_core.specs.State.{StartsWithSeen};
 ghost use Rattle.sampling_port.specs.Ends.{is_told};
-ghost use Rattle.queuing_port.specs.Queue.{BeginsWith, Holds};
+ghost use Rattle.es_base.specs.Queue.{BeginsWith, Holds};
+ghost use Rattle.es_base.specs.Verdict.{verdict_kinds};
 ghost use Rattle.link_receiver.specs.Ends.{AreEndsOf, IsNewLink, IsOfItsPort, IsWithinDepth};
 ghost use Rattle.link_receiver.specs.Link.{Takes, decision_after, all_deliveries_of, deliveries_since, past_of, published_at, queues, samples};
 ghost use Rattle.link_receiver.specs.Epoch.{Hands};
@@ -32,7 +33,7 @@ use es_base::{
 };
 use frame_reader::{Frame, frame_in};
 use ip_reassembly::Waiting;
-use link_core::{Place, Standing, settled};
+use link_core::{Place, RulesState, settled};
 use link_deliveries::deliveries_after;
 use past_log::Past;
 use queuing_port::Taker;
@@ -57,7 +58,7 @@ pub struct LinkState {
     pieces: Waiting,
     history: BlockList<Event>,
     /// State after all events.
-    kept: Standing,
+    kept: RulesState,
     outlets: Vec<Outlet>,
 }
 
@@ -67,7 +68,7 @@ impl Model for LinkState {
 
     ghost Value = { Link };
 
-    ghost use Rattle.link_receiver.specs.Kept.{IsKept};
+    ghost use Rattle.link_receiver.specs.Kept.{IsLinkKept};
     ghost use Rattle.link_receiver.specs.Outlet.{channel_of};
 
     ghost view = { λ s. record {
@@ -77,20 +78,20 @@ impl Model for LinkState {
       channels = map channel_of s.outlets.items;
     } };
 
-    ghost invariant = { λ s. IsKept s.settings s.before.events s.history.items s.taken s.pieces s.kept s.outlets.items };
+    ghost invariant = { λ s. IsLinkKept s.settings s.before.events s.history.items s.taken s.pieces s.kept s.outlets.items };
 }
 
 impl LinkState {
     /// Opens a link with these settings and no history, and returns the ends of its ports, in the order of the
     /// settings. All memory of the ports is taken here.
-    pub fn new(alloc: Global, settings: &LinkSettings) -> Result<(LinkState, Vec<PortEnd>), Memory>
+    pub fn open(alloc: Global, settings: &LinkSettings) -> Result<(LinkState, Vec<PortEnd>), Memory>
         ensures link { IfOk result (λ opened. IsNewLink settings.now opened.0) }
         ensures ends { IfOk result (λ opened. AreEndsOf 0 settings.now.ports opened.0.channels opened.1.items) }
         ensures ports { IfOk result (λ opened. All (IsOfItsPort opened.0.channels) opened.1.items) }
     {
         let (outlets, ends) = open_outlets(alloc, settings.ports())?;
         let copied = settings.copy(alloc)?;
-        let kept = Standing::opening(alloc, settings)?;
+        let kept = RulesState::open(alloc, settings)?;
         let pieces = kept.reassembly().waiting(alloc)?;
         let state = LinkState {
             settings: copied,
@@ -193,7 +194,7 @@ impl LinkState {
         requires { slice_get self.old.channels port.0 ≡ Some (samples reader.old.port) }
         ensures link { self.new ≡ self.old }
         ensures reader { reader.new ≡ is_told reader.old reader.new.seen }
-        ensures goes_on { StartsWith reader.new.seen reader.old.seen }
+        ensures goes_on { StartsWithSeen reader.new.seen reader.old.seen }
         ensures seen { reader.new.seen ≡ published_at self.old port }
         ensures octets { All (λ message. AreOctets message.octets) (all_deliveries_of self.old port) }
     {

@@ -1,9 +1,8 @@
 -- The counts of a pass, which stop at the greatest number of 64 bits.
 use Rattle.std.proofs.Common.{◌≡◌, sym, true, List, [], ◌∷◌, ◌++◌}
 use Rattle.es_base.specs.declared.place.Net.{Net}
-use Rattle.es_base.specs.Limits.{verdict_kinds}
 use Rattle.es_base.specs.Tally.{AddsOne, one_more}
-use Rattle.es_base.specs.Verdict.{kind_of}
+use Rattle.es_base.specs.Verdict.{kind_of, verdict_kinds}
 use Rattle.link_core.specs.Counted.{shown}
 use Rattle.link_core.proofs.Numbers.{shown_more}
 use Rattle.network_calls.specs.declared.call.Call.{Call}

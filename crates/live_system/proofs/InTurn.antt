@@ -24,7 +24,7 @@ use Rattle.network_calls.proofs.Rows.{still_passes}
 use Rattle.live_system.specs.Burst.{AreFramesFor, CallsInTurn, ComeToPlace, Frames, steps_in_turn}
 use Rattle.live_system.specs.Calls.{LiveLink}
 use Rattle.live_system.specs.Pass.{KnownLink}
-use Rattle.live_system.specs.Run.{RanAlone, Step, came}
+use Rattle.live_system.specs.Run.{RanAlone, Step, received}
 use Rattle.live_system.specs.System.{IsPassAt, IsPassOf, KnownNet, Replies, System, on_link, settings_in}
 use Rattle.live_system.proofs.Parts.{take_written}
 use Rattle.live_system.proofs.Knowing.{same_after}
@@ -45,7 +45,7 @@ pub steps_append : (fs gs : Frames) (rs ss : List Reply) → length fs ≡ lengt
 steps_append [] gs [] ss same = sym (append-nil (steps_in_turn gs ss))
 steps_append (f ∷ fs) gs (r ∷ rs) ss same =
     let fewer : length fs ≡ length rs = omega (arith, same) in
-    ap (λ (steps : List Step). steps ++ came f.0 f.1.now r ∷ []) (steps_append fs gs rs ss fewer) ∙ append_assoc (steps_in_turn gs ss) (steps_in_turn fs rs) (came f.0 f.1.now r ∷ [])
+    ap (λ (steps : List Step). steps ++ received f.0 f.1.now r ∷ []) (steps_append fs gs rs ss fewer) ∙ append_assoc (steps_in_turn gs ss) (steps_in_turn fs rs) (received f.0 f.1.now r ∷ [])
 steps_append [] gs (r ∷ rs) ss same = absurd (omega (arith, same))
 steps_append (f ∷ fs) gs [] ss same = absurd (omega (arith, same))
 
@@ -102,12 +102,12 @@ ran_row system old at pass last (f ∷ fs) (r ∷ rs) own there come calls =
     let own_next : IsPassOf system next = still_passes on_link settings_in old.net system.locks system.config.links old.links at pass mid own there (same_after pass mid (call place f.0 f.1.now verdict) does) in
     let reply : Replies system.config old f.0 f.1.now (replies.Link (addressee_of f.1.now) (shown place) verdict) next =
     (at, first.1, refl, refl, place, refl, record { before = pass; after = mid; there = there; does = does; only = refl }) in
-    let one : RanAlone system old (came f.0 f.1.now r ∷ []) next = (old, refl, own_next, refl, subst (λ (x : Reply). Replies system.config old f.0 f.1.now x next) (sym calls.3) reply) in
+    let one : RanAlone system old (received f.0 f.1.now r ∷ []) next = (old, refl, own_next, refl, subst (λ (x : Reply). Replies system.config old f.0 f.1.now x next) (sym calls.3) reply) in
     let there_next : slice_get next.links at ≡ Some mid = slice_get-set_same old.links at mid (slice_get_within old.links at pass there) in
     let later = ran_row system next at mid last fs rs own_next there_next (All-tail (λ (g : Timed). IsFrame g.1.now × ComesToPlace system.config g.1.now at) f fs come) calls.5 in
     let same : set (set old.links at mid) at last ≡ set old.links at last = set-set old.links at mid last in
     let still : with_link next at last ≡ with_link old at last = (λ i. record old { links = same i }) in (
-      subst (λ (k : KnownNet). RanAlone system old (steps_in_turn fs rs ++ came f.0 f.1.now r ∷ []) k) still (ran_append system old next (with_link next at last) (came f.0 f.1.now r ∷ []) (steps_in_turn fs rs) one later.0),
+      subst (λ (k : KnownNet). RanAlone system old (steps_in_turn fs rs ++ received f.0 f.1.now r ∷ []) k) still (ran_append system old next (with_link next at last) (received f.0 f.1.now r ∷ []) (steps_in_turn fs rs) one later.0),
       subst (IsPassOf system) still later.1,
     )
 ran_row system old at pass last [] (r ∷ rs) own there come calls = absurd calls

@@ -11,7 +11,7 @@ use Rattle.link_core.specs.Link.{Link as Core}
 use Rattle.link_lock.specs.declared.user.User.{User}
 use Rattle.link_lock.specs.declared.user.User.TheVariants.{First, Second}
 use Rattle.link_lock.specs.Lists.{with_list}
-use Rattle.link_lock.specs.Pass.{Known, MayFind, MayLeave}
+use Rattle.link_lock.specs.Pass.{KnownPass, MayFind, MayLeave}
 use Rattle.mailbox_reader.specs.Reads.{PortReader}
 use Rattle.message_ring.specs.Queue.{Known as Taker}
 use Rattle.receiver.specs.declared.port.PortOutlet.{PortOutlet}
@@ -68,12 +68,12 @@ shows_still None None (Some y) messages shows gives = absurd gives
 shows_still (Some port) (Some x) None messages shows gives = absurd gives
 shows_still (Some port) (Some x) (Some y) messages shows gives = rw (append-nil messages) at (port_adds port x y messages [] shows gives)
 
-module _ (found left : LiveLink) (core : left.core ≡ found.core) (came : left.came ≡ found.came)
+module _ (found left : LiveLink) (core : left.core ≡ found.core) (received : left.received ≡ found.received)
     (gives : (at : ℕ) → GivesAt GivesPort (slice_get found.outlets at) (slice_get left.outlets at) []) where
   still_ported : IsPorted ShowsPort found → IsPorted ShowsPort left
   still_ported ported =
-      let same : left ≡ record { core = found.core; outlets = left.outlets; came = found.came } = (λ i. record { core = core i; outlets = left.outlets; came = came i }) in
-      let here : IsPorted ShowsPort (record { core = found.core; outlets = left.outlets; came = found.came }) = record {
+      let same : left ≡ record { core = found.core; outlets = left.outlets; received = found.received } = (λ i. record { core = core i; outlets = left.outlets; received = received i }) in
+      let here : IsPorted ShowsPort (record { core = found.core; outlets = left.outlets; received = found.received }) = record {
         run = ported.run;
         frames = ported.frames;
         counted = ported.counted;
@@ -88,9 +88,9 @@ module _ (found left : LiveLink) (core : left.core ≡ found.core) (came : left.
   same_opened =
       let settings = ap (λ (c : Core). c.settings) core in
       let outlets : map new_outlet left.outlets ≡ map new_outlet found.outlets = same_outlets found.outlets left.outlets (λ at. []) gives in
-      (λ i. record { core = record { settings = settings i; past = [] }; outlets = outlets i; came = 0 })
+      (λ i. record { core = record { settings = settings i; past = [] }; outlets = outlets i; received = 0 })
 
-  module _ (pass : Known LiveLink (List Call)) (lists : User → List Call) (finds : MayFind as_opened Agrees pass lists found) where
+  module _ (pass : KnownPass LiveLink (List Call)) (lists : User → List Call) (finds : MayFind as_opened Agrees pass lists found) where
     none_more : (user : User) (list : List Call) → goes_on user found left list ≡ list
     none_more user list =
         let first = length found.core.past in
@@ -126,7 +126,7 @@ gives_none found at = gives_self (slice_get found.outlets at)
     gives_self None = tt
     gives_self (Some outlet) = port_stays outlet
 
-module _ (found left : LiveLink) (same : left ≡ found) (pass : Known LiveLink (List Call)) (lists : User → List Call) (finds : MayFind as_opened Agrees pass lists found) where
+module _ (found left : LiveLink) (same : left ≡ found) (pass : KnownPass LiveLink (List Call)) (lists : User → List Call) (finds : MayFind as_opened Agrees pass lists found) where
   pub leaves_reader : MayLeave as_opened Agrees goes_on pass lists found left
   leaves_reader = subst (MayLeave as_opened Agrees goes_on pass lists found) (sym same) (leaves_still found found refl refl (gives_none found) pass lists finds)
 

@@ -8,13 +8,14 @@ use Rattle.es_base.specs.declared.port.PortKind.TheVariants as kinds
 use Rattle.es_base.specs.Port.{Port}
 use Rattle.es_base.specs.Settings.{Settings}
 use Rattle.mailbox_port.specs.Port.{new_port}
-use Rattle.message_ring.specs.Queue.{QueueId, opened}
+use Rattle.es_base.specs.Queue.{opened}
+use Rattle.message_ring.specs.Queue.{QueueId}
 use Rattle.receiver.specs.declared.ends.PortEnd.{PortEnd}
 use Rattle.receiver.specs.declared.partition.PartitionEnd.{PartitionEnd}
 use Rattle.receiver.specs.declared.partition.PartitionEnd.TheVariants as ends
 use Rattle.receiver.specs.declared.port.PortOutlet.{PortOutlet}
 use Rattle.receiver.specs.declared.port.PortOutlet.TheVariants as outlets
-use Rattle.receiver.specs.Ends.{AreOpened}
+use Rattle.receiver.specs.Ends.{ArePortsOpened}
 use Rattle.receiver.specs.Link.{IsNewLink}
 use Rattle.receiver.specs.Outlet.{GivesAt, reads_by}
 use Rattle.receiver.specs.Port.{GivesPort, ReadsAs, ReadsPort, ShowsPort}
@@ -44,7 +45,7 @@ new_one readers (kinds.Sampling refresh) max outlet (ends.Readers list) reads = 
 new_one readers (kinds.Sampling refresh) max outlet (ends.Taker taker) reads = absurd reads
 new_one readers (kinds.Queuing depth) max outlet end reads = rw reads.1 refl
 
-new_ones : (readers : Port → ℕ) (place : ℕ) (ports : List Port) (outlets : List PortOutlet) (ends : List (PortEnd PartitionEnd)) → AreOpened ShowsPort (reads_by ReadsPort readers) place ports outlets ends → map new_outlet outlets ≡ outlets
+new_ones : (readers : Port → ℕ) (place : ℕ) (ports : List Port) (outlets : List PortOutlet) (ends : List (PortEnd PartitionEnd)) → ArePortsOpened ShowsPort (reads_by ReadsPort readers) place ports outlets ends → map new_outlet outlets ≡ outlets
 new_ones readers place [] [] [] are = refl
 new_ones readers place (port ∷ ports) (outlet ∷ outlets) (end ∷ ends) are =
     ap (λ (x : PortOutlet). x ∷ map new_outlet outlets) (new_one (readers port) port.kind port.max outlet end.reads are.0.read)
@@ -59,5 +60,5 @@ pub new_link : (readers : Port → ℕ) (settings : Settings) (link : LiveLink) 
 new_link readers settings link ends is =
     let past = is.nothing in
     let outlets = new_ones readers 0 settings.ports link.outlets ends is.opened in
-    let came : link.came ≡ 0 = rw past at is.ported.counted in
-    (λ i. record { core = record { settings = link.core.settings; past = sym past i }; outlets = outlets i; came = sym came i })
+    let received : link.received ≡ 0 = rw past at is.ported.counted in
+    (λ i. record { core = record { settings = link.core.settings; past = sym past i }; outlets = outlets i; received = sym received i })

@@ -10,19 +10,18 @@ use Rattle.es_base.specs.declared.event.Arrival.{Arrival}
 use Rattle.es_base.specs.Config.{link_of}
 use Rattle.es_base.specs.FilterTally.{HasFiltered}
 use Rattle.es_base.specs.Integrity.{is_same_net}
-use Rattle.es_base.specs.Limits.{verdict_kinds}
 use Rattle.es_base.specs.Past.{arrived}
 use Rattle.es_base.specs.Port.{Port}
 use Rattle.es_base.specs.Settings.{Settings}
 use Rattle.es_base.specs.Tally.{IsKind, count_of}
-use Rattle.es_base.specs.Verdict.{kind_of}
+use Rattle.es_base.specs.Verdict.{kind_of, verdict_kinds}
 use Rattle.es_base.proofs.Addressed.{link_at}
 use Rattle.es_base.proofs.Counted.{one_frame_more}
 use Rattle.link_core.specs.Counted.{shown}
 use Rattle.link_lock.specs.declared.user.User.TheVariants.{First, Second}
 use Rattle.receiver.specs.declared.ends.LinkEnds.{LinkEnds}
 use Rattle.receiver.specs.declared.partition.PartitionEnd.{PartitionEnd}
-use Rattle.receiver.specs.Ends.{AreOpened as AreOpenedPorts}
+use Rattle.receiver.specs.Ends.{ArePortsOpened}
 use Rattle.receiver.specs.Outlet.{reads_by}
 use Rattle.receiver.specs.Port.{ReadsPort, ShowsPort}
 use Rattle.receiver.specs.Receiver.{AreNewLinks}
@@ -39,8 +38,9 @@ use Rattle.network_calls.proofs.Threads.{BothKnow, both_know as all_known}
 use Rattle.live_system.specs.Calls.{LiveLink, as_opened, events_of, new_outlet}
 use Rattle.live_system.specs.LookUps.{IsCounted, calls_on}
 use Rattle.live_system.specs.Pass.{Calls, KnownLink}
-use Rattle.live_system.specs.System.{AreLetGo, CallsAt, IsNewPassOf, IsPassOf, IsWithoutCalls, KnowLinks, KnownCounts, KnownNet, System, on_link, settings_in}
-use Rattle.live_system.specs.Run.{AreOpened, CountsCalls, CountsFiltered, Does, EndsInOneRun, HasEnded, HasSettled, Passes, Ran, Step, call_in, came, calls_in, frame_in, frames_in, met, net_in, shown_call}
+use Rattle.network_calls.specs.Counts.{KnownCounts}
+use Rattle.live_system.specs.System.{AreLetGo, CallsAt, IsNewPassOf, IsPassOf, IsWithoutCalls, KnowLinks, KnownNet, System, on_link, settings_in}
+use Rattle.live_system.specs.Run.{AreOpened, CountsCalls, CountsFiltered, Does, EndsInOneRun, HasEnded, HasSettled, Passes, Ran, Step, call_in, received, calls_in, frame_in, frames_in, met, net_in, shown_call}
 
 -- ---- calls as replies show them
 
@@ -103,8 +103,8 @@ module _ (first : KnownNet) (place : ℕ) (calls : List Call) (old new : KnownNe
 
 does_one : (system : System) (first : KnownNet) (vl : LinkNo) (place : ℕ) (calls : List Call) (step : Step) (old new : KnownNet) → link_of system.config.links vl ≡ Some place → Does system step old new
     → AtLink first place calls old → AtLink first place (calls ++ call_in vl step) new
-does_one system first vl place calls (came time octets (replies.Filtered cause)) old new named does was = stays_all first place calls old new was does.1
-does_one system first vl place calls (came time octets (replies.Link number shows verdict)) old new named does was =
+does_one system first vl place calls (received time octets (replies.Filtered cause)) old new named does was = stays_all first place calls old new was does.1
+does_one system first vl place calls (received time octets (replies.Link number shows verdict)) old new named does was =
     let at : link_of system.config.links number ≡ Some does.0 = ap (link_of system.config.links) does.2 ∙ does.1.first in
     rw does.5 (came_to first place calls old new was system.config.links vl named number does.0 (call does.4 time octets verdict) (number.0 == vl.0) at refl does.6)
 does_one system first vl place calls met old new named does was = stays_all first place calls old new was (ap (λ (n : KnownNet). n.links) does)
@@ -113,10 +113,10 @@ does_one system first vl place calls met old new named does was = stays_all firs
 
 filters_one : (system : System) (net : Net) (earlier : List Arrival) (step : Step) (old new : KnownNet) → old.net ≡ net → Does system step old new → HasFiltered old.filtered system.config earlier
     → HasFiltered new.filtered system.config (frame_in net step ++ earlier)
-filters_one system net earlier (came time octets (replies.Filtered cause)) old new is does has =
+filters_one system net earlier (received time octets (replies.Filtered cause)) old new is does has =
     let adds = rw is at does.2 in
     one_frame_more old.filtered new.filtered system.config earlier (arrived net time octets) cause has does.0 adds
-filters_one system net earlier (came time octets (replies.Link number shows verdict)) old new is does has =
+filters_one system net earlier (received time octets (replies.Link number shows verdict)) old new is does has =
     let link = link_at system.config octets does.0 does.1 in
     let kept : HasFiltered new.filtered system.config earlier = rw does.3 has in
     not_filtered new.filtered system.config earlier (arrived net time octets) link.0 kept link.1.comes
@@ -182,7 +182,7 @@ record EndsAt (readers : Port → ℕ) (settings : Settings) (place : ℕ) (pass
   pub known : pass.link ≡ Some link
   pub its_ends : LinkEnds PartitionEnd
   pub there : slice_get ends place ≡ Some its_ends
-  pub ports : AreOpenedPorts ShowsPort (reads_by ReadsPort readers) 0 settings.ports link.outlets its_ends.ports.items
+  pub ports : ArePortsOpened ShowsPort (reads_by ReadsPort readers) 0 settings.ports link.outlets its_ends.ports.items
 
 ends_at : (readers : Port → ℕ) (settings : List Settings) (links : List LiveLink) (passes : List KnownLink) (ends : List (LinkEnds PartitionEnd)) (place : ℕ) (one : Settings) (pass : KnownLink)
     → AreNewLinks ShowsPort (reads_by ReadsPort readers) settings links ends → KnowLinks passes links → slice_get settings place ≡ Some one → slice_get passes place ≡ Some pass → EndsAt readers one place pass ends

@@ -15,7 +15,7 @@ use Rattle.link_core.specs.Link.{Link as Core}
 use Rattle.link_lock.specs.declared.user.User.{User}
 use Rattle.link_lock.specs.declared.user.User.TheVariants.{First, Second}
 use Rattle.link_lock.specs.Lists.{with_list}
-use Rattle.link_lock.specs.Pass.{Known, MayFind, MayLeave, with_list_of}
+use Rattle.link_lock.specs.Pass.{KnownPass, MayFind, MayLeave, with_list_of}
 use Rattle.network_calls.specs.declared.call.Call.{Call}
 use Rattle.network_calls.specs.declared.reply.Reply.TheVariants as replies
 use Rattle.network_calls.specs.Calls.{call, calls_from, net_of, user_of}
@@ -29,7 +29,7 @@ use Rattle.live_system.proofs.Meets.{leaves_reader, no_call_of_reader}
 use Rattle.live_system.proofs.Visits.{is_call, leaves, one_call}
 
 abbrev LinkUser : Type 0
-LinkUser = Known LiveLink (List Call)
+LinkUser = KnownPass LiveLink (List Call)
 
 abbrev Timed : Type 0
 Timed = ℕ × Bor (List ℕ)

@@ -9,7 +9,7 @@ use Rattle.es_base.specs.Past.{arrived, event_of}
 use Rattle.link_core.specs.Counted.{port_no, shown}
 use Rattle.link_core.specs.Link.{Link as Core, delivered_after}
 use Rattle.link_lock.specs.declared.user.User.{User}
-use Rattle.link_lock.specs.Pass.{Known, MayFind, MayLeave, Visited, with_list_of}
+use Rattle.link_lock.specs.Pass.{KnownPass, MayFind, MayLeave, Visited, with_list_of}
 use Rattle.network_calls.specs.declared.call.Call.{Call}
 use Rattle.network_calls.specs.Calls.{call, call_of, calls_from, net_of, user_of}
 use Rattle.network_calls.proofs.Events.{calls_append}
@@ -23,7 +23,7 @@ use Rattle.live_system.proofs.Counting.{counts_more}
 use Rattle.live_system.proofs.Outlets.{same_outlets}
 
 abbrev LinkUser : Type 0
-LinkUser = Known LiveLink (List Call)
+LinkUser = KnownPass LiveLink (List Call)
 
 module _ (pass : LinkUser) (lists : User → List Call) (found : LiveLink) (finds : MayFind as_opened Agrees pass lists found) where
   abbrev first : ℕ
@@ -54,7 +54,7 @@ module _ (pass : LinkUser) (lists : User → List Call) (found : LiveLink) (find
         let settings : left.core.settings ≡ found.core.settings = ap (λ (core : Core). core.settings) did.0.core in
         let outlets : map new_outlet left.outlets ≡ map new_outlet found.outlets =
         same_outlets found.outlets left.outlets (λ at. delivered_after found.core.settings found.core.past a did.0.room (port_no at)) did.0.given in
-        (λ i. record { core = record { settings = settings i; past = [] }; outlets = outlets i; came = 0 })
+        (λ i. record { core = record { settings = settings i; past = [] }; outlets = outlets i; received = 0 })
 
     pub leaves : a.net ≡ net_of pass.user → MayLeave as_opened Agrees goes_on pass lists found left
     leaves net = record {

@@ -8,10 +8,9 @@ use Rattle.es_base.specs.declared.verdict.Verdict.{Verdict}
 use Rattle.es_base.specs.Addressing.{ComesToPlace, addressee_of}
 use Rattle.es_base.specs.Config.{Configuration}
 use Rattle.es_base.specs.Frame.{IsFrame}
-use Rattle.es_base.specs.Limits.{verdict_kinds}
 use Rattle.es_base.specs.Past.{arrived}
 use Rattle.es_base.specs.Tally.{AddsOne, one_more}
-use Rattle.es_base.specs.Verdict.{kind_of}
+use Rattle.es_base.specs.Verdict.{kind_of, verdict_kinds}
 use Rattle.link_core.specs.Counted.{shown}
 use Rattle.network_calls.specs.declared.reply.Reply.{Reply}
 use Rattle.network_calls.specs.declared.reply.Reply.TheVariants as replies
@@ -19,7 +18,7 @@ use Rattle.network_calls.specs.declared.counts.LinkCounts.{LinkCounts}
 use Rattle.network_calls.specs.Calls.{call}
 use Rattle.live_system.specs.Calls.{LiveLink}
 use Rattle.live_system.specs.Pass.{Calls, Did, KnownLink}
-use Rattle.live_system.specs.Run.{Step, came}
+use Rattle.live_system.specs.Run.{Step, received}
 
 -- frames, each with the time at which it came, the first one first
 abbrev pub Frames : Type 0
@@ -29,7 +28,7 @@ Frames = List (ℕ × Bor (List ℕ))
 abbrev pub steps_in_turn : Frames → List Reply → List Step
 steps_in_turn [] answers = []
 steps_in_turn (f ∷ fs) [] = []
-steps_in_turn (f ∷ fs) (r ∷ rs) = steps_in_turn fs rs ++ came f.0 f.1.now r ∷ []
+steps_in_turn (f ∷ fs) (r ∷ rs) = steps_in_turn fs rs ++ received f.0 f.1.now r ∷ []
 
 -- ---- frames in a row of one link
 

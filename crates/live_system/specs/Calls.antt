@@ -3,7 +3,7 @@ use Rattle.std.specs.Prelude.{◌≡◌, List, [], ◌++◌, length, drop, map, 
 use Rattle.es_base.specs.declared.event.Event.{Event}
 use Rattle.link_lock.specs.declared.user.User.{User}
 use Rattle.mailbox_port.specs.Port.{new_port}
-use Rattle.message_ring.specs.Queue.{opened}
+use Rattle.es_base.specs.Queue.{opened}
 use Rattle.receiver.specs.declared.port.PortOutlet.{PortOutlet}
 use Rattle.receiver.specs.declared.port.PortOutlet.TheVariants as outlets
 use Rattle.receiver.specs.Link.{IsPorted, Ported}
@@ -28,7 +28,7 @@ new_outlet (outlets.Queuing queue) = outlets.Queuing (opened queue.queue queue.d
 
 -- what no visit changes: the link before any frame
 abbrev pub as_opened : LiveLink → LiveLink
-as_opened link = record { core = record { settings = link.core.settings; past = [] }; outlets = map new_outlet link.outlets; came = 0 }
+as_opened link = record { core = record { settings = link.core.settings; past = [] }; outlets = map new_outlet link.outlets; received = 0 }
 
 -- a network whose pass did nothing
 abbrev pub no_calls : List Call

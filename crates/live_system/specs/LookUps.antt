@@ -5,7 +5,8 @@ use Rattle.link_core.specs.Counted.{shown}
 use Rattle.network_calls.specs.declared.call.Call.{Call}
 use Rattle.network_calls.specs.Passes.{IsCountedBy, calls_with, pass_with}
 use Rattle.live_system.specs.Pass.{KnownLink}
-use Rattle.live_system.specs.System.{KnownCounts, KnownNet, on_link}
+use Rattle.network_calls.specs.Counts.{KnownCounts}
+use Rattle.live_system.specs.System.{KnownNet, on_link}
 
 abbrev pub pass_on : LinkNo → List KnownLink → Option KnownLink
 pass_on vl links = pass_with on_link vl links

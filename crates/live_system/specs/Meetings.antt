@@ -2,7 +2,8 @@
 use Rattle.std.specs.Prelude.{◌≡◌, ◌≢◌, ◌≤◌, ◌+◌, ℕ, List, [], length, slice_get, Some}
 use Rattle.es_base.specs.declared.place.PortNo.{PortNo}
 use Rattle.mailbox_reader.specs.Reads.{PortReader, told}
-use Rattle.message_ring.specs.Queue.{BeginsWith, Known}
+use Rattle.es_base.specs.Queue.{BeginsWith}
+use Rattle.message_ring.specs.Queue.{Known}
 use Rattle.receiver.specs.declared.port.PortOutlet.{PortOutlet}
 use Rattle.receiver.specs.Link.{deliveries_of}
 use Rattle.receiver.specs.Meetings.{HasOutletAt}
@@ -34,7 +35,7 @@ pub record MeetsReader (port : PortNo) (before after : PortReader) (old new : Li
 -- rule: PORT-18
 pub record MeetsTaker (port : PortNo) (before after : Known) (old new : LiveLink) : Type 0 where
   pub core : new.core ≡ old.core
-  pub came : new.came ≡ old.came
+  pub received : new.received ≡ old.received
   pub outlets : (at : ℕ) → GivesAt GivesPort (slice_get old.outlets at) (slice_get new.outlets at) []
   pub others : (at : ℕ) → at ≢ port.0 → slice_get new.outlets at ≡ slice_get old.outlets at
   pub taker : after ≡ record before { put = after.put }

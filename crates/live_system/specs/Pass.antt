@@ -4,14 +4,14 @@ use Rattle.es_base.specs.declared.event.Arrival.{Arrival}
 use Rattle.es_base.specs.declared.place.LinkNo.{LinkNo}
 use Rattle.es_base.specs.declared.place.Net.{Net}
 use Rattle.es_base.specs.declared.verdict.Verdict.{Verdict}
-use Rattle.es_base.specs.Limits.{verdict_kinds}
+use Rattle.es_base.specs.Verdict.{verdict_kinds}
 use Rattle.es_base.specs.Past.{arrived}
 use Rattle.es_base.specs.Settings.{Settings}
 use Rattle.es_base.specs.Tally.{IsKind, count_of}
 use Rattle.link_core.specs.Counted.{shown}
 use Rattle.link_lock.specs.declared.user.User.{User}
 use Rattle.link_lock.specs.Lists.{both_lists}
-use Rattle.link_lock.specs.Pass.{Known, LockId}
+use Rattle.link_lock.specs.Pass.{KnownPass, LockId}
 use Rattle.receiver.specs.Link.{Takes, TakesIfKnown}
 use Rattle.receiver.specs.Port.{AnswersPort, GivesPort, HasSpacePort, ShowsPort}
 use Rattle.network_calls.specs.declared.call.Call.{Call}
@@ -28,7 +28,7 @@ pub record KnownLink : Type 0 where
   pub calls : List Call
   pub counts : LinkCounts
 
-abbrev pub known_link : Net → Known LiveLink (List Call) → LinkCounts → KnownLink
+abbrev pub known_link : Net → KnownPass LiveLink (List Call) → LinkCounts → KnownLink
 known_link net pass counts = record { lock = pass.lock; net = net; link = pass.fixed; calls = pass.list; counts = counts }
 
 -- the counts are those of the calls; each stops at the greatest number of 64 bits
@@ -66,7 +66,7 @@ pub record Calls (old : KnownLink) (c : Call) (new : KnownLink) : Type 0 where
 -- ---- the opening
 
 -- a pass of that network that did nothing, at the lock of this user's pass
-pub record IsNoCall (pass : KnownLink) (net : Net) (vl : LinkNo) (user : Known LiveLink (List Call)) : Type 0 where
+pub record IsNoCall (pass : KnownLink) (net : Net) (vl : LinkNo) (user : KnownPass LiveLink (List Call)) : Type 0 where
   pub same_lock : pass.lock ≡ user.lock
   pub same_net : pass.net ≡ net
   pub same_link : pass.link ≡ user.fixed

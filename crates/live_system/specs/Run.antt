@@ -7,39 +7,40 @@ use Rattle.es_base.specs.declared.place.Net.TheVariants.{A, B}
 use Rattle.es_base.specs.declared.event.Arrival.{Arrival}
 use Rattle.es_base.specs.Config.{link_of}
 use Rattle.es_base.specs.FilterTally.{filtered_count}
-use Rattle.es_base.specs.Limits.{filter_causes, verdict_kinds}
+use Rattle.es_base.specs.Limits.{filter_causes}
 use Rattle.es_base.specs.Past.{arrived}
 use Rattle.es_base.specs.Port.{Port}
 use Rattle.es_base.specs.Settings.{Settings}
 use Rattle.es_base.specs.Tally.{IsKind, count_in, count_of}
+use Rattle.es_base.specs.Verdict.{verdict_kinds}
 use Rattle.link_core.specs.Counted.{shown}
 use Rattle.receiver.specs.declared.ends.LinkEnds.{LinkEnds}
 use Rattle.receiver.specs.declared.partition.PartitionEnd.{PartitionEnd}
-use Rattle.receiver.specs.Ends.{AreOpened as AreOpenedPorts}
+use Rattle.receiver.specs.Ends.{ArePortsOpened}
 use Rattle.receiver.specs.Link.{IsPorted}
 use Rattle.receiver.specs.Outlet.{reads_by}
 use Rattle.receiver.specs.Port.{ReadsPort, ShowsPort}
 use Rattle.network_calls.specs.declared.call.Call.{Call}
 use Rattle.network_calls.specs.declared.reply.Reply.{Reply}
 use Rattle.network_calls.specs.Calls.{call, calls_from, count_calls}
-use Rattle.network_calls.specs.Counts.{count_on, number_on}
+use Rattle.network_calls.specs.Counts.{KnownCounts, count_on, number_on}
 use Rattle.network_calls.specs.Places.{StandInTheRun}
-use Rattle.network_calls.specs.Threads.{BothPasses, RanAloneBy, RanBy, all_in, call_replied, latest_in}
+use Rattle.network_calls.specs.Threads.{BothPasses, RanAloneBy, RanBy, all_in, call_replied, latest_first_in}
 use Rattle.live_system.specs.Calls.{LiveLink, events_of, new_outlet}
 use Rattle.live_system.specs.LookUps.{IsCounted}
-use Rattle.live_system.specs.System.{AreOfNewLinks, AreSettled, IsNewPassOf, IsPassOf, KnownCounts, KnownNet, Replies, System}
+use Rattle.live_system.specs.System.{AreOfNewLinks, AreSettled, IsNewPassOf, IsPassOf, KnownNet, Replies, System}
 
 -- ---- calls
 
 pub data Step : Type 0 where
   -- a frame of these octets came at this time, and this was replied
-  came : ℕ → List ℕ → Reply → Step
+  received : ℕ → List ℕ → Reply → Step
   -- an end of a port met it, which changes no pass
   met : Step
 
 -- one call of a network's pass, as its contract has it
 abbrev pub Does : System → Step → KnownNet → KnownNet → Type 0
-Does system (came time octets reply) old new = Replies system.config old time octets reply new
+Does system (received time octets reply) old new = Replies system.config old time octets reply new
 Does system met old new = new ≡ old
 
 abbrev pub Passes : Type 0
@@ -76,7 +77,7 @@ pub record HasSettled (system : System) (passes : Passes) (settled : List LiveLi
 -- ---- what they came to
 
 abbrev pub call_in : LinkNo → Step → List Call
-call_in vl (came time octets reply) = call_replied vl time octets reply
+call_in vl (received time octets reply) = call_replied vl time octets reply
 call_in vl met = []
 
 -- the calls of this network's frames on the link with this number, by their replies, the first frame first
@@ -84,12 +85,12 @@ abbrev pub calls_in : Net → LinkNo → List (Net × Step) → List Call
 calls_in net vl steps = all_in (call_in vl) net steps
 
 abbrev pub frame_in : Net → Step → List Arrival
-frame_in net (came time octets reply) = arrived net time octets ∷ []
+frame_in net (received time octets reply) = arrived net time octets ∷ []
 frame_in net met = []
 
 -- the frames that came on this network, the latest first
 abbrev pub frames_in : Net → List (Net × Step) → List Arrival
-frames_in net steps = latest_in (frame_in net) net steps
+frames_in net steps = latest_first_in (frame_in net) net steps
 
 -- a call as a reply shows it: its place stops at the greatest number of 64 bits
 abbrev pub shown_call : Call → Call
@@ -109,7 +110,7 @@ pub record EndsInOneRun (readers : Port → ℕ) (steps : List (Net × Step)) (s
   pub counted : (net : Net) (kind : ℕ) → IsKind verdict_kinds kind → count_of link.core.past net kind ≡ count_calls kind (calls_in net settings.vl steps)
   pub its_ends : LinkEnds PartitionEnd
   pub there : slice_get ends place ≡ Some its_ends
-  pub of_its_ports : AreOpenedPorts ShowsPort (reads_by ReadsPort readers) 0 settings.ports (map new_outlet link.outlets) its_ends.ports.items
+  pub of_its_ports : ArePortsOpened ShowsPort (reads_by ReadsPort readers) 0 settings.ports (map new_outlet link.outlets) its_ends.ports.items
 
 -- a network's filtered frames are counted
 abbrev pub CountsFiltered : System → List (Net × Step) → Net → KnownCounts → Type 0

@@ -21,7 +21,6 @@ use Rattle.network_calls.specs.declared.reply.Reply.{Reply}
 use Rattle.network_calls.specs.declared.reply.Reply.TheVariants as replies
 use Rattle.network_calls.specs.declared.counts.LinkCounts.{LinkCounts}
 use Rattle.network_calls.specs.Calls.{call}
-use Rattle.network_calls.specs.Counts.{KnownCounts as CountsKnown}
 use Rattle.network_calls.specs.Passes.{AreCountedBy, AreIdle, ArePassesOn, AreSettledBy, DoesAt, IsNewPassBy, IsPassOn, OnLink}
 use Rattle.live_system.specs.Calls.{LiveLink}
 use Rattle.live_system.specs.Pass.{Calls, IsSettled, KnownLink}
@@ -112,10 +111,6 @@ AreLetGo a b link = IsSettled a.link a.calls b.calls link
 -- rule: EMB-33
 abbrev pub AreSettled : List Settings → List KnownLink → List KnownLink → List LiveLink → Type 0
 AreSettled links ones others settled = AreSettledBy settings_in AreLetGo links ones others settled
-
--- what a pass counted: its network, the counts on each link, and those of filtered frames
-abbrev pub KnownCounts : Type 0
-KnownCounts = CountsKnown
 
 -- the counts of each pass on a link
 abbrev pub AreCounted : Net → List KnownLink → List LinkCounts → Type 0

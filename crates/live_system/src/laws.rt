@@ -23,7 +23,8 @@ ghost use Rattle.live_system.specs.Calls.{LiveLink, events_of};
 ghost use Rattle.live_system.specs.Meetings.{KnowsOutlet};
 ghost use Rattle.live_system.specs.Pass.{IsSettled, KnownLink};
 ghost use Rattle.live_system.specs.Run.{AreOpened, HasEnded, HasSettled, Passes, Ran, RanAlone, Step};
-ghost use Rattle.live_system.specs.System.{KnowLinks, KnownCounts, KnownNet, Replies, System};
+ghost use Rattle.network_calls.specs.Counts.{KnownCounts};
+ghost use Rattle.live_system.specs.System.{KnowLinks, KnownNet, Replies, System};
 
 /// Each call of either network that a settled link's passes know is the event at its place of the link: with its
 /// network, its time, its frame and its verdict, which is that of the frame after the events before it. A network's

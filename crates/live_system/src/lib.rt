@@ -28,7 +28,7 @@ pub use net_pass::NetPass;
 pub use network_calls::{Call, PassCounts, Reply};
 pub use opened::Opened;
 pub use receiver::{
-    LinkEnds, MailboxReader, OpenLink, PartitionEnd, PortOutlet, ReaderCount, RingTaker,
+    LinkEnds, LinkWithPorts, MailboxReader, PartitionEnd, PortOutlet, ReaderCount, RingTaker,
 };
 pub use settled::Settled;
 pub use system::LiveSystem;

@@ -2,7 +2,7 @@
 ghost use Rattle.std.specs.Prelude.{◌≡◌, ◌<◌, ◌≤◌, ℕ, Some, IfNone, IfOk, IfSome, length, take};
 ghost use Rattle.es_base.specs.Frame.{IsFrame, link_number_of};
 ghost use Rattle.es_base.specs.declared.place.Net.TheVariants.{A, B};
-ghost use Rattle.es_base.specs.Limits.{verdict_kinds};
+ghost use Rattle.es_base.specs.Verdict.{verdict_kinds};
 ghost use Rattle.es_base.specs.Past.{arrived};
 ghost use Rattle.es_base.specs.Tally.{IsKind};
 ghost use Rattle.link_core.specs.Counted.{shown};
@@ -23,7 +23,9 @@ use es_base::{LinkNo, LinkSettings, Memory, Net, PortNo, Verdict};
 use frame_reader::Frame;
 use link_lock::{Lock, Opened, PassOf};
 use network_calls::{LinkCounts, Reply};
-use receiver::{MailboxReader, OpenLink, PartitionEnd, PortEnd, PortOutlet, Readers, RingTaker};
+use receiver::{
+    LinkWithPorts, MailboxReader, PartitionEnd, PortEnd, PortOutlet, Readers, RingTaker,
+};
 use std::alloc::Global;
 use std::marker::Model;
 use std::sync::Wait;
@@ -59,7 +61,7 @@ impl LinkPass {
         LinkPass {
             net,
             pass,
-            counts: LinkCounts::opening(vl),
+            counts: LinkCounts::new(vl),
         }
     }
 
@@ -238,7 +240,7 @@ pub(crate) fn open_link<R: Readers>(
     ensures { IfOk result (λ o. (link : LiveLink) × IsNewLink ShowsPort (reads_by ReadsPort (R.count readers.now)) settings.now link o.ends.items
         × IsNewPass settings.now link o.lock A o.a × IsNewPass settings.now link o.lock B o.b) }
 {
-    let (link, ends) = OpenLink::<PortOutlet>::open(alloc, settings, readers)?;
+    let (link, ends) = LinkWithPorts::<PortOutlet>::open(alloc, settings, readers)?;
     let Opened {
         lock,
         first,
@@ -255,7 +257,7 @@ pub(crate) fn open_link<R: Readers>(
 /// A link whose lock has ended, and the counts of both passes.
 #[derive(Drop)]
 pub(crate) struct SettledLink {
-    pub link: OpenLink<PortOutlet>,
+    pub link: LinkWithPorts<PortOutlet>,
     pub a: LinkCounts,
     pub b: LinkCounts,
 }

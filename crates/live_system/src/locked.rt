@@ -1,14 +1,14 @@
 //! A link under its lock, and the calls of both networks in its past.
 use link_lock::Recorded;
 use network_calls::Call;
-use receiver::{OpenLink, PortOutlet};
+use receiver::{LinkWithPorts, PortOutlet};
 use std::collections::LinkedList;
 use std::marker::Model;
 
 /// A link under its lock. To a contract it is the link itself.
 #[derive(Drop)]
 pub(crate) struct Locked {
-    pub(crate) link: OpenLink<PortOutlet>,
+    pub(crate) link: LinkWithPorts<PortOutlet>,
 }
 
 impl Model for Locked {

@@ -2,8 +2,9 @@
 ghost use Rattle.std.specs.Prelude.{◌≡◌, length};
 ghost use Rattle.std.specs.Option.{option_copied};
 ghost use Rattle.es_base.specs.FilterTally.{cause_kind};
-ghost use Rattle.es_base.specs.Limits.{filter_causes, verdict_kinds};
+ghost use Rattle.es_base.specs.Limits.{filter_causes};
 ghost use Rattle.es_base.specs.Tally.{AddsOne, IsKind, count_in};
+ghost use Rattle.es_base.specs.Verdict.{verdict_kinds};
 ghost use Rattle.link_core.specs.Counted.{shown};
 ghost use Rattle.network_calls.specs.declared.reply.Reply.TheVariants.{Filtered};
 ghost use Rattle.network_calls.specs.Calls.{count_calls};
@@ -12,7 +13,7 @@ ghost use Rattle.live_system.specs.LookUps.{calls_on, pass_on};
 use crate::link_pass::LinkPass;
 use es_base::{FilterCause, FilterTally, LinkNo, Net};
 use network_calls::{LinkCounts, Reply};
-use receiver::{OpenLink, PortOutlet};
+use receiver::{LinkWithPorts, PortOutlet};
 use std::marker::Model;
 
 /// One network's pass on all links of a system, by which a thread gives them the frames of its network. To a contract
@@ -23,7 +24,7 @@ pub struct NetPass {
     pub(crate) links: Vec<LinkPass>,
     pub(crate) filtered: FilterTally,
     /// Room for all links in the pass of network A, so that `settle` takes no memory.
-    pub(crate) settled: Vec<OpenLink<PortOutlet>>,
+    pub(crate) settled: Vec<LinkWithPorts<PortOutlet>>,
     /// Room for the counts on all links.
     pub(crate) counts: Vec<LinkCounts>,
 }

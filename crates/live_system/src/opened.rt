@@ -144,14 +144,14 @@ impl LiveSystem {
             a: NetPass {
                 net: Net::A,
                 links: a,
-                filtered: FilterTally::opening(),
+                filtered: FilterTally::new(),
                 settled,
                 counts: counts_a,
             },
             b: NetPass {
                 net: Net::B,
                 links: b,
-                filtered: FilterTally::opening(),
+                filtered: FilterTally::new(),
                 settled: Vec::new(alloc),
                 counts: counts_b,
             },

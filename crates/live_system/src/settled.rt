@@ -9,12 +9,12 @@ use crate::net_pass::NetPass;
 use crate::system::LiveSystem;
 use es_base::Net;
 use network_calls::PassCounts;
-use receiver::{OpenLink, PortOutlet};
+use receiver::{LinkWithPorts, PortOutlet};
 
 /// The links, in their order, and the counts of the passes of networks A and B.
 #[derive(Drop)]
 pub struct Settled {
-    pub links: Vec<OpenLink<PortOutlet>>,
+    pub links: Vec<LinkWithPorts<PortOutlet>>,
     pub a: PassCounts,
     pub b: PassCounts,
 }

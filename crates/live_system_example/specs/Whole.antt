@@ -9,7 +9,7 @@ use Rattle.receiver.specs.declared.partition.PartitionEnd.{PartitionEnd}
 use Rattle.network_calls.specs.declared.reply.Reply.{Reply}
 use Rattle.live_system.specs.declared.settled.Settled.{Settled}
 use Rattle.live_system.specs.Burst.{Frames, steps_in_turn}
-use Rattle.live_system.specs.Run.{HasEnded, RanAlone, Step, came}
+use Rattle.live_system.specs.Run.{HasEnded, RanAlone, Step, received}
 use Rattle.live_system.specs.System.{IsPassOf, KnownNet, Replies, System}
 
 -- the most frames of a burst
@@ -34,7 +34,7 @@ on_b step = (B, step)
 
 -- a frame on network A, and the frames of a burst on network B, one after another, with what was replied
 abbrev pub frame_and_burst : List ℕ → Frames → Reply → List Reply → List (Net × Step)
-frame_and_burst a b to_a to_b = map on_b (steps_in_turn b to_b) ++ (A, came 1000 a to_a) ∷ []
+frame_and_burst a b to_a to_b = map on_b (steps_in_turn b to_b) ++ (A, received 1000 a to_a) ∷ []
 
 -- it ends as the law of all calls says of these
 pub record IsWhole (config : Configuration) (a : List ℕ) (b : Frames) (settled : Settled) : Type 0 where

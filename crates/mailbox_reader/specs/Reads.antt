@@ -3,7 +3,7 @@ use Rattle.std.specs.Prelude.{◌≡◌, ℕ, [], List, drop, length, min, take}
 use Rattle.es_base.specs.declared.event.Message.{Message as Published}
 use Rattle.sampling_port.specs.declared.state.Freshness.{Freshness}
 use Rattle.triple_buffer.specs.Ends.{IsReadOf}
-use Rattle.triple_buffer.specs.Rule.{EndsWith, message}
+use Rattle.triple_buffer.specs.Rule.{HasLast, message}
 use Rattle.mailbox_port.specs.Port.{told as told_mailbox}
 use Rattle.mailbox_port.specs.declared.port.Mailbox.{Mailbox}
 use Rattle.mailbox_reader.specs.declared.reading.Reading.{Reading}
@@ -47,7 +47,7 @@ pub record IsCopied (octets before out : List ℕ) : Type 0 where
 pub record IsReadAs (seen : List Published) (before out : List ℕ) (number time len : ℕ) : Type 0 where
   pub number_is : number ≡ length seen
   pub octets : List ℕ
-  pub last : EndsWith seen (message time octets)
+  pub last : HasLast seen (message time octets)
   pub len_is : len ≡ length octets
   pub copied : IsCopied octets before out
 

@@ -1,7 +1,7 @@
 //! A partition's reader.
 ghost use Rattle.std.specs.Prelude.{◌≡◌, ◌≤◌, [], IfNone, IfSome, drop, length, min, take};
 ghost use Rattle.sampling_port.specs.Age.{freshness as freshness_at};
-ghost use Rattle.triple_buffer.specs.Rule.{EndsWith, StartsWith, message_in};
+ghost use Rattle.triple_buffer.specs.Rule.{HasLast, StartsWith, message_in};
 ghost use Rattle.mailbox_port.specs.Port.{IsMailboxOf};
 ghost use Rattle.mailbox_reader.specs.Reads.{IfEmpty, IfMessage, IsCopied, IsLookOf, IsReadAs, told};
 
@@ -109,7 +109,7 @@ impl MailboxReader {
     /// ```
     pub fn latest(&self) -> Option<&Latest>
         ensures some { IfSome result (λ latest. (latest.now.number ≡ length self.now.mailbox.reader.seen) ×
-            EndsWith self.now.mailbox.reader.seen (message_in latest.now)) }
+            HasLast self.now.mailbox.reader.seen (message_in latest.now)) }
         ensures none { IfNone result (self.now.mailbox.reader.seen ≡ []) }
     {
         self.mailbox.reader.latest()

@@ -8,22 +8,23 @@ use Rattle.rtrb.specs.Ring.{received, known_items, ConsumerLooked, SameConsumer}
 use Rattle.rtrb.specs.declared.consumer.Consumer.{Consumer}
 use mathlib.Core.List.{IsPrefix}
 use Rattle.byteorder.specs.Numbers.{big_from-append}
-use Rattle.message_ring.specs.Stream.{Message, len_of, time_of, message_of, Reading, reading, read_on, nothing_read, messages, begun}
+use Rattle.message_ring.specs.Stream.{Message, len_of, time_of_octets, message_of_octets, Reading, reading, read_on, nothing_read, messages, begun}
 use Rattle.message_ring.specs.Ends.{IsHead, IsBegun, Seen, taker_of}
-use Rattle.message_ring.specs.Queue.{BeginsWith, message, with_taken}
+use Rattle.es_base.specs.Queue.{BeginsWith, with_taken}
+use Rattle.message_ring.specs.Queue.{message}
 use Rattle.message_ring.specs.declared.head.Head.{Head}
 use Rattle.message_ring.proofs.Reading.{read_more, read_whole, read_part, begins_more, begins_length, begins_all}
 
 -- a head and its body are the message
 head_body : (start body : List ℕ) (head : Head) → IsHead start head.time head.len → length body ≡ head.len
-    → (length (start ++ body) ≡ 10 + len_of (start ++ body)) × (len_of (start ++ body) ≡ head.len) × (message_of (start ++ body) ≡ message head.time body)
+    → (length (start ++ body) ≡ 10 + len_of (start ++ body)) × (len_of (start ++ body) ≡ head.len) × (message_of_octets (start ++ body) ≡ message head.time body)
 head_body start body head is long =
     let ten = is.ten in
     let len : len_of (start ++ body) ≡ head.len = big_from-append 2 start body (omega (arith, ten)) ∙ sym is.len in
     let all = length-append start body in
     let drops : drop 2 (start ++ body) ≡ drop 2 start ++ body = Rattle.std.proofs.lemmas.List.drop-append-le 2 start body (omega (arith, ten)) in
     let d = Rattle.std.proofs.lemmas.List.length-drop 2 start in
-    let time : time_of (start ++ body) ≡ head.time =
+    let time : time_of_octets (start ++ body) ≡ head.time =
     ap (λ (l : List ℕ). Rattle.byteorder.specs.Endian.big_number 8 l) drops ∙ big_from-append 8 (drop 2 start) body (omega (arith, ten, d)) ∙ sym is.time in
     let octets : drop 10 (start ++ body) ≡ body = drop_at start body 10 ten in
     (omega (arith, all, ten, long, len), len, λ i. message (time i) (octets i))

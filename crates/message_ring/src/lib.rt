@@ -17,7 +17,8 @@ mod wait;
 
 ghost use Rattle.std.specs.Prelude.{◌≡◌, ◌+◌, ◌*◌, ◌<◌, ◌≤◌, length, take, drop, slice_get, Some, IfOk, OnOk, OnErr, IfSome, IfNone, IsOk, IsSome, IsTrue, IsFalse};
 ghost use Rattle.message_ring.specs.Ends.{width};
-ghost use Rattle.message_ring.specs.Queue.{BeginsWith, Holds, MayBeEmpty, MayBeFull, message, opened, with_put, with_taken};
+ghost use Rattle.es_base.specs.Queue.{BeginsWith, Holds, opened, with_put, with_taken};
+ghost use Rattle.message_ring.specs.Queue.{SeemsEmpty, SeemsFull, message};
 
 use crate::ends::{has_room, next_head, pop_octets, push_message};
 use crate::head::{HEAD, Head, most_at_once};
@@ -150,8 +151,8 @@ impl RingPutter {
         ensures end { self.new ≡ record self.old { taken = self.new.taken } }
         ensures told { BeginsWith self.new.taken self.old.taken }
         ensures room { IsTrue result → length self.new.put < length self.new.taken + self.new.depth }
-        ensures full { IsFalse result → MayBeFull self.new }
-        ensures full_before { IsFalse result → MayBeFull self.old }
+        ensures full { IsFalse result → SeemsFull self.new }
+        ensures full_before { IsFalse result → SeemsFull self.old }
         ensures room_is_known { length self.old.put < length self.old.taken + self.old.depth → IsTrue result }
     {
         has_room(&mut self.ring, self.needed)
@@ -177,7 +178,7 @@ impl RingPutter {
         ensures told { BeginsWith self.new.taken self.old.taken }
         ensures depth { length self.new.put ≤ length self.new.taken + self.old.depth }
         ensures err { OnErr result (self.new ≡ self.old) }
-        ensures may_be_full { OnErr result (MayBeFull self.old) }
+        ensures seems_full { OnErr result (SeemsFull self.old) }
         ensures room_is_known { length self.old.put < length self.old.taken + self.old.depth → IsOk result }
     {
         if !has_room(&mut self.ring, self.needed) {
@@ -208,7 +209,7 @@ impl RingTaker {
         ensures told { BeginsWith self.new.put self.old.put }
         ensures begins { BeginsWith self.new.put self.new.taken }
         ensures none { IfNone result ((self.new ≡ self.old) × (out.new ≡ out.old)) }
-        ensures may_be_empty { IfNone result (MayBeEmpty self.old) }
+        ensures seems_empty { IfNone result (SeemsEmpty self.old) }
         ensures next_is_known { length self.old.taken < length self.old.put → IsSome result }
         ensures next { IfSome result (λ got. length self.old.taken < length self.old.put →
             slice_get self.old.put (length self.old.taken) ≡ Some (message got.time (take got.len out.new))) }

@@ -4,9 +4,8 @@ use Rattle.std.proofs.lemmas.List.{reverse-append}
 use Rattle.es_base.specs.declared.place.Net.{Net}
 use Rattle.es_base.specs.declared.event.Event.{Event}
 use Rattle.es_base.specs.Integrity.{is_same_net}
-use Rattle.es_base.specs.Limits.{verdict_kinds}
 use Rattle.es_base.specs.Tally.{AddsOne, count_in, count_of, is_counted, one_more}
-use Rattle.es_base.specs.Verdict.{kind_of}
+use Rattle.es_base.specs.Verdict.{kind_of, verdict_kinds}
 use Rattle.network_calls.specs.declared.call.Call.{Call}
 use Rattle.network_calls.specs.declared.counts.LinkCounts.{LinkCounts}
 use Rattle.network_calls.specs.Calls.{call_of, calls_from, count_calls}

@@ -2,11 +2,11 @@
 use Rattle.std.proofs.Common.{◌≡◌, ℕ, Bool, true, false, cond, List, [], ◌∷◌, Option, Some, length, sym}
 use Rattle.es_base.specs.declared.place.LinkNo.{LinkNo}
 use Rattle.es_base.specs.declared.place.Net.{Net}
-use Rattle.es_base.specs.Limits.{verdict_kinds}
+use Rattle.es_base.specs.Verdict.{verdict_kinds}
 use Rattle.es_base.specs.Tally.{Counts, IsKind}
 use Rattle.network_calls.specs.declared.counts.LinkCounts.{LinkCounts}
 use Rattle.network_calls.specs.Calls.{count_calls}
-use Rattle.network_calls.specs.Counts.{AreCounts, KnownCounts, count_of_kind, counts_on, has_number, number_of}
+use Rattle.network_calls.specs.Counts.{AreCounts, KnownCounts, count_of_kind, counts_of_link, has_number, number_of}
 use Rattle.network_calls.specs.Passes.{AreCountedBy, IsCountedBy, OnLink, calls_of, pass_with}
 
 module _ {K L : Type 0} (on : K → OnLink L) (shows : ℕ → ℕ) (nothing : shows 0 ≡ 0) where
@@ -25,7 +25,7 @@ module _ {K L : Type 0} (on : K → OnLink L) (shows : ℕ → ℕ) (nothing : s
   either net true here later = here
   either net false here later = later
 
-  same : (net : Net) (vl : LinkNo) (links : List K) (counts : List LinkCounts) → AreCountedBy on shows net links counts → Same net (pass_with on vl links) (counts_on vl counts)
+  same : (net : Net) (vl : LinkNo) (links : List K) (counts : List LinkCounts) → AreCountedBy on shows net links counts → Same net (pass_with on vl links) (counts_of_link vl counts)
   same net vl [] [] are = record {
     number = sym nothing;
     kinds = λ kind is. sym nothing;

@@ -3,7 +3,7 @@ use Rattle.std.specs.Prelude.{◌≡◌, ℕ, ◌==◌, Bool, List, Option, None
 use Rattle.std.specs.List.{find}
 use Rattle.es_base.specs.declared.place.LinkNo.{LinkNo}
 use Rattle.es_base.specs.declared.place.Net.{Net}
-use Rattle.es_base.specs.Limits.{verdict_kinds}
+use Rattle.es_base.specs.Verdict.{verdict_kinds}
 use Rattle.es_base.specs.Tally.{Counts, IsKind, count_in}
 use Rattle.network_calls.specs.declared.call.Call.{Call}
 use Rattle.network_calls.specs.declared.counts.LinkCounts.{LinkCounts}
@@ -26,8 +26,8 @@ pub record AreCounts (shows : ℕ → ℕ) (net : Net) (calls : List Call) (coun
 abbrev pub has_number : LinkNo → LinkCounts → Bool
 has_number vl counts = counts.vl.0 == vl.0
 
-abbrev pub counts_on : LinkNo → List LinkCounts → Option LinkCounts
-counts_on vl links = find (has_number vl) links
+abbrev pub counts_of_link : LinkNo → List LinkCounts → Option LinkCounts
+counts_of_link vl links = find (has_number vl) links
 
 abbrev pub number_of : Option LinkCounts → ℕ
 number_of None = 0
@@ -38,7 +38,7 @@ count_of_kind kind net None = 0
 count_of_kind kind net (Some counts) = count_in counts.tally net kind
 
 abbrev pub number_on : LinkNo → List LinkCounts → ℕ
-number_on vl links = number_of (counts_on vl links)
+number_on vl links = number_of (counts_of_link vl links)
 
 abbrev pub count_on : LinkNo → ℕ → Net → List LinkCounts → ℕ
-count_on vl kind net links = count_of_kind kind net (counts_on vl links)
+count_on vl kind net links = count_of_kind kind net (counts_of_link vl links)

@@ -4,9 +4,10 @@ use Rattle.std.specs.Prelude.{◌≡◌, ℕ, List, [], ◌∷◌, Option, None,
 use Rattle.std.specs.List.{find}
 use Rattle.es_base.specs.declared.place.LinkNo.{LinkNo}
 use Rattle.es_base.specs.declared.place.Net.{Net}
-use Rattle.es_base.specs.Limits.{filter_causes, verdict_kinds}
+use Rattle.es_base.specs.Limits.{filter_causes}
 use Rattle.es_base.specs.Settings.{Settings}
 use Rattle.es_base.specs.Tally.{Counts, IsKind, IsZero}
+use Rattle.es_base.specs.Verdict.{verdict_kinds}
 use Rattle.link_lock.specs.Pass.{LockId}
 use Rattle.network_calls.specs.declared.call.Call.{Call}
 use Rattle.network_calls.specs.declared.counts.LinkCounts.{LinkCounts}

@@ -54,9 +54,9 @@ all_in each_in net [] = []
 all_in each_in net (one ∷ earlier) = if is_same_net one.0 net then all_in each_in net earlier ++ each_in one.1 else all_in each_in net earlier
 
 -- that of the latest call first
-abbrev pub latest_in : {S X : Type 0} → (S → List X) → Net → List (Net × S) → List X
-latest_in each_in net [] = []
-latest_in each_in net (one ∷ earlier) = if is_same_net one.0 net then each_in one.1 ++ latest_in each_in net earlier else latest_in each_in net earlier
+abbrev pub latest_first_in : {S X : Type 0} → (S → List X) → Net → List (Net × S) → List X
+latest_first_in each_in net [] = []
+latest_first_in each_in net (one ∷ earlier) = if is_same_net one.0 net then each_in one.1 ++ latest_first_in each_in net earlier else latest_first_in each_in net earlier
 
 -- the call on the link with this number, if a frame of these octets, which came at this time, had this reply
 abbrev pub call_replied : LinkNo → ℕ → List ℕ → Reply → List Call

@@ -2,9 +2,9 @@
 ghost use Rattle.std.specs.Prelude.{◌≡◌};
 ghost use Rattle.std.specs.Option.{option_copied};
 ghost use Rattle.es_base.specs.FilterTally.{cause_kind};
-ghost use Rattle.es_base.specs.Limits.{verdict_kinds};
+ghost use Rattle.es_base.specs.Verdict.{verdict_kinds};
 ghost use Rattle.es_base.specs.Tally.{IsKind, count_in};
-ghost use Rattle.network_calls.specs.Counts.{count_on, counts_on, number_on};
+ghost use Rattle.network_calls.specs.Counts.{count_on, counts_of_link, number_on};
 
 use crate::counts::LinkCounts;
 use es_base::{FilterCause, FilterTally, LinkNo, Net};
@@ -78,7 +78,7 @@ impl PassCounts {
 
 /// The counts on the link with this number.
 fn counts_on(links: &[LinkCounts], vl: LinkNo) -> Option<&LinkCounts>
-    ensures { option_copied result ≡ counts_on vl links.now }
+    ensures { option_copied result ≡ counts_of_link vl links.now }
 {
     links.iter().find(|link| link.vl == vl)
 }

@@ -3,13 +3,13 @@ use Rattle.std.proofs.Common.{◌≡◌, ℕ, ◌+◌, ◌-◌, ◌*◌, ◌/◌
 use Rattle.std.specs.Prelude.{slice_index}
 use Rattle.std.proofs.lemmas.Bool.{cases_lt}
 use Rattle.std.proofs.lemmas.List.{get_or-drop, get_or_append_left, get_or-append_right, length-append, length-drop}
-use Rattle.slot_core.specs.Octets.{octet_at}
+use Rattle.slot_core.specs.Octets.{octet_of_words}
 use Rattle.sampling_port.specs.Ends.{IsHeldAfter, ReaderEnd}
 use Rattle.partition_reader.specs.Reads.{IsCopyThatFits, most_tries, words_of_range}
 
 -- an octet of a message stands in its word
 pub octet_in_word : (words : List ℕ) (place k word : ℕ) → word ≡ slice_index words (2 + place) → 8 * place ≤ k → k < 8 * place + 8
-    → word / 256 ^ (7 - (k - 8 * place)) % 256 ≡ octet_at words k
+    → word / 256 ^ (7 - (k - 8 * place)) % 256 ≡ octet_of_words words k
 octet_in_word words place k word is low high =
     let at : k / 8 ≡ place = omega (arith, low, high) in
     let rest : k % 8 ≡ k - 8 * place = omega (arith, low, high) in
@@ -21,10 +21,10 @@ pub one_word_more : (words before after : List ℕ) (first place word from to : 
     → word ≡ slice_index words (2 + place)
     → from ≡ max first (8 * place)
     → to ≡ min (first + length after) (8 * place + 8)
-    → ((k : ℕ) → first + k < 8 * place → k < length after → slice_index before k ≡ octet_at words (first + k))
+    → ((k : ℕ) → first + k < 8 * place → k < length after → slice_index before k ≡ octet_of_words words (first + k))
     → ((i : ℕ) → i < to - from → slice_index after (from - first + i) ≡ word / 256 ^ (7 - (from - 8 * place + i)) % 256)
     → ((k : ℕ) → k < from - first → slice_index after k ≡ slice_index before k)
-    → (k : ℕ) → first + k < 8 * (place + 1) → k < length after → slice_index after k ≡ octet_at words (first + k)
+    → (k : ℕ) → first + k < 8 * (place + 1) → k < length after → slice_index after k ≡ octet_of_words words (first + k)
 one_word_more words before after first place word from to is from_is to_is done within kept k high inside = ⊎_elim
     (λ (early : first + k < 8 * place). kept k (omega (arith, from_is, early)) ∙ done k early inside)
     (λ (here : 8 * place ≤ first + k).
@@ -40,7 +40,7 @@ one_word_more words before after first place word from to is from_is to_is done 
 
 -- a copy to the beginning of `out` of the octets for which it has room
 pub copy_that_fits : (words front before : List ℕ) (len count : ℕ) → count ≡ min len (length before) → length front ≡ count
-    → ((k : ℕ) → k < length front → slice_index front k ≡ octet_at words k)
+    → ((k : ℕ) → k < length front → slice_index front k ≡ octet_of_words words k)
     → IsCopyThatFits words before (front ++ drop count before) len
 copy_that_fits words front before len count is size same = record {
   octets = λ k low inside.

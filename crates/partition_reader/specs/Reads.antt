@@ -1,8 +1,8 @@
 -- What a contract sees of a partition's reader, and what a read tells (ARINC 653, READ_SAMPLING_MESSAGE).
 use Rattle.std.specs.Prelude.{◌≡◌, ℕ, ◌+◌, ◌-◌, ◌/◌, ◌<◌, ◌≤◌, min, List, length, slice_index}
-use Rattle.slot_core.specs.Octets.{octet_at}
+use Rattle.slot_core.specs.Octets.{octet_of_words}
 use Rattle.slot_core.specs.State.{last_of}
-use Rattle.sampling_port.specs.Ends.{IsHeadOf, IsHeldAfter, IsNothing, IsOvertaken, IsSameEnd, ReaderEnd, is_told}
+use Rattle.sampling_port.specs.Ends.{IsHeadOf, IsHeldAfter, IsNothing, IsReadOvertaken, IsSameEnd, ReaderEnd, is_told}
 use Rattle.sampling_port.specs.declared.reader.Read.{Read}
 use Rattle.sampling_port.specs.declared.reader.Read.TheVariants.{Message as Found, Empty as Nothing, Busy as Overtaken}
 use Rattle.sampling_port.specs.declared.state.Freshness.{Freshness}
@@ -42,7 +42,7 @@ words_of_range first octets = (first + octets + 7) / 8 - first / 8
 -- `out` begins with the octets of these words, as many as it has room for, and is else as before
 -- rule: EMB-36
 pub record IsCopyThatFits (words before out : List ℕ) (len : ℕ) : Type 0 where
-  pub octets : (k : ℕ) → k < len → k < length out → slice_index out k ≡ octet_at words k
+  pub octets : (k : ℕ) → k < len → k < length out → slice_index out k ≡ octet_of_words words k
   pub others : (k : ℕ) → len ≤ k → slice_index out k ≡ slice_index before k
 
 -- ---- what a read tells, by cases
@@ -66,4 +66,4 @@ PlainAnswer v w before out (Found number time len) =
     IsHeadOf w.seen number time len × IsCopyThatFits (last_of w.seen) before out len
     × IsHeldAfter v w most_tries (3 + (min len (length before) + 7) / 8)
 PlainAnswer v w before out Nothing = IsNothing v w × (out ≡ before)
-PlainAnswer v w before out (Overtaken number) = IsOvertaken v w most_tries number × (out ≡ before)
+PlainAnswer v w before out (Overtaken number) = IsReadOvertaken v w most_tries number × (out ≡ before)

@@ -1,6 +1,6 @@
 //! Octets of the held message, by words.
 ghost use Rattle.std.specs.Prelude.{◌≡◌, ℕ, ◌+◌, ◌-◌, ◌*◌, ◌/◌, ◌%◌, ◌^◌, ◌<◌, ◌≤◌, length, slice_index};
-ghost use Rattle.slot_core.specs.Octets.{octet_at};
+ghost use Rattle.slot_core.specs.Octets.{octet_of_words};
 ghost use Rattle.slot_core.specs.State.{last_of};
 ghost use Rattle.sampling_port.specs.Ends.{IsSameEnd};
 ghost use Rattle.partition_reader.specs.Reads.{PlainAnswer, words_of_range};
@@ -47,7 +47,7 @@ fn write_octets(out: &mut [u8], first: usize, word: u64, from: usize, count: usi
 /// Fills `out` with the octets of the message from `first` on. Each word that has some of them is loaded once.
 pub(crate) fn copy_octets(held: &mut Held<READERS>, first: usize, out: &mut [u8])
     requires { first + length out.old ≤ slice_index (last_of held.old.seen) 0 }
-    ensures octets { (k : ℕ) → k < length out.new → slice_index out.new k ≡ octet_at (last_of held.old.seen) (first + k) }
+    ensures octets { (k : ℕ) → k < length out.new → slice_index out.new k ≡ octet_of_words (last_of held.old.seen) (first + k) }
     ensures steps { held.new ≡ record held.old { steps = held.old.steps + words_of_range first (length out.new) } }
 {
     // Called only for its contract: at most 1471 octets, so no sum here wraps.

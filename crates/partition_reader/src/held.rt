@@ -1,7 +1,7 @@
 //! A message that a partition holds.
 ghost use Rattle.std.specs.Prelude.{◌≡◌, ℕ, ◌+◌, ◌<◌, ◌≤◌, length, slice_index};
 ghost use Rattle.slot_core.specs.Limits.{longest_message};
-ghost use Rattle.slot_core.specs.Octets.{octet_at};
+ghost use Rattle.slot_core.specs.Octets.{octet_of_words};
 ghost use Rattle.slot_core.specs.State.{last_of};
 ghost use Rattle.sampling_port.specs.Age.{freshness as freshness_at};
 ghost use Rattle.partition_reader.specs.Reads.{after_steps, words_of_range};
@@ -80,7 +80,7 @@ impl HeldMessage {
     /// ```
     pub fn copy_range(&mut self, first: usize, out: &mut [u8])
         requires { first + length out.old ≤ slice_index (last_of self.old.end.seen) 0 }
-        ensures octets { (k : ℕ) → k < length out.new → slice_index out.new k ≡ octet_at (last_of self.old.end.seen) (first + k) }
+        ensures octets { (k : ℕ) → k < length out.new → slice_index out.new k ≡ octet_of_words (last_of self.old.end.seen) (first + k) }
         ensures same { self.new ≡ after_steps self.old (words_of_range first (length out.new)) }
     {
         copy_octets(&mut self.held, first, out);

@@ -1,9 +1,9 @@
 //! A partition's reader.
 ghost use Rattle.std.specs.Prelude.{◌≡◌, ℕ, ◌+◌, ◌/◌, ◌≤◌, min, length, IfErr, IfOk};
 ghost use Rattle.slot_core.specs.Limits.{longest_message};
-ghost use Rattle.slot_core.specs.State.{StartsWith, last_of};
+ghost use Rattle.slot_core.specs.State.{StartsWithSeen, last_of};
 ghost use Rattle.sampling_port.specs.Age.{freshness as freshness_at};
-ghost use Rattle.sampling_port.specs.Ends.{IsCopy, IsHeadOf, IsHeldAfter, IsNotHeld, IsNothing, IsOvertaken};
+ghost use Rattle.sampling_port.specs.Ends.{IsCopy, IsHeadOf, IsHeldAfter, IsNotHeld, IsNothing, IsReadOvertaken};
 ghost use Rattle.partition_reader.specs.Reads.{IfBusy, IfEmpty, IfMessage, IsCopyThatFits, IsSamePort, most_tries, told};
 
 use crate::copy::read_moved;
@@ -77,7 +77,7 @@ impl PartitionReader {
         requires { self.old.end.port ≡ writer.old.port }
         ensures reader { self.new ≡ told self.old writer.old.published }
         ensures writer { writer.new ≡ writer.old }
-        ensures before { StartsWith writer.old.published self.old.end.seen }
+        ensures before { StartsWithSeen writer.old.published self.old.end.seen }
     {
         meet(writer, &mut self.reader);
     }
@@ -88,7 +88,7 @@ impl PartitionReader {
     /// unchanged; without a message, all of `out` is.
     pub fn read(&mut self, now: u64, out: &mut [u8]) -> Reading
         ensures port { IsSamePort self.old self.new }
-        ensures seen { StartsWith self.new.end.seen self.old.end.seen }
+        ensures seen { StartsWithSeen self.new.end.seen self.old.end.seen }
         ensures head { IfMessage result (λ number time len _. IsHeadOf self.new.end.seen number time len) }
         ensures octets { IfMessage result (λ _ _ len _. IsCopyThatFits (last_of self.new.end.seen) out.old out.new len) }
         ensures whole { IfMessage result (λ _ _ len _. len ≤ length out.new → IsCopy (last_of self.new.end.seen) out.old out.new len) }
@@ -96,7 +96,7 @@ impl PartitionReader {
         ensures newest { IfMessage result (λ _ _ len _.
             IsHeldAfter self.old.end self.new.end most_tries (3 + (min len (length out.old) + 7) / 8)) }
         ensures empty { IfEmpty result (IsNothing self.old.end self.new.end × (out.new ≡ out.old)) }
-        ensures busy { IfBusy result (λ number. IsOvertaken self.old.end self.new.end most_tries number × (out.new ≡ out.old)) }
+        ensures busy { IfBusy result (λ number. IsReadOvertaken self.old.end self.new.end most_tries number × (out.new ≡ out.old)) }
     {
         let (_, answer) = replace_with(&mut self.reader, out, read_moved);
         match answer {

@@ -12,7 +12,7 @@ use Rattle.hex_trace.specs.Frames.{TimedFrame}
 use Rattle.output_lines.specs.Report.{all_count_lines, all_link_lines, filtered_lines, link_lines, ports_lines}
 use Rattle.trace_player.specs.Histories.{past_after}
 use Rattle.trace_player.specs.Merge.{merged}
-use Rattle.trace_player.specs.Output.{lines_of, report_time}
+use Rattle.trace_player.specs.Output.{lines_of, report_time_of}
 use Rattle.datagram_delivery.specs.Bringing.{BringDatagrams}
 use Rattle.datagram_delivery.specs.Interleaved.{Carried}
 use Rattle.datagram_delivery.proofs.Bringing.{brought}
@@ -47,7 +47,7 @@ pub are_written : (c : Configuration) (a b : List TimedFrame) (asked : Option �
     → BringDatagrams link (past_after c.constant link (reverse (merged a b))) carried → AreWritten c a b asked link carried
 are_written c a b asked place link carried there bring =
     let frames : List Arrival = reverse (merged a b) in
-    let at : ℕ = report_time asked frames in
+    let at : ℕ = report_time_of asked frames in
     let past_of : Settings → List Event = λ link. past_after c.constant link frames in
     let piece : List ℕ = link_lines at link (past_of link) in
     let lines : List ℕ = all_link_lines at past_of c.links in

@@ -5,7 +5,7 @@ use Rattle.es_base.specs.Settings.{Settings}
 use Rattle.hex_trace.specs.Frames.{TimedFrame}
 use Rattle.output_lines.specs.Report.{ports_lines}
 use Rattle.trace_player.specs.Merge.{merged}
-use Rattle.trace_player.specs.Output.{output_of, report_time}
+use Rattle.trace_player.specs.Output.{output_of, report_time_of}
 use Rattle.datagram_delivery.specs.Interleaved.{Carried, messages_ended}
 
 -- a piece of text stands in a text
@@ -20,4 +20,4 @@ lines_sent link carried at = ports_lines at (λ port. messages_ended port carrie
 -- they stand in what is written for two traces
 -- rule: DELIV-14
 abbrev pub AreWritten : Configuration → List TimedFrame → List TimedFrame → Option ℕ → Settings → List Carried → Type 0
-AreWritten c a b asked link carried = StandsIn (lines_sent link carried (report_time asked (reverse (merged a b)))) (output_of c a b asked)
+AreWritten c a b asked link carried = StandsIn (lines_sent link carried (report_time_of asked (reverse (merged a b)))) (output_of c a b asked)

@@ -1,39 +1,16 @@
--- A queue of messages, as its two ends know it (ARINC 664 Part 7, queuing service). The put list has the
--- messages that were put, the taken list those that were taken, each in order. The taken list begins
--- the put list, and the queue holds the rest.
+-- A queue of messages, as its two ends know it while both use it (ARINC 664 Part 7, queuing service): what it may hold
+-- at one moment of a call, as far as one end knows.
 use Rattle.std.specs.Prelude.{◌≡◌, ℕ, List, [], ◌∷◌, ◌++◌, length}
 use Rattle.atomic_table.specs.Seated.{TableId}
 use Rattle.es_base.specs.declared.event.Message.{Message}
+use Rattle.es_base.specs.Queue.{BeginsWith, KnownOf}
 
 -- tells one queue from all others
 abbrev pub QueueId : Type 0
 QueueId = TableId
 
--- What an end knows of its queue. A putter knows the whole put list and a beginning of the taken list, a
--- taker the whole taken list and a beginning of the put list: what the other end knew when they met.
--- `depth` is the most messages of the queue.
-pub record Known : Type 0 where
-  pub queue : QueueId
-  pub depth : ℕ
-  pub put : List Message
-  pub taken : List Message
-
--- what both ends know of a new queue
-abbrev pub opened : QueueId → ℕ → Known
-opened queue depth = record { queue = queue; depth = depth; put = []; taken = [] }
-
-abbrev pub with_put : Known → Message → Known
-with_put putter message = record putter { put = putter.put ++ message ∷ [] }
-
--- rule: PORT-11
-abbrev pub with_taken : Known → Message → Known
-with_taken taker message = record taker { taken = taker.taken ++ message ∷ [] }
-
--- ---- what the queue may hold at one moment of a call, as far as one end knows
-
--- rule: PORT-11
-abbrev pub BeginsWith : List Message → List Message → Type 0
-BeginsWith messages first = (rest : List Message) × (messages ≡ first ++ rest)
+abbrev pub Known : Type 0
+Known = KnownOf QueueId
 
 -- a putter that put these messages, and knows of these that they were taken, may find these held
 -- rule: PORT-10
@@ -59,8 +36,3 @@ MayBeEmpty taker = TakerFinds taker.taken taker.put []
 -- after those that were taken, or that list isn't known so far.
 abbrev pub MayBeOldest : Known → Message → Type 0
 MayBeOldest taker message = (later : List Message) × TakerFinds taker.taken taker.put (message ∷ later)
-
--- a queue whose lists are both known: it holds this many messages, put and not taken
--- rule: PORT-18
-abbrev pub Holds : Known → ℕ → Type 0
-Holds both count = (held : List Message) × (length held ≡ count) × (both.put ≡ both.taken ++ held)

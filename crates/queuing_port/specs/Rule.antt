@@ -7,7 +7,8 @@ use mathlib.Core.Option.{some}
 use lib.ListN.{get_elem?}
 use Rattle.es_base.specs.declared.event.Message.{Message}
 use Rattle.queuing_port.specs.declared.rule.Log.{Log}
-use Rattle.queuing_port.specs.Queue.{BeginsWith, TakerFinds}
+use Rattle.es_base.specs.Queue.{BeginsWith}
+use Rattle.queuing_port.specs.Queue.{TakerFinds}
 
 abbrev pub log : Bool → Bool → List Message → List Message → Log
 log puts takes put taken = record {
@@ -20,8 +21,8 @@ log puts takes put taken = record {
 }
 
 -- the pass in which two ends met: it knows both lists whole, and what each end knew of the other's before
-abbrev pub joined : Log → Log → Log
-joined putter taker = record {
+abbrev pub joined_passes : Log → Log → Log
+joined_passes putter taker = record {
   puts = true;
   takes = true;
   put = putter.put;
@@ -32,8 +33,8 @@ joined putter taker = record {
 
 -- Only one pass may put, and it knows the put list and a beginning of the taken list. Only one may take,
 -- and it knows the taken list and a beginning of the put list.
-abbrev pub Fits : ℕ → ℕ → List Message → List Message → ℕ → Log → Type 0
-Fits putter taker put taken number view =
+abbrev pub FitsPass : ℕ → ℕ → List Message → List Message → ℕ → Log → Type 0
+FitsPass putter taker put taken number view =
     (view.puts ≡ true → (number ≡ putter) × (view.put ≡ put) × BeginsWith taken view.taken)
     × (view.takes ≡ true → (number ≡ taker) × (view.taken ≡ taken) × BeginsWith put view.put)
 
@@ -49,7 +50,7 @@ pub record InOrder (held : List Message) (views : List Log) : Type 0 where
   pub put : List Message
   pub taken : List Message
   pub rest : put ≡ taken ++ held
-  pub each : (number : ℕ) (view : Log) → get_elem? views number ≡ some view → Fits putter taker put taken number view
+  pub each : (number : ℕ) (view : Log) → get_elem? views number ≡ some view → FitsPass putter taker put taken number view
   pub before : (number : ℕ) (view : Log) → get_elem? views number ≡ some view → FitsBefore put taken number view
 
 -- ---- the steps: a view before, the message, and the view after

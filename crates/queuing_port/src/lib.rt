@@ -18,7 +18,8 @@ mod rule;
 ghost use Rattle.std.specs.Prelude.{◌≡◌, ◌+◌, ◌<◌, ◌≤◌, true, length, slice_get, IfOk, OnOk, IfErr, OnErr, IfSome, IfNone, IsOk};
 ghost use Rattle.es_base.specs.Port.{is_kind_within_limits};
 ghost use Rattle.es_base.specs.declared.port.PortKind.TheVariants.{Queuing};
-ghost use Rattle.queuing_port.specs.Queue.{BeginsWith, Holds, MayBeEmpty, MayBeFull, MayBeOldest, opened, with_put, with_taken};
+ghost use Rattle.es_base.specs.Queue.{BeginsWith, Holds, opened, with_put, with_taken};
+ghost use Rattle.queuing_port.specs.Queue.{MayBeEmpty, MayBeFull, MayBeOldest};
 
 use crate::rule::{Ends, Looks, Puts, Queue, Right, Spare, Takes};
 use es_base::{Memory, Message};
@@ -129,7 +130,7 @@ impl Putter {
     /// ends meet.
     // rule: PORT-17
     pub fn put<R: Wait>(&mut self, rt: &R, message: Message) -> Result<(), Message>
-        ensures ok { OnOk result (self.new ≡ with_put self.old message) }
+        ensures ok { OnOk result (self.new ≡ with_put self.old message self.old.taken) }
         ensures err { IfErr result (λ back. (back ≡ message) × (self.new ≡ self.old)) }
         ensures may_be_full { OnErr result (MayBeFull self.old) }
         ensures room_is_known { length self.old.put < length self.old.taken + self.old.depth → IsOk result }
@@ -145,7 +146,7 @@ impl Taker {
     /// messages that were put and that it hasn't taken, the take gives the next of those. It learns of
     /// puts as the ends meet.
     pub fn take<R: Wait>(&mut self, rt: &R) -> Option<Message>
-        ensures some { IfSome result (λ message. self.new ≡ with_taken self.old message) }
+        ensures some { IfSome result (λ message. self.new ≡ with_taken self.old message self.old.put) }
         ensures may_be_oldest { IfSome result (MayBeOldest self.old) }
         ensures none { IfNone result (self.new ≡ self.old) }
         ensures may_be_empty { IfNone result (MayBeEmpty self.old) }

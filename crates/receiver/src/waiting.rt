@@ -5,18 +5,18 @@ ghost use Rattle.receiver.specs.Port.{GivesPort};
 ghost use Rattle.receiver.specs.Receiver.{LinksStay};
 ghost use Rattle.receiver.specs.Waiting.{AreWaitingAt, AreWaitingIn};
 
-use crate::link::OpenLink;
+use crate::link::LinkWithPorts;
 use crate::port::PortOutlet;
 use crate::receiver::Receiver;
 use es_base::PortNo;
 
-impl OpenLink<PortOutlet> {
+impl LinkWithPorts<PortOutlet> {
     /// Number of messages in a port's queue: delivered and not taken, as far as its end of the queue knows after it
     /// looked. None if the port samples, or the link has no such port. Takes no memory, and waits for nobody; it costs
     /// a step for each message that waits.
     pub fn waiting(&mut self, port: PortNo) -> Option<usize>
         ensures core { self.new.core ≡ self.old.core }
-        ensures came { self.new.came ≡ self.old.came }
+        ensures received { self.new.received ≡ self.old.received }
         ensures outlets { (at : ℕ) → GivesAt GivesPort (slice_get self.old.outlets at) (slice_get self.new.outlets at) [] }
         ensures waiting { AreWaitingAt self.new port result }
     {

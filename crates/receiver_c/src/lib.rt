@@ -23,7 +23,7 @@ ghost use Rattle.receiver_slots.specs.Handing.{HandsOut, hand_reader_code, hand_
 ghost use Rattle.receiver_slots.specs.Naming.{CountsLinks, TellsLink, TellsPlace, TellsPort, link_code, links_code, place_code, port_code};
 ghost use Rattle.receiver_slots.specs.Reading.{Copies, DidHold, DidRead, TellsReader, copy_code, held_octets, read_code, release_code, released};
 ghost use Rattle.receiver_slots.specs.Readers.{are_all_counts};
-ghost use Rattle.receiver_slots.specs.Receiving.{CountsFrames, CountsFiltered, HasFault, HasTableFault, Opens, OpensTable, Receives, count_code, filtered_code, receive_code};
+ghost use Rattle.receiver_slots.specs.Receiving.{CountsFrames, TellsFiltered, HasFault, HasTableFault, Opens, OpensTable, Receives, count_code, filtered_code, receive_code};
 ghost use Rattle.receiver_slots.specs.Taking.{DidTake, TellsTaker, take_code, taker_code};
 ghost use Rattle.receiver_slots.specs.declared.reader_slot.ReaderState.TheVariants.{Closed, Reads};
 ghost use Rattle.slot_handles.specs.contracts.marked.MarkedReceiver.{the_row as receiver_row};
@@ -73,7 +73,7 @@ pub unsafe extern "C" fn yelunnavi_receiver_make(at: *mut u8)
     requires* { sem 𝓛 (uninit_at receiver_row at) }
     ensures* { sem 𝓛 (points_to receiver_row at made_receiver) }
 {
-    std::ptr::write(at as *mut MarkedReceiver, MarkedReceiver::empty())
+    std::ptr::write(at as *mut MarkedReceiver, MarkedReceiver::new())
 }
 
 /// Opens the receiver of the configuration in these octets, a TOML document. Each sampling port has `readers` readers,
@@ -251,7 +251,7 @@ pub extern "C" fn yelunnavi_receiver_filtered(
 ) -> u32
     ensures place { (h.new.at ≡ h.old.at) × (h.new.room.mark ≡ h.old.room.mark) }
     ensures code { result ≡ if_made receiver_mark h.old.room.mark (filtered_code h.old.room.slot net cause) }
-    ensures counted { result ≡ done → CountsFiltered h.old.room.slot net cause count.new }
+    ensures counted { result ≡ done → TellsFiltered h.old.room.slot net cause count.new }
     ensures same { 0 < result → count.new ≡ count.old }
     ensures kept { h.new.room.slot ≡ h.old.room.slot }
 {
@@ -399,7 +399,7 @@ pub unsafe extern "C" fn yelunnavi_reader_make(at: *mut u8)
     requires* { sem 𝓛 (uninit_at reader_row at) }
     ensures* { sem 𝓛 (points_to reader_row at made_reader) }
 {
-    std::ptr::write(at as *mut MarkedReader, MarkedReader::empty())
+    std::ptr::write(at as *mut MarkedReader, MarkedReader::new())
 }
 
 /// Reads the newest message at `now` microseconds, which is of the clock of the arrival times, and tells its number,
@@ -541,7 +541,7 @@ pub unsafe extern "C" fn yelunnavi_taker_make(at: *mut u8)
     requires* { sem 𝓛 (uninit_at taker_row at) }
     ensures* { sem 𝓛 (points_to taker_row at made_taker) }
 {
-    std::ptr::write(at as *mut MarkedTaker, MarkedTaker::empty())
+    std::ptr::write(at as *mut MarkedTaker, MarkedTaker::new())
 }
 
 /// Takes the oldest message, if this end knows of one, into the beginning of `out`, and tells its time and length.

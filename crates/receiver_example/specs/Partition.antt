@@ -4,7 +4,7 @@ use Rattle.message_ring.specs.Queue.{Known}
 use Rattle.mailbox_reader.specs.Reads.{PortReader}
 
 -- its reader, its end of a queue, and the octets that it got last
-pub record Ends : Type 0 where
+pub record PartitionEnds : Type 0 where
   pub pos : PortReader
   pub nav : Known
   pub out : List ℕ

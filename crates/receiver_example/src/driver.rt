@@ -7,7 +7,7 @@ use std::io;
 
 /// A frame that came, without its check sequence.
 #[derive(Drop)]
-pub(crate) struct Came {
+pub(crate) struct GivenFrame {
     pub net: Net,
     /// When it came, in microseconds.
     pub time: u64,
@@ -26,11 +26,17 @@ const UNKNOWN: &str =
     "03000000001302000000012008004500002d000100000111cdcb0a010101e0e0001213891388001900000102030405060708090a0b0c0d0e0f1011";
 
 /// The frame with this sequence number, as it came.
-fn frame_at(alloc: Global, net: Net, time: u64, digits: &str, number: u8) -> io::Result<Came> {
+fn frame_at(
+    alloc: Global,
+    net: Net,
+    time: u64,
+    digits: &str,
+    number: u8,
+) -> io::Result<GivenFrame> {
     match decode_digits(alloc, digits.as_bytes()) {
         Ok(mut octets) => {
             octets.push(number)?;
-            Ok(Came { net, time, octets })
+            Ok(GivenFrame { net, time, octets })
         }
         Err(_) => Err(refused()),
     }
@@ -38,7 +44,7 @@ fn frame_at(alloc: Global, net: Net, time: u64, digits: &str, number: u8) -> io:
 
 /// A message for `pos` and its copy on the other network, two for `nav`, one for `pos` whose sequence number is too far
 /// ahead, and a frame of a link that isn't configured.
-pub(crate) fn frames(alloc: Global) -> io::Result<Vec<Came>> {
+pub(crate) fn frames(alloc: Global) -> io::Result<Vec<GivenFrame>> {
     let mut frames = Vec::new(alloc);
     for (net, time, digits, number) in [
         (Net::A, 1_000, FOR_POS, 0),

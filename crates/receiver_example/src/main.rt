@@ -5,7 +5,7 @@
 mod driver;
 mod partition;
 
-use driver::{Came, frames};
+use driver::{GivenFrame, frames};
 use partition::Partition;
 use receiver::{Config, FilterCause, Net, PortOutlet, ReaderCount, Receiver, Reply, VerdictKind};
 use std::alloc::Global;
@@ -48,8 +48,8 @@ fn configuration(alloc: Global) -> io::Result<Config> {
 }
 
 /// A line for each frame: its time and network, and what it came to.
-fn show_reply(rt: &HostRuntime, came: &Came, reply: Reply) -> io::Result<()> {
-    let (time, net) = (came.time, came.net);
+fn show_reply(rt: &HostRuntime, frame: &GivenFrame, reply: Reply) -> io::Result<()> {
+    let (time, net) = (frame.time, frame.net);
     match reply {
         Reply::Filtered(cause) => println!(rt; "{time} {net} filtered: {cause}"),
         Reply::Link {
@@ -102,10 +102,10 @@ fn main(rt: HostRuntime) -> io::Result<()> {
     let mut receiver = opened.receiver;
     let frames = frames(alloc)?;
     // From here on no call takes memory, but for the printing.
-    for came in frames.iter() {
-        let reply = receiver.receive(came.net, came.time, came.octets.as_slice());
-        show_reply(&rt, came, reply)?;
-        step(&rt, &mut partition, came.time)?;
+    for frame in frames.iter() {
+        let reply = receiver.receive(frame.net, frame.time, frame.octets.as_slice());
+        show_reply(&rt, frame, reply)?;
+        step(&rt, &mut partition, frame.time)?;
     }
     step(&rt, &mut partition, 9_000)?;
     show_counts(&rt, &receiver, Net::A)?;

@@ -1,6 +1,7 @@
 //! The work of a partition: it has ends of ports, and nothing else of the receiver.
 ghost use Rattle.std.specs.Prelude.{◌≡◌, ◌<◌, IfNone, IfOk, IfSome, IsSome, length, take};
-ghost use Rattle.message_ring.specs.Queue.{MayBeEmpty, message, with_taken};
+ghost use Rattle.es_base.specs.Queue.{with_taken};
+ghost use Rattle.message_ring.specs.Queue.{SeemsEmpty, message};
 ghost use Rattle.mailbox_reader.specs.Reads.{IfMessage, IsRead};
 ghost use Rattle.sampling_port.specs.Age.{freshness as freshness_at};
 
@@ -18,9 +19,9 @@ pub(crate) struct Partition {
 
 impl Model for Partition {
     ghost use Rattle.std.specs.Prelude.{◌≤◌, length};
-    ghost use Rattle.receiver_example.specs.Partition.{Ends};
+    ghost use Rattle.receiver_example.specs.Partition.{PartitionEnds};
 
-    ghost Value = { Ends };
+    ghost Value = { PartitionEnds };
 
     ghost view = { λ p. record { pos = p.pos; nav = p.nav; out = p.out.items } };
 
@@ -50,7 +51,7 @@ impl Partition {
         ensures pos { self.new.pos ≡ self.old.pos }
         ensures some { IfSome result (λ got. self.new.nav ≡ with_taken self.old.nav (message got.time (take got.len self.new.out)) self.new.nav.put) }
         ensures none { IfNone result (self.new ≡ self.old) }
-        ensures may_be_empty { IfNone result (MayBeEmpty self.old.nav) }
+        ensures seems_empty { IfNone result (SeemsEmpty self.old.nav) }
         ensures next_is_known { length self.old.nav.taken < length self.old.nav.put → IsSome result }
     {
         self.nav.take(&mut self.out)

@@ -3,7 +3,7 @@ use Rattle.std.specs.Prelude.{ℕ, Bool, ◌&&◌, List, nat_le, Option, None, S
 use Rattle.std.specs.List.{find, list_all}
 use Rattle.es_base.specs.Port.{Port}
 use Rattle.mailbox_port.specs.Port.{is_reader_count, most_readers}
-use Rattle.vl_config.specs.Rows.{has_name}
+use Rattle.vl_config.specs.Rows.{has_row_name}
 use Rattle.vl_config.specs.declared.rows.PortRow.{PortRow}
 
 -- a row's number of readers, if any; else this number
@@ -14,7 +14,7 @@ count_or others (Some row) = if is_reader_count row.readers then row.readers els
 -- as many as the row of a port says
 -- rule: EMB-20
 abbrev pub readers_in : ℕ → List PortRow → Port → ℕ
-readers_in others rows port = count_or others (find (has_name port.name) rows)
+readers_in others rows port = count_or others (find (has_row_name port.name) rows)
 
 -- each row says 0, or a number of readers that a port can have
 -- rule: EMB-20

@@ -2,7 +2,7 @@
 ghost use Rattle.std.specs.Prelude.{◌≡◌};
 ghost use Rattle.std.specs.List.{find};
 ghost use Rattle.std.specs.Option.{option_copied};
-ghost use Rattle.vl_config.specs.Rows.{has_name};
+ghost use Rattle.vl_config.specs.Rows.{has_row_name};
 ghost use Rattle.receiver_slots.specs.Readers.{are_reader_counts, count_or};
 
 use es_base::PortSettings;
@@ -28,7 +28,7 @@ impl Readers for PortReaders<'_> {
 
 /// The row of the port with this name.
 fn row_named<'a>(rows: &'a [PortRow], name: &str) -> Option<&'a PortRow>
-    ensures { option_copied result ≡ find (has_name name.now) rows.now }
+    ensures { option_copied result ≡ find (has_row_name name.now) rows.now }
 {
     rows.iter().find(|row| row.has_name(name))
 }

@@ -38,7 +38,7 @@ impl Model for Redundancy {
 
 impl Redundancy {
     /// The state before the first forwarded frame. `skew_max` is SkewMax, in microseconds.
-    pub fn opening(skew_max: u64) -> Redundancy
+    pub fn new(skew_max: u64) -> Redundancy
         ensures { StandsFor result skew_max [] }
     {
         Redundancy {

@@ -3,10 +3,10 @@ use Rattle.std.proofs.Common.{◌≡◌, ◌≢◌, ℕ, ◌+◌, ◌*◌, ◌<�
 use Rattle.std.proofs.lemmas.Bool.{eq-eqb, ne_eqb}
 use Rattle.std.proofs.lemmas.List.{replicate-append-replicate}
 use Rattle.slot_core.specs.declared.view.Phase.TheVariants.{Loaded}
-use Rattle.slot_core.specs.State.{StartsWith, word_of}
+use Rattle.slot_core.specs.State.{StartsWithSeen, word_of}
 use Rattle.slot_core.specs.Steps.{announces}
 use Rattle.slot_core.proofs.Messages.{length-seen}
-use Rattle.sampling_port.specs.Ends.{IsHeldAfter, end_of}
+use Rattle.sampling_port.specs.Ends.{IsHeldAfter, end_of_reader}
 use Rattle.sampling_port.specs.Plays.{Looks, reads, looks_again}
 use Rattle.sampling_port.specs.Reads.{IsHeld, ShowsLast}
 use Rattle.sampling_port.specs.Seats.{ReaderSeated, reader_with}
@@ -15,7 +15,7 @@ use Rattle.sampling_port.specs.Seats.{ReaderSeated, reader_with}
 pub record IsTrying (slots : ℕ) (v w : ReaderSeated) (word done : ℕ) : Type 0 where
   pub port : w.port ≡ v.port
   pub place : w.place ≡ v.place
-  pub seen : StartsWith w.knows.view.seen v.knows.view.seen
+  pub seen : StartsWithSeen w.knows.view.seen v.knows.view.seen
   pub newer : length v.knows.view.seen + done ≤ length w.knows.view.seen
   pub looks : w.knows.looks ≡ v.knows.looks ++ replicate (1 + done) false
   pub steps : w.knows.steps ≡ v.knows.steps + (1 + 2 * done)
@@ -23,7 +23,7 @@ pub record IsTrying (slots : ℕ) (v w : ReaderSeated) (word done : ℕ) : Type 
   pub own : 0 < done → w.knows.view.own ≢ 0
   pub last : ShowsLast slots w.knows.view word
 
-starts_trans : (all seen before : List (List ℕ)) → StartsWith all seen → StartsWith seen before → StartsWith all before
+starts_trans : (all seen before : List (List ℕ)) → StartsWithSeen all seen → StartsWithSeen seen before → StartsWithSeen all before
 starts_trans all seen before a b = (b.0 ++ a.0, a.1 ∙ ap (λ (l : List (List ℕ)). l ++ a.0) b.1 ∙ append_assoc before b.0 a.0)
 
 one_more : (n : ℕ) → replicate (1 + n) false ++ false ∷ [] ≡ replicate (1 + (n + 1)) false
@@ -47,15 +47,15 @@ module _ (slots tries : ℕ) (v w w2 : ReaderSeated) (word done found : ℕ) (al
   last : ShowsLast slots next.knows.view found
   last = record { some = begun; shows = look.some begun; message = look.message begun }
 
-  seen : StartsWith all v.knows.view.seen
+  seen : StartsWithSeen all v.knows.view.seen
   seen = starts_trans all w.knows.view.seen v.knows.view.seen look.before t.seen
 
   positive : word ≢ 0
   positive e = absurd (let shows = t.last.shows.0 in omega (arith, shows, t.last.some, e))
 
-  pub finds : found ≡ word → IsHeld slots w2.knows.view word × IsHeldAfter (end_of v) (end_of w2) tries 0
+  pub finds : found ≡ word → IsHeld slots w2.knows.view word × IsHeldAfter (end_of_reader v) (end_of_reader w2) tries 0
   finds again = let e : eqb found (word_of w.knows.view.phase) ≡ true = eq-eqb found _ (again ∙ sym at) in
-      subst (λ (z : ReaderSeated). IsHeld slots z.knows.view word × IsHeldAfter (end_of v) (end_of z) tries 0) (sym looked) (
+      subst (λ (z : ReaderSeated). IsHeld slots z.knows.view word × IsHeldAfter (end_of_reader v) (end_of_reader z) tries 0) (sym looked) (
         record { holds = rw (e, at) refl; own = at; last = subst (λ (x : ℕ). ShowsLast slots next.knows.view x) again last },
         record {
           seen = seen;

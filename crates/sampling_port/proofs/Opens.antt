@@ -11,7 +11,7 @@ use Rattle.slot_core.specs.declared.view.Phase.TheVariants.{Idle}
 use Rattle.slot_core.specs.declared.view.ReaderView.{ReaderView}
 use Rattle.slot_core.specs.declared.view.WriterView.{WriterView}
 use Rattle.slot_core.specs.Words.{table_words}
-use Rattle.slot_core.specs.State.{StartsWith, newcomer, HasWord}
+use Rattle.slot_core.specs.State.{StartsWithSeen, newcomer, HasWord}
 use Rattle.slot_core.specs.State.{first_writer as unwritten}
 use Rattle.slot_core.specs.Lawful.{Lawful, IsReader}
 use Rattle.slot_core.proofs.Messages.{seen_all}
@@ -22,8 +22,8 @@ use Rattle.sampling_port.specs.declared.rule.ReaderLog.{ReaderLog}
 use Rattle.sampling_port.specs.declared.rule.SeatView.{SeatView}
 use Rattle.sampling_port.specs.declared.rule.SeatView.TheVariants.{Opens, Writes, Reads, Meets, Spent}
 use Rattle.sampling_port.specs.Reads.{IsIdle}
-use Rattle.sampling_port.specs.Rule.{Knows, Kept, first_writer, first_reader}
-use Rattle.sampling_port.specs.Plays.{At, less_one, next_one, learns, met, parted, writer_again, told}
+use Rattle.sampling_port.specs.Rule.{Knows, KeptTable, first_writer, first_reader}
+use Rattle.sampling_port.specs.Plays.{At, less_one, next_one, learns, met, parted, writer_again, tells_published}
 use Rattle.atomic_table.specs.Seated.{TableId}
 use Rattle.sampling_port.specs.Seats.{ReaderSeated}
 use Rattle.sampling_port.specs.Seats.{new_seat, new_seats}
@@ -33,7 +33,7 @@ first_only : (v u : SeatView) (j : ℕ) → get_elem? (v ∷ []) j ≡ some u �
 first_only v u zero e = (refl, some-injective v u e)
 first_only v u (suc j) e = absurd (some-ne-none u (sym e))
 
-pub opens_at : (n m : ℕ) → Kept n m (opening (replicate (table_words n m) 0) [] (Opens 0))
+pub opens_at : (n m : ℕ) → KeptTable n m (opening (replicate (table_words n m) 0) [] (Opens 0))
 opens_at n m = record {
   writer = unwritten;
   readers = replicate n newcomer;
@@ -60,11 +60,11 @@ moved_here owner p to q e = ap (λ (b : Bool). cond b to (owner q)) (eq-eqb q p 
 moved_else : (owner : ℕ → ℕ) (p to q : ℕ) → q ≢ p → moved owner p to q ≡ owner q
 moved_else owner p to q ne = ap (λ (b : Bool). cond b to (owner q)) (ne_eqb q p ne)
 
-module _ (n m : ℕ) (s : T) (k : Kept n m s) (id : ℕ) where
+module _ (n m : ℕ) (s : T) (k : KeptTable n m s) (id : ℕ) where
   -- a seat is parted: what the two know, and the others
   parts : (writer : ℕ) (owner : ℕ → ℕ) (left right : SeatView) → Knows k.writer k.readers writer owner id left → Knows k.writer k.readers writer owner (length s.views) right
       → ((j : ℕ) → j ≢ id → (u : SeatView) → Knows k.writer k.readers k.writer_seat k.owner j u → Knows k.writer k.readers writer owner j u)
-      → Kept n m (record { words = s.words; homes = s.homes; views = set s.views id left ++ right ∷ [] })
+      → KeptTable n m (record { words = s.words; homes = s.homes; views = set s.views id left ++ right ∷ [] })
   parts writer owner left right here there others = record {
     writer = k.writer;
     readers = k.readers;
@@ -84,7 +84,7 @@ module _ (n m : ℕ) (s : T) (k : Kept n m s) (id : ℕ) where
   -- two seats are joined, and the other is spent
   joins : (other writer : ℕ) (owner : ℕ → ℕ) (both : SeatView) → Knows k.writer k.readers writer owner id both
       → ((j : ℕ) → j ≢ id → j ≢ other → (u : SeatView) → Knows k.writer k.readers k.writer_seat k.owner j u → Knows k.writer k.readers writer owner j u)
-      → Kept n m (record { words = s.words; homes = s.homes; views = set (set s.views id both) other Spent })
+      → KeptTable n m (record { words = s.words; homes = s.homes; views = set (set s.views id both) other Spent })
   joins other writer owner both here others = record {
     writer = k.writer;
     readers = k.readers;
@@ -116,7 +116,7 @@ module _ (n m : ℕ) (s : T) (k : Kept n m s) (id : ℕ) where
 module _ (n m : ℕ) (id : ℕ) where
   -- ---- the opening
 
-  part : (p : ℕ) → p < n → Splits (Kept n m) id (Opens p) (Opens (p + 1)) (Reads p first_reader)
+  part : (p : ℕ) → p < n → Splits (KeptTable n m) id (Opens p) (Opens (p + 1)) (Reads p first_reader)
   part p most s k at =
       let me = k.seats id (Opens p) at in let to : ℕ = length s.views in let own = moved k.owner p to in let ln = k.lawful.views in
       let mine = me.2 p (omega arith) (omega arith) in
@@ -131,27 +131,27 @@ module _ (n m : ℕ) (id : ℕ) where
         | Spent ↦ λ h. tt
       ])
 
-  pub part_at : (p : ℕ) (v : SeatView) → v ≡ Opens p → p < n → Splits (Kept n m) id v (less_one v) (next_one v)
-  part_at p v is most = subst (λ (z : SeatView). Splits (Kept n m) id z (less_one z) (next_one z)) (sym is) (part p most)
+  pub part_at : (p : ℕ) (v : SeatView) → v ≡ Opens p → p < n → Splits (KeptTable n m) id v (less_one v) (next_one v)
+  part_at p v is most = subst (λ (z : SeatView). Splits (KeptTable n m) id z (less_one z) (next_one z)) (sym is) (part p most)
 
-  lead : (p : ℕ) → Splits (Kept n m) id (Opens p) Spent (Writes first_writer)
+  lead : (p : ℕ) → Splits (KeptTable n m) id (Opens p) Spent (Writes first_writer)
   lead p s k at = let me = k.seats id (Opens p) at in
       parts n m s k id (length s.views) k.owner Spent (Writes first_writer) tt (sym me.0, refl) (apart n m s k id me.1 (length s.views))
 
-  pub lead_at : (p : ℕ) (v : SeatView) → v ≡ Opens p → Splits (Kept n m) id v Spent (Writes first_writer)
-  lead_at p v is = subst (λ (z : SeatView). Splits (Kept n m) id z Spent (Writes first_writer)) (sym is) (lead p)
+  pub lead_at : (p : ℕ) (v : SeatView) → v ≡ Opens p → Splits (KeptTable n m) id v Spent (Writes first_writer)
+  lead_at p v is = subst (λ (z : SeatView). Splits (KeptTable n m) id z Spent (Writes first_writer)) (sym is) (lead p)
 
   -- ---- the writer's view goes to a reader's seat, and comes back
 
-  lend : (w : WriterLog) → Splits (Kept n m) id (Writes w) Spent (Writes w)
+  lend : (w : WriterLog) → Splits (KeptTable n m) id (Writes w) Spent (Writes w)
   lend w s k at = let me = k.seats id (Writes w) at in
       parts n m s k id (length s.views) k.owner Spent (Writes w) tt (me.0, refl) (apart n m s k id me.1 (length s.views))
 
-  pub lend_at : (w : WriterLog) (v : SeatView) → v ≡ Writes w → Splits (Kept n m) id v Spent v
-  lend_at w v is = subst (λ (z : SeatView). Splits (Kept n m) id z Spent z) (sym is) (lend w)
+  pub lend_at : (w : WriterLog) (v : SeatView) → v ≡ Writes w → Splits (KeptTable n m) id v Spent v
+  lend_at w v is = subst (λ (z : SeatView). Splits (KeptTable n m) id z Spent z) (sym is) (lend w)
 
   -- the writer's seat is the other one
-  far : (s : T) (k : Kept n m s) (other : ℕ) → other ≡ k.writer_seat → (j : ℕ) → j ≢ id → j ≢ other → (u : SeatView) → Knows k.writer k.readers k.writer_seat k.owner j u → Knows k.writer k.readers id k.owner j u
+  far : (s : T) (k : KeptTable n m s) (other : ℕ) → other ≡ k.writer_seat → (j : ℕ) → j ≢ id → j ≢ other → (u : SeatView) → Knows k.writer k.readers k.writer_seat k.owner j u → Knows k.writer k.readers id k.owner j u
   far s k other theirs j _ ne = elim [
     | Opens p ↦ λ h. absurd (ne (h.1 ∙ sym theirs))
     | Writes x ↦ λ h. absurd (ne (h.1 ∙ sym theirs))
@@ -160,40 +160,40 @@ module _ (n m : ℕ) (id : ℕ) where
     | Spent ↦ λ h. tt
   ]
 
-  meet : (r other : ℕ) (v : ReaderLog) (w : WriterLog) → Joins (Kept n m) id (Reads r v) other (Writes w) (Meets w r v) Spent
+  meet : (r other : ℕ) (v : ReaderLog) (w : WriterLog) → Joins (KeptTable n m) id (Reads r v) other (Writes w) (Meets w r v) Spent
   meet r other v w s k at ne there =
       let me = k.seats id (Reads r v) at in
       let old : get_elem? s.views other ≡ some (Writes w) = sym (set_else s.views id other (Meets w r v) ne) ∙ there in
       let them = k.seats other (Writes w) old in
       joins n m s k id other id k.owner (Meets w r v) ((them.0, refl), me) (far s k other them.1)
 
-  pub meet_at : (r other : ℕ) (v : ReaderLog) (w : WriterLog) (x y : SeatView) → x ≡ Reads r v → y ≡ Writes w → Joins (Kept n m) id x other y (met x y) Spent
+  pub meet_at : (r other : ℕ) (v : ReaderLog) (w : WriterLog) (x y : SeatView) → x ≡ Reads r v → y ≡ Writes w → Joins (KeptTable n m) id x other y (met x y) Spent
   meet_at r other v w x y is_x is_y =
-      subst (λ (z : SeatView). Joins (Kept n m) id z other y (met z y) Spent) (sym is_x)
-      (subst (λ (z : SeatView). Joins (Kept n m) id (Reads r v) other z (met (Reads r v) z) Spent) (sym is_y) (meet r other v w))
+      subst (λ (z : SeatView). Joins (KeptTable n m) id z other y (met z y) Spent) (sym is_x)
+      (subst (λ (z : SeatView). Joins (KeptTable n m) id (Reads r v) other z (met (Reads r v) z) Spent) (sym is_y) (meet r other v w))
 
-  part_again : (r : ℕ) (v : ReaderLog) (w : WriterLog) → Splits (Kept n m) id (Meets w r v) (Reads r v) (Writes w)
+  part_again : (r : ℕ) (v : ReaderLog) (w : WriterLog) → Splits (KeptTable n m) id (Meets w r v) (Reads r v) (Writes w)
   part_again r v w s k at = let me = k.seats id (Meets w r v) at in
       parts n m s k id (length s.views) k.owner (Reads r v) (Writes w) me.1 (me.0.0, refl) (apart n m s k id me.0.1 (length s.views))
 
-  pub part_again_at : (r : ℕ) (v : ReaderLog) (w : WriterLog) (x : SeatView) → x ≡ Meets w r v → Splits (Kept n m) id x (parted x) (writer_again x)
-  part_again_at r v w x is = subst (λ (z : SeatView). Splits (Kept n m) id z (parted z) (writer_again z)) (sym is) (part_again r v w)
+  pub part_again_at : (r : ℕ) (v : ReaderLog) (w : WriterLog) (x : SeatView) → x ≡ Meets w r v → Splits (KeptTable n m) id x (parted x) (writer_again x)
+  part_again_at r v w x is = subst (λ (z : SeatView). Splits (KeptTable n m) id z (parted z) (writer_again z)) (sym is) (part_again r v w)
 
-  regain : (other : ℕ) (w : WriterLog) → Joins (Kept n m) id Spent other (Writes w) (Writes w) Spent
+  regain : (other : ℕ) (w : WriterLog) → Joins (KeptTable n m) id Spent other (Writes w) (Writes w) Spent
   regain other w s k at ne there =
       let old : get_elem? s.views other ≡ some (Writes w) = sym (set_else s.views id other (Writes w) ne) ∙ there in
       let them = k.seats other (Writes w) old in
       joins n m s k id other id k.owner (Writes w) (them.0, refl) (far s k other them.1)
 
-  pub regain_at : (other : ℕ) (w : WriterLog) (x y : SeatView) → x ≡ Spent → y ≡ Writes w → Joins (Kept n m) id x other y y Spent
+  pub regain_at : (other : ℕ) (w : WriterLog) (x y : SeatView) → x ≡ Spent → y ≡ Writes w → Joins (KeptTable n m) id x other y y Spent
   regain_at other w x y is_x is_y =
-      subst (λ (z : SeatView). Joins (Kept n m) id z other y y Spent) (sym is_x)
-      (subst (λ (z : SeatView). Joins (Kept n m) id Spent other z z Spent) (sym is_y) (regain other w))
+      subst (λ (z : SeatView). Joins (KeptTable n m) id z other y y Spent) (sym is_x)
+      (subst (λ (z : SeatView). Joins (KeptTable n m) id Spent other z z Spent) (sym is_y) (regain other w))
 
   -- ---- a reader is told what was published
 
   module _ (slots r : ℕ) (w : WriterLog) (v : ReaderLog) (c : List (ℕ × Unit {0})) (idle : v.view.phase ≡ Idle) where
-    tell_allowed : Allows (Kept n m) slots id (Meets w r v, c) 0 (λ x. x) (told (step slots 0 0 0 none) (Meets w r v, c))
+    tell_allowed : Allows (KeptTable n m) slots id (Meets w r v, c) 0 (λ x. x) (tells_published (step slots 0 0 0 none) (Meets w r v, c))
     tell_allowed s k _ mine _ =
         let me = k.seats id (Meets w r v) mine in
         let ln = k.lawful.views in let lt : r < length k.readers = me.1.0 in let low : r < n = omega arith in
@@ -207,7 +207,7 @@ module _ (n m : ℕ) (id : ℕ) where
           idle = old.idle;
           announced = old.announced;
           holding = old.holding;
-          seen = subst (λ (z : WriterView). StartsWith z.published all) same (seen_all all);
+          seen = subst (λ (z : WriterView). StartsWithSeen z.published all) same (seen_all all);
           shows = λ word e. absurd (subst (λ p. HasWord p word) idle e);
           newest = λ word e _. absurd (subst (λ p. HasWord p word) idle e);
           held = λ word e. absurd (cc);
@@ -220,11 +220,11 @@ module _ (n m : ℕ) (id : ℕ) where
           turns n m s k id r me.1.2 v' _ _ (Meets w r (learns v all))
               (me.0, (subst (λ (z : ℕ). r < z) (sym (length-set k.readers r v')) lt, get_or-set_same k.readers r v' newcomer lt, me.1.2))
               (subst (λ (z : List ℕ). Lawful n m (core z k.writer (set k.readers r v'))) (sym (set-get_or s.words 0 0)) ok),
-          (refl, refl, subst (λ (z : WriterView). StartsWith z.published v.view.seen) (sym same) old.seen),
+          (refl, refl, subst (λ (z : WriterView). StartsWithSeen z.published v.view.seen) (sym same) old.seen),
         )
 
-  pub tell_at : (slots r : ℕ) (w : WriterLog) (v : ReaderLog) (me : At) → me.0 ≡ Meets w r v → v.view.phase ≡ Idle → Allows (Kept n m) slots id me 0 (λ x. x) (told (step slots 0 0 0 none) me)
-  tell_at slots r w v me is idle = subst (λ (y : SeatView). Allows (Kept n m) slots id (y, me.1) 0 (λ x. x) (told (step slots 0 0 0 none) (y, me.1))) (sym is) (tell_allowed slots r w v me.1 idle)
+  pub tell_at : (slots r : ℕ) (w : WriterLog) (v : ReaderLog) (me : At) → me.0 ≡ Meets w r v → v.view.phase ≡ Idle → Allows (KeptTable n m) slots id me 0 (λ x. x) (tells_published (step slots 0 0 0 none) me)
+  tell_at slots r w v me is idle = subst (λ (y : SeatView). Allows (KeptTable n m) slots id (y, me.1) 0 (λ x. x) (tells_published (step slots 0 0 0 none) (y, me.1))) (sym is) (tell_allowed slots r w v me.1 idle)
 
 -- ---- the readers of a port that was just opened
 

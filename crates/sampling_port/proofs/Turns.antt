@@ -10,7 +10,7 @@ use Rattle.slot_core.specs.declared.view.Phase.{Phase}
 use Rattle.slot_core.specs.declared.view.Phase.TheVariants.{Holding}
 use Rattle.slot_core.specs.declared.view.ReaderView.{ReaderView}
 use Rattle.slot_core.specs.declared.view.WriterView.{WriterView}
-use Rattle.slot_core.specs.Words.{latest, place_of, slot_of}
+use Rattle.slot_core.specs.Words.{latest_number, place_of_slot_word, slot_of}
 use Rattle.slot_core.specs.State.{State, newcomer, view_at, word_of}
 use Rattle.slot_core.specs.Lawful.{Lawful, IsReader}
 use Rattle.slot_core.specs.Steps.{scans, stores, publishes, begins, announces, clears, word_to_show}
@@ -23,7 +23,7 @@ use Rattle.sampling_port.specs.declared.rule.WriterLog.{WriterLog}
 use Rattle.sampling_port.specs.declared.rule.ReaderLog.{ReaderLog}
 use Rattle.sampling_port.specs.declared.rule.SeatView.{SeatView}
 use Rattle.sampling_port.specs.declared.rule.SeatView.TheVariants.{Opens, Writes, Reads, Meets, Spent}
-use Rattle.sampling_port.specs.Rule.{Knows, Kept}
+use Rattle.sampling_port.specs.Rule.{Knows, KeptTable}
 use Rattle.sampling_port.specs.Plays.{At, writes, reads, looks_first, looks_again, Looks, first, second, announced, got, cleared, scanned, stored, published}
 
 abbrev pub T : Type 0
@@ -32,11 +32,11 @@ T = table.State (Unit {0}) SeatView
 abbrev pub core : List ℕ → WriterView → List ReaderView → State
 core ws w rs = record { words = ws; writer = w; views = rs }
 
-module _ (n m : ℕ) (s : T) (k : Kept n m s) (id : ℕ) where
+module _ (n m : ℕ) (s : T) (k : KeptTable n m s) (id : ℕ) where
   -- what the reader r of this seat knows becomes v, and the view of the seat becomes x
   pub turns : (r : ℕ) → k.owner r ≡ id → (v : ReaderView) (ws : List ℕ) (hs : List (Option (Unit {0}))) (x : SeatView)
       → Knows k.writer (set k.readers r v) k.writer_seat k.owner id x → Lawful n m (core ws k.writer (set k.readers r v))
-      → Kept n m (record { words = ws; homes = hs; views = set s.views id x })
+      → KeptTable n m (record { words = ws; homes = hs; views = set s.views id x })
   turns r mine v ws hs x me ok =
       let rs' = set k.readers r v in
       let size : length rs' ≡ length k.readers = length-set k.readers r v in
@@ -78,13 +78,13 @@ module _ (n m : ℕ) (s : T) (k : Kept n m s) (id : ℕ) where
 
     -- the view of the reader at this seat becomes that of v', and the words ws
     pub reader_turns : (v' : ReaderLog) (ws : List ℕ) (hs : List (Option (Unit {0}))) → Lawful n m (core ws k.writer (set k.readers r v'.view))
-        → Kept n m (record { words = ws; homes = hs; views = set s.views id (Reads r v') })
+        → KeptTable n m (record { words = ws; homes = hs; views = set s.views id (Reads r v') })
     reader_turns v' ws hs ok = let me = k.seats id (Reads r v) at in
         turns r me.2 v'.view ws hs (Reads r v') (subst (λ (z : ℕ). r < z) (sym (length-set k.readers r v'.view)) me.0, get_or-set_same k.readers r v'.view newcomer me.0, me.2) ok
 
     -- the same where a word was loaded
     pub reader_loads : (i : ℕ) (v' : ReaderLog) (hs : List (Option (Unit {0}))) → Lawful n m (core s.words k.writer (set k.readers r v'.view))
-        → Kept n m (record { words = set s.words i (get_or s.words i 0); homes = hs; views = set s.views id (Reads r v') })
+        → KeptTable n m (record { words = set s.words i (get_or s.words i 0); homes = hs; views = set s.views id (Reads r v') })
     reader_loads i v' hs ok = reader_turns v' _ hs (subst (λ (z : List ℕ). Lawful n m (core z k.writer (set k.readers r v'.view))) (sym (set-get_or s.words i 0)) ok)
 
   -- the writer's seat
@@ -97,7 +97,7 @@ module _ (n m : ℕ) (s : T) (k : Kept n m s) (id : ℕ) where
     writer_lawful = subst (λ (z : WriterView). Lawful n m (core s.words z k.readers)) (sym writer_is) k.lawful
 
     pub writer_turns : (w' : WriterLog) (ws : List ℕ) (hs : List (Option (Unit {0}))) → Lawful n m (core ws w'.view k.readers)
-        → Kept n m (record { words = ws; homes = hs; views = set s.views id (Writes w') })
+        → KeptTable n m (record { words = ws; homes = hs; views = set s.views id (Writes w') })
     writer_turns w' ws hs ok =
         let me = k.seats id (Writes w) at in
         let others : (j : ℕ) → j ≢ id → (u : SeatView) → Knows k.writer k.readers k.writer_seat k.owner j u → Knows w'.view k.readers k.writer_seat k.owner j u = λ j ne. elim [
@@ -119,14 +119,14 @@ module _ (n m : ℕ) (s : T) (k : Kept n m s) (id : ℕ) where
         }
 
     pub writer_loads : (i : ℕ) (w' : WriterLog) (hs : List (Option (Unit {0}))) → Lawful n m (core s.words w'.view k.readers)
-        → Kept n m (record { words = set s.words i (get_or s.words i 0); homes = hs; views = set s.views id (Writes w') })
+        → KeptTable n m (record { words = set s.words i (get_or s.words i 0); homes = hs; views = set s.views id (Writes w') })
     writer_loads i w' hs ok = writer_turns w' _ hs (subst (λ (z : List ℕ). Lawful n m (core z w'.view k.readers)) (sym (set-get_or s.words i 0)) ok)
 
 -- each step, at a seat whose view is known
 module _ (n m slots id : ℕ) where
   module _ (r : ℕ) (v : ReaderLog) (c : List (ℕ × Unit {0})) where
     -- what a look finds
-    look : (s : T) (k : Kept n m s) (mine : get_elem? s.views id ≡ some (Reads r v)) → Looks m v.view (latest s.words) k.writer.published
+    look : (s : T) (k : KeptTable n m s) (mine : get_elem? s.views id ≡ some (Reads r v)) → Looks m v.view (latest_number s.words) k.writer.published
     look s k mine = record {
       before = (reader_known n m s k id r v mine).seen;
       none = k.lawful.newest.none;
@@ -134,25 +134,25 @@ module _ (n m slots id : ℕ) where
       message = λ h. k.lawful.newest.messages (length k.writer.published - 1) (omega (arith, h));
     }
 
-    pub first_allowed : MayBegin v.view → Allows (Kept n m) slots id (Reads r v, c) 0 (λ x. x) (first m (step slots 0 0 0 none) (Reads r v, c))
+    pub first_allowed : MayBegin v.view → Allows (KeptTable n m) slots id (Reads r v, c) 0 (λ x. x) (first m (step slots 0 0 0 none) (Reads r v, c))
     first_allowed may s k _ mine _ = let lt = below n m s k id r v mine in let is = reader_is n m s k id r v mine in let all = k.writer.published in (
-      Reads r (looks_first v (latest s.words) all),
+      Reads r (looks_first v (latest_number s.words) all),
       keeps,
       tt,
-      reader_loads n m s k id r v mine 0 _ _ (at_view n m s k id r v mine (λ _. s.words) (λ z. begins z (latest s.words) all) (load_first_keeps n m _ k.lawful r lt (subst MayBegin (sym is) may))),
+      reader_loads n m s k id r v mine 0 _ _ (at_view n m s k id r v mine (λ _. s.words) (λ z. begins z (latest_number s.words) all) (load_first_keeps n m _ k.lawful r lt (subst MayBegin (sym is) may))),
       (refl, (all, refl, look s k mine)),
     )
 
-    pub second_allowed : MayLookAgain v.view → Allows (Kept n m) slots id (Reads r v, c) 0 (λ x. x) (second m (step slots 0 0 0 none) (Reads r v, c))
+    pub second_allowed : MayLookAgain v.view → Allows (KeptTable n m) slots id (Reads r v, c) 0 (λ x. x) (second m (step slots 0 0 0 none) (Reads r v, c))
     second_allowed may s k _ mine _ = let lt = below n m s k id r v mine in let is = reader_is n m s k id r v mine in let all = k.writer.published in let may' = subst MayLookAgain (sym is) may in (
-      Reads r (looks_again v (latest s.words) all),
+      Reads r (looks_again v (latest_number s.words) all),
       keeps,
       tt,
-      reader_loads n m s k id r v mine 0 _ _ (at_view n m s k id r v mine (λ _. s.words) (λ z. again z (latest s.words) all) (load_second_keeps n m _ k.lawful r lt may')),
-      (refl, (all, refl, look s k mine, subst (λ (z : ReaderView). latest s.words ≢ word_of z.phase → length z.seen < length all) is (failed_look_is_later n m (core s.words k.writer k.readers) r k.lawful (lt, may')))),
+      reader_loads n m s k id r v mine 0 _ _ (at_view n m s k id r v mine (λ _. s.words) (λ z. again z (latest_number s.words) all) (load_second_keeps n m _ k.lawful r lt may')),
+      (refl, (all, refl, look s k mine, subst (λ (z : ReaderView). latest_number s.words ≢ word_of z.phase → length z.seen < length all) is (failed_look_is_later n m (core s.words k.writer k.readers) r k.lawful (lt, may')))),
     )
 
-    pub announce_allowed : (x : ℕ) → MayAnnounce v.view → x ≡ word_of v.view.phase → Allows (Kept n m) slots id (Reads r v, c) (1 + r) (λ _. x) (λ _. announced (step slots (1 + r) x 0 none) (Reads r v, c) x)
+    pub announce_allowed : (x : ℕ) → MayAnnounce v.view → x ≡ word_of v.view.phase → Allows (KeptTable n m) slots id (Reads r v, c) (1 + r) (λ _. x) (λ _. announced (step slots (1 + r) x 0 none) (Reads r v, c) x)
     announce_allowed x may now s k _ mine _ = let lt = below n m s k id r v mine in let is = reader_is n m s k id r v mine in (
       Reads r (reads v (announces v.view)),
       keeps,
@@ -162,16 +162,16 @@ module _ (n m slots id : ℕ) where
       (refl, refl),
     )
 
-    pub get_allowed : (a at_i : ℕ) → v.view.phase ≡ Holding a → Allows (Kept n m) slots id (Reads r v, c) at_i (λ x. x) (got n (step slots at_i 0 0 none) (Reads r v, c))
+    pub get_allowed : (a at_i : ℕ) → v.view.phase ≡ Holding a → Allows (KeptTable n m) slots id (Reads r v, c) at_i (λ x. x) (got n (step slots at_i 0 0 none) (Reads r v, c))
     get_allowed a at_i at s k _ mine _ = let old = reader_known n m s k id r v mine in (
       Reads r (reads v v.view),
       keeps,
       tt,
       reader_loads n m s k id r v mine at_i _ _ (subst (λ (l : List ReaderView). Lawful n m (core s.words k.writer l)) (sym (ap (set k.readers r) (sym (reader_is n m s k id r v mine)) ∙ set-get_or k.readers r newcomer)) k.lawful),
-      (refl, λ i inside e. ap (λ (z : ℕ). get_or s.words z 0) (e ∙ ap (λ (p : Phase). place_of n (slot_of (word_of p)) i) at) ∙ (old.held a at).1 i inside),
+      (refl, λ i inside e. ap (λ (z : ℕ). get_or s.words z 0) (e ∙ ap (λ (p : Phase). place_of_slot_word n (slot_of (word_of p)) i) at) ∙ (old.held a at).1 i inside),
     )
 
-    pub clear_allowed : Allows (Kept n m) slots id (Reads r v, c) (1 + r) (λ _. 0) (λ _. cleared (step slots (1 + r) 0 0 none) (Reads r v, c) 0)
+    pub clear_allowed : Allows (KeptTable n m) slots id (Reads r v, c) (1 + r) (λ _. 0) (λ _. cleared (step slots (1 + r) 0 0 none) (Reads r v, c) 0)
     clear_allowed s k _ mine _ = let lt = below n m s k id r v mine in (
       Reads r (reads v (clears v.view)),
       keeps,
@@ -181,7 +181,7 @@ module _ (n m slots id : ℕ) where
     )
 
   module _ (w : WriterLog) (c : List (ℕ × Unit {0})) where
-    pub scan_allowed : (r : ℕ) → MayScan n w.view r → Allows (Kept n m) slots id (Writes w, c) (1 + r) (λ x. x) (scanned (step slots (1 + r) 0 0 none) (Writes w, c))
+    pub scan_allowed : (r : ℕ) → MayScan n w.view r → Allows (KeptTable n m) slots id (Writes w, c) (1 + r) (λ x. x) (scanned (step slots (1 + r) 0 0 none) (Writes w, c))
     scan_allowed r may s k _ mine _ = (
       Writes (writes w (scans w.view (get_or s.words (1 + r) 0))),
       keeps,
@@ -190,19 +190,19 @@ module _ (n m slots id : ℕ) where
       (ap (λ (z : ℕ). 1 + z) may.next, refl),
     )
 
-    pub store_allowed : (slot index x at : ℕ) → at ≡ place_of n slot index → MayStore n m w.view slot index x
-        → Allows (Kept n m) slots id (Writes w, c) at (λ _. x) (λ _. stored n (step slots at x 0 none) (Writes w, c) x)
+    pub store_allowed : (slot index x at : ℕ) → at ≡ place_of_slot_word n slot index → MayStore n m w.view slot index x
+        → Allows (KeptTable n m) slots id (Writes w, c) at (λ _. x) (λ _. stored n (step slots at x 0 none) (Writes w, c) x)
     store_allowed slot index x at is may s k _ mine _ = let l = writer_lawful n m s k id w mine in (
       Writes (writes w (stores w.view slot x)),
       keeps,
       tt,
       writer_turns n m s k id w mine _ _ _ (subst (λ (z : ℕ). Lawful n m (core (set s.words z x) (stores w.view slot x) k.readers)) (sym is)
           (store_word_keeps n m (core s.words w.view k.readers) l slot index x may)),
-      λ other e. ap (λ (z : ℕ). Writes (writes w (stores w.view z x))) (let eq : place_of n slot index ≡ place_of n other (length w.view.stored) = sym is ∙ e in let next = may.next in omega arith),
+      λ other e. ap (λ (z : ℕ). Writes (writes w (stores w.view z x))) (let eq : place_of_slot_word n slot index ≡ place_of_slot_word n other (length w.view.stored) = sym is ∙ e in let next = may.next in omega arith),
     )
 
     pub publish_allowed : m ≤ 16 → MayPublish w.view
-        → Allows (Kept n m) slots id (Writes w, c) 0 (λ _. word_to_show w.view) (λ _. published (step slots 0 (word_to_show w.view) 0 none) (Writes w, c) (word_to_show w.view))
+        → Allows (KeptTable n m) slots id (Writes w, c) 0 (λ _. word_to_show w.view) (λ _. published (step slots 0 (word_to_show w.view) 0 none) (Writes w, c) (word_to_show w.view))
     publish_allowed few may s k _ mine _ = (
       Writes (writes w (publishes w.view)),
       keeps,
@@ -217,31 +217,31 @@ module _ (n m slots id : ℕ) where
     at_seat : (Q : SeatView → Type 0) (v : SeatView) → me.0 ≡ v → Q v → Q me.0
     at_seat Q v is = subst Q (sym is)
 
-    pub first_at : (r : ℕ) (v : ReaderLog) → me.0 ≡ Reads r v → MayBegin v.view → Allows (Kept n m) slots id me 0 (λ x. x) (first m (step slots 0 0 0 none) me)
-    first_at r v is may = at_seat (λ y. Allows (Kept n m) slots id (y, me.1) 0 (λ x. x) (first m (step slots 0 0 0 none) (y, me.1))) _ is (first_allowed r v me.1 may)
+    pub first_at : (r : ℕ) (v : ReaderLog) → me.0 ≡ Reads r v → MayBegin v.view → Allows (KeptTable n m) slots id me 0 (λ x. x) (first m (step slots 0 0 0 none) me)
+    first_at r v is may = at_seat (λ y. Allows (KeptTable n m) slots id (y, me.1) 0 (λ x. x) (first m (step slots 0 0 0 none) (y, me.1))) _ is (first_allowed r v me.1 may)
 
-    pub second_at : (r : ℕ) (v : ReaderLog) → me.0 ≡ Reads r v → MayLookAgain v.view → Allows (Kept n m) slots id me 0 (λ x. x) (second m (step slots 0 0 0 none) me)
-    second_at r v is may = at_seat (λ y. Allows (Kept n m) slots id (y, me.1) 0 (λ x. x) (second m (step slots 0 0 0 none) (y, me.1))) _ is (second_allowed r v me.1 may)
+    pub second_at : (r : ℕ) (v : ReaderLog) → me.0 ≡ Reads r v → MayLookAgain v.view → Allows (KeptTable n m) slots id me 0 (λ x. x) (second m (step slots 0 0 0 none) me)
+    second_at r v is may = at_seat (λ y. Allows (KeptTable n m) slots id (y, me.1) 0 (λ x. x) (second m (step slots 0 0 0 none) (y, me.1))) _ is (second_allowed r v me.1 may)
 
     pub announce_at : (r : ℕ) (v : ReaderLog) → me.0 ≡ Reads r v → (x : ℕ) → MayAnnounce v.view → x ≡ word_of v.view.phase
-        → Allows (Kept n m) slots id me (1 + r) (λ _. x) (λ _. announced (step slots (1 + r) x 0 none) me x)
-    announce_at r v is x may now = at_seat (λ y. Allows (Kept n m) slots id (y, me.1) (1 + r) (λ _. x) (λ _. announced (step slots (1 + r) x 0 none) (y, me.1) x)) _ is (announce_allowed r v me.1 x may now)
+        → Allows (KeptTable n m) slots id me (1 + r) (λ _. x) (λ _. announced (step slots (1 + r) x 0 none) me x)
+    announce_at r v is x may now = at_seat (λ y. Allows (KeptTable n m) slots id (y, me.1) (1 + r) (λ _. x) (λ _. announced (step slots (1 + r) x 0 none) (y, me.1) x)) _ is (announce_allowed r v me.1 x may now)
 
-    pub get_at : (r : ℕ) (v : ReaderLog) → me.0 ≡ Reads r v → (a at_i : ℕ) → v.view.phase ≡ Holding a → Allows (Kept n m) slots id me at_i (λ x. x) (got n (step slots at_i 0 0 none) me)
-    get_at r v is a at_i at = at_seat (λ y. Allows (Kept n m) slots id (y, me.1) at_i (λ x. x) (got n (step slots at_i 0 0 none) (y, me.1))) _ is (get_allowed r v me.1 a at_i at)
+    pub get_at : (r : ℕ) (v : ReaderLog) → me.0 ≡ Reads r v → (a at_i : ℕ) → v.view.phase ≡ Holding a → Allows (KeptTable n m) slots id me at_i (λ x. x) (got n (step slots at_i 0 0 none) me)
+    get_at r v is a at_i at = at_seat (λ y. Allows (KeptTable n m) slots id (y, me.1) at_i (λ x. x) (got n (step slots at_i 0 0 none) (y, me.1))) _ is (get_allowed r v me.1 a at_i at)
 
-    pub clear_at : (r : ℕ) (v : ReaderLog) → me.0 ≡ Reads r v → Allows (Kept n m) slots id me (1 + r) (λ _. 0) (λ _. cleared (step slots (1 + r) 0 0 none) me 0)
-    clear_at r v is = at_seat (λ y. Allows (Kept n m) slots id (y, me.1) (1 + r) (λ _. 0) (λ _. cleared (step slots (1 + r) 0 0 none) (y, me.1) 0)) _ is (clear_allowed r v me.1)
+    pub clear_at : (r : ℕ) (v : ReaderLog) → me.0 ≡ Reads r v → Allows (KeptTable n m) slots id me (1 + r) (λ _. 0) (λ _. cleared (step slots (1 + r) 0 0 none) me 0)
+    clear_at r v is = at_seat (λ y. Allows (KeptTable n m) slots id (y, me.1) (1 + r) (λ _. 0) (λ _. cleared (step slots (1 + r) 0 0 none) (y, me.1) 0)) _ is (clear_allowed r v me.1)
 
     pub scan_at : (w : WriterLog) → me.0 ≡ Writes w → (r : ℕ) → MayScan n w.view r
-        → Allows (Kept n m) slots id me (1 + r) (λ x. x) (scanned (step slots (1 + r) 0 0 none) me)
-    scan_at w is r may = at_seat (λ y. Allows (Kept n m) slots id (y, me.1) (1 + r) (λ x. x) (scanned (step slots (1 + r) 0 0 none) (y, me.1))) _ is (scan_allowed w me.1 r may)
+        → Allows (KeptTable n m) slots id me (1 + r) (λ x. x) (scanned (step slots (1 + r) 0 0 none) me)
+    scan_at w is r may = at_seat (λ y. Allows (KeptTable n m) slots id (y, me.1) (1 + r) (λ x. x) (scanned (step slots (1 + r) 0 0 none) (y, me.1))) _ is (scan_allowed w me.1 r may)
 
-    pub store_at : (w : WriterLog) → me.0 ≡ Writes w → (slot index x at : ℕ) → at ≡ place_of n slot index → MayStore n m w.view slot index x
-        → Allows (Kept n m) slots id me at (λ _. x) (λ _. stored n (step slots at x 0 none) me x)
-    store_at w is slot index x at here may = at_seat (λ y. Allows (Kept n m) slots id (y, me.1) at (λ _. x) (λ _. stored n (step slots at x 0 none) (y, me.1) x)) _ is (store_allowed w me.1 slot index x at here may)
+    pub store_at : (w : WriterLog) → me.0 ≡ Writes w → (slot index x at : ℕ) → at ≡ place_of_slot_word n slot index → MayStore n m w.view slot index x
+        → Allows (KeptTable n m) slots id me at (λ _. x) (λ _. stored n (step slots at x 0 none) me x)
+    store_at w is slot index x at here may = at_seat (λ y. Allows (KeptTable n m) slots id (y, me.1) at (λ _. x) (λ _. stored n (step slots at x 0 none) (y, me.1) x)) _ is (store_allowed w me.1 slot index x at here may)
 
     pub publish_at : (w : WriterLog) → me.0 ≡ Writes w → (x : ℕ) → x ≡ word_to_show w.view → m ≤ 16 → MayPublish w.view
-        → Allows (Kept n m) slots id me 0 (λ _. x) (λ _. published (step slots 0 x 0 none) me x)
-    publish_at w is x now few may = subst (λ (y : ℕ). Allows (Kept n m) slots id me 0 (λ _. y) (λ _. published (step slots 0 y 0 none) me y)) (sym now)
-        (at_seat (λ y. Allows (Kept n m) slots id (y, me.1) 0 (λ _. word_to_show w.view) (λ _. published (step slots 0 (word_to_show w.view) 0 none) (y, me.1) (word_to_show w.view))) _ is (publish_allowed w me.1 few may))
+        → Allows (KeptTable n m) slots id me 0 (λ _. x) (λ _. published (step slots 0 x 0 none) me x)
+    publish_at w is x now few may = subst (λ (y : ℕ). Allows (KeptTable n m) slots id me 0 (λ _. y) (λ _. published (step slots 0 y 0 none) me y)) (sym now)
+        (at_seat (λ y. Allows (KeptTable n m) slots id (y, me.1) 0 (λ _. word_to_show w.view) (λ _. published (step slots 0 (word_to_show w.view) 0 none) (y, me.1) (word_to_show w.view))) _ is (publish_allowed w me.1 few may))

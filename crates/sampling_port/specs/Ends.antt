@@ -3,8 +3,8 @@ use Rattle.std.specs.Prelude.{◌≡◌, ℕ, ◌+◌, ◌*◌, ◌/◌, ◌<◌
 use Rattle.atomic_table.specs.Seated.{TableId}
 use Rattle.slot_core.specs.Limits.{longest_message, most_messages}
 use Rattle.slot_core.specs.Message.{IsMessage}
-use Rattle.slot_core.specs.Octets.{octet_at, words_of}
-use Rattle.slot_core.specs.State.{StartsWith, last_of}
+use Rattle.slot_core.specs.Octets.{octet_of_words, words_of}
+use Rattle.slot_core.specs.State.{StartsWithSeen, last_of}
 use Rattle.sampling_port.specs.Seats.{ReaderSeated, new_seats}
 use Rattle.sampling_port.specs.Writes.{steps_to_publish}
 use Rattle.sampling_port.specs.declared.writer.PublishFault.{PublishFault}
@@ -51,8 +51,8 @@ pub record ReaderEnd : Type 0 where
   pub looks : List Bool
   pub steps : ℕ
 
-abbrev pub end_of : ReaderSeated → ReaderEnd
-end_of seat = record {
+abbrev pub end_of_reader : ReaderSeated → ReaderEnd
+end_of_reader seat = record {
   port = seat.port;
   place = seat.place;
   seen = seat.knows.view.seen;
@@ -62,7 +62,7 @@ end_of seat = record {
 
 -- this many new readers, in order of their places
 abbrev pub new_readers : TableId → ℕ → List ReaderEnd
-new_readers port readers = map end_of (new_seats port readers)
+new_readers port readers = map end_of_reader (new_seats port readers)
 
 -- the same end of the same port
 pub record IsSameEnd (v w : ReaderEnd) : Type 0 where
@@ -79,7 +79,7 @@ AreTries tries = (0 < tries) × (tries ≤ 8)
 -- looks, the one that held, after so many that failed. A try is two steps; `more` steps follow
 -- rule: SAMP-22, EMB-36
 pub record IsHeldAfter (v w : ReaderEnd) (tries more : ℕ) : Type 0 where
-  pub seen : StartsWith w.seen v.seen
+  pub seen : StartsWithSeen w.seen v.seen
   pub some : 0 < length w.seen
   pub message : IsMessage (last_of w.seen)
   pub failed : ℕ
@@ -97,8 +97,8 @@ pub record IsNothing (v w : ReaderEnd) : Type 0 where
 
 -- each try found a newer message; the announcement is cleared in the last step
 -- rule: SAMP-22, EMB-36
-pub record IsOvertaken (v w : ReaderEnd) (tries newest : ℕ) : Type 0 where
-  pub seen : StartsWith w.seen v.seen
+pub record IsReadOvertaken (v w : ReaderEnd) (tries newest : ℕ) : Type 0 where
+  pub seen : StartsWithSeen w.seen v.seen
   pub newer : length v.seen + tries ≤ length w.seen
   pub number : newest ≡ length w.seen
   pub looks : w.looks ≡ v.looks ++ replicate (1 + tries) false
@@ -112,7 +112,7 @@ pub record IsHeadOf (messages : List (List ℕ)) (newest at octets : ℕ) : Type
 
 -- `out` begins with the octets of these words, and is else as before
 pub record IsCopy (words before out : List ℕ) (len : ℕ) : Type 0 where
-  pub octets : (k : ℕ) → k < len → slice_index out k ≡ octet_at words k
+  pub octets : (k : ℕ) → k < len → slice_index out k ≡ octet_of_words words k
   pub others : (k : ℕ) → len ≤ k → slice_index out k ≡ slice_index before k
 
 -- what a read gives. After a hold it loads each word of the message, and clears its announcement
@@ -121,11 +121,11 @@ abbrev pub ReadAnswer : ReaderEnd → ReaderEnd → ℕ → List ℕ → List �
 ReadAnswer v w tries before out (Message number time len) =
     IsHeadOf w.seen number time len × IsCopy (last_of w.seen) before out len × IsHeldAfter v w tries (3 + (len + 7) / 8)
 ReadAnswer v w tries before out Empty = IsNothing v w × (out ≡ before)
-ReadAnswer v w tries before out (Busy number) = IsOvertaken v w tries number × (out ≡ before)
+ReadAnswer v w tries before out (Busy number) = IsReadOvertaken v w tries number × (out ≡ before)
 
 abbrev pub IsNotHeld : ReaderEnd → ReaderEnd → ℕ → NotHeld → Type 0
 IsNotHeld v w tries NoMessage = IsNothing v w
-IsNotHeld v w tries (Overtaken number) = IsOvertaken v w tries number
+IsNotHeld v w tries (Overtaken number) = IsReadOvertaken v w tries number
 
 -- ---- a meeting
 

@@ -4,9 +4,9 @@ use Rattle.std.specs.Prelude.{◌≡◌, ◌≢◌, ℕ, ◌+◌, ◌<◌, ◌==
 use Rattle.atomic_table.specs.Table.{Me, Step}
 use Rattle.slot_core.specs.declared.view.WriterView.{WriterView}
 use Rattle.slot_core.specs.declared.view.ReaderView.{ReaderView}
-use Rattle.slot_core.specs.Words.{place_of, slot_of, Shows}
+use Rattle.slot_core.specs.Words.{place_of_slot_word, slot_of, ShowsWord}
 use Rattle.slot_core.specs.Message.{IsMessage}
-use Rattle.slot_core.specs.State.{StartsWith, last_of, word_of}
+use Rattle.slot_core.specs.State.{StartsWithSeen, last_of, word_of}
 use Rattle.slot_core.specs.Steps.{scans, stores, publishes, begins, announces, clears}
 use Rattle.slot_core.specs.Steps.{looks_again as again}
 use Rattle.sampling_port.specs.Rule.{first_writer, first_reader}
@@ -61,7 +61,7 @@ scanned step me found me' = (step.word ≡ announcement_place (length (writer_of
 -- it stored the next word of the message in a slot of a port with this many readers
 -- rule: SAMP-19
 abbrev pub stored : ℕ → Step (Unit {0}) → At → ℕ → At → Type 0
-stored readers step me found me' = (slot : ℕ) → step.word ≡ place_of readers slot (length (writer_of me.0).view.stored)
+stored readers step me found me' = (slot : ℕ) → step.word ≡ place_of_slot_word readers slot (length (writer_of me.0).view.stored)
     → me'.0 ≡ Writes (writes (writer_of me.0) (stores (writer_of me.0).view slot step.first))
 
 -- it stored `latest`
@@ -88,9 +88,9 @@ looks_again reader found all = looks reader (found == word_of reader.view.phase)
 -- a reader with this view looked, in a port with this many slots, and found this word of `latest`, when `all` was
 -- published
 pub record Looks (slots : ℕ) (v : ReaderView) (found : ℕ) (all : List (List ℕ)) : Type 0 where
-  pub before : StartsWith all v.seen
+  pub before : StartsWithSeen all v.seen
   pub none : length all ≡ 0 → found ≡ 0
-  pub some : 0 < length all → Shows slots found (length all)
+  pub some : 0 < length all → ShowsWord slots found (length all)
   pub message : 0 < length all → IsMessage (last_of all)
 
 -- it loaded `latest`
@@ -115,7 +115,7 @@ announced step me found me' = (step.word ≡ announcement_place (place_at me.0))
 abbrev pub got : ℕ → Step (Unit {0}) → At → ℕ → At → Type 0
 got readers step me found me' = (me'.0 ≡ Reads (place_at me.0) (reads (reader_of me.0) (reader_of me.0).view))
     × ((index : ℕ) → index < length (last_of (reader_of me.0).view.seen)
-    → step.word ≡ place_of readers (slot_of (word_of (reader_of me.0).view.phase)) index
+    → step.word ≡ place_of_slot_word readers (slot_of (word_of (reader_of me.0).view.phase)) index
     → found ≡ slice_index (last_of (reader_of me.0).view.seen) index)
 
 -- it cleared its announcement
@@ -148,10 +148,10 @@ met (Reads place reader) (Writes writer) = Meets writer place reader
 met view other = view
 
 -- it loaded `latest`; what the reader had seen begins what is published
-abbrev pub told : Step (Unit {0}) → At → ℕ → At → Type 0
-told step me found me' = (step.word ≡ latest_place)
+abbrev pub tells_published : Step (Unit {0}) → At → ℕ → At → Type 0
+tells_published step me found me' = (step.word ≡ latest_place)
     × (me'.0 ≡ Meets (writer_of me.0) (place_at me.0) (learns (reader_of me.0) (writer_of me.0).view.published))
-    × StartsWith (writer_of me.0).view.published (reader_of me.0).view.seen
+    × StartsWithSeen (writer_of me.0).view.published (reader_of me.0).view.seen
 
 abbrev pub parted : SeatView → SeatView
 parted (Meets writer place reader) = Reads place reader

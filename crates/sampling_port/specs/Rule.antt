@@ -31,7 +31,7 @@ module _ (w : WriterView) (rs : List ReaderView) (writer : ℕ) (owner : ℕ →
 -- a port with this many readers and slots: there are views of a writer and of its readers that are lawful with the
 -- words, and each seat knows its own
 -- rule: SAMP-20
-pub record Kept (readers_count slots : ℕ) (s : table.State (Unit {0}) SeatView) : Type 0 where
+pub record KeptTable (readers_count slots : ℕ) (s : table.State (Unit {0}) SeatView) : Type 0 where
   pub writer : WriterView
   pub readers : List ReaderView
   pub writer_seat : ℕ

@@ -5,8 +5,8 @@ ghost use Rattle.slot_core.specs.Allowed.{MayStore};
 ghost use Rattle.slot_core.specs.Limits.{most_slots};
 ghost use Rattle.slot_core.specs.Message.{IsMessage};
 ghost use Rattle.slot_core.specs.Octets.{AreOctets, words_of};
-ghost use Rattle.slot_core.specs.State.{HasWord, StartsWith, last_of};
-ghost use Rattle.slot_core.specs.Words.{latest, slot_of, table_words, Begins};
+ghost use Rattle.slot_core.specs.State.{HasWord, StartsWithSeen, last_of};
+ghost use Rattle.slot_core.specs.Words.{latest_number, slot_of, table_words, Begins};
 ghost use Rattle.slot_core.specs.declared.view.Phase.TheVariants.{Holding};
 ghost use Rattle.sampling_port.specs.declared.reader.Read.{Read};
 ghost use Rattle.sampling_port.specs.declared.rule.ReaderLog.{ReaderLog};
@@ -15,20 +15,20 @@ ghost use Rattle.sampling_port.specs.declared.rule.SeatView.TheVariants.{Reads, 
 ghost use Rattle.sampling_port.specs.Ends.{IsCopy, IsLastOf, ReadAnswer, ReaderEnd};
 ghost use Rattle.sampling_port.specs.Moments.{IsFoundIn, IsLook, PortState, SeatKnows, SeatStep};
 ghost use Rattle.sampling_port.specs.Plays.{At};
-ghost use Rattle.sampling_port.specs.Rule.{Kept, slots_for};
+ghost use Rattle.sampling_port.specs.Rule.{KeptTable, slots_for};
 ghost use Rattle.sampling_port.specs.Writes.{steps_to_publish};
 
 /// No slot is written while a reader holds it: no StoreWord that the writer may make names it.
 pub fn a_held_slot_is_not_written()
     ensures { (readers slots : ℕ) (s : PortState) (writer reader place word slot index stored : ℕ) (w : WriterLog) (v : ReaderLog) →
-        Kept readers slots s → SeatKnows s writer (Writes w) → SeatKnows s reader (Reads place v) →
+        KeptTable readers slots s → SeatKnows s writer (Writes w) → SeatKnows s reader (Reads place v) →
         v.view.phase ≡ Holding word → MayStore readers slots w.view slot index stored → slot ≢ slot_of word }
 {}
 
 /// A held message is a whole message, in the words of its slot.
 pub fn a_held_message_is_whole()
     ensures { (readers slots : ℕ) (s : PortState) (reader place word : ℕ) (v : ReaderLog) →
-        Kept readers slots s → SeatKnows s reader (Reads place v) → v.view.phase ≡ Holding word →
+        KeptTable readers slots s → SeatKnows s reader (Reads place v) → v.view.phase ≡ Holding word →
         IsMessage (last_of v.view.seen) × Begins readers s.words (slot_of word) (last_of v.view.seen) }
 {}
 
@@ -36,13 +36,13 @@ pub fn a_held_message_is_whole()
 /// and a hold has it.
 pub fn who_has_the_newest_word_has_seen_all()
     ensures { (readers slots : ℕ) (s : PortState) (writer reader place : ℕ) (w : WriterLog) (v : ReaderLog) →
-        Kept readers slots s → SeatKnows s writer (Writes w) → SeatKnows s reader (Reads place v) →
-        HasWord v.view.phase (latest s.words) → v.view.seen ≡ w.view.published }
+        KeptTable readers slots s → SeatKnows s writer (Writes w) → SeatKnows s reader (Reads place v) →
+        HasWord v.view.phase (latest_number s.words) → v.view.seen ≡ w.view.published }
 {}
 
 /// A look that finds 0 in `latest` finds nothing published. So Empty says that nothing was published at its one look.
 pub fn a_look_that_finds_0_finds_nothing_published()
-    ensures { (readers slots found : ℕ) (s : PortState) (kept : Kept readers slots s) (load : SeatStep) (me after : At) →
+    ensures { (readers slots found : ℕ) (s : PortState) (kept : KeptTable readers slots s) (load : SeatStep) (me after : At) →
         IsFoundIn s load found → IsLook slots load me found after → found ≡ 0 → kept.writer.published ≡ [] }
 {}
 
@@ -51,7 +51,7 @@ pub fn a_look_that_finds_0_finds_nothing_published()
 // rule: PORT-18
 pub fn what_is_read_between_two_meetings_is_the_last()
     ensures { (published : List (List ℕ)) (v w : ReaderEnd) (tries : ℕ) (before out : List ℕ) (answer : Read) →
-        v.seen ≡ published → 0 < tries → ReadAnswer v w tries before out answer → StartsWith published w.seen →
+        v.seen ≡ published → 0 < tries → ReadAnswer v w tries before out answer → StartsWithSeen published w.seen →
         IsLastOf published before out answer }
 {}
 

@@ -1,9 +1,9 @@
 //! Synchronization of a reader with the writer, by a thread that has both ends.
 ghost use Rattle.std.specs.Prelude.{◌≡◌, ℕ, ◌<◌};
 ghost use Rattle.slot_core.specs.declared.view.Phase.TheVariants.{Idle};
-ghost use Rattle.slot_core.specs.State.{StartsWith};
+ghost use Rattle.slot_core.specs.State.{StartsWithSeen};
 ghost use Rattle.sampling_port.specs.Ends.{IsLastOf, IsSameEnd, is_told};
-ghost use Rattle.sampling_port.specs.Plays.{learns, met, parted, place_at, reader_of, told, writer_again, writer_of};
+ghost use Rattle.sampling_port.specs.Plays.{learns, met, parted, place_at, reader_of, tells_published, writer_again, writer_of};
 ghost use Rattle.sampling_port.specs.Seats.{reader_with};
 ghost use Rattle.sampling_port.specs.declared.rule.SeatView.TheVariants.{Reads, Spent, Writes};
 
@@ -33,7 +33,7 @@ impl Join<SeatView> for Both {
 struct Told;
 
 impl Play<(), SeatView> for Told {
-    ghost then = { told };
+    ghost then = { tells_published };
 }
 
 struct PartAgain;
@@ -68,7 +68,7 @@ fn meet_rights<const READERS: usize>(
     ensures writer { writer.new.me.0 ≡ writer.old.me.0 }
     ensures reader { reader.new.me.0 ≡
         Reads (place_at reader.old.me.0) (learns (reader_of reader.old.me.0) (writer_of writer.old.me.0).view.published) }
-    ensures before { StartsWith (writer_of writer.old.me.0).view.published (reader_of reader.old.me.0).view.seen }
+    ensures before { StartsWithSeen (writer_of writer.old.me.0).view.published (reader_of reader.old.me.0).view.seen }
 {
     let lent = table.shared.split_seat::<Lend>(writer);
     table.shared.join_seat::<Both>(reader, lent);
@@ -85,7 +85,7 @@ fn meet_seats<const READERS: usize>(
     requires idle { reader.old.knows.view.phase ≡ Idle }
     ensures reader { reader.new ≡ reader_with reader.old (learns reader.old.knows writer.old.knows.view.published) }
     ensures writer { writer.new ≡ writer.old }
-    ensures before { StartsWith writer.old.knows.view.published reader.old.knows.view.seen }
+    ensures before { StartsWithSeen writer.old.knows.view.published reader.old.knows.view.seen }
 {
     meet_rights(&reader.table, &mut writer.right, &mut reader.right);
 }
@@ -102,7 +102,7 @@ pub fn meet<const READERS: usize>(writer: &mut Writer<READERS>, reader: &mut Rea
     requires { reader.old.port ≡ writer.old.port }
     ensures reader { reader.new ≡ is_told reader.old writer.old.published }
     ensures writer { writer.new ≡ writer.old }
-    ensures before { StartsWith writer.old.published reader.old.seen }
+    ensures before { StartsWithSeen writer.old.published reader.old.seen }
 {
     meet_seats(&mut writer.seat, &mut reader.seat);
 }

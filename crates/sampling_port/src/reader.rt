@@ -2,7 +2,7 @@
 ghost use Rattle.std.specs.Prelude.{◌≡◌, ℕ, ◌+◌, ◌*◌, ◌<◌, ◌≤◌, length, slice_index, IfErr, IfOk};
 ghost use Rattle.slot_core.specs.Limits.{longest_message};
 ghost use Rattle.slot_core.specs.State.{last_of};
-ghost use Rattle.sampling_port.specs.Ends.{IsHeldAfter, IsNotHeld, IsSameEnd, ReadAnswer, AreTries, end_of};
+ghost use Rattle.sampling_port.specs.Ends.{IsHeldAfter, IsNotHeld, IsSameEnd, ReadAnswer, AreTries, end_of_reader};
 ghost use Rattle.sampling_port.specs.Reads.{IsIdle};
 
 use crate::copy::{copy_octets, head};
@@ -47,10 +47,10 @@ impl<const READERS: usize> Model for Reader<READERS> {
 
     ghost Value = { ReaderEnd };
 
-    ghost use Rattle.sampling_port.specs.Ends.{end_of};
+    ghost use Rattle.sampling_port.specs.Ends.{end_of_reader};
     ghost use Rattle.sampling_port.specs.Reads.{IsIdle};
 
-    ghost view = { λ r. end_of r.seat };
+    ghost view = { λ r. end_of_reader r.seat };
 
     ghost invariant = { λ r. IsIdle r.seat.knows.view };
 }
@@ -73,11 +73,11 @@ impl<const READERS: usize> Model for Held<READERS> {
     ghost Value = { ReaderEnd };
 
     ghost use Rattle.slot_core.specs.State.{last_of};
-    ghost use Rattle.sampling_port.specs.Ends.{end_of};
+    ghost use Rattle.sampling_port.specs.Ends.{end_of_reader};
     ghost use Rattle.sampling_port.specs.Rule.{slots_for};
     ghost use Rattle.sampling_port.specs.Reads.{IsHeld};
 
-    ghost view = { λ h. end_of h.seat };
+    ghost view = { λ h. end_of_reader h.seat };
 
     ghost invariant = { λ h. IsHeld (slots_for READERS) h.seat.knows.view h.word ×
         (h.len ≡ slice_index (last_of h.seat.knows.view.seen) 0) ×
@@ -88,14 +88,14 @@ impl<const READERS: usize> Reader<READERS> {
     /// A reader of a seat that is idle.
     pub fn from_seat(seat: ReaderSeat<READERS>) -> Reader<READERS>
         requires { IsIdle seat.knows.view }
-        ensures { result ≡ end_of seat.entry }
+        ensures { result ≡ end_of_reader seat.entry }
     {
         Reader { seat }
     }
 
     /// Its seat, which is idle.
     pub fn into_seat(self) -> ReaderSeat<READERS>
-        ensures end { end_of result ≡ self.entry }
+        ensures end { end_of_reader result ≡ self.entry }
         ensures idle { IsIdle result.knows.view }
     {
         self.seat

@@ -36,10 +36,10 @@ pub enum SeatView {
 pub struct LawfulPort<const READERS: usize>;
 
 impl<const READERS: usize> TableRule<(), SeatView, ()> for LawfulPort<READERS> {
-    ghost use Rattle.sampling_port.specs.Rule.{Kept, slots_for};
+    ghost use Rattle.sampling_port.specs.Rule.{KeptTable, slots_for};
     ghost use Rattle.sampling_port.specs.declared.rule.SeatView.TheVariants.{Opens};
 
-    ghost holds = { λ _. Kept READERS (slots_for READERS) };
+    ghost holds = { λ _. KeptTable READERS (slots_for READERS) };
 
     ghost first = { λ _. Opens 0 };
 }

@@ -10,7 +10,7 @@ use Rattle.slot_core.specs.declared.view.ReaderView.{ReaderView}
 use Rattle.slot_core.specs.Limits.{port_readers}
 use Rattle.slot_core.specs.State.{newcomer, view_at}
 use Rattle.slot_core.specs.Steps.{after_announce, after_clear, after_load_first, after_load_second, after_store_latest, announces, begins, clears, looks_again, with_announcement, with_view, word_to_show}
-use Rattle.slot_core.specs.Stored.{HasSeen, IsStored, state_of, view_of, writer_of}
+use Rattle.slot_core.specs.Stored.{HasSeen, IsStored, state_of, view_of, writer_inside}
 
 -- a reader that has loaded nothing
 abbrev pub idle : Reader
@@ -79,9 +79,9 @@ module _ (f : Inside) (stored : IsStored f) (reader : ℕ) (within : reader < po
 
 -- ---- a publication
 
-pub publish_is : (f g : Inside) → IsStored f → g.words ≡ set f.words 0 (word_to_show (writer_of f)) → g.scanned.items ≡ [] → g.chosen ≡ f.chosen → g.stored.items ≡ []
+pub publish_is : (f g : Inside) → IsStored f → g.words ≡ set f.words 0 (word_to_show (writer_inside f)) → g.scanned.items ≡ [] → g.chosen ≡ f.chosen → g.stored.items ≡ []
     → g.published.items ≡ f.published.items ++ f.stored.items ∷ [] → g.readers ≡ f.readers → state_of g ≡ after_store_latest (state_of f)
 publish_is f g stored words scanned chosen none items readers =
-    let x = word_to_show (writer_of f) in
+    let x = word_to_show (writer_inside f) in
     let shown : get_or (set f.words 0 x) 0 0 ≡ x = get_or-set_same f.words 0 x 0 (omega (arith, stored.words)) in
     rw (words, scanned, chosen, none, items, readers, shown, views_stay f.published.items f.stored.items f.readers stored.seen) refl

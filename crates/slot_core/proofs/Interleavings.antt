@@ -8,13 +8,13 @@ use Rattle.slot_core.specs.declared.view.Phase.{Phase}
 use Rattle.slot_core.specs.declared.view.Phase.TheVariants.{Idle, Loaded, Announced, Holding}
 use Rattle.slot_core.specs.declared.view.ReaderView.{ReaderView}
 use Rattle.slot_core.specs.Limits.{most_slots}
-use Rattle.slot_core.specs.Words.{latest, slot_of, table_words}
+use Rattle.slot_core.specs.Words.{latest_number, slot_of, table_words}
 use Rattle.slot_core.specs.Message.{IsMessage}
 use Rattle.slot_core.specs.State.{State, first_writer, last_of, newcomer, opening, view_at, word_of}
 use Rattle.slot_core.specs.Lawful.{IsReader, Lawful}
-use Rattle.slot_core.specs.Steps.{after, after_all, looks_again, second_phase}
+use Rattle.slot_core.specs.Steps.{after_event, after_all, looks_again, second_phase}
 use Rattle.slot_core.specs.Allowed.{Allowed, AreAllowed, IsFree}
-use Rattle.slot_core.specs.Laws.{HasMessage, Holds, HoldsNewest, IsHold, IsReached, Outlasts, after_hold}
+use Rattle.slot_core.specs.Laws.{HasMessage, HoldsWord, HoldsNewest, IsHold, IsReached, Outlasts, after_hold}
 use Rattle.slot_core.proofs.Messages.{length-seen}
 use Rattle.slot_core.proofs.Phases.{at_announced, at_holding}
 use Rattle.slot_core.proofs.WriterSteps.{scan_keeps, slot_is_unheld, store_latest_keeps, store_word_keeps}
@@ -38,7 +38,7 @@ module _ (readers slots : ℕ) where
 
   pub opening_is_lawful : Lawful readers slots (opening readers slots)
   opening_is_lawful =
-      let none : latest (opening readers slots).words ≡ 0 = get_or-replicate (table_words readers slots) 0 0 0 (omega arith) in
+      let none : latest_number (opening readers slots).words ≡ 0 = get_or-replicate (table_words readers slots) 0 0 0 (omega arith) in
       record {
         words = length-replicate (table_words readers slots) 0;
         views = length-replicate readers newcomer;
@@ -58,7 +58,7 @@ module _ (readers slots : ℕ) where
 
   -- ---- a list of events
 
-  pub step_keeps : (c : State) (event : CoreEvent) → slots ≤ most_slots → Lawful readers slots c → Allowed readers slots c event → Lawful readers slots (after readers c event)
+  pub step_keeps : (c : State) (event : CoreEvent) → slots ≤ most_slots → Lawful readers slots c → Allowed readers slots c event → Lawful readers slots (after_event readers c event)
   step_keeps c (Scan reader) few l may = scan_keeps readers slots c l reader may
   step_keeps c (StoreWord slot index word) few l may = store_word_keeps readers slots c l slot index word may
   step_keeps c StoreLatest few l may = store_latest_keeps readers slots c l few may
@@ -70,13 +70,13 @@ module _ (readers slots : ℕ) where
 
   pub events_keep : (c : State) (events : List CoreEvent) → slots ≤ most_slots → Lawful readers slots c → AreAllowed readers slots c events → Lawful readers slots (after_all readers c events)
   events_keep c [] few l may = l
-  events_keep c (event ∷ events) few l may = events_keep (after readers c event) events few (step_keeps c event few l may.0) may.1
+  events_keep c (event ∷ events) few l may = events_keep (after_event readers c event) events few (step_keeps c event few l may.0) may.1
 
   pub one_more : (c : State) (events : List CoreEvent) (event : CoreEvent) → AreAllowed readers slots c events → Allowed readers slots (after_all readers c events) event
-      → AreAllowed readers slots c (events ++ event ∷ []) × (after_all readers c (events ++ event ∷ []) ≡ after readers (after_all readers c events) event)
+      → AreAllowed readers slots c (events ++ event ∷ []) × (after_all readers c (events ++ event ∷ []) ≡ after_event readers (after_all readers c events) event)
   one_more c [] event may here = ((here, tt), refl)
   one_more c (first ∷ events) event may here =
-      let rest = one_more (after readers c first) events event may.1 here in
+      let rest = one_more (after_event readers c first) events event may.1 here in
       ((may.0, rest.0), rest.1)
 
   pub reached_is_lawful : (c : State) → slots ≤ most_slots → IsReached readers slots c → Lawful readers slots c
@@ -85,7 +85,7 @@ module _ (readers slots : ℕ) where
 
   -- ---- what is held
 
-  pub held_is_not_written : (c : State) (reader word slot index stored : ℕ) → Lawful readers slots c → Holds readers c reader word
+  pub held_is_not_written : (c : State) (reader word slot index stored : ℕ) → Lawful readers slots c → HoldsWord readers c reader word
       → Allowed readers slots c (StoreWord slot index stored) → slot ≢ slot_of word
   held_is_not_written c reader word slot index stored l holds may = slot_is_unheld readers slots c l slot index stored may reader word holds.0 holds.1
 
@@ -100,7 +100,7 @@ module _ (readers slots : ℕ) where
       subst IsMessage e (l.newest.messages place (omega (arith, some_seen, length-seen c.writer.published seen is.seen)))
 
   -- what a reader holds is a message, and stands in its slot
-  pub held_is_whole : (c : State) (reader word : ℕ) → Lawful readers slots c → Holds readers c reader word → HasMessage readers c word (last_of (view_at c.views reader).seen)
+  pub held_is_whole : (c : State) (reader word : ℕ) → Lawful readers slots c → HoldsWord readers c reader word → HasMessage readers c word (last_of (view_at c.views reader).seen)
   held_is_whole c reader word l holds =
       let is = l.each reader holds.0 in
       let shows = is.shows word (at_holding (view_at c.views reader).phase word holds.1) in
@@ -114,8 +114,8 @@ module _ (readers slots : ℕ) where
   elsewhere : (views : List ReaderView) (reader other : ℕ) (v : ReaderView) → (other ≡ reader → ⊥) → view_at (set views other v) reader ≡ view_at views reader
   elsewhere views reader other v differ = get_or-set_other views other reader v newcomer (λ e. differ (sym e))
 
-  hold_outlasts : (c : State) (reader word : ℕ) (event : CoreEvent) → Holds readers c reader word → Allowed readers slots c event → event ≢ Clear reader
-      → view_at (after readers c event).views reader ≡ view_at c.views reader
+  hold_outlasts : (c : State) (reader word : ℕ) (event : CoreEvent) → HoldsWord readers c reader word → Allowed readers slots c event → event ≢ Clear reader
+      → view_at (after_event readers c event).views reader ≡ view_at c.views reader
   hold_outlasts c reader word (Scan q) holds may other = refl
   hold_outlasts c reader word (StoreWord slot index stored) holds may other = refl
   hold_outlasts c reader word StoreLatest holds may other = refl
@@ -131,14 +131,14 @@ module _ (readers slots : ℕ) where
   hold_outlasts c reader word (LoadWord q index) holds may other = refl
   hold_outlasts c reader word (Clear q) holds may other = elsewhere c.views reader q _ (λ e. other (ap Clear e))
 
-  pub holds_outlast : (c : State) (reader word : ℕ) (events : List CoreEvent) → Holds readers c reader word → AreAllowed readers slots c events → Outlasts reader events
+  pub holds_outlast : (c : State) (reader word : ℕ) (events : List CoreEvent) → HoldsWord readers c reader word → AreAllowed readers slots c events → Outlasts reader events
       → view_at (after_all readers c events).views reader ≡ view_at c.views reader
   holds_outlast c reader word [] holds may lasts = refl
   holds_outlast c reader word (event ∷ events) holds may lasts =
       let e = hold_outlasts c reader word event holds may.0 lasts.0 in
-      holds_outlast (after readers c event) reader word events (holds.0, ap (λ (v : ReaderView). v.phase) e ∙ holds.1) may.1 lasts.1 ∙ e
+      holds_outlast (after_event readers c event) reader word events (holds.0, ap (λ (v : ReaderView). v.phase) e ∙ holds.1) may.1 lasts.1 ∙ e
 
-  pub held_stays_whole : (c : State) (reader word : ℕ) (events : List CoreEvent) → slots ≤ most_slots → Lawful readers slots c → Holds readers c reader word
+  pub held_stays_whole : (c : State) (reader word : ℕ) (events : List CoreEvent) → slots ≤ most_slots → Lawful readers slots c → HoldsWord readers c reader word
       → AreAllowed readers slots c events → Outlasts reader events
       → HasMessage readers (after_all readers c events) word (last_of (view_at c.views reader).seen)
   held_stays_whole c reader word events few l holds may lasts =
@@ -161,12 +161,12 @@ module _ (readers slots : ℕ) where
       (cases_eq found at)
 
   pub held_is_newest : (c : State) (reader word : ℕ) → Lawful readers slots c → Allowed readers slots c (LoadSecond reader)
-      → Holds readers (after readers c (LoadSecond reader)) reader word
-      → HoldsNewest readers slots (after readers c (LoadSecond reader)) (view_at (after readers c (LoadSecond reader)).views reader) word
+      → HoldsWord readers (after_event readers c (LoadSecond reader)) reader word
+      → HoldsNewest readers slots (after_event readers c (LoadSecond reader)) (view_at (after_event readers c (LoadSecond reader)).views reader) word
   held_is_newest c reader word l may holds =
-      let c' = after readers c (LoadSecond reader) in
+      let c' = after_event readers c (LoadSecond reader) in
       let v = view_at c.views reader in
-      let found = latest c.words in
+      let found = latest_number c.words in
       let there = get_or-set_same c.views reader (looks_again v found c.writer.published) newcomer (omega (arith, may.0, l.views)) in
       let again = holding_is_again (word_of v.phase) found word (sym (ap (λ (u : ReaderView). u.phase) there) ∙ holds.1) in
       let is = l.each reader may.0 in
@@ -181,7 +181,7 @@ module _ (readers slots : ℕ) where
 
   -- if it finds another word, a newer message was published
   pub failed_look_is_later : (c : State) (reader : ℕ) → Lawful readers slots c → Allowed readers slots c (LoadSecond reader)
-      → latest c.words ≢ word_of (view_at c.views reader).phase → length (view_at c.views reader).seen < length c.writer.published
+      → latest_number c.words ≢ word_of (view_at c.views reader).phase → length (view_at c.views reader).seen < length c.writer.published
   failed_look_is_later c reader l may differ =
       let v = view_at c.views reader in
       let is = l.each reader may.0 in
@@ -194,7 +194,7 @@ module _ (readers slots : ℕ) where
 
 module _ (readers slots : ℕ) (c : State) (reader word : ℕ) (events : List CoreEvent) (few : slots ≤ most_slots) (hold : IsHold readers slots c reader word events) where
   abbrev looked : State
-  looked = after readers c (LoadSecond reader)
+  looked = after_event readers c (LoadSecond reader)
 
   lawful : Lawful readers slots looked
   lawful = step_keeps readers slots c (LoadSecond reader) few (reached_is_lawful readers slots c few hold.reached) hold.looks

@@ -4,7 +4,7 @@ use Rattle.std.proofs.lemmas.Bool.{cases_lt}
 use Rattle.std.proofs.lemmas.List.{append_assoc, get_or_append_left, get_or_push, length_push}
 use Rattle.slot_core.specs.Limits.{longest_message}
 use Rattle.slot_core.specs.Message.{words_for, octets_after_end, IsPadded, IsStart}
-use Rattle.slot_core.specs.State.{StartsWith, last_of}
+use Rattle.slot_core.specs.State.{StartsWithSeen, last_of}
 
 -- what holds of each element holds with one more
 pub each_more : {X : Type 0} (P : ℕ → X → Type 0) (xs : List X) (x d : X) → ((i : ℕ) → i < length xs → P i (get_or xs i d)) → P (length xs) x
@@ -48,14 +48,14 @@ pub last_of-push : (messages : List (List ℕ)) (message : List ℕ) → last_of
 last_of-push messages message =
     get_or_push messages message [] (length (messages ++ message ∷ []) - 1) (omega (arith, length_push messages message))
 
-pub starts_with_more : (all seen : List (List ℕ)) (message : List ℕ) → StartsWith all seen → StartsWith (all ++ message ∷ []) seen
+pub starts_with_more : (all seen : List (List ℕ)) (message : List ℕ) → StartsWithSeen all seen → StartsWithSeen (all ++ message ∷ []) seen
 starts_with_more all seen message starts =
     (starts.0 ++ message ∷ [], ap (λ ms. ms ++ message ∷ []) starts.1 ∙ append_assoc seen starts.0 (message ∷ []))
 
-pub seen_all : (all : List (List ℕ)) → StartsWith all all
+pub seen_all : (all : List (List ℕ)) → StartsWithSeen all all
 seen_all all = ([], sym (append-nil all))
 
-pub length-seen : (all seen : List (List ℕ)) → StartsWith all seen → length seen ≤ length all
+pub length-seen : (all seen : List (List ℕ)) → StartsWithSeen all seen → length seen ≤ length all
 length-seen all seen starts =
     let e = ap length starts.1 ∙ length-append seen starts.0 in
     omega (arith, e)

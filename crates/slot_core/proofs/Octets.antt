@@ -6,7 +6,7 @@ use Rattle.std.proofs.lemmas.List.{get_or_default, get_or_past, same_lists}
 use Rattle.std.proofs.lemmas.List.Elements.{All-from_get_or}
 use Rattle.std.proofs.lemmas.List.FromFn.{get_or-map-range_with_len, length-map-range_with_len}
 use Rattle.slot_core.specs.Message.{octets_after_end, IsMessage, IsPadded}
-use Rattle.slot_core.specs.Octets.{AreOctets, octet_at, octets_of, word_at, word_of_eight, words_of}
+use Rattle.slot_core.specs.Octets.{AreOctets, octet_of_words, octets_of_words, word_at, word_of_eight, words_of}
 use Rattle.slot_core.proofs.Messages.{no_octets_before}
 
 module _ (f : ℕ → ℕ) (small : (i : ℕ) → f i < 256) where
@@ -49,7 +49,7 @@ module _ (octets : List ℕ) (time : ℕ) (are : AreOctets octets) where
       let e : 2 + place ≡ suc (suc place) = omega arith in
       rw e (get_or-map-range_with_len (word_at octets) 0 n place place 0 h (omega arith))
 
-  pub octet_is : (i : ℕ) → i < length octets → octet_at (words_of octets time) i ≡ get_or octets i 0
+  pub octet_is : (i : ℕ) → i < length octets → octet_of_words (words_of octets time) i ≡ get_or octets i 0
   octet_is i h =
       let place = i / 8 in
       let f : ℕ → ℕ = λ j. get_or octets (8 * place + j) 0 in
@@ -90,7 +90,7 @@ same_message octets others time another are are' e =
       same_lists octets others size (λ i d h.
           let one = octet_is octets time are i h in
           let two = octet_is others another are' i (omega (arith, size, h)) in
-          let at_zero : get_or octets i 0 ≡ get_or others i 0 = sym one ∙ ap (λ (ws : List ℕ). octet_at ws i) e ∙ two in
+          let at_zero : get_or octets i 0 ≡ get_or others i 0 = sym one ∙ ap (λ (ws : List ℕ). octet_of_words ws i) e ∙ two in
           get_or_default octets i d 0 h ∙ at_zero ∙ get_or_default others i 0 d (omega (arith, size, h))),
       ap (λ (ws : List ℕ). get_or ws 1 0) e,
     )
@@ -168,16 +168,16 @@ module _ (words : List ℕ) (message : IsMessage words) (low : (i : ℕ) → get
   len = get_or words 0 0
 
   abbrev octets : List ℕ
-  octets = octets_of words
+  octets = octets_of_words words
 
   size : length octets ≡ len
-  size = length-map-range_with_len (octet_at words) 0 len
+  size = length-map-range_with_len (octet_of_words words) 0 len
 
   pub octets_are : AreOctets octets
   octets_are = (
     omega (arith, size, message.start.short),
     All-from_get_or (λ octet. octet < 256) octets 0 (λ i h.
-        let e : get_or octets i 0 ≡ octet_at words i = get_or-map-range_with_len (octet_at words) 0 len i i 0 (omega (arith, size, h)) (omega arith) in
+        let e : get_or octets i 0 ≡ octet_of_words words i = get_or-map-range_with_len (octet_of_words words) 0 len i i 0 (omega (arith, size, h)) (omega arith) in
         omega (arith, e)),
   )
 
@@ -188,8 +188,8 @@ module _ (words : List ℕ) (message : IsMessage words) (low : (i : ℕ) → get
       let w = get_or words (2 + place) 0 in
       word_of_octets w (low (2 + place)) (λ i. get_or octets (8 * place + i) 0) after (omega (arith, h, message.whole)) (message.start.padded (2 + place) h)
       (λ i inside.
-      let e : get_or octets (8 * place + i) 0 ≡ octet_at words (8 * place + i) =
-      get_or-map-range_with_len (octet_at words) 0 len (8 * place + i) (8 * place + i) 0 (omega (arith, inside, h, message.whole)) (omega arith) in
+      let e : get_or octets (8 * place + i) 0 ≡ octet_of_words words (8 * place + i) =
+      get_or-map-range_with_len (octet_of_words words) 0 len (8 * place + i) (8 * place + i) 0 (omega (arith, inside, h, message.whole)) (omega arith) in
       let row : (8 * place + i) / 8 ≡ place = omega (arith, inside) in
       let column : (8 * place + i) % 8 ≡ i = omega (arith, inside) in
       e ∙ rw (row, column) refl)

@@ -5,7 +5,7 @@ use Rattle.std.proofs.lemmas.List.{get_or-set_other, get_or-set_same, length-set
 use Rattle.slot_core.specs.declared.view.Phase.TheVariants.{Loaded}
 use Rattle.slot_core.specs.declared.view.ReaderView.{ReaderView}
 use Rattle.slot_core.specs.declared.view.WriterView.{WriterView}
-use Rattle.slot_core.specs.Words.{latest, announcement, slot_of, Begins, Shows}
+use Rattle.slot_core.specs.Words.{latest_number, announcement, slot_of, Begins, ShowsWord}
 use Rattle.slot_core.specs.State.{State, HasWord, last_of, newcomer, view_at, word_of}
 use Rattle.slot_core.specs.Lawful.{IsReader, Lawful}
 use Rattle.slot_core.specs.Steps.{after_announce, after_clear, after_load_first, after_load_second, announces, begins, clears, looks_again, with_announcement, with_view}
@@ -30,7 +30,7 @@ module _ (readers slots : ℕ) (c : State) (l : Lawful readers slots c) (reader 
     abbrev words' : List ℕ
     words' = set c.words (1 + reader) v'.own
 
-    same : latest words' ≡ latest c.words
+    same : latest_number words' ≡ latest_number c.words
     same = latest_stays readers c.words v'.own (1 + reader) (omega arith)
 
     others : (q : ℕ) → q < readers → q ≢ reader → IsReader readers slots words' w q (view_at c.views q)
@@ -132,14 +132,14 @@ module _ (readers slots : ℕ) (c : State) (l : Lawful readers slots c) (reader 
   -- ---- loads of `latest`
 
   -- the reader has loaded it, and seen all that is published
-  loaded : (own : ℕ) → own ≡ v.own → 0 < length w.published → IsReader readers slots c.words w reader (record { phase = Loaded (latest c.words); own = own; seen = w.published })
+  loaded : (own : ℕ) → own ≡ v.own → 0 < length w.published → IsReader readers slots c.words w reader (record { phase = Loaded (latest_number c.words); own = own; seen = w.published })
   loaded own e some_published = record {
     own = is.own ∙ sym e;
     idle = λ e. absurd (cc);
     announced = λ word e. absurd (cc);
     holding = λ word e. absurd (cc);
     seen = seen_all w.published;
-    shows = λ word e. (some_published, subst (λ (at : ℕ). Shows slots at (length w.published)) e (l.newest.shown some_published));
+    shows = λ word e. (some_published, subst (λ (at : ℕ). ShowsWord slots at (length w.published)) e (l.newest.shown some_published));
     newest = λ word e _. sym e;
     held = λ word e. absurd (cc);
     noticed = λ word e. absurd (cc);
@@ -147,7 +147,7 @@ module _ (readers slots : ℕ) (c : State) (l : Lawful readers slots c) (reader 
 
   pub load_first_keeps : MayBegin v → Lawful readers slots (after_load_first c reader)
   load_first_keeps may =
-      let found = latest c.words in
+      let found = latest_number c.words in
       ⊎_elim
       (λ (none : found ≡ 0).
       view_changes (begins v found w.published) refl (rw (eq-eqb found 0 none) (record {
@@ -171,7 +171,7 @@ module _ (readers slots : ℕ) (c : State) (l : Lawful readers slots c) (reader 
 
   pub load_second_keeps : MayLookAgain v → Lawful readers slots (after_load_second c reader)
   load_second_keeps may =
-      let found = latest c.words in
+      let found = latest_number c.words in
       let at = word_of v.phase in
       let shows = is.shows at (at_announced v.phase at may) in
       let some_published : 0 < length w.published = omega (arith, shows.0, length-seen w.published v.seen is.seen) in
@@ -183,13 +183,13 @@ module _ (readers slots : ℕ) (c : State) (l : Lawful readers slots c) (reader 
         announced = λ word e. absurd (cc);
         holding = λ word e. is.announced at may ∙ (cc);
         seen = seen_all w.published;
-        shows = λ word e. (some_published, subst (λ (x : ℕ). Shows slots x (length w.published)) (again ∙ e) (l.newest.shown some_published));
+        shows = λ word e. (some_published, subst (λ (x : ℕ). ShowsWord slots x (length w.published)) (again ∙ e) (l.newest.shown some_published));
         newest = λ word e _. sym (again ∙ e);
         held = λ word e.
-            let is_latest : latest c.words ≡ word = cc in
+            let is_latest : latest_number c.words ≡ word = cc in
             subst (λ (x : ℕ). Begins readers c.words (slot_of x) (last_of w.published)) is_latest (l.newest.stands some_published);
         noticed = λ word e _.
-            let is_latest : word ≡ latest c.words = cc in
+            let is_latest : word ≡ latest_number c.words = cc in
             inr (ap slot_of is_latest);
       })))
       (λ (differ : found ≢ at).

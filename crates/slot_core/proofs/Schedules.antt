@@ -5,7 +5,7 @@ use Rattle.slot_core.specs.declared.event.CoreEvent.{CoreEvent}
 use Rattle.slot_core.specs.declared.event.CoreEvent.TheVariants.{Scan, StoreWord, StoreLatest, LoadFirst, Announce, LoadSecond}
 use Rattle.slot_core.specs.Words.{word_for}
 use Rattle.slot_core.specs.State.{State, opening}
-use Rattle.slot_core.specs.Steps.{after, after_all}
+use Rattle.slot_core.specs.Steps.{after_event, after_all}
 use Rattle.slot_core.specs.Allowed.{Allowed, AreAllowed}
 use Rattle.slot_core.specs.Refusal.{refusal_of}
 use Rattle.slot_core.specs.Without.{AllowedEarly, AreAllowedBy, FailsEarly, FailsInHaste, GetsStuck, after_all_by, after_in_haste}
@@ -85,9 +85,9 @@ pub fails_early : FailsEarly 8 10
 unfolding early is_early is_allowed
 fails_early =
     let start : State = opening 8 10 in (
-      after_all_by (after 8) start early,
+      after_all_by (after_event 8) start early,
       (
-        (early, (allowed_by (AllowedEarly 8 10) (after 8) is_early early_is start early refl, refl)),
+        (early, (allowed_by (AllowedEarly 8 10) (after_event 8) is_early early_is start early refl, refl)),
         (0, word_for 1 0, (lit< tt, refl), λ has. let whole : 1 ≡ 2 = has.0.whole in absurd (omega (arith, whole))),
       ),
     )
@@ -106,11 +106,11 @@ all_hold =
     ++ publishes 7 ++ reads 7
     ++ publishes 8 ++ scans
 
-are_allowed : (c : State) (events : List CoreEvent) → pass (is_allowed 8 9) (after 8) c events ≡ true → AreAllowed 8 9 c events
+are_allowed : (c : State) (events : List CoreEvent) → pass (is_allowed 8 9) (after_event 8) c events ≡ true → AreAllowed 8 9 c events
 are_allowed c [] e = tt
 are_allowed c (event ∷ events) e =
-    let parts = and_parts (is_allowed 8 9 c event) (pass (is_allowed 8 9) (after 8) (after 8 c event) events) e in
-    (allowed_is 8 9 c event parts.0, are_allowed (after 8 c event) events parts.1)
+    let parts = and_parts (is_allowed 8 9 c event) (pass (is_allowed 8 9) (after_event 8) (after_event 8 c event) events) e in
+    (allowed_is 8 9 c event parts.0, are_allowed (after_event 8 c event) events parts.1)
 
 all_held : State
 all_held = after_all 8 (opening 8 9) all_hold

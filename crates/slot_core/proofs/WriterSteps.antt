@@ -5,7 +5,7 @@ use Rattle.std.proofs.lemmas.List.{get_or-set_other, get_or-set_same, get_or_app
 use Rattle.slot_core.specs.declared.view.Phase.TheVariants.{Holding}
 use Rattle.slot_core.specs.declared.view.WriterView.{WriterView}
 use Rattle.slot_core.specs.Limits.{most_slots}
-use Rattle.slot_core.specs.Words.{latest, announcement, place_of, slot_of, slot_shown}
+use Rattle.slot_core.specs.Words.{latest_number, announcement, place_of_slot_word, slot_of, slot_shown}
 use Rattle.slot_core.specs.Message.{IsMessage, IsStart}
 use Rattle.slot_core.specs.State.{State, view_at}
 use Rattle.slot_core.specs.Lawful.{Lawful}
@@ -64,14 +64,14 @@ module _ (readers slots : ℕ) (c : State) (l : Lawful readers slots c) where
 
   module _ (slot index word : ℕ) (may : MayStore readers slots w slot index word) where
     abbrev place : ℕ
-    place = place_of readers slot index
+    place = place_of_slot_word readers slot index
 
     -- the slot isn't the one in `latest`
-    pub slot_is_apart : 0 < length w.published → slot ≢ slot_of (latest c.words)
+    pub slot_is_apart : 0 < length w.published → slot ≢ slot_of (latest_number c.words)
     slot_is_apart some_published =
         ⊎_elim
         (λ (first : index ≡ 0).
-        let has = has_word slots (latest c.words) _ (l.newest.shown some_published) some_published in
+        let has = has_word slots (latest_number c.words) _ (l.newest.shown some_published) some_published in
         let there : w.last ≢ 0 = λ e. absurd (omega (arith, e, has, l.newest.kept)) in
         λ e. (may.first first).apart there (e ∙ ap slot_of (sym l.newest.kept)))
         (λ (later : index ≡ 0 → ⊥).
@@ -99,19 +99,19 @@ module _ (readers slots : ℕ) (c : State) (l : Lawful readers slots c) where
         let some_published : 0 < length w.published = omega (arith, shows.0, length-seen w.published (view_at c.views reader).seen is.seen) in
         ⊎_elim
         (λ (found : get_or w.scanned reader None ≡ Some (slot_of held)). slot_is_free reader (found ∙ ap Some (sym e)))
-        (λ (newest : slot_of held ≡ slot_of (latest c.words)). slot_is_apart some_published (e ∙ newest))
+        (λ (newest : slot_of held ≡ slot_of (latest_number c.words)). slot_is_apart some_published (e ∙ newest))
         (is.noticed held holds (omega (arith, within, may.all)))
 
     -- the words stored in the slot so far, and this one
-    slot_has : (i : ℕ) → i < length (w.stored ++ word ∷ []) → get_or (set c.words place word) (place_of readers slot i) 0 ≡ get_or (w.stored ++ word ∷ []) i 0
-    slot_has = each_more (λ i x. get_or (set c.words place word) (place_of readers slot i) 0 ≡ x) w.stored word 0
+    slot_has : (i : ℕ) → i < length (w.stored ++ word ∷ []) → get_or (set c.words place word) (place_of_slot_word readers slot i) 0 ≡ get_or (w.stored ++ word ∷ []) i 0
+    slot_has = each_more (λ i x. get_or (set c.words place word) (place_of_slot_word readers slot i) 0 ≡ x) w.stored word 0
         (λ i h.
         let more : 0 < index = omega (arith, h, may.next) in
         let begun : 0 < length w.stored = omega (arith, more, may.next) in
         let written = l.written begun in
-        let old : get_or c.words (place_of readers slot i) 0 ≡ get_or w.stored i 0 = rw (may.later more).same (written.begun.1 i h) in
-        let differ : place_of readers slot i ≢ place = λ e. absurd (omega (arith, e, h, may.next)) in
-        get_or-set_other c.words place (place_of readers slot i) word 0 differ ∙ old)
+        let old : get_or c.words (place_of_slot_word readers slot i) 0 ≡ get_or w.stored i 0 = rw (may.later more).same (written.begun.1 i h) in
+        let differ : place_of_slot_word readers slot i ≢ place = λ e. absurd (omega (arith, e, h, may.next)) in
+        get_or-set_other c.words place (place_of_slot_word readers slot i) word 0 differ ∙ old)
         (rw (← may.next) (get_or-set_same c.words place word 0 (omega (arith, l.words, may.exists, may.within))))
 
     stored_starts : IsStart (w.stored ++ word ∷ [])
@@ -128,7 +128,7 @@ module _ (readers slots : ℕ) (c : State) (l : Lawful readers slots c) where
 
     pub store_word_keeps : Lawful readers slots (after_store_word readers c slot index word)
     store_word_keeps =
-        let same : latest (set c.words place word) ≡ latest c.words = latest_stays readers c.words word place (omega arith) in
+        let same : latest_number (set c.words place word) ≡ latest_number c.words = latest_stays readers c.words word place (omega arith) in
         record {
           words = length-set c.words place word ∙ l.words;
           views = l.views;
@@ -171,7 +171,7 @@ module _ (readers slots : ℕ) (c : State) (l : Lawful readers slots c) where
         let x = word_to_show w in
         let written = l.written may.begun in
         let n : length (w.published ++ w.stored ∷ []) ≡ length w.published + 1 = length_push w.published w.stored in
-        let shown : latest (set c.words 0 x) ≡ x = get_or-set_same c.words 0 x 0 (omega (arith, l.words)) in
+        let shown : latest_number (set c.words 0 x) ≡ x = get_or-set_same c.words 0 x 0 (omega (arith, l.words)) in
         let slot : slot_of x ≡ w.chosen = slot_of-word_for (length w.published + 1) w.chosen (omega (arith, few_slots, written.within)) in
         let whole : IsMessage w.stored = record { start = written.start; whole = may.whole } in
         record {

@@ -10,7 +10,7 @@ use Rattle.slot_core.specs.Limits.{longest_message, most_messages, slot_words}
 use Rattle.slot_core.specs.Words.{slot_of}
 use Rattle.slot_core.specs.Message.{words_for, IsPadded}
 use Rattle.slot_core.specs.State.{State, last_of, view_at, word_of}
-use Rattle.slot_core.specs.Steps.{after}
+use Rattle.slot_core.specs.Steps.{after_event}
 
 -- ---- the writer's steps, by its view, in a port with this many readers and slots
 
@@ -92,4 +92,4 @@ Allowed readers slots c (Clear reader) = (reader < readers) × MayClear (view_at
 -- each event, after those before it
 abbrev pub AreAllowed : ℕ → ℕ → State → List CoreEvent → Type 0
 AreAllowed readers slots c [] = Unit {0}
-AreAllowed readers slots c (event ∷ events) = Allowed readers slots c event × AreAllowed readers slots (after readers c event) events
+AreAllowed readers slots c (event ∷ events) = Allowed readers slots c event × AreAllowed readers slots (after_event readers c event) events

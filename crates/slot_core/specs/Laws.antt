@@ -5,10 +5,10 @@ use Rattle.slot_core.specs.declared.event.CoreEvent.TheVariants.{Clear, LoadSeco
 use Rattle.slot_core.specs.declared.view.Phase.TheVariants.{Holding}
 use Rattle.slot_core.specs.declared.view.ReaderView.{ReaderView}
 use Rattle.slot_core.specs.Limits.{longest_message}
-use Rattle.slot_core.specs.Words.{latest, slot_of, Begins, Shows}
+use Rattle.slot_core.specs.Words.{latest_number, slot_of, Begins, ShowsWord}
 use Rattle.slot_core.specs.Message.{IsMessage}
 use Rattle.slot_core.specs.State.{State, last_of, opening, view_at}
-use Rattle.slot_core.specs.Steps.{after, after_all}
+use Rattle.slot_core.specs.Steps.{after_event, after_all}
 use Rattle.slot_core.specs.Allowed.{Allowed, AreAllowed}
 
 -- the reader's hold outlasts these events
@@ -23,8 +23,8 @@ IsReached readers slots c = (events : List CoreEvent)
 
 -- the reader holds this word
 -- rule: SAMP-12
-abbrev pub Holds : ℕ → State → ℕ → ℕ → Type 0
-Holds readers c reader word = (reader < readers) × ((view_at c.views reader).phase ≡ Holding word)
+abbrev pub HoldsWord : ℕ → State → ℕ → ℕ → Type 0
+HoldsWord readers c reader word = (reader < readers) × ((view_at c.views reader).phase ≡ Holding word)
 
 -- the slot that a word shows has the words of this message, whole
 -- rule: SAMP-16
@@ -39,9 +39,9 @@ HasFreeSlot readers slots c = (slot : ℕ) × ((word : ℕ) → word ≤ longest
 -- what is held is the message that is the newest now, and all that is published is seen
 -- rule: SAMP-16
 pub record HoldsNewest (readers slots : ℕ) (c : State) (v : ReaderView) (word : ℕ) : Type 0 where
-  pub newest : word ≡ latest c.words
+  pub newest : word ≡ latest_number c.words
   pub seen : v.seen ≡ c.writer.published
-  pub number : Shows slots word (length c.writer.published)
+  pub number : ShowsWord slots word (length c.writer.published)
   pub message : HasMessage readers c word (last_of c.writer.published)
 
 -- after some list of events, from the opening on, a reader looks again and holds this word; it still does after these
@@ -49,10 +49,10 @@ pub record HoldsNewest (readers slots : ℕ) (c : State) (v : ReaderView) (word 
 pub record IsHold (readers slots : ℕ) (c : State) (reader word : ℕ) (events : List CoreEvent) : Type 0 where
   pub reached : IsReached readers slots c
   pub looks : Allowed readers slots c (LoadSecond reader)
-  pub holds : Holds readers (after readers c (LoadSecond reader)) reader word
-  pub allowed : AreAllowed readers slots (after readers c (LoadSecond reader)) events
+  pub holds : HoldsWord readers (after_event readers c (LoadSecond reader)) reader word
+  pub allowed : AreAllowed readers slots (after_event readers c (LoadSecond reader)) events
   pub outlasts : Outlasts reader events
 
 -- the state after them
 abbrev pub after_hold : ℕ → State → ℕ → List CoreEvent → State
-after_hold readers c reader events = after_all readers (after readers c (LoadSecond reader)) events
+after_hold readers c reader events = after_all readers (after_event readers c (LoadSecond reader)) events

@@ -18,13 +18,13 @@ abbrev pub words_of : List ℕ → ℕ → List ℕ
 words_of octets time = length octets ∷ time ∷ map (word_at octets) (range_with_len 0 ((length octets + 7) / 8))
 
 -- the octet at this place of a message with these words
-abbrev pub octet_at : List ℕ → ℕ → ℕ
-octet_at words place = slice_index words (2 + place / 8) / 256 ^ (7 - place % 8) % 256
+abbrev pub octet_of_words : List ℕ → ℕ → ℕ
+octet_of_words words place = slice_index words (2 + place / 8) / 256 ^ (7 - place % 8) % 256
 
 -- octets that a message can have
 abbrev pub AreOctets : List ℕ → Type 0
 AreOctets octets = (length octets ≤ longest_message) × All (λ octet. octet < 256) octets
 
 -- all octets of a message with these words
-abbrev pub octets_of : List ℕ → List ℕ
-octets_of words = map (octet_at words) (range_with_len 0 (slice_index words 0))
+abbrev pub octets_of_words : List ℕ → List ℕ
+octets_of_words words = map (octet_of_words words) (range_with_len 0 (slice_index words 0))

@@ -40,8 +40,8 @@ abbrev pub last_of : List (List ℕ) → List ℕ
 last_of messages = slice_index_or messages (length messages - 1) []
 
 -- all messages begin with those seen
-abbrev pub StartsWith : List (List ℕ) → List (List ℕ) → Type 0
-StartsWith all seen = (rest : List (List ℕ)) × (all ≡ seen ++ rest)
+abbrev pub StartsWithSeen : List (List ℕ) → List (List ℕ) → Type 0
+StartsWithSeen all seen = (rest : List (List ℕ)) × (all ≡ seen ++ rest)
 
 -- ---- the opening, with this many readers and slots
 

@@ -6,7 +6,7 @@ use Rattle.slot_core.specs.declared.view.Phase.{Phase}
 use Rattle.slot_core.specs.declared.view.Phase.TheVariants.{Idle, Loaded, Announced, Holding}
 use Rattle.slot_core.specs.declared.view.ReaderView.{ReaderView}
 use Rattle.slot_core.specs.declared.view.WriterView.{WriterView}
-use Rattle.slot_core.specs.Words.{latest, announcement, place_of, slot_shown, word_for}
+use Rattle.slot_core.specs.Words.{latest_number, announcement, place_of_slot_word, slot_shown, word_for}
 use Rattle.slot_core.specs.State.{State, view_at, word_of}
 
 -- ---- the writer's view
@@ -70,36 +70,36 @@ after_scan c reader = record c { writer = scans c.writer (announcement c.words r
 
 abbrev pub after_store_word : ℕ → State → ℕ → ℕ → ℕ → State
 after_store_word readers c slot index word =
-    record c { words = slice_set c.words (place_of readers slot index) word; writer = stores c.writer slot word }
+    record c { words = slice_set c.words (place_of_slot_word readers slot index) word; writer = stores c.writer slot word }
 
 abbrev pub after_store_latest : State → State
 after_store_latest c = record c { words = slice_set c.words 0 (word_to_show c.writer); writer = publishes c.writer }
 
 abbrev pub after_load_first : State → ℕ → State
-after_load_first c reader = with_view c reader (begins (view_at c.views reader) (latest c.words) c.writer.published)
+after_load_first c reader = with_view c reader (begins (view_at c.views reader) (latest_number c.words) c.writer.published)
 
 abbrev pub after_announce : State → ℕ → State
 after_announce c reader = with_announcement c reader (announces (view_at c.views reader))
 
 abbrev pub after_load_second : State → ℕ → State
 after_load_second c reader =
-    with_view c reader (looks_again (view_at c.views reader) (latest c.words) c.writer.published)
+    with_view c reader (looks_again (view_at c.views reader) (latest_number c.words) c.writer.published)
 
 abbrev pub after_clear : State → ℕ → State
 after_clear c reader = with_announcement c reader (clears (view_at c.views reader))
 
 -- in a port with this many readers
-abbrev pub after : ℕ → State → CoreEvent → State
-after readers c (Scan reader) = after_scan c reader
-after readers c (StoreWord slot index word) = after_store_word readers c slot index word
-after readers c StoreLatest = after_store_latest c
-after readers c (LoadFirst reader) = after_load_first c reader
-after readers c (Announce reader) = after_announce c reader
-after readers c (LoadSecond reader) = after_load_second c reader
-after readers c (LoadWord reader index) = c
-after readers c (Clear reader) = after_clear c reader
+abbrev pub after_event : ℕ → State → CoreEvent → State
+after_event readers c (Scan reader) = after_scan c reader
+after_event readers c (StoreWord slot index word) = after_store_word readers c slot index word
+after_event readers c StoreLatest = after_store_latest c
+after_event readers c (LoadFirst reader) = after_load_first c reader
+after_event readers c (Announce reader) = after_announce c reader
+after_event readers c (LoadSecond reader) = after_load_second c reader
+after_event readers c (LoadWord reader index) = c
+after_event readers c (Clear reader) = after_clear c reader
 
 -- the state after some events, in order
 abbrev pub after_all : ℕ → State → List CoreEvent → State
 after_all readers c [] = c
-after_all readers c (event ∷ events) = after_all readers (after readers c event) events
+after_all readers c (event ∷ events) = after_all readers (after_event readers c event) events

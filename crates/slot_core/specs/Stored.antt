@@ -13,8 +13,8 @@ use Rattle.slot_core.specs.State.{State}
 abbrev pub view_of : List (List ℕ) → Reader → ReaderView
 view_of published reader = record { phase = reader.phase; own = reader.own; seen = take reader.seen published }
 
-abbrev pub writer_of : Inside → WriterView
-writer_of c = record {
+abbrev pub writer_inside : Inside → WriterView
+writer_inside c = record {
   scanned = c.scanned.items;
   chosen = c.chosen;
   stored = c.stored.items;
@@ -23,7 +23,7 @@ writer_of c = record {
 }
 
 abbrev pub state_of : Inside → State
-state_of c = record { words = c.words; writer = writer_of c; views = map (view_of c.published.items) c.readers }
+state_of c = record { words = c.words; writer = writer_inside c; views = map (view_of c.published.items) c.readers }
 
 abbrev pub HasSeen : List (List ℕ) → Reader → Type 0
 HasSeen published reader = reader.seen ≤ length published

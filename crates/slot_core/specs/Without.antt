@@ -6,9 +6,9 @@ use Rattle.slot_core.specs.declared.view.Phase.TheVariants.{Holding}
 use Rattle.slot_core.specs.declared.view.ReaderView.{ReaderView}
 use Rattle.slot_core.specs.Words.{slot_of}
 use Rattle.slot_core.specs.State.{State, last_of, opening, view_at, word_of}
-use Rattle.slot_core.specs.Steps.{after, with_announcement}
+use Rattle.slot_core.specs.Steps.{after_event, with_announcement}
 use Rattle.slot_core.specs.Allowed.{Allowed}
-use Rattle.slot_core.specs.Laws.{HasFreeSlot, HasMessage, Holds, IsReached}
+use Rattle.slot_core.specs.Laws.{HasFreeSlot, HasMessage, HoldsWord, IsReached}
 
 -- ---- a protocol says which events may come, and what each one does
 
@@ -32,11 +32,11 @@ holds_at_once v = record { phase = Holding (word_of v.phase); own = word_of v.ph
 
 abbrev pub after_in_haste : ℕ → State → CoreEvent → State
 after_in_haste readers c (Announce reader) = with_announcement c reader (holds_at_once (view_at c.views reader))
-after_in_haste readers c event = after readers c event
+after_in_haste readers c event = after_event readers c event
 
 -- a reader holds a slot in which a message may begin
 abbrev pub IsWrittenUnder : ℕ → ℕ → State → Type 0
-IsWrittenUnder readers slots c = (reader word slot stored : ℕ) × (Holds readers c reader word)
+IsWrittenUnder readers slots c = (reader word slot stored : ℕ) × (HoldsWord readers c reader word)
     × (Allowed readers slots c (StoreWord slot 0 stored)) × (slot ≡ slot_of word)
 
 -- rule: SAMP-18
@@ -50,12 +50,12 @@ AllowedEarly readers slots c event = Allowed readers slots c event ⊎ ((event �
 
 -- a reader holds what is no message
 abbrev pub HoldsNoMessage : ℕ → State → Type 0
-HoldsNoMessage readers c = (reader word : ℕ) × (Holds readers c reader word)
+HoldsNoMessage readers c = (reader word : ℕ) × (HoldsWord readers c reader word)
     × (HasMessage readers c word (last_of (view_at c.views reader).seen) → ⊥)
 
 -- rule: SAMP-18
 abbrev pub FailsEarly : ℕ → ℕ → Type 0
-FailsEarly readers slots = (c : State) × (IsReachedBy (AllowedEarly readers slots) (after readers) (opening readers slots) c × HoldsNoMessage readers c)
+FailsEarly readers slots = (c : State) × (IsReachedBy (AllowedEarly readers slots) (after_event readers) (opening readers slots) c × HoldsNoMessage readers c)
 
 -- ---- too few slots: all readers are scanned, no message is begun, and none can begin
 

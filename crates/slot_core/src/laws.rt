@@ -4,15 +4,15 @@ ghost use Rattle.std.specs.Prelude.{◌≡◌, ◌≢◌, ◌↔◌, ℕ, ◌+�
 ghost use Rattle.slot_core.specs.declared.event.CoreEvent.{CoreEvent};
 ghost use Rattle.slot_core.specs.declared.event.CoreEvent.TheVariants.{LoadSecond, StoreWord};
 ghost use Rattle.slot_core.specs.Limits.{longest_message, most_messages, most_slots, port_readers, port_slots, slot_words};
-ghost use Rattle.slot_core.specs.Words.{latest, slot_of, word_for, Shows};
+ghost use Rattle.slot_core.specs.Words.{latest_number, slot_of, word_for, ShowsWord};
 ghost use Rattle.slot_core.specs.Message.{words_for, IsMessage};
-ghost use Rattle.slot_core.specs.Octets.{AreOctets, octet_at, octets_of, words_of};
+ghost use Rattle.slot_core.specs.Octets.{AreOctets, octet_of_words, octets_of_words, words_of};
 ghost use Rattle.slot_core.specs.State.{State, last_of, opening, view_at, word_of};
 ghost use Rattle.slot_core.specs.Lawful.{Lawful};
-ghost use Rattle.slot_core.specs.Steps.{after, after_all};
+ghost use Rattle.slot_core.specs.Steps.{after_event, after_all};
 ghost use Rattle.slot_core.specs.Allowed.{Allowed, AreAllowed};
 ghost use Rattle.slot_core.specs.Refusal.{refusal_of};
-ghost use Rattle.slot_core.specs.Laws.{HasFreeSlot, HasMessage, Holds, HoldsNewest, IsHold, IsReached, Outlasts, after_hold};
+ghost use Rattle.slot_core.specs.Laws.{HasFreeSlot, HasMessage, HoldsWord, HoldsNewest, IsHold, IsReached, Outlasts, after_hold};
 
 /// The limits of a port fit one another. It has two slots more than readers, and a word can name each of
 /// them. A slot has room for the longest message, and none left. The last message number with the last
@@ -37,7 +37,7 @@ pub fn a_port_stays_lawful()
 // rule: SAMP-12
 pub fn a_held_slot_is_not_written()
     ensures { (readers slots : ℕ) (c : State) (reader word slot index stored : ℕ) → Lawful readers slots c →
-        Holds readers c reader word → Allowed readers slots c (StoreWord slot index stored) → slot ≢ slot_of word }
+        HoldsWord readers c reader word → Allowed readers slots c (StoreWord slot index stored) → slot ≢ slot_of word }
 {}
 
 /// Once all readers were scanned a message can begin in some slot, if there are two slots more than
@@ -51,18 +51,18 @@ pub fn a_free_slot_exists()
 /// has seen all published messages.
 pub fn a_held_message_was_the_newest()
     ensures { (readers slots : ℕ) (c : State) (reader word : ℕ) → Lawful readers slots c →
-        Allowed readers slots c (LoadSecond reader) → Holds readers (after readers c (LoadSecond reader)) reader word →
-        HoldsNewest readers slots (after readers c (LoadSecond reader)) (view_at (after readers c (LoadSecond reader)).views reader) word }
+        Allowed readers slots c (LoadSecond reader) → HoldsWord readers (after_event readers c (LoadSecond reader)) reader word →
+        HoldsNewest readers slots (after_event readers c (LoadSecond reader)) (view_at (after_event readers c (LoadSecond reader)).views reader) word }
 {}
 
 /// A held message stays whole until its reader clears its announcement, whatever comes between. The
 /// reader's view stays as it is.
 pub fn a_held_message_stays_whole()
-    ensures view { (readers slots : ℕ) (c : State) (reader word : ℕ) (events : List CoreEvent) → Holds readers c reader word →
+    ensures view { (readers slots : ℕ) (c : State) (reader word : ℕ) (events : List CoreEvent) → HoldsWord readers c reader word →
         AreAllowed readers slots c events → Outlasts reader events →
         view_at (after_all readers c events).views reader ≡ view_at c.views reader }
     ensures message { (readers slots : ℕ) (c : State) (reader word : ℕ) (events : List CoreEvent) → slots ≤ most_slots →
-        Lawful readers slots c → Holds readers c reader word → AreAllowed readers slots c events → Outlasts reader events →
+        Lawful readers slots c → HoldsWord readers c reader word → AreAllowed readers slots c events → Outlasts reader events →
         HasMessage readers (after_all readers c events) word (last_of (view_at c.views reader).seen) }
 {}
 
@@ -74,7 +74,7 @@ pub fn a_held_message_stays_whole()
 pub fn a_hold_is_of_the_newest_message_and_whole()
     ensures newest { (readers slots : ℕ) (c : State) (reader word : ℕ) (events : List CoreEvent) → slots ≤ most_slots →
         IsHold readers slots c reader word events →
-        (word ≡ latest c.words) × Shows slots word (length c.writer.published) }
+        (word ≡ latest_number c.words) × ShowsWord slots word (length c.writer.published) }
     ensures whole { (readers slots : ℕ) (c : State) (reader word : ℕ) (events : List CoreEvent) → slots ≤ most_slots →
         IsHold readers slots c reader word events →
         HasMessage readers (after_hold readers c reader events) word (last_of c.writer.published) }
@@ -87,7 +87,7 @@ pub fn a_hold_is_of_the_newest_message_and_whole()
 // rule: SAMP-14
 pub fn a_failed_look_sees_a_newer_message()
     ensures { (readers slots : ℕ) (c : State) (reader : ℕ) → Lawful readers slots c → Allowed readers slots c (LoadSecond reader) →
-        latest c.words ≢ word_of (view_at c.views reader).phase →
+        latest_number c.words ≢ word_of (view_at c.views reader).phase →
         length (view_at c.views reader).seen < length c.writer.published }
 {}
 
@@ -103,9 +103,9 @@ pub fn a_step_is_allowed_or_refused()
 pub fn a_message_has_words_of_its_own()
     ensures message { (octets : List ℕ) (time : ℕ) → AreOctets octets → IsMessage (words_of octets time) }
     ensures octet { (octets : List ℕ) (time place : ℕ) → AreOctets octets → place < length octets →
-        octet_at (words_of octets time) place ≡ slice_index octets place }
+        octet_of_words (words_of octets time) place ≡ slice_index octets place }
     ensures own { (octets others : List ℕ) (time another : ℕ) → AreOctets octets → AreOctets others →
         words_of octets time ≡ words_of others another → (octets ≡ others) × (time ≡ another) }
     ensures again { (words : List ℕ) → IsMessage words → ((i : ℕ) → slice_index words i < 2 ^ 64) →
-        AreOctets (octets_of words) × (words_of (octets_of words) (slice_index words 1) ≡ words) }
+        AreOctets (octets_of_words words) × (words_of (octets_of_words words) (slice_index words 1) ≡ words) }
 {}

@@ -1,7 +1,7 @@
 //! Look-ups of a core's state.
 ghost use Rattle.std.specs.Prelude.{◌≡◌, ◌<◌, length, slice_index};
 ghost use Rattle.slot_core.specs.Limits.{port_readers, port_slots, slot_words};
-ghost use Rattle.slot_core.specs.Words.{announcement, latest, place_of};
+ghost use Rattle.slot_core.specs.Words.{announcement, latest_number, place_of_slot_word};
 ghost use Rattle.slot_core.specs.State.{view_at};
 ghost use Rattle.slot_core.specs.Look.{IsWriterPhase};
 
@@ -27,7 +27,7 @@ impl Core {
     /// The word `latest`: 0 if nothing was published; else the message number times `MOST_SLOTS`, plus
     /// the slot.
     pub fn latest(&self) -> u64
-        ensures { result ≡ latest self.now.words }
+        ensures { result ≡ latest_number self.now.words }
     {
         self.words[0]
     }
@@ -44,7 +44,7 @@ impl Core {
     pub fn word(&self, slot: usize, index: usize) -> u64
         requires slot { slot < port_slots }
         requires index { index < slot_words }
-        ensures { result ≡ slice_index self.now.words (place_of port_readers slot index) }
+        ensures { result ≡ slice_index self.now.words (place_of_slot_word port_readers slot index) }
     {
         self.words[place_of(slot, index)]
     }

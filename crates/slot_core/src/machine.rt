@@ -3,7 +3,7 @@ ghost use Rattle.std.specs.Prelude.{◌≡◌, IfErr, IfOk, OnErr, replicate};
 ghost use Rattle.slot_core.specs.Limits.{port_readers, port_slots};
 ghost use Rattle.slot_core.specs.Words.{table_words};
 ghost use Rattle.slot_core.specs.State.{opening};
-ghost use Rattle.slot_core.specs.Steps.{after};
+ghost use Rattle.slot_core.specs.Steps.{after_event};
 ghost use Rattle.slot_core.specs.Allowed.{Allowed};
 ghost use Rattle.slot_core.specs.Refusal.{IsRefusedBy};
 
@@ -42,7 +42,7 @@ impl Model for Core {
 
 impl Core {
     /// A port without publications, whose writer scans and whose readers are idle. It takes no memory.
-    pub fn opening(alloc: Global) -> Core
+    pub fn new(alloc: Global) -> Core
         ensures { result ≡ opening port_readers port_slots }
     {
         Core {
@@ -60,14 +60,14 @@ impl Core {
     /// memory. After a refusal the core is as before.
     ///
     /// ```text
-    /// let mut core = Core::opening(alloc);
+    /// let mut core = Core::new(alloc);
     /// core.step(alloc, &CoreEvent::Scan { reader: 1 }) // Err(NotItsTurn): reader 0 is scanned first
     /// core.step(alloc, &CoreEvent::Scan { reader: 0 }) // Ok(())
     /// ```
     // rule: SAMP-7, SAMP-8, SAMP-9, SAMP-10, SAMP-11, SAMP-17
     pub fn step(&mut self, alloc: Global, event: &CoreEvent) -> Result<(), StepRefusal>
         ensures allowed { IfOk result (λ _. Allowed port_readers port_slots self.old event.now) }
-        ensures state { IfOk result (λ _. self.new ≡ after port_readers self.old event.now) }
+        ensures state { IfOk result (λ _. self.new ≡ after_event port_readers self.old event.now) }
         ensures refusal { IfErr result (λ refusal. IsRefusedBy port_readers port_slots self.old event.now refusal) }
         ensures unchanged { OnErr result (self.new ≡ self.old) }
     {
@@ -83,7 +83,7 @@ impl Core {
     /// Takes a step that is allowed.
     fn take(&mut self, alloc: Global, event: &CoreEvent) -> Result<(), AllocError>
         requires { Allowed port_readers port_slots self.old event.now }
-        ensures ok { IfOk result (λ _. self.new ≡ after port_readers self.old event.now) }
+        ensures ok { IfOk result (λ _. self.new ≡ after_event port_readers self.old event.now) }
         ensures err { OnErr result (event.now ≡ CoreEvent.StoreLatest) }
         ensures unchanged { OnErr result (self.new ≡ self.old) }
     {

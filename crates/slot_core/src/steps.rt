@@ -1,7 +1,7 @@
 //! Effects of allowed steps.
 ghost use Rattle.std.specs.Prelude.{◌≡◌, ◌<◌, ◌≤◌, [], IfOk, OnErr};
 ghost use Rattle.slot_core.specs.Limits.{most_messages, most_slots, port_readers, port_slots, slot_words};
-ghost use Rattle.slot_core.specs.Words.{place_of, slot_shown, table_words, word_for};
+ghost use Rattle.slot_core.specs.Words.{place_of_slot_word, slot_shown, table_words, word_for};
 ghost use Rattle.slot_core.specs.Steps.{after_announce, after_clear, after_load_first, after_load_second, after_scan, after_store_latest, after_store_word};
 ghost use Rattle.slot_core.specs.Allowed.{MayPublish, MayScan, MayStore};
 
@@ -80,7 +80,7 @@ impl Core {
 pub(crate) fn place_of(slot: usize, index: usize) -> usize
     requires slot { slot < port_slots }
     requires index { index < slot_words }
-    ensures value { result ≡ place_of port_readers slot index }
+    ensures value { result ≡ place_of_slot_word port_readers slot index }
     ensures bound { result < table_words port_readers port_slots }
 {
     1 + READERS + (WORDS * slot + index)

@@ -5,8 +5,8 @@ use Rattle.slot_handles.specs.contracts.marked.MarkedReader.{the_row as room_row
 use Rattle.slot_handles.specs.declared.reader_handle.ReaderHandle.{ReaderHandle as Handle}
 use Rattle.slot_handles.specs.contracts.reader_handle.ReaderHandle.{the_row}
 
-abbrev pub with_room : Handle → MarkedReader → Handle
-with_room h w = record h { room = w }
+abbrev pub with_slot : Handle → MarkedReader → Handle
+with_slot h w = record h { room = w }
 
 abbrev pub LendsRoom : MutBor Handle → MutBor MarkedReader → Fml
-LendsRoom h r = Lends the_row room_row h r (with_room h.now)
+LendsRoom h r = Lends the_row room_row h r (with_slot h.now)

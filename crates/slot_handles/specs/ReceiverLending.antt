@@ -5,8 +5,8 @@ use Rattle.slot_handles.specs.contracts.marked.MarkedReceiver.{the_row as room_r
 use Rattle.slot_handles.specs.declared.receiver_handle.ReceiverHandle.{ReceiverHandle as Handle}
 use Rattle.slot_handles.specs.contracts.receiver_handle.ReceiverHandle.{the_row}
 
-abbrev pub with_room : Handle → MarkedReceiver → Handle
-with_room h w = record h { room = w }
+abbrev pub with_slot : Handle → MarkedReceiver → Handle
+with_slot h w = record h { room = w }
 
 abbrev pub LendsRoom : MutBor Handle → MutBor MarkedReceiver → Fml
-LendsRoom h r = Lends the_row room_row h r (with_room h.now)
+LendsRoom h r = Lends the_row room_row h r (with_slot h.now)

@@ -22,12 +22,12 @@ pub struct MarkedReceiver {
 impl MarkedReceiver {
     ghost use Rattle.slot_handles.specs.Made.{made_receiver};
 
-    pub fn empty() -> MarkedReceiver
+    pub fn new() -> MarkedReceiver
         ensures { result ≡ made_receiver }
     {
         MarkedReceiver {
             mark: RECEIVER,
-            slot: ReceiverSlot::empty(),
+            slot: ReceiverSlot::new(),
         }
     }
 }
@@ -43,12 +43,12 @@ pub struct MarkedReader {
 impl MarkedReader {
     ghost use Rattle.slot_handles.specs.Made.{made_reader};
 
-    pub fn empty() -> MarkedReader
+    pub fn new() -> MarkedReader
         ensures { result ≡ made_reader }
     {
         MarkedReader {
             mark: READER,
-            slot: ReaderSlot::empty(),
+            slot: ReaderSlot::new(),
         }
     }
 }
@@ -64,12 +64,12 @@ pub struct MarkedTaker {
 impl MarkedTaker {
     ghost use Rattle.slot_handles.specs.Made.{made_taker};
 
-    pub fn empty() -> MarkedTaker
+    pub fn new() -> MarkedTaker
         ensures { result ≡ made_taker }
     {
         MarkedTaker {
             mark: TAKER,
-            slot: TakerSlot::empty(),
+            slot: TakerSlot::new(),
         }
     }
 }

@@ -5,8 +5,8 @@ use Rattle.system_c.specs.contracts.marked.MarkedPass.{the_row as room_row}
 use Rattle.system_c.specs.declared.pass_handle.PassHandle.{PassHandle as Handle}
 use Rattle.system_c.specs.contracts.pass_handle.PassHandle.{the_row}
 
-abbrev pub with_room : Handle → MarkedPass → Handle
-with_room h w = record h { room = w }
+abbrev pub with_slot : Handle → MarkedPass → Handle
+with_slot h w = record h { room = w }
 
 abbrev pub LendsRoom : MutBor Handle → MutBor MarkedPass → Fml
-LendsRoom h r = Lends the_row room_row h r (with_room h.now)
+LendsRoom h r = Lends the_row room_row h r (with_slot h.now)

@@ -5,8 +5,8 @@ use Rattle.system_c.specs.contracts.marked.MarkedSystem.{the_row as room_row}
 use Rattle.system_c.specs.declared.system_handle.SystemHandle.{SystemHandle as Handle}
 use Rattle.system_c.specs.contracts.system_handle.SystemHandle.{the_row}
 
-abbrev pub with_room : Handle → MarkedSystem → Handle
-with_room h w = record h { room = w }
+abbrev pub with_slot : Handle → MarkedSystem → Handle
+with_slot h w = record h { room = w }
 
 abbrev pub LendsRoom : MutBor Handle → MutBor MarkedSystem → Fml
-LendsRoom h r = Lends the_row room_row h r (with_room h.now)
+LendsRoom h r = Lends the_row room_row h r (with_slot h.now)

@@ -19,12 +19,12 @@ pub struct MarkedSystem {
 impl MarkedSystem {
     ghost use Rattle.system_c.specs.Made.{made_system};
 
-    pub fn empty() -> MarkedSystem
+    pub fn new() -> MarkedSystem
         ensures { result ≡ made_system }
     {
         MarkedSystem {
             mark: SYSTEM,
-            slot: SystemSlot::empty(),
+            slot: SystemSlot::new(),
         }
     }
 }
@@ -40,12 +40,12 @@ pub struct MarkedPass {
 impl MarkedPass {
     ghost use Rattle.system_c.specs.Made.{made_pass};
 
-    pub fn empty() -> MarkedPass
+    pub fn new() -> MarkedPass
         ensures { result ≡ made_pass }
     {
         MarkedPass {
             mark: PASS,
-            slot: PassSlot::empty(),
+            slot: PassSlot::new(),
         }
     }
 }

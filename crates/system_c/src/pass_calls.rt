@@ -6,7 +6,7 @@ ghost use Rattle.std.specs.Ptr.{points_to, uninit_at};
 ghost use Rattle.system_c.specs.Made.{made_pass};
 ghost use Rattle.slot_handles.specs.Marks.{after_close, if_made, is_made, pass_mark};
 ghost use Rattle.receiver_slots.specs.Codes.{busy, done, not_made, not_open};
-ghost use Rattle.system_slots.specs.Passing.{ComesToLink, CountsFiltered, CountsFrames, Receives, count_code, filtered_code};
+ghost use Rattle.system_slots.specs.Passing.{ComesToLink, TellsFiltered, CountsFrames, Receives, count_code, filtered_code};
 ghost use Rattle.system_c.specs.contracts.marked.MarkedPass.{the_row as pass_row};
 
 use crate::marked::{MarkedPass, PASS};
@@ -28,7 +28,7 @@ pub unsafe extern "C" fn yelunnavi_pass_make(at: *mut u8)
     requires* { sem 𝓛 (uninit_at pass_row at) }
     ensures* { sem 𝓛 (points_to pass_row at made_pass) }
 {
-    std::ptr::write(at as *mut MarkedPass, MarkedPass::empty())
+    std::ptr::write(at as *mut MarkedPass, MarkedPass::new())
 }
 
 /// Takes the octets of a frame that came on the pass's network at `now` microseconds, and tells its verdict. BUSY while
@@ -82,7 +82,7 @@ pub extern "C" fn yelunnavi_pass_count(
 pub extern "C" fn yelunnavi_pass_filtered(h: &mut PassHandle, cause: u32, count: &mut u64) -> u32
     ensures place { (h.new.at ≡ h.old.at) × (h.new.room.mark ≡ h.old.room.mark) }
     ensures code { result ≡ if_made pass_mark h.old.room.mark (filtered_code h.old.room.slot cause) }
-    ensures counted { result ≡ done → CountsFiltered h.old.room.slot cause count.new }
+    ensures counted { result ≡ done → TellsFiltered h.old.room.slot cause count.new }
     ensures same { 0 < result → count.new ≡ count.old }
     ensures kept { h.new.room.slot ≡ h.old.room.slot }
 {

@@ -41,7 +41,7 @@ pub unsafe extern "C" fn yelunnavi_system_make(at: *mut u8)
     requires* { sem 𝓛 (uninit_at system_row at) }
     ensures* { sem 𝓛 (points_to system_row at made_system) }
 {
-    std::ptr::write(at as *mut MarkedSystem, MarkedSystem::empty())
+    std::ptr::write(at as *mut MarkedSystem, MarkedSystem::new())
 }
 
 /// Opens the system of the configuration in these octets, a TOML document. Each sampling port has `readers` readers, 1

@@ -2,9 +2,10 @@
 use Rattle.std.specs.Prelude.{◌≡◌, ℕ, List, slice_get, length, nat_lt, Option, None, Some, if◌then◌else◌}
 use Rattle.es_base.specs.Addressing.{ComesToPlace}
 use Rattle.es_base.specs.Config.{Configuration, link_of}
-use Rattle.es_base.specs.Limits.{filter_causes, verdict_kinds}
+use Rattle.es_base.specs.Limits.{filter_causes}
 use Rattle.es_base.specs.Settings.{Settings}
-use Rattle.es_base.specs.Tally.{count_in}
+use Rattle.es_base.specs.Tally.{count_in, is_kind}
+use Rattle.es_base.specs.Verdict.{verdict_kinds}
 use Rattle.link_core.specs.Counted.{shown}
 use Rattle.network_calls.specs.Calls.{count_calls}
 use Rattle.network_calls.specs.declared.reply.Reply.{Reply}
@@ -14,7 +15,6 @@ use Rattle.receiver.specs.declared.receiver.Reply.TheVariants as answers
 use Rattle.live_system.specs.LookUps.{calls_on}
 use Rattle.live_system.specs.System.{IsPassOf, KnownNet, Replies, System}
 use Rattle.receiver_slots.specs.Codes.{done, no_kind, no_place, not_open}
-use Rattle.receiver_slots.specs.Numbers.{is_kind}
 use Rattle.receiver_slots.specs.Replies.{frame_reply_of, or_0}
 use Rattle.receiver_slots.specs.declared.replies.FrameReply.{FrameReply}
 
@@ -70,6 +70,6 @@ filtered_code (Some now) cause = if is_kind filter_causes cause then done else n
 
 -- `count` is the number of frames filtered on the pass's network for this cause
 -- rule: EMB-27
-abbrev pub CountsFiltered : Option Passing → ℕ → ℕ → Type 0
-CountsFiltered None cause count = ⊥
-CountsFiltered (Some now) cause count = count ≡ count_in now.pass.filtered now.pass.net cause
+abbrev pub TellsFiltered : Option Passing → ℕ → ℕ → Type 0
+TellsFiltered None cause count = ⊥
+TellsFiltered (Some now) cause count = count ≡ count_in now.pass.filtered now.pass.net cause

@@ -16,7 +16,7 @@ use Rattle.vl_config.specs.Octets.{config_of, text_of}
 use Rattle.vl_config.specs.Rows.{table_of}
 use Rattle.receiver_slots.specs.Codes.{already_open, done, no_network, none_left, not_open}
 use Rattle.receiver_slots.specs.Handing.{has_reader, has_taker, name_code}
-use Rattle.receiver_slots.specs.Numbers.{net_of}
+use Rattle.receiver_slots.specs.Numbers.{net_of_number}
 use Rattle.receiver_slots.specs.Readers.{readers_in}
 use Rattle.receiver_slots.specs.declared.reader_slot.ReaderState.{ReaderState}
 use Rattle.receiver_slots.specs.declared.reader_slot.ReaderState.TheVariants.{Closed, Reads, Holds}
@@ -72,13 +72,13 @@ pass_code from (Some net) = if is_some (pass_left net from) then done else none_
 
 abbrev pub hand_pass_code : Option Running → Option Passing → ℕ → ℕ
 hand_pass_code None to net = not_open
-hand_pass_code (Some from) None net = pass_code from (net_of net)
+hand_pass_code (Some from) None net = pass_code from (net_of_number net)
 hand_pass_code (Some from) (Some pass) net = already_open
 
 -- the pass of the network with this number was handed out, and nothing else changed
 -- rule: EMB-25
 abbrev pub HandsPass : ℕ → Option Running → Option Running → Option Passing → Type 0
-HandsPass net (Some old) (Some new) handed = (on : Net) × (net_of net ≡ Some on) × (handed ≡ pass_left on old) × (new ≡ without_pass on old)
+HandsPass net (Some old) (Some new) handed = (on : Net) × (net_of_number net ≡ Some on) × (handed ≡ pass_left on old) × (new ≡ without_pass on old)
 HandsPass net (Some old) None handed = ⊥
 HandsPass net None new handed = ⊥
 

@@ -7,8 +7,8 @@
 //! `receiver_c` exports them.
 //!
 //! ```text
-//! let mut system = SystemSlot::empty();
-//! let mut a = PassSlot::empty();
+//! let mut system = SystemSlot::new();
+//! let mut a = PassSlot::new();
 //! system.open_text(alloc, toml, 1, &mut fault)            // DONE
 //! system.hand_pass(0, &mut a)                             // DONE: from now on `a` is of network A's thread
 //! a.receive(1000, octets, &mut frame)                     // DONE, and `frame` has the kind of the verdict

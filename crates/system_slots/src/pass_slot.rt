@@ -1,7 +1,7 @@
 //! A slot for a network's pass.
 ghost use Rattle.std.specs.Prelude.{◌≡◌, ◌<◌, ◌↔◌, ◌⊎◌, is_none, None, Some};
 ghost use Rattle.receiver_slots.specs.Codes.{busy, done, not_open};
-ghost use Rattle.system_slots.specs.Passing.{ComesToLink, CountsFiltered, CountsFrames, Passing as Seen, Receives, count_code, filtered_code};
+ghost use Rattle.system_slots.specs.Passing.{ComesToLink, TellsFiltered, CountsFrames, Passing as Seen, Receives, count_code, filtered_code};
 
 use crate::passing::Passing;
 use receiver_slots::codes::{BUSY, DONE, NO_KIND, NO_PLACE, NOT_OPEN};
@@ -24,7 +24,7 @@ impl Model for PassSlot {
 }
 
 impl PassSlot {
-    pub fn empty() -> PassSlot
+    pub fn new() -> PassSlot
         ensures { result ≡ None }
     {
         PassSlot { passing: None }
@@ -89,7 +89,7 @@ impl PassSlot {
     /// Tells the number of frames filtered on the pass's network for this cause, 1 to 5. It saturates at 2^64 - 1.
     pub fn filtered(&self, cause: u32, count: &mut u64) -> u32
         ensures code { result ≡ filtered_code self.now cause }
-        ensures counted { result ≡ done → CountsFiltered self.now cause count.new }
+        ensures counted { result ≡ done → TellsFiltered self.now cause count.new }
         ensures same { 0 < result → count.new ≡ count.old }
     {
         let Some(passing) = &self.passing else {

@@ -42,7 +42,7 @@ impl Model for SystemSlot {
 }
 
 impl SystemSlot {
-    pub fn empty() -> SystemSlot
+    pub fn new() -> SystemSlot
         ensures { result ≡ None }
     {
         SystemSlot { running: None }

@@ -13,8 +13,8 @@ use std::alloc::Global;
 use std::process::Abort;
 use std::sync::Wait;
 use test_inputs::SECOND_LINK;
-use test_inputs_live::Live;
-use test_inputs_systems::{BUILT_IN, Running, config_of};
+use test_inputs_end_system::{BUILT_IN, Running, config_of};
+use test_inputs_live_system::Live;
 
 /// Number of bursts of a schedule.
 const BURSTS: u64 = 40;

@@ -8,7 +8,7 @@ use slot_core::READERS;
 use std::alloc::Global;
 use std::process::Abort;
 use std::sync::Wait;
-use test_inputs_systems::Running;
+use test_inputs_end_system::Running;
 
 /// The system receives a frame on this network.
 pub(crate) fn receive(

@@ -2,7 +2,7 @@
 use live_system::{MailboxReader, RingTaker};
 use receiver::Reading;
 use std::process::Abort;
-use test_inputs_live::Live;
+use test_inputs_live_system::Live;
 
 /// A reader of the sampling port with this name.
 pub(crate) fn reader_of(rt: &impl Abort, live: &mut Live, name: &str) -> MailboxReader {

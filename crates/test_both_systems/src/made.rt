@@ -5,7 +5,7 @@ use std::alloc::Global;
 use test_inputs::fragments::{PacketName, padding_after};
 use test_inputs::rows::NAV_UDP;
 use test_inputs::{ETHERNET, IP, PAYLOAD, frame_of};
-use test_inputs_systems::smallest_for;
+use test_inputs_end_system::smallest_for;
 
 /// The numbers of the links that are configured.
 pub(crate) const LINKS: [u16; 2] = [17, 18];

@@ -1,6 +1,6 @@
 //! The whole life of a receiver.
 ghost use Rattle.std.specs.Prelude.{◌≡◌, IfOk};
-ghost use Rattle.es_base.specs.Limits.{verdict_kinds};
+ghost use Rattle.es_base.specs.Verdict.{verdict_kinds};
 ghost use Rattle.es_base.specs.Tally.{IsKind};
 ghost use Rattle.es_base.specs.declared.place.Net.TheVariants.{A, B};
 ghost use Rattle.end_system.specs.System.{IsPassOf};

@@ -10,7 +10,7 @@ use test_inputs::rows::{
     packet_row, smallest_row,
 };
 use test_inputs::{ETHERNET, IP, PAYLOAD, frame_of};
-use test_inputs_systems::config_of;
+use test_inputs_end_system::config_of;
 
 /// A frame of link 17 on network A: its time in microseconds, its octets, and what becomes of it.
 #[derive(Drop)]

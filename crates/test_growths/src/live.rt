@@ -7,7 +7,7 @@ use live_system::Reply;
 use std::alloc::Global;
 use std::process::Abort;
 use std::sync::Wait;
-use test_inputs_live::Live;
+use test_inputs_live_system::Live;
 
 /// An opening that lacks memory leaves nothing; the same one made again opens the system.
 fn open(rt: &(impl Abort + Eprint), alloc: Global, case: &Case) -> Live {
@@ -32,7 +32,7 @@ fn check_opened(rt: &(impl Abort + Eprint + Wait), alloc: Global, case: &Case) {
         place = place.wrapping_add(1);
     }
     for link in &live.settle().links {
-        assert!(rt; link.came() == place);
+        assert!(rt; link.received() == place);
     }
 }
 

@@ -66,7 +66,7 @@ fn check_answer(
     wanted: (u32, FaultReply),
     links: Option<usize>,
 ) {
-    let mut slot = ReceiverSlot::empty();
+    let mut slot = ReceiverSlot::new();
     let mut answer = open(alloc, &mut slot, text);
     if answer != wanted {
         check_refused(rt, &slot, answer);

@@ -9,7 +9,7 @@ use std::process::Abort;
 use std::sync::Wait;
 use std::thread::Threads;
 use test_inputs::{ETHERNET, IP, PAYLOAD, SECOND_LINK, ScriptedReader, ScriptedWriter, UDP};
-use test_inputs_systems::{BUILT_IN, config_of};
+use test_inputs_end_system::{BUILT_IN, config_of};
 use thread_player::play_threads;
 use trace_player::{Device, PlayFault};
 

@@ -12,7 +12,7 @@ use slot_core::READERS;
 use std::alloc::Global;
 use std::process::Abort;
 use std::sync::Wait;
-use test_inputs_systems::Running;
+use test_inputs_end_system::Running;
 
 /// The link of the built-in configuration.
 const VL: LinkNo = LinkNo(17);

@@ -22,8 +22,8 @@ use std::alloc::Global;
 use std::process::Abort;
 use std::sync::Wait;
 use test_inputs::CONSTANT;
-use test_inputs_live::Live;
-use test_inputs_systems::Running;
+use test_inputs_end_system::Running;
+use test_inputs_live_system::Live;
 
 /// Number of octets of the growth that refused ones follow.
 const MARK: usize = 1_000_003;
@@ -143,7 +143,7 @@ fn is_whole(offered: &Offered<'_>) -> bool {
 }
 
 fn check_reassembly(rt: &impl Abort, alloc: Global, case: &Case) {
-    let mut reassembly = Reassembly::new(alloc, 50_000).expect(rt, OWN);
+    let mut reassembly = Reassembly::open(alloc, 50_000).expect(rt, OWN);
     mark(rt, alloc);
     let last = case.rows.len().wrapping_sub(1);
     for (place, row) in case.rows.iter().enumerate() {
@@ -300,7 +300,7 @@ fn check_receiver(rt: &impl Abort, alloc: Global, case: &Case) {
     assert!(rt; taken > 0 && receiver.filtered(A, FilterCause::TooShort) == 100);
     let link = receiver.link(0).expect(rt, "a link");
     assert!(rt; link.count(B, VerdictKind::Redundant) == link.tally().count(B, 2));
-    assert!(rt; link.came() == (case.rows.len() as u64).wrapping_mul(200));
+    assert!(rt; link.received() == (case.rows.len() as u64).wrapping_mul(200));
 }
 
 // rule: EMB-1, EMB-40
@@ -360,7 +360,7 @@ fn check_live(rt: &(impl Abort + Wait), alloc: Global, case: &Case) {
     }
     let settled = live.settle();
     for link in &settled.links {
-        assert!(rt; link.came() == (frames.len() as u64).wrapping_mul(200));
+        assert!(rt; link.received() == (frames.len() as u64).wrapping_mul(200));
         assert!(rt; link.tally().count(B, 2) > 0);
     }
 }

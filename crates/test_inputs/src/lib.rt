@@ -7,6 +7,7 @@ pub mod fragments;
 mod frames;
 mod greatest;
 mod links;
+pub mod outputs;
 pub mod rows;
 mod words;
 

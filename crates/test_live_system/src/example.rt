@@ -19,7 +19,7 @@ fn check_example<R: Abort + Threads + Wait + Sync>(rt: &R, alloc: Global) {
         let tally = link.tally();
         let sampled = tally.count(A, 10).wrapping_add(tally.count(B, 10));
         let redundant = tally.count(A, 2).wrapping_add(tally.count(B, 2));
-        assert!(rt; link.came() == 2 && sampled == 1 && redundant == 1);
+        assert!(rt; link.received() == 2 && sampled == 1 && redundant == 1);
     }
 }
 

@@ -24,7 +24,7 @@ fn check_rows(rt: &(impl Abort + Wait), alloc: Global, rows: &[FrameRow<'_>]) {
     let settled = running.settle();
     assert!(rt; settled.links.len() == 1);
     for link in &settled.links {
-        assert!(rt; link.settings().vl() == LINK_17 && link.came() == place);
+        assert!(rt; link.settings().vl() == LINK_17 && link.received() == place);
     }
 }
 
@@ -87,7 +87,7 @@ fn check_too_short(rt: &(impl Abort + Wait), alloc: Global) {
     assert!(rt; settled.b.filtered(FilterCause::TooShort) == 2);
     assert!(rt; settled.b.filtered(FilterCause::UnknownLink) == 0);
     for link in &settled.links {
-        assert!(rt; link.came() == 0);
+        assert!(rt; link.received() == 0);
     }
 }
 

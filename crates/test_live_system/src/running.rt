@@ -6,7 +6,7 @@ use std::process::Abort;
 use std::sync::Wait;
 use test_inputs::rows::FrameRow;
 use test_inputs::{ETHERNET, frame_of};
-use test_inputs_live::Live;
+use test_inputs_live_system::Live;
 use vl_config::{BUILT_IN, read_config};
 
 /// The link of the built-in configuration.

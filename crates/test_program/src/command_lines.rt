@@ -1,4 +1,4 @@
-//! The words of a command line: which are a line, which ask for help, and which are refused.
+//! The words of a command line: which are a line, which ask for help or the version, and which are refused.
 use crate::shelf::words_in;
 use command_line::{Line, LineFault, line_of};
 use std::alloc::{AllocError, Global};
@@ -19,7 +19,7 @@ fn text_of_line(alloc: Global, line: &Line) -> Result<String, AllocError> {
 fn text_of(alloc: Global, answer: Result<Line, LineFault>) -> Result<String, AllocError> {
     match answer {
         Ok(line) => text_of_line(alloc, &line),
-        Err(LineFault::Help(error)) => format!(in alloc; "help: {error}"),
+        Err(LineFault::Shown(error)) => format!(in alloc; "shown: {error}"),
         Err(LineFault::Refused(error)) => format!(in alloc; "refused: {error}"),
         Err(LineFault::Memory) => Err(AllocError),
     }
@@ -72,10 +72,12 @@ fn reads_the_files(rt: HostRuntime) {
     check_lines(&rt, rt.alloc(), &files());
 }
 
-fn help_and_refusals() -> [Row; 8] {
+fn requests_and_refusals() -> [Row; 10] {
     [
-        ("--help", "help: "),
-        ("--config c -h", "help: "),
+        ("--help", "shown: Plays "),
+        ("--config c -h", "shown: Plays "),
+        ("--version", "shown: afdx_play "),
+        ("--config c -V", "shown: afdx_play "),
         ("", "refused: "),
         ("--config c --a x --d z --b y", "refused: "),
         ("--config c --a x --a x --b y", "refused: "),
@@ -87,14 +89,14 @@ fn help_and_refusals() -> [Row; 8] {
 
 // rule: CMD-1, CMD-5, FAULT-3
 #[test]
-fn help_and_refusals_differ(rt: HostRuntime) {
-    check_starts(&rt, rt.alloc(), &help_and_refusals());
+fn requests_and_refusals_differ(rt: HostRuntime) {
+    check_starts(&rt, rt.alloc(), &requests_and_refusals());
 }
 
 // rule: CMD-5
 #[test]
 fn prints_the_help(rt: HostRuntime) {
-    let expected = "help: Plays the hex traces of two redundant networks through a receiver
+    let expected = "shown: Plays the hex traces of two redundant networks through a receiver
 
 Usage: afdx_play [OPTIONS] --config <FILE> --a <FILE> --b <FILE>
 
@@ -105,6 +107,7 @@ Options:
       --at <MICROSECONDS>  the time of the report, in microseconds; by default the greatest arrival time
       --threads            a thread for each network, as fast as it can: which frame a link takes first isn't told by its time
   -h, --help               Print help
+  -V, --version            Print version
 ";
     check_line(&rt, rt.alloc(), "--help", expected);
 }
@@ -184,7 +187,7 @@ fn reads_the_time(rt: HostRuntime) {
     check_lines(&rt, rt.alloc(), &times());
 }
 
-fn bad_times() -> [Row; 10] {
+fn times_that_are_no_numbers() -> [Row; 7] {
     [
         (
             "--config c --a x --b y --at 9223372036854775808",
@@ -214,6 +217,11 @@ fn bad_times() -> [Row; 10] {
             "--config c --a x --b y --at ",
             "refused: error: invalid value '' for '--at <MICROSECONDS>': ",
         ),
+    ]
+}
+
+fn too_few_or_too_many_times() -> [Row; 3] {
+    [
         (
             "--config c --a x --b y --at",
             "refused: error: a value is required for '--at <MICROSECONDS>' but none was supplied",
@@ -232,7 +240,8 @@ fn bad_times() -> [Row; 10] {
 // rule: CMD-2, FAULT-3
 #[test]
 fn refuses_what_is_no_time(rt: HostRuntime) {
-    check_starts(&rt, rt.alloc(), &bad_times());
+    check_starts(&rt, rt.alloc(), &times_that_are_no_numbers());
+    check_starts(&rt, rt.alloc(), &too_few_or_too_many_times());
 }
 
 // rule: CMD-2, FAULT-3

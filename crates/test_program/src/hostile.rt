@@ -8,6 +8,7 @@ use std::sync::Wait;
 use std::thread::Threads;
 use test_inputs::fragments::PacketName::{EmptyFirst, EndAt16, First, NextFrom65528};
 use test_inputs::fragments::{PacketName, padding_after};
+use test_inputs::outputs::{FRESH, LINE};
 use test_inputs::{ETHERNET, ReadCall, ScriptedReader, WriteCall, frame_of, longest};
 use vl_config::BUILT_IN;
 
@@ -20,19 +21,6 @@ const NO_EVENTS: &str = "count 17 A 0 0 0 0 0 0 0 0 0 0 0 0 0\n\
 
 /// Network A filtered nothing, and neither did B.
 const NONE_FILTERED: &str = "filtered A 0 0 0 0 0\nfiltered B 0 0 0 0 0\n";
-
-/// The smallest frame as a line of a trace.
-const LINE: &str = "1000 03000000001102000000012008004500002d000100000111cdcc0a010101e0e00011\
-    13891388001900000102030405060708090a0b0c0d0e0f101100\n";
-
-/// The output for it.
-const OUTPUT: &str = "1000 A vl 17 0 sampled pos 1\n\
-    port pos sampling 1 1000 17 fresh 0102030405060708090a0b0c0d0e0f1011\n\
-    port nav queuing 0\n\
-    count 17 A 0 0 0 0 0 0 0 0 0 1 0 0 0\n\
-    count 17 B 0 0 0 0 0 0 0 0 0 0 0 0 0\n\
-    filtered A 0 0 0 0 0\n\
-    filtered B 0 0 0 0 0\n";
 
 fn played(output: &str) -> Wanted<'_> {
     Wanted {
@@ -277,7 +265,7 @@ fn check_room(
     let calls = [WriteCall::Takes(room), then];
     let wanted = Wanted {
         status: 3,
-        output: OUTPUT.get(..room).expect(rt, "a beginning"),
+        output: FRESH.get(..room).expect(rt, "a beginning"),
         errors: "afdx_play: output not written\n",
         asked: 0,
     };
@@ -288,7 +276,7 @@ fn check_room(
 // rule: FAULT-2
 #[test]
 fn a_writer_fails_or_takes_nothing_more_after_each_byte(rt: HostRuntime) {
-    for room in 0..OUTPUT.len() {
+    for room in 0..FRESH.len() {
         check_room(&rt, rt.alloc(), room, WriteCall::Fails);
         check_room(&rt, rt.alloc(), room, WriteCall::Takes(0));
     }
@@ -297,7 +285,7 @@ fn a_writer_fails_or_takes_nothing_more_after_each_byte(rt: HostRuntime) {
 // rule: TRACE-11, OUT-3
 #[test]
 fn a_trace_comes_and_goes_byte_by_byte(rt: HostRuntime) {
-    let calls = [WriteCall::Takes(1); OUTPUT.len()];
+    let calls = [WriteCall::Takes(1); FRESH.len()];
     let read = ReadCall::Drips(LINE.as_bytes());
-    check_streams(&rt, rt.alloc(), read, &calls, played(OUTPUT));
+    check_streams(&rt, rt.alloc(), read, &calls, played(FRESH));
 }

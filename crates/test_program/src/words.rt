@@ -6,6 +6,7 @@ use std::process::Abort;
 use std::sync::Wait;
 use std::thread::Threads;
 use test_inputs::ScriptedReader;
+use test_inputs::outputs::{FRESH, LINE, NO_FRAMES};
 use vl_config::BUILT_IN;
 
 const HELP: &str = "Plays the hex traces of two redundant networks through a receiver
@@ -19,6 +20,7 @@ Options:
       --at <MICROSECONDS>  the time of the report, in microseconds; by default the greatest arrival time
       --threads            a thread for each network, as fast as it can: which frame a link takes first isn't told by its time
   -h, --help               Print help
+  -V, --version            Print version
 ";
 
 const REFUSAL: &str = "error: the following required arguments were not provided:
@@ -33,35 +35,13 @@ For more information, try '--help'.
 /// the standard error.
 type Row = (&'static str, &'static str, u8, &'static str, &'static str);
 
-/// A frame of link 17 for the port `pos`.
-const FRAME: &str =
-    "1000 03000000001102000000012008004500002d000100000111cdcc0a010101e0e0001113891388001900000102030405060708090a0b0c0d0e0f101100\n";
-
-/// The output for that frame, with its report.
-const ONE_FRAME: &str = "1000 A vl 17 0 sampled pos 1
-port pos sampling 1 1000 17 fresh 0102030405060708090a0b0c0d0e0f1011
-port nav queuing 0
-count 17 A 0 0 0 0 0 0 0 0 0 1 0 0 0
-count 17 B 0 0 0 0 0 0 0 0 0 0 0 0 0
-filtered A 0 0 0 0 0
-filtered B 0 0 0 0 0
-";
-
-const NO_FRAMES: &str = "port pos sampling empty
-port nav queuing 0
-count 17 A 0 0 0 0 0 0 0 0 0 0 0 0 0
-count 17 B 0 0 0 0 0 0 0 0 0 0 0 0 0
-filtered A 0 0 0 0 0
-filtered B 0 0 0 0 0
-";
-
 fn runs_without_files() -> [Row; 5] {
     [
-        ("", FRAME, 0, ONE_FRAME, ""),
+        ("", LINE, 0, FRESH, ""),
         ("", "", 0, NO_FRAMES, ""),
         ("", "\n7", 1, "", "afdx_play: trace A line 2: space\n"),
-        ("--help", FRAME, 0, HELP, ""),
-        ("--config c --a x", FRAME, 2, "", REFUSAL),
+        ("--help", LINE, 0, HELP, ""),
+        ("--config c --a x", LINE, 2, "", REFUSAL),
     ]
 }
 
@@ -100,7 +80,7 @@ fn check_unread(
         asked: 0,
     };
     let words = Err(Error::from(kind));
-    check_run(rt, alloc, words, FRAME, empty_shelf(alloc), wanted);
+    check_run(rt, alloc, words, LINE, empty_shelf(alloc), wanted);
 }
 
 // rule: FAULT-4, FAULT-6
@@ -126,7 +106,7 @@ filtered B 1 0 0 0 0
 fn check_line(rt: &(impl Abort + Threads + Wait + Sync), alloc: Global, config: &str) {
     let files = (
         Ok(config.as_bytes()),
-        Ok(ScriptedReader::of(FRAME.as_bytes())),
+        Ok(ScriptedReader::of(LINE.as_bytes())),
         Ok(ScriptedReader::of(b"900 00")),
     );
     let wanted = Wanted {
@@ -161,7 +141,7 @@ fn check_threads(rt: &(impl Abort + Threads + Wait + Sync), alloc: Global) {
     let shelf = Shelf {
         alloc,
         c: Ok(BUILT_IN.as_bytes()),
-        x: Ok(ScriptedReader::of(FRAME.as_bytes())),
+        x: Ok(ScriptedReader::of(LINE.as_bytes())),
         y: Ok(ScriptedReader::of(b"900 00")),
         asked: 0,
     };

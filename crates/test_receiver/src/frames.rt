@@ -158,7 +158,7 @@ fn count_all(rt: &impl Abort, given: &Given) -> u64 {
         all = all.wrapping_add(link.count(A, kind));
         all = all.wrapping_add(link.count(B, kind));
     }
-    assert!(rt; link.came() == all);
+    assert!(rt; link.received() == all);
     all
 }
 

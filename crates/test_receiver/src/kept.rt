@@ -5,7 +5,7 @@ use es_base::Net::A;
 use es_base::PortNo;
 use es_base::Verdict::{Overflow, Queued, Sampled};
 use kept_messages::{KeptOutlet, first_at, newest_at, queued_at};
-use receiver::{OpenLink, Opened, ReaderCount, Receiver};
+use receiver::{LinkWithPorts, Opened, ReaderCount, Receiver};
 use std::alloc::Global;
 use std::process::Abort;
 use test_inputs::rows::{FrameRow, NAV, NAV_UDP, POS};
@@ -27,12 +27,12 @@ fn rows() -> [FrameRow<'static>; 9] {
 }
 
 /// The message at this place of the queue of `nav` came at this time.
-fn check_queued(rt: &impl Abort, link: &OpenLink<KeptOutlet>, place: usize, time: u64) {
+fn check_queued(rt: &impl Abort, link: &LinkWithPorts<KeptOutlet>, place: usize, time: u64) {
     let message = queued_at(link, NAV, place).expect(rt, "a message");
     assert!(rt; message.time == time && message.octets == OCTETS.as_slice());
 }
 
-fn check_link(rt: &impl Abort, link: &OpenLink<KeptOutlet>) {
+fn check_link(rt: &impl Abort, link: &LinkWithPorts<KeptOutlet>) {
     let newest = newest_at(link, POS).expect(rt, "a sample");
     assert!(rt; newest.number == 3 && newest.time == 8000);
     assert!(rt; newest.octets == OCTETS.as_slice());
@@ -45,7 +45,7 @@ fn check_link(rt: &impl Abort, link: &OpenLink<KeptOutlet>) {
 }
 
 /// Ports that the link doesn't have, or of the other kind.
-fn check_others(rt: &impl Abort, link: &OpenLink<KeptOutlet>) {
+fn check_others(rt: &impl Abort, link: &LinkWithPorts<KeptOutlet>) {
     let none = PortNo(2);
     assert!(rt; newest_at(link, NAV).is_none() && newest_at(link, none).is_none());
     assert!(rt; queued_at(link, POS, 0).is_none() && queued_at(link, none, 0).is_none());

@@ -84,7 +84,7 @@ pub(crate) fn octets_of(rt: &impl Abort, alloc: Global, rows: &[FrameRow<'_>]) -
 }
 
 /// It is this verdict of link 17, the first of the configuration, after so many frames of it.
-pub(crate) fn check_reply(rt: &impl Abort, reply: Reply, came: u64, wanted: Verdict) {
+pub(crate) fn check_reply(rt: &impl Abort, reply: Reply, received: u64, wanted: Verdict) {
     match reply {
         Reply::Link {
             at,
@@ -92,7 +92,7 @@ pub(crate) fn check_reply(rt: &impl Abort, reply: Reply, came: u64, wanted: Verd
             place,
             verdict,
         } => {
-            assert!(rt; at == 0 && vl.0 == 17 && place == came && verdict == wanted);
+            assert!(rt; at == 0 && vl.0 == 17 && place == received && verdict == wanted);
         }
         Reply::Filtered(_) => panic!(rt; "a frame of link 17"),
     }
@@ -108,9 +108,9 @@ pub(crate) fn check_frames<P: Outlet>(
     let frames = octets_of(rt, alloc, rows);
     for (row, octets) in rows.iter().zip(frames.iter()) {
         let (net, time, _, _, _, _, verdict) = *row;
-        let came = receiver.link(0).expect(rt, "a link").came();
+        let received = receiver.link(0).expect(rt, "a link").received();
         let reply = receiver.receive(net, time, octets);
-        check_reply(rt, reply, came, verdict);
+        check_reply(rt, reply, received, verdict);
     }
 }
 

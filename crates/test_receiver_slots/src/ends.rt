@@ -19,7 +19,7 @@ const QUEUED: u32 = 11;
 
 /// A reader of `pos`.
 fn reader(rt: &impl Abort, slot: &mut ReceiverSlot) -> ReaderSlot {
-    let mut reader = ReaderSlot::empty();
+    let mut reader = ReaderSlot::new();
     let code = slot.hand_reader(&mut reader, b"pos");
     assert!(rt; code == DONE);
     reader
@@ -38,7 +38,7 @@ fn message(number: u64, valid: u32) -> ReadReply {
 
 /// Why a slot gets no reader.
 fn refusal(slot: &mut ReceiverSlot, name: &[u8]) -> u32 {
-    let mut to = ReaderSlot::empty();
+    let mut to = ReaderSlot::new();
     let code = slot.hand_reader(&mut to, name);
     let _ = to.into_reader();
     code
@@ -89,11 +89,11 @@ fn newest_is_read(
     let mut out = [0; 18];
     let nothing = read(pos, 0, &mut out) == (DONE, NOTHING_READ)
         && hold(pos, 0) == (DONE, NOTHING_READ);
-    let came = bring(rt, alloc, slot, false, 1) == SAMPLED
+    let received = bring(rt, alloc, slot, false, 1) == SAMPLED
         && bring(rt, alloc, slot, false, 2) == SAMPLED;
     let fresh = read(pos, 22_000, &mut out) == (DONE, message(2, 1));
     let stale = read(pos, 22_001, &mut out) == (DONE, message(2, 0));
-    nothing && came && fresh && stale && out.starts_with(&OCTETS) && out.last() == Some(&0)
+    nothing && received && fresh && stale && out.starts_with(&OCTETS) && out.last() == Some(&0)
 }
 
 /// The message is held while twenty more come, is copied, and is released.
@@ -108,9 +108,9 @@ fn message_is_held(
     let nowhere = pos.octets() == None;
     let stale = hold(pos, 22_001) == (DONE, message(2, 0)) && pos.release() == DONE;
     let held = hold(pos, 22_000) == (DONE, message(2, 1));
-    let mut came = 0;
+    let mut received = 0;
     for number in 3..23u8 {
-        came = bring(rt, alloc, slot, false, number);
+        received = bring(rt, alloc, slot, false, number);
     }
     let again = hold(pos, 0).0 == HOLDS_ONE && read(pos, 0, &mut part).0 == HOLDS_ONE;
     let in_place = pos.octets() == Some(&OCTETS[..]);
@@ -120,7 +120,7 @@ fn message_is_held(
     let released = pos.release() == DONE && pos.release() == HOLDS_NONE;
     let newest = read(pos, 22_000, &mut part) == (DONE, message(22, 1));
     let is_told = before && stale && held && again && released && newest;
-    is_told && came == SAMPLED && nowhere && in_place && copied && too_far
+    is_told && received == SAMPLED && nowhere && in_place && copied && too_far
 }
 
 /// The limits of `pos`; a reader that holds a message is closed.
@@ -168,13 +168,13 @@ fn check_taker_handed(rt: &impl Abort, slot: &mut ReceiverSlot, nav: &mut TakerS
     assert!(rt;
         slot.hand_taker(nav, b"nav") == DONE && slot.hand_taker(nav, b"nav") == ALREADY_OPEN
     );
-    let mut other = TakerSlot::empty();
+    let mut other = TakerSlot::new();
     assert!(rt; slot.hand_taker(&mut other, b"nav") == NONE_LEFT);
-    assert!(rt; ReceiverSlot::empty().hand_taker(&mut other, b"nav") == NOT_OPEN);
+    assert!(rt; ReceiverSlot::new().hand_taker(&mut other, b"nav") == NOT_OPEN);
 }
 
 fn check_takes(rt: &impl Abort, alloc: Global) {
-    let (mut slot, mut nav) = (opened(rt, alloc), TakerSlot::empty());
+    let (mut slot, mut nav) = (opened(rt, alloc), TakerSlot::new());
     check_taker_handed(rt, &mut slot, &mut nav);
     let mut out = [0; 8192];
     assert!(rt; take(&mut nav, &mut out) == (DONE, NOTHING_TAKEN));
@@ -206,7 +206,7 @@ fn a_taker_takes_each_message_once_and_in_order(rt: HostRuntime) {
 
 /// A sample comes at this time, and then a message for `nav`: both have it.
 fn check_time(rt: &impl Abort, alloc: Global, time: u64) {
-    let (mut slot, mut nav) = (opened(rt, alloc), TakerSlot::empty());
+    let (mut slot, mut nav) = (opened(rt, alloc), TakerSlot::new());
     let mut pos = reader(rt, &mut slot);
     assert!(rt; slot.hand_taker(&mut nav, b"nav") == DONE);
     let sampled = reply(rt, &mut slot, (0, time), &frame(rt, alloc, false, 1)).kind;

@@ -60,7 +60,7 @@ pub(crate) fn text(rt: &impl Abort, alloc: Global) -> String {
 
 /// A receiver of the configuration of this text.
 pub(crate) fn opened_with(rt: &impl Abort, alloc: Global, text: &str) -> ReceiverSlot {
-    let mut slot = ReceiverSlot::empty();
+    let mut slot = ReceiverSlot::new();
     let mut fault = NO_FAULT;
     assert!(rt; slot.open_text(alloc, text.as_bytes(), 8, &mut fault) == DONE);
     assert!(rt; fault == NO_FAULT);

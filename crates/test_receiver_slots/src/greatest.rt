@@ -66,7 +66,7 @@ fn check_frame(rt: &impl Abort, alloc: Global, slot: &mut ReceiverSlot, port: u1
 
 /// The reader of a sampling port finds its message.
 fn check_read(rt: &impl Abort, slot: &mut ReceiverSlot, port: u16, name: &[u8]) {
-    let mut reader = ReaderSlot::empty();
+    let mut reader = ReaderSlot::new();
     assert!(rt; slot.hand_reader(&mut reader, name) == DONE, "{port}");
     let wanted = ReadReply {
         found: 1,
@@ -83,7 +83,7 @@ fn check_read(rt: &impl Abort, slot: &mut ReceiverSlot, port: u16, name: &[u8]) 
 
 /// The taker of a queuing port takes its message.
 fn check_taken(rt: &impl Abort, slot: &mut ReceiverSlot, port: u16, name: &[u8]) {
-    let mut taker = TakerSlot::empty();
+    let mut taker = TakerSlot::new();
     assert!(rt; slot.hand_taker(&mut taker, name) == DONE, "{port}");
     let wanted = TakeReply {
         found: 1,

@@ -45,7 +45,7 @@ fn is_closed(slot: &mut ReceiverSlot) -> bool {
 }
 
 fn check_fault(rt: &impl Abort, alloc: Global, text: &[u8], wanted: FaultReply) {
-    let mut slot = ReceiverSlot::empty();
+    let mut slot = ReceiverSlot::new();
     let mut told = NO_FAULT;
     assert!(rt; slot.open_text(alloc, text, 8, &mut told) == FAULTY);
     assert!(rt; told == wanted, "{told:?}");
@@ -110,14 +110,14 @@ fn the_fault_of_a_text_is_told_by_numbers(rt: HostRuntime) {
 fn check_reader_counts(rt: &impl Abort, alloc: Global) {
     let text = text(rt, alloc);
     let octets = text.as_str().as_bytes();
-    let mut slot = ReceiverSlot::empty();
+    let mut slot = ReceiverSlot::new();
     let mut fault = NO_FAULT;
     for readers in [0, 9, usize::MAX] {
         assert!(rt; slot.open_text(alloc, octets, readers, &mut fault) == OUT_OF_RANGE);
         assert!(rt; is_closed(&mut slot) && fault == NO_FAULT);
     }
     assert!(rt; slot.open_text(alloc, octets, 1, &mut fault) == DONE);
-    let (mut one, mut other) = (ReaderSlot::empty(), ReaderSlot::empty());
+    let (mut one, mut other) = (ReaderSlot::new(), ReaderSlot::new());
     assert!(rt; slot.hand_reader(&mut one, b"pos") == DONE);
     assert!(rt; slot.hand_reader(&mut other, b"pos") == NONE_LEFT);
 }

@@ -44,9 +44,9 @@ struct Running {
 fn opened(rt: &impl Abort, alloc: Global) -> Running {
     let text = text(rt, alloc);
     let mut running = Running {
-        system: SystemSlot::empty(),
-        a: PassSlot::empty(),
-        b: PassSlot::empty(),
+        system: SystemSlot::new(),
+        a: PassSlot::new(),
+        b: PassSlot::new(),
     };
     let mut fault = NO_FAULT;
     let Running { system, a, b } = &mut running;
@@ -103,8 +103,8 @@ fn check_counts(rt: &impl Abort, a: &PassSlot, b: &PassSlot) {
 
 /// A reader finds the sample, and the taker the message.
 fn check_ends(rt: &impl Abort, system: &mut SystemSlot) {
-    let (mut pos, mut other) = (ReaderSlot::empty(), ReaderSlot::empty());
-    let mut nav = TakerSlot::empty();
+    let (mut pos, mut other) = (ReaderSlot::new(), ReaderSlot::new());
+    let mut nav = TakerSlot::new();
     assert!(rt; system.hand_reader(&mut pos, b"pos") == DONE);
     assert!(rt; system.hand_reader(&mut pos, b"pos") == ALREADY_OPEN);
     assert!(rt; system.hand_reader(&mut other, b"pos") == NONE_LEFT);
@@ -144,7 +144,7 @@ fn check_passes(rt: &impl Abort, alloc: Global) {
         mut a,
         ..
     } = opened(rt, alloc);
-    let mut other = PassSlot::empty();
+    let mut other = PassSlot::new();
     assert!(rt; system.hand_pass(A, &mut a) == ALREADY_OPEN);
     assert!(rt; system.hand_pass(2, &mut other) == NO_NETWORK);
     assert!(rt; system.hand_pass(A, &mut other) == NONE_LEFT);
@@ -179,7 +179,7 @@ fn a_pass_is_handed_out_once_and_outlives_its_system(rt: HostRuntime) {
 fn check_opened_twice(rt: &impl Abort, alloc: Global) {
     let text = text(rt, alloc);
     let octets = text.as_str().as_bytes();
-    let mut system = SystemSlot::empty();
+    let mut system = SystemSlot::new();
     let mut fault = NO_FAULT;
     assert!(rt; system.open_text(alloc, octets, 9, &mut fault) == OUT_OF_RANGE);
     assert!(rt; system.open_text(alloc, octets, 8, &mut fault) == DONE && fault == NO_FAULT);

@@ -68,7 +68,7 @@ fn told(rt: &impl Abort, slot: &ReceiverSlot, port: usize) -> (LinkReply, PortRe
 
 fn check_table(rt: &impl Abort, alloc: Global) {
     let text = opened_with(rt, alloc, BUILT_IN);
-    let mut slot = ReceiverSlot::empty();
+    let mut slot = ReceiverSlot::new();
     let mut fault = NO_FAULT;
     let (links, ports) = (&[LINK][..], &[POS, NAV][..]);
     assert!(rt; slot.open_table(alloc, &CONSTANT, links, ports, 9, &mut fault) == OUT_OF_RANGE);
@@ -94,7 +94,7 @@ fn check_fault(
     ports: &[PortRow],
     wanted: FaultReply,
 ) {
-    let mut slot = ReceiverSlot::empty();
+    let mut slot = ReceiverSlot::new();
     let mut fault = NO_FAULT;
     assert!(rt; slot.open_table(alloc, &CONSTANT, &[link], ports, 1, &mut fault) == FAULTY);
     assert!(rt; fault == wanted, "{fault:?}");
@@ -130,7 +130,7 @@ fn the_fault_of_a_table_is_that_of_a_text_without_a_line(rt: HostRuntime) {
 /// How many readers of this port can be handed out of a receiver that is opened from these ports, with this number for
 /// those that have none of their own.
 fn handed(rt: &impl Abort, alloc: Global, ports: &[PortRow], readers: usize, name: &[u8]) -> usize {
-    let mut slot = ReceiverSlot::empty();
+    let mut slot = ReceiverSlot::new();
     let mut fault = NO_FAULT;
     let link = LinkRow {
         ports: ports.len(),
@@ -138,7 +138,7 @@ fn handed(rt: &impl Abort, alloc: Global, ports: &[PortRow], readers: usize, nam
     };
     assert!(rt; slot.open_table(alloc, &CONSTANT, &[link], ports, readers, &mut fault) == DONE);
     for count in 0..9 {
-        let mut reader = ReaderSlot::empty();
+        let mut reader = ReaderSlot::new();
         let code = slot.hand_reader(&mut reader, name);
         if code != DONE {
             assert!(rt; code == NONE_LEFT);
@@ -166,7 +166,7 @@ fn check_readers(rt: &impl Abort, alloc: Global) {
     assert!(rt; handed(rt, alloc, &ports, 3, b"one") == 1);
     assert!(rt; handed(rt, alloc, &ports, 3, b"big") == 8);
     let nine = PortRow { readers: 9, ..POS };
-    let mut slot = ReceiverSlot::empty();
+    let mut slot = ReceiverSlot::new();
     let mut fault = NO_FAULT;
     let links = &[LINK][..];
     assert!(rt;

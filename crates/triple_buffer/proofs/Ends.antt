@@ -9,18 +9,18 @@ use Rattle.triple_buffer.specs.declared.latest.Latest.{Latest}
 use Rattle.triple_buffer.specs.declared.rule.SeatView.{SeatView}
 use Rattle.triple_buffer.specs.declared.rule.ReaderView.{ReaderView}
 use Rattle.triple_buffer.specs.declared.rule.SeatView.TheVariants.{Writes, Reads}
-use Rattle.triple_buffer.specs.Rule.{HasRoom, IsLastOf, StartsWith, first_reader, first_writer, message_in, place_in}
+use Rattle.triple_buffer.specs.Rule.{HasRoom, IsLastOf, StartsWith, first_reader, first_writer, message_in, place_of_word}
 use Rattle.triple_buffer.specs.Plays.{At, IsFilledAt, learns, published, publishes, reader_enters, reader_of, sees_all, sees_newer, taken, takes, writer_enters, writer_of}
-use Rattle.triple_buffer.specs.Ends.{IsReadOf, IsReader, IsReceived, IsSent, IsWriter, MayReceive, MaySend, ReaderEnd, has_all, is_told, reader_end}
+use Rattle.triple_buffer.specs.Ends.{IsReadOf, IsReaderSeat, IsReceived, IsPublishedBy, IsWriter, MayReceive, MaySend, ReaderEnd, has_all, is_told, reader_end}
 use Rattle.triple_buffer.proofs.Turns.{May, receive_at, send_at, starts_same, starts_trans}
 
 -- a seat with this view, and with the place as before
 at_view : (me me' : At) (v : SeatView) → me'.0 ≡ v → me'.1 ≡ me.1 → me' ≡ (v, me.1)
 at_view me me' v a b = λ i. (a i, b i)
 
-pub told_reader : (me me' : At) (slot longest : ℕ) (has : Option Latest) (all : List Message) → IsReader me slot longest has → me' ≡ (Reads (learns (reader_of me.0) all), me.1)
-    → StartsWith all (reader_of me.0).known → IsReader me' slot longest has
-told_reader me me' slot longest has all i is before = subst (λ (y : At). IsReader y slot longest has) (sym is) (record {
+pub told_reader : (me me' : At) (slot longest : ℕ) (has : Option Latest) (all : List Message) → IsReaderSeat me slot longest has → me' ≡ (Reads (learns (reader_of me.0) all), me.1)
+    → StartsWith all (reader_of me.0).known → IsReaderSeat me' slot longest has
+told_reader me me' slot longest has all i is before = subst (λ (y : At). IsReaderSeat y slot longest has) (sym is) (record {
   view = refl;
   place = i.place;
   below = i.below;
@@ -61,7 +61,7 @@ filled_may_send me me1 slot longest count message i same f =
     may_send me me1 slot longest count f.4.1 i same (f.3 ∙ ap (λ (x : Option Latest). (slot, x) ∷ []) f.4.3) (f.4.6 ∙ ap (λ (b : Latest). length b.octets.items) was ∙ i.room) f.4.4
 
 -- what a publication made of the writer
-pub sent_writer : (me me1 me2 : At) (slot slot' longest count : ℕ) (sent : Latest) → IsWriter me slot longest count → me1.0 ≡ me.0 → IsSent longest me1 me2 sent slot' → IsWriter me2 slot' longest (count + 1)
+pub sent_writer : (me me1 me2 : At) (slot slot' longest count : ℕ) (sent : Latest) → IsWriter me slot longest count → me1.0 ≡ me.0 → IsPublishedBy longest me1 me2 sent slot' → IsWriter me2 slot' longest (count + 1)
 sent_writer me me1 me2 slot slot' longest count sent i same t =
     let view : me2.0 ≡ Writes (publishes (writer_of me.0) (message_in sent) slot') = t.view ∙ ap (λ (z : SeatView). Writes (publishes (writer_of z) (message_in sent) slot')) same in record {
       view = view ∙ sym (ap (λ (z : SeatView). Writes (writer_of z)) view);
@@ -75,7 +75,7 @@ sent_writer me me1 me2 slot slot' longest count sent i same t =
       count_is = ap (λ (n : ℕ). n + 1) i.count_is ∙ sym (length-append (writer_of me.0).published (message_in sent ∷ [])) ∙ sym (ap (λ (z : SeatView). length (writer_of z).published) view);
     }
 
-pub sent_list : (me me1 me2 : At) (slot slot' longest number : ℕ) (sent : Latest) (message : Message) → me1.0 ≡ me.0 → IsFilledAt me.1 me1.1 slot number message → me1.1 ≡ (slot, Some sent) ∷ [] → IsSent longest me1 me2 sent slot'
+pub sent_list : (me me1 me2 : At) (slot slot' longest number : ℕ) (sent : Latest) (message : Message) → me1.0 ≡ me.0 → IsFilledAt me.1 me1.1 slot number message → me1.1 ≡ (slot, Some sent) ∷ [] → IsPublishedBy longest me1 me2 sent slot'
     → (writer_of me2.0).published ≡ (writer_of me.0).published ++ message ∷ []
 sent_list me me1 me2 slot slot' longest number sent message same f holds t =
     let is : f.4.1 ≡ sent = one_place me1.1 slot slot f.4.1 sent (f.3 ∙ ap (λ (x : Option Latest). (slot, x) ∷ []) f.4.3) holds in
@@ -83,8 +83,8 @@ sent_list me me1 me2 slot slot' longest number sent message same f holds t =
     ∙ ap (λ (m : Message). (writer_of me.0).published ++ m ∷ []) (ap message_in (sym is) ∙ f.4.5)
 
 -- the reader looked, and has the last message that was published
-pub all_seen : (me me' : At) (slot longest : ℕ) (has : Option Latest) → IsReader me slot longest has → me'.1 ≡ me.1 → me'.0 ≡ Reads (sees_all (reader_of me.0)) → IsReader me' slot longest has
-all_seen me me' slot longest has i same is = subst (λ (y : At). IsReader y slot longest has) (sym (at_view me me' _ is same)) (record {
+pub all_seen : (me me' : At) (slot longest : ℕ) (has : Option Latest) → IsReaderSeat me slot longest has → me'.1 ≡ me.1 → me'.0 ≡ Reads (sees_all (reader_of me.0)) → IsReaderSeat me' slot longest has
+all_seen me me' slot longest has i same is = subst (λ (y : At). IsReaderSeat y slot longest has) (sym (at_view me me' _ is same)) (record {
   view = refl;
   place = i.place;
   below = i.below;
@@ -112,7 +112,7 @@ all_seen_end table table' longest me me' same is begins =
     }
 
 -- it looked, and saw that there is a newer one
-pub may_receive : (me me' : At) (slot longest : ℕ) (has : Option Latest) → IsReader me slot longest has → me'.1 ≡ me.1 → me'.0 ≡ Reads (sees_newer (reader_of me.0)) → MayReceive longest me' slot has
+pub may_receive : (me me' : At) (slot longest : ℕ) (has : Option Latest) → IsReaderSeat me slot longest has → me'.1 ≡ me.1 → me'.0 ≡ Reads (sees_newer (reader_of me.0)) → MayReceive longest me' slot has
 may_receive me me' slot longest has i same is = subst (λ (y : At). MayReceive longest y slot has) (sym (at_view me me' _ is same)) (record {
   view = refl;
   place = i.place;
@@ -127,7 +127,7 @@ may_receive me me' slot longest has i same is = subst (λ (y : At). MayReceive l
 })
 
 -- and took it
-pub received_reader : (before me me' : At) (slot slot' longest : ℕ) (has has' : Option Latest) → IsReader before slot longest has → me.0 ≡ Reads (sees_newer (reader_of before.0)) → IsReceived longest me me' slot' has' → IsReader me' slot' longest has'
+pub received_reader : (before me me' : At) (slot slot' longest : ℕ) (has has' : Option Latest) → IsReaderSeat before slot longest has → me.0 ≡ Reads (sees_newer (reader_of before.0)) → IsReceived longest me me' slot' has' → IsReaderSeat me' slot' longest has'
 received_reader before me me' slot slot' longest has has' i looked t = record {
   view = t.view ∙ sym (ap (λ (z : SeatView). Reads (reader_of z)) t.view);
   place = ap (λ (z : SeatView). (reader_of z).slot) t.view;
@@ -142,7 +142,7 @@ received_reader before me me' slot slot' longest has has' i looked t = record {
   seen = subst (λ (r : ReaderView). StartsWith r.known r.seen) (sym (ap reader_of t.view)) (starts_same t.all);
 }
 
-pub received_end : (table table' : TableId) (longest slot slot' : ℕ) (before me me' : At) (has has' : Option Latest) → table' ≡ table → IsReader before slot longest has → me.0 ≡ Reads (sees_newer (reader_of before.0)) → IsReceived longest me me' slot' has'
+pub received_end : (table table' : TableId) (longest slot slot' : ℕ) (before me me' : At) (has has' : Option Latest) → table' ≡ table → IsReaderSeat before slot longest has → me.0 ≡ Reads (sees_newer (reader_of before.0)) → IsReceived longest me me' slot' has'
     → IsReadOf (reader_end table longest before) (reader_end table' longest me')
 received_end table table' longest slot slot' before me me' has has' same i looked t =
     let r = reader_of before.0 in
@@ -203,7 +203,7 @@ there xs slot own is = is ∙ ap (λ (l : List (ℕ × Option Latest)). (slot, S
 pub may_publish : (longest slots id slot : ℕ) (me : At) → MaySend longest me slot → May longest slots id me (λ _. slot + 4) (published (step slots 0 (slot + 4) 0 none) me)
 may_publish longest slots id slot me i = send_at longest slots id me (writer_of me.0) slot i.own (λ j. (i.view j, i.holds j)) i.place i.room i.number i.entered
 
-pub sent : (longest slot found : ℕ) (me me1 : At) (i : MaySend longest me slot) → published any_step me found me1 → IsSent longest me me1 i.own (place_in found)
+pub sent : (longest slot found : ℕ) (me me1 : At) (i : MaySend longest me slot) → published any_step me found me1 → IsPublishedBy longest me me1 i.own (place_of_word found)
 sent longest slot found me me1 i told = let t = told slot i.own i.holds in record {
   view = t.1;
   below = t.3;
@@ -219,11 +219,11 @@ may_take longest slots id slot has me me1 i put =
     receive_at longest slots id me1 (reader_of me.0) slot i.own (placed me me1 _ slot i.own i.view i.vacant put') i.place i.room i.newer i.entered
 
 pub received : (longest slot found : ℕ) (has back : Option Latest) (me me1 me2 me3 : At) → MayReceive longest me slot has → me1 ≡ (me.0, (slot, has) ∷ rest me.1)
-    → taken any_step me1 found me2 → me2.1 ≡ (place_in found, back) ∷ rest me2.1 → me3 ≡ (me2.0, (place_in found, None) ∷ rest me2.1) → IsReceived longest me me3 (place_in found) back
+    → taken any_step me1 found me2 → me2.1 ≡ (place_of_word found, back) ∷ rest me2.1 → me3 ≡ (me2.0, (place_of_word found, None) ∷ rest me2.1) → IsReceived longest me me3 (place_of_word found) back
 received longest slot found has back me me1 me2 me3 i put told out left =
     let same : reader_of me1.0 ≡ reader_of me.0 = ap (λ (m : At). reader_of m.0) put in record {
       all = told.0;
-      view = ap (λ (m : At). m.0) left ∙ told.2 ∙ ap (λ (r : ReaderView). Reads (takes r told.0 (place_in found))) same;
+      view = ap (λ (m : At). m.0) left ∙ told.2 ∙ ap (λ (r : ReaderView). Reads (takes r told.0 (place_of_word found))) same;
       below = told.4;
       vacant = vacant_again me2 me3 _ told.1 told.3 left;
       own = told.1;
@@ -258,7 +258,7 @@ pub reader_entering : (longest : ℕ) (me me1 : At) → me ≡ (Reads (first_rea
 reader_entering longest me me1 is told = subst (λ (y : At). reader_enters any_step y 0 me1) is told
 
 pub entered_reader : (longest : ℕ) (back : Option Latest) (me me1 me2 : At) → me ≡ (Reads (first_reader longest), []) → reader_enters any_step me 0 me1
-    → me1.1 ≡ (2, back) ∷ rest me1.1 → me2 ≡ (me1.0, (2, None) ∷ rest me1.1) → IsReader me2 2 longest back
+    → me1.1 ≡ (2, back) ∷ rest me1.1 → me2 ≡ (me1.0, (2, None) ∷ rest me1.1) → IsReaderSeat me2 2 longest back
 entered_reader longest back me me1 me2 is told out left =
     let t = reader_entering longest me me1 is told in
     let view : me2.0 ≡ Reads (record (first_reader longest) { has = true }) = ap (λ (m : At). m.0) left ∙ t.1 in record {

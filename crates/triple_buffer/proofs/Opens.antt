@@ -9,7 +9,7 @@ use Rattle.triple_buffer.specs.declared.rule.WriterView.{WriterView}
 use Rattle.triple_buffer.specs.declared.rule.ReaderView.{ReaderView}
 use Rattle.triple_buffer.specs.declared.rule.SeatView.{SeatView}
 use Rattle.triple_buffer.specs.declared.rule.SeatView.TheVariants.{Writes, Reads, Meets, Spent}
-use Rattle.triple_buffer.specs.Rule.{HasRoom, IsLastOf, Knows, Kept, first_reader, first_writer}
+use Rattle.triple_buffer.specs.Rule.{HasRoom, IsLastOf, Knows, KeptTable, first_reader, first_writer}
 use Rattle.triple_buffer.specs.Plays.{met, parted, writer_again}
 use Rattle.triple_buffer.proofs.Turns.{T, starts_same}
 
@@ -21,7 +21,7 @@ empty_last : (b : Latest) → b.number ≡ 0 → IsLastOf b []
 empty_last b zero_is = record { number = zero_is; last = λ h. absurd (omega (arith, h)) }
 
 pub opens_at : (longest : ℕ) (a b c : Latest) → HasRoom longest a → HasRoom longest b → HasRoom longest c → c.number ≡ 0
-    → Kept longest (opening (1 ∷ []) (Some a ∷ Some b ∷ Some c ∷ []) (Meets (first_writer longest) (first_reader longest)))
+    → KeptTable longest (opening (1 ∷ []) (Some a ∷ Some b ∷ Some c ∷ []) (Meets (first_writer longest) (first_reader longest)))
 opens_at longest a b c has_a has_b has_c empty = record {
   writer = first_writer longest;
   reader = first_reader longest;
@@ -54,7 +54,7 @@ at_end [] a b (suc j) e = absurd (some-ne-none b (sym e))
 at_end (x ∷ xs) a b zero e = inl e
 at_end (x ∷ xs) a b (suc j) e = ⊎_elim (λ t. inl t) (λ t. inr (ap suc t.0, t.1)) (at_end xs a b j e)
 
-module _ (longest : ℕ) (s : T) (k : Kept longest s) (id : ℕ) where
+module _ (longest : ℕ) (s : T) (k : KeptTable longest s) (id : ℕ) where
   -- the seats of the writer and of the reader are these now, and every other seat than id and other knows what it knew
   abbrev Others : ℕ → ℕ → ℕ → Type 0
   Others other writer reader = ((writer ≡ k.writer_seat) ⊎ ((id ≡ k.writer_seat) ⊎ (other ≡ k.writer_seat))) × ((reader ≡ k.reader_seat) ⊎ ((id ≡ k.reader_seat) ⊎ (other ≡ k.reader_seat)))
@@ -73,7 +73,7 @@ module _ (longest : ℕ) (s : T) (k : Kept longest s) (id : ℕ) where
   -- a seat is parted
   parts : (writer reader : ℕ) (left right : SeatView) → Knows k.writer k.reader writer reader id left → Knows k.writer k.reader writer reader (length s.views) right
       → Others id writer reader
-      → Kept longest (record { words = s.words; homes = s.homes; views = set s.views id left ++ right ∷ [] })
+      → KeptTable longest (record { words = s.words; homes = s.homes; views = set s.views id left ++ right ∷ [] })
   parts writer reader left right here there how = record {
     writer = k.writer;
     reader = k.reader;
@@ -93,7 +93,7 @@ module _ (longest : ℕ) (s : T) (k : Kept longest s) (id : ℕ) where
 
   -- two seats are joined, and the other is spent
   joins : (other writer reader : ℕ) (both : SeatView) → Knows k.writer k.reader writer reader id both → Others other writer reader
-      → Kept longest (record { words = s.words; homes = s.homes; views = set (set s.views id both) other Spent })
+      → KeptTable longest (record { words = s.words; homes = s.homes; views = set (set s.views id both) other Spent })
   joins other writer reader both here how = record {
     writer = k.writer;
     reader = k.reader;
@@ -111,37 +111,37 @@ module _ (longest : ℕ) (s : T) (k : Kept longest s) (id : ℕ) where
   }
 
 module _ (longest id : ℕ) where
-  part : (w : WriterView) (r : ReaderView) → Splits (Kept longest) id (Meets w r) (Reads r) (Writes w)
+  part : (w : WriterView) (r : ReaderView) → Splits (KeptTable longest) id (Meets w r) (Reads r) (Writes w)
   part w r s k at = let me = k.seats id (Meets w r) at in
       parts longest s k id (length s.views) k.reader_seat (Reads r) (Writes w) me.1 (me.0.0, refl) (inr (inl me.0.1), inl refl)
 
-  pub part_at : (v : SeatView) (w : WriterView) (r : ReaderView) → v ≡ Meets w r → Splits (Kept longest) id v (parted v) (writer_again v)
-  part_at v w r is = subst (λ (z : SeatView). Splits (Kept longest) id z (parted z) (writer_again z)) (sym is) (part w r)
+  pub part_at : (v : SeatView) (w : WriterView) (r : ReaderView) → v ≡ Meets w r → Splits (KeptTable longest) id v (parted v) (writer_again v)
+  part_at v w r is = subst (λ (z : SeatView). Splits (KeptTable longest) id z (parted z) (writer_again z)) (sym is) (part w r)
 
-  lend : (w : WriterView) → Splits (Kept longest) id (Writes w) Spent (Writes w)
+  lend : (w : WriterView) → Splits (KeptTable longest) id (Writes w) Spent (Writes w)
   lend w s k at = let me = k.seats id (Writes w) at in
       parts longest s k id (length s.views) k.reader_seat Spent (Writes w) tt (me.0, refl) (inr (inl me.1), inl refl)
 
-  pub lend_at : (v : SeatView) (w : WriterView) → v ≡ Writes w → Splits (Kept longest) id v Spent v
-  lend_at v w is = subst (λ (z : SeatView). Splits (Kept longest) id z Spent z) (sym is) (lend w)
+  pub lend_at : (v : SeatView) (w : WriterView) → v ≡ Writes w → Splits (KeptTable longest) id v Spent v
+  lend_at v w is = subst (λ (z : SeatView). Splits (KeptTable longest) id z Spent z) (sym is) (lend w)
 
-  meets : (other : ℕ) (w : WriterView) (r : ReaderView) → Joins (Kept longest) id (Reads r) other (Writes w) (Meets w r) Spent
+  meets : (other : ℕ) (w : WriterView) (r : ReaderView) → Joins (KeptTable longest) id (Reads r) other (Writes w) (Meets w r) Spent
   meets other w r s k at ne there =
       let them = k.seats other (Writes w) (sym (set_else s.views id other (Meets w r) ne) ∙ there) in
       let me = k.seats id (Reads r) at in
       joins longest s k id other id k.reader_seat (Meets w r) ((them.0, refl), me) (inr (inr them.1), inl refl)
 
-  pub meet_at : (other : ℕ) (w : WriterView) (r : ReaderView) (x y : SeatView) → x ≡ Reads r → y ≡ Writes w → Joins (Kept longest) id x other y (met x y) Spent
+  pub meet_at : (other : ℕ) (w : WriterView) (r : ReaderView) (x y : SeatView) → x ≡ Reads r → y ≡ Writes w → Joins (KeptTable longest) id x other y (met x y) Spent
   meet_at other w r x y is_x is_y =
-      subst (λ (z : SeatView). Joins (Kept longest) id z other y (met z y) Spent) (sym is_x)
-      (subst (λ (z : SeatView). Joins (Kept longest) id (Reads r) other z (met (Reads r) z) Spent) (sym is_y) (meets other w r))
+      subst (λ (z : SeatView). Joins (KeptTable longest) id z other y (met z y) Spent) (sym is_x)
+      (subst (λ (z : SeatView). Joins (KeptTable longest) id (Reads r) other z (met (Reads r) z) Spent) (sym is_y) (meets other w r))
 
-  regain : (other : ℕ) (w : WriterView) → Joins (Kept longest) id Spent other (Writes w) (Writes w) Spent
+  regain : (other : ℕ) (w : WriterView) → Joins (KeptTable longest) id Spent other (Writes w) (Writes w) Spent
   regain other w s k at ne there =
       let them = k.seats other (Writes w) (sym (set_else s.views id other (Writes w) ne) ∙ there) in
       joins longest s k id other id k.reader_seat (Writes w) (them.0, refl) (inr (inr them.1), inl refl)
 
-  pub regain_at : (other : ℕ) (w : WriterView) (x y : SeatView) → x ≡ Spent → y ≡ Writes w → Joins (Kept longest) id x other y y Spent
+  pub regain_at : (other : ℕ) (w : WriterView) (x y : SeatView) → x ≡ Spent → y ≡ Writes w → Joins (KeptTable longest) id x other y y Spent
   regain_at other w x y is_x is_y =
-      subst (λ (z : SeatView). Joins (Kept longest) id z other y y Spent) (sym is_x)
-      (subst (λ (z : SeatView). Joins (Kept longest) id Spent other z z Spent) (sym is_y) (regain other w))
+      subst (λ (z : SeatView). Joins (KeptTable longest) id z other y y Spent) (sym is_x)
+      (subst (λ (z : SeatView). Joins (KeptTable longest) id Spent other z z Spent) (sym is_y) (regain other w))

@@ -14,8 +14,8 @@ use Rattle.triple_buffer.specs.declared.rule.WriterView.{WriterView}
 use Rattle.triple_buffer.specs.declared.rule.ReaderView.{ReaderView}
 use Rattle.triple_buffer.specs.declared.rule.SeatView.{SeatView}
 use Rattle.triple_buffer.specs.declared.rule.SeatView.TheVariants.{Writes, Reads, Meets, Spent}
-use Rattle.triple_buffer.specs.Rule.{HasRoom, Knows, Kept, Lawful, StartsWith, message_in, place_in}
-use Rattle.triple_buffer.specs.Plays.{At, learns, looked, published, publishes, reader_enters, sees_all, sees_newer, taken, told, writer_enters}
+use Rattle.triple_buffer.specs.Rule.{HasRoom, Knows, KeptTable, LawfulBuffers, StartsWith, message_in, place_of_word}
+use Rattle.triple_buffer.specs.Plays.{At, learns, looked, published, publishes, reader_enters, sees_all, sees_newer, taken, tells_published, writer_enters}
 use Rattle.triple_buffer.specs.Plays.{takes as takes_all}
 
 abbrev pub T : Type 0
@@ -35,28 +35,28 @@ not_both b t f = absurd (cc)
 
 -- ---- the rule over plain values
 
-module _ (longest n : ℕ) (hs : Homes) (w : WriterView) (r : ReaderView) (l : Lawful longest n hs w r) where
+module _ (longest n : ℕ) (hs : Homes) (w : WriterView) (r : ReaderView) (l : LawfulBuffers longest n hs w r) where
   -- the homes after a swap: this end's buffer is there now, and the one between the ends isn't
   abbrev pub swapped : ℕ → Latest → Homes
-  swapped slot own = set (set hs slot (some (Some own))) (place_in n) none
+  swapped slot own = set (set hs slot (some (Some own))) (place_of_word n) none
 
-  pub still : (slot : ℕ) (own : Latest) → slot ≢ place_in n → get_elem? (set hs slot (some (Some own))) (place_in n) ≡ some (some (Some l.latest))
-  still slot own ne = set_else hs slot (place_in n) (some (Some own)) (λ e. ne (sym e)) ∙ l.home
+  pub still : (slot : ℕ) (own : Latest) → slot ≢ place_of_word n → get_elem? (set hs slot (some (Some own))) (place_of_word n) ≡ some (some (Some l.latest))
+  still slot own ne = set_else hs slot (place_of_word n) (some (Some own)) (λ e. ne (sym e)) ∙ l.home
 
-  swapped_here : (slot : ℕ) (own : Latest) → slot < 3 → slot ≢ place_in n → get_elem? (swapped slot own) slot ≡ some (some (Some own))
-  swapped_here slot own low ne = set_else (set hs slot (some (Some own))) (place_in n) slot none ne ∙ set_here hs slot (some (Some own)) (let c = l.count in omega (arith, c, low))
+  swapped_here : (slot : ℕ) (own : Latest) → slot < 3 → slot ≢ place_of_word n → get_elem? (swapped slot own) slot ≡ some (some (Some own))
+  swapped_here slot own low ne = set_else (set hs slot (some (Some own))) (place_of_word n) slot none ne ∙ set_here hs slot (some (Some own)) (let c = l.count in omega (arith, c, low))
 
-  swapped_else : (slot other : ℕ) (own : Latest) → other ≢ slot → other ≢ place_in n → get_elem? (swapped slot own) other ≡ get_elem? hs other
-  swapped_else slot other own a b = set_else (set hs slot (some (Some own))) (place_in n) other none b ∙ set_else hs slot other (some (Some own)) a
+  swapped_else : (slot other : ℕ) (own : Latest) → other ≢ slot → other ≢ place_of_word n → get_elem? (swapped slot own) other ≡ get_elem? hs other
+  swapped_else slot other own a b = set_else (set hs slot (some (Some own))) (place_of_word n) other none b ∙ set_else hs slot other (some (Some own)) a
 
   swapped_count : (slot : ℕ) (own : Latest) → length (swapped slot own) ≡ 3
-  swapped_count slot own = length-set (set hs slot (some (Some own))) (place_in n) none ∙ length-set hs slot (some (Some own)) ∙ l.count
+  swapped_count slot own = length-set (set hs slot (some (Some own))) (place_of_word n) none ∙ length-set hs slot (some (Some own)) ∙ l.count
 
   pub publish_keeps : (own : Latest) → HasRoom longest own → own.number ≡ length w.published + 1 → w.has ≡ true
-      → Lawful longest (w.slot + 4) (swapped w.slot own) (publishes w (message_in own) (place_in n)) r
+      → LawfulBuffers longest (w.slot + 4) (swapped w.slot own) (publishes w (message_in own) (place_of_word n)) r
   publish_keeps own room number entered =
       let low = l.places.1 in
-      let is : place_in (w.slot + 4) ≡ w.slot = omega (arith, low) in
+      let is : place_of_word (w.slot + 4) ≡ w.slot = omega (arith, low) in
       let all = w.published ++ message_in own ∷ [] in
       record {
         count = swapped_count w.slot own;
@@ -75,10 +75,10 @@ module _ (longest n : ℕ) (hs : Homes) (w : WriterView) (r : ReaderView) (l : L
         readers = λ h. let o = l.readers h in (o.0, swapped_else w.slot r.slot own (λ e. l.apart.2 (sym e)) l.apart.1 ∙ o.1, o.2, o.3);
       }
 
-  pub take_keeps : (own : Latest) → HasRoom longest own → r.has ≡ true → Lawful longest r.slot (swapped r.slot own) w (takes_all r w.published (place_in n))
+  pub take_keeps : (own : Latest) → HasRoom longest own → r.has ≡ true → LawfulBuffers longest r.slot (swapped r.slot own) w (takes_all r w.published (place_of_word n))
   take_keeps own room entered =
       let low = l.places.2 in
-      let is : place_in r.slot ≡ r.slot = omega (arith, low) in
+      let is : place_of_word r.slot ≡ r.slot = omega (arith, low) in
       record {
         count = swapped_count r.slot own;
         places = (omega (arith, low, is), l.places.1, l.places.0);
@@ -96,7 +96,7 @@ module _ (longest n : ℕ) (hs : Homes) (w : WriterView) (r : ReaderView) (l : L
         readers = λ h. not_both r.has entered h;
       }
 
-  pub newer_keeps : 4 ≤ n → Lawful longest n hs w (sees_newer r)
+  pub newer_keeps : 4 ≤ n → LawfulBuffers longest n hs w (sees_newer r)
   newer_keeps more = record {
     count = l.count;
     places = l.places;
@@ -115,7 +115,7 @@ module _ (longest n : ℕ) (hs : Homes) (w : WriterView) (r : ReaderView) (l : L
   }
 
   -- the reader knows these messages to be published
-  pub known_keeps : (all : List Message) → StartsWith w.published all → StartsWith all r.seen → Lawful longest n hs w (learns r all)
+  pub known_keeps : (all : List Message) → StartsWith w.published all → StartsWith all r.seen → LawfulBuffers longest n hs w (learns r all)
   known_keeps all begins seen = record {
     count = l.count;
     places = l.places;
@@ -133,14 +133,14 @@ module _ (longest n : ℕ) (hs : Homes) (w : WriterView) (r : ReaderView) (l : L
     readers = l.readers;
   }
 
-  pub writer_enters_keeps : Lawful longest n (set hs w.slot none) (record w { has = true }) r
+  pub writer_enters_keeps : LawfulBuffers longest n (set hs w.slot none) (record w { has = true }) r
   writer_enters_keeps = record {
     count = length-set hs w.slot none ∙ l.count;
     places = l.places;
     apart = l.apart;
     longest_is = l.longest_is;
     latest = l.latest;
-    home = set_else hs w.slot (place_in n) none (λ e. l.apart.0 (sym e)) ∙ l.home;
+    home = set_else hs w.slot (place_of_word n) none (λ e. l.apart.0 (sym e)) ∙ l.home;
     room = l.room;
     newest = l.newest;
     all_seen = l.all_seen;
@@ -151,14 +151,14 @@ module _ (longest n : ℕ) (hs : Homes) (w : WriterView) (r : ReaderView) (l : L
     readers = λ h. let o = l.readers h in (o.0, set_else hs w.slot r.slot none (λ e. l.apart.2 (sym e)) ∙ o.1, o.2, o.3);
   }
 
-  pub reader_enters_keeps : Lawful longest n (set hs r.slot none) w (record r { has = true })
+  pub reader_enters_keeps : LawfulBuffers longest n (set hs r.slot none) w (record r { has = true })
   reader_enters_keeps = record {
     count = length-set hs r.slot none ∙ l.count;
     places = l.places;
     apart = l.apart;
     longest_is = l.longest_is;
     latest = l.latest;
-    home = set_else hs r.slot (place_in n) none (λ e. l.apart.1 (sym e)) ∙ l.home;
+    home = set_else hs r.slot (place_of_word n) none (λ e. l.apart.1 (sym e)) ∙ l.home;
     room = l.room;
     newest = l.newest;
     all_seen = l.all_seen;
@@ -171,12 +171,12 @@ module _ (longest n : ℕ) (hs : Homes) (w : WriterView) (r : ReaderView) (l : L
 
 -- ---- the rule over seats
 
-module _ (longest : ℕ) (s : T) (k : Kept longest s) (id : ℕ) where
+module _ (longest : ℕ) (s : T) (k : KeptTable longest s) (id : ℕ) where
   -- what the seat knows becomes x; the writer's view changes only if it is the writer's seat, and the reader's too
   pub turns : (w : WriterView) (r : ReaderView) (ws : List ℕ) (hs : Homes) (x : SeatView)
       → (w ≡ k.writer) ⊎ (id ≡ k.writer_seat) → (r ≡ k.reader) ⊎ (id ≡ k.reader_seat)
-      → Knows w r k.writer_seat k.reader_seat id x → length ws ≡ 1 → Lawful longest (get_or ws 0 0) hs w r
-      → Kept longest (record { words = ws; homes = hs; views = set s.views id x })
+      → Knows w r k.writer_seat k.reader_seat id x → length ws ≡ 1 → LawfulBuffers longest (get_or ws 0 0) hs w r
+      → KeptTable longest (record { words = ws; homes = hs; views = set s.views id x })
   turns w r ws hs x ws_is rs_is me one ok =
       let to_w : (j : ℕ) → j ≢ id → (v : WriterView) → v ≡ k.writer → j ≡ k.writer_seat → v ≡ w = λ j ne v h at. ⊎_elim (λ (e : w ≡ k.writer). h ∙ sym e) (λ (mine : id ≡ k.writer_seat). absurd (ne (at ∙ sym mine))) ws_is in
       let to_r : (j : ℕ) → j ≢ id → (u : ReaderView) → u ≡ k.reader → j ≡ k.reader_seat → u ≡ r = λ j ne u h at. ⊎_elim (λ (e : r ≡ k.reader). h ∙ sym e) (λ (mine : id ≡ k.reader_seat). absurd (ne (at ∙ sym mine))) rs_is in
@@ -200,26 +200,26 @@ module _ (longest : ℕ) (s : T) (k : Kept longest s) (id : ℕ) where
 
   -- the word is set to m
   abbrev pub Sets : ℕ → Homes → SeatView → Type 0
-  Sets m hs x = Kept longest (record { words = set s.words 0 m; homes = hs; views = set s.views id x })
+  Sets m hs x = KeptTable longest (record { words = set s.words 0 m; homes = hs; views = set s.views id x })
 
   now_is : (m : ℕ) → get_or (set s.words 0 m) 0 0 ≡ m
   now_is m = get_or-set_same s.words 0 m 0 (let o = k.one in omega (arith, o))
 
   module _ (w : WriterView) (at : get_elem? s.views id ≡ some (Writes w)) where
-    pub writer_lawful : Lawful longest (get_or s.words 0 0) s.homes w k.reader
-    writer_lawful = subst (λ (z : WriterView). Lawful longest (get_or s.words 0 0) s.homes z k.reader) (sym (k.seats id (Writes w) at).0) k.lawful
+    pub writer_lawful : LawfulBuffers longest (get_or s.words 0 0) s.homes w k.reader
+    writer_lawful = subst (λ (z : WriterView). LawfulBuffers longest (get_or s.words 0 0) s.homes z k.reader) (sym (k.seats id (Writes w) at).0) k.lawful
 
-    pub writer_turns : (m : ℕ) (w' : WriterView) (hs : Homes) → Lawful longest m hs w' k.reader → Sets m hs (Writes w')
+    pub writer_turns : (m : ℕ) (w' : WriterView) (hs : Homes) → LawfulBuffers longest m hs w' k.reader → Sets m hs (Writes w')
     writer_turns m w' hs ok = let mine = (k.seats id (Writes w) at).1 in
-        turns w' k.reader _ hs (Writes w') (inr mine) (inl refl) (refl, mine) (length-set s.words 0 m ∙ k.one) (subst (λ (z : ℕ). Lawful longest z hs w' k.reader) (sym (now_is m)) ok)
+        turns w' k.reader _ hs (Writes w') (inr mine) (inl refl) (refl, mine) (length-set s.words 0 m ∙ k.one) (subst (λ (z : ℕ). LawfulBuffers longest z hs w' k.reader) (sym (now_is m)) ok)
 
   module _ (r : ReaderView) (at : get_elem? s.views id ≡ some (Reads r)) where
-    pub reader_lawful : Lawful longest (get_or s.words 0 0) s.homes k.writer r
-    reader_lawful = subst (λ (z : ReaderView). Lawful longest (get_or s.words 0 0) s.homes k.writer z) (sym (k.seats id (Reads r) at).0) k.lawful
+    pub reader_lawful : LawfulBuffers longest (get_or s.words 0 0) s.homes k.writer r
+    reader_lawful = subst (λ (z : ReaderView). LawfulBuffers longest (get_or s.words 0 0) s.homes k.writer z) (sym (k.seats id (Reads r) at).0) k.lawful
 
-    pub reader_turns : (m : ℕ) (r' : ReaderView) (hs : Homes) → Lawful longest m hs k.writer r' → Sets m hs (Reads r')
+    pub reader_turns : (m : ℕ) (r' : ReaderView) (hs : Homes) → LawfulBuffers longest m hs k.writer r' → Sets m hs (Reads r')
     reader_turns m r' hs ok = let mine = (k.seats id (Reads r) at).1 in
-        turns k.writer r' _ hs (Reads r') (inl refl) (inr mine) (refl, mine) (length-set s.words 0 m ∙ k.one) (subst (λ (z : ℕ). Lawful longest z hs k.writer r') (sym (now_is m)) ok)
+        turns k.writer r' _ hs (Reads r') (inl refl) (inr mine) (refl, mine) (length-set s.words 0 m ∙ k.one) (subst (λ (z : ℕ). LawfulBuffers longest z hs k.writer r') (sym (now_is m)) ok)
 
 -- ---- each step
 
@@ -234,18 +234,18 @@ first_of other (c ∷ cs) = message_or other c.1
 
 module _ (longest slots id : ℕ) where
   abbrev pub May : At → (ℕ → ℕ) → (ℕ → At → Type 0) → Type 0
-  May me f then = Allows (Kept longest) slots id me 0 f then
+  May me f then = Allows (KeptTable longest) slots id me 0 f then
 
   send_allowed : (w : WriterView) (own : Latest) → HasRoom longest own → own.number ≡ length w.published + 1 → w.has ≡ true
       → May (Writes w, (w.slot, Some own) ∷ []) (λ _. w.slot + 4) (published (step slots 0 (w.slot + 4) 0 none) (Writes w, (w.slot, Some own) ∷ []))
   send_allowed w own room number entered s k _ mine _ =
       let n = get_or s.words 0 0 in
       let l = writer_lawful longest s k id w mine in (
-        Writes (publishes w (message_in own) (place_in n)),
-        chain gives (takes (place_in n) (Some l.latest)),
+        Writes (publishes w (message_in own) (place_of_word n)),
+        chain gives (takes (place_of_word n) (Some l.latest)),
         (tt, still longest n s.homes w k.reader l w.slot own l.apart.0),
         writer_turns longest s k id w mine (w.slot + 4) _ _ (publish_keeps longest n s.homes w k.reader l own room number entered),
-        λ slot o is. (l.latest, ap (λ (c : List (ℕ × Option Latest)). Writes (publishes w (first_of own c) (place_in n))) is, refl, l.places.0, l.room ∙ sym l.longest_is.0),
+        λ slot o is. (l.latest, ap (λ (c : List (ℕ × Option Latest)). Writes (publishes w (first_of own c) (place_of_word n))) is, refl, l.places.0, l.room ∙ sym l.longest_is.0),
       )
 
   pub send_at : (me : At) (w : WriterView) (slot : ℕ) (own : Latest) → me ≡ (Writes w, (slot, Some own) ∷ []) → w.slot ≡ slot → HasRoom longest own → own.number ≡ length w.published + 1 → w.has ≡ true
@@ -259,8 +259,8 @@ module _ (longest slots id : ℕ) where
   receive_allowed r own room newer entered s k _ mine _ =
       let n = get_or s.words 0 0 in
       let l = reader_lawful longest s k id r mine in (
-        Reads (takes_all r k.writer.published (place_in n)),
-        chain gives (takes (place_in n) (Some l.latest)),
+        Reads (takes_all r k.writer.published (place_of_word n)),
+        chain gives (takes (place_of_word n) (Some l.latest)),
         (tt, still longest n s.homes k.writer r l r.slot own l.apart.1),
         reader_turns longest s k id r mine r.slot _ _ (take_keeps longest n s.homes k.writer r l own room entered),
         (k.writer.published, l.latest, refl, refl, l.places.0, l.room ∙ sym l.longest_is.1, l.newest (l.newer newer), l.known),
@@ -276,7 +276,7 @@ module _ (longest slots id : ℕ) where
   look_allowed r c s k _ mine _ =
       let n = get_or s.words 0 0 in
       let l = reader_lawful longest s k id r mine in
-      let Z : Type 0 = (x : SeatView) × (a : table.Act (Option Latest)) × Valid s.homes c a × Kept longest (table.stepped s 0 n id c x a) × looked (step slots 0 0 0 none) (Reads r, c) n (x, table.carried_after c a) in
+      let Z : Type 0 = (x : SeatView) × (a : table.Act (Option Latest)) × Valid s.homes c a × KeptTable longest (table.stepped s 0 n id c x a) × looked (step slots 0 0 0 none) (Reads r, c) n (x, table.carried_after c a) in
       let all : n < 4 → Z = λ less. let same = l.all_seen less in let begins : StartsWith r.seen r.known = subst (λ (z : List Message). StartsWith z r.known) (sym same) l.known in (
         Reads (sees_all r),
         keeps,
@@ -325,19 +325,19 @@ module _ (longest slots id : ℕ) where
   pub reader_enters_at : (me : At) (r : ReaderView) → me ≡ (Reads r, []) → r.has ≡ false → May me (λ x. x) (reader_enters (step slots 0 0 0 none) me)
   reader_enters_at me r is outside = subst (λ (y : At). May y (λ x. x) (reader_enters (step slots 0 0 0 none) y)) (sym is) (reader_enters_allowed r outside)
 
-  tell_allowed : (w : WriterView) (r : ReaderView) (c : List (ℕ × Option Latest)) → May (Meets w r, c) (λ x. x) (told (step slots 0 0 0 none) (Meets w r, c))
+  tell_allowed : (w : WriterView) (r : ReaderView) (c : List (ℕ × Option Latest)) → May (Meets w r, c) (λ x. x) (tells_published (step slots 0 0 0 none) (Meets w r, c))
   tell_allowed w r c s k _ mine _ =
       let n = get_or s.words 0 0 in
       let me = k.seats id (Meets w r) mine in
-      let l : Lawful longest n s.homes w r = subst (λ (z : WriterView). Lawful longest n s.homes z r) (sym me.0.0) (subst (λ (z : ReaderView). Lawful longest n s.homes k.writer z) (sym me.1.0) k.lawful) in
+      let l : LawfulBuffers longest n s.homes w r = subst (λ (z : WriterView). LawfulBuffers longest n s.homes z r) (sym me.0.0) (subst (λ (z : ReaderView). LawfulBuffers longest n s.homes k.writer z) (sym me.1.0) k.lawful) in
       let ok = known_keeps longest n s.homes w r l w.published (starts_same w.published) (starts_trans w.published r.known r.seen l.known l.seen) in (
         Meets w (learns r w.published),
         keeps,
         tt,
         turns longest s k id w (learns r w.published) _ _ (Meets w (learns r w.published)) (inl me.0.0) (inr me.1.1) ((refl, me.0.1), (refl, me.1.1)) (length-set s.words 0 n ∙ k.one)
-            (subst (λ (z : List ℕ). Lawful longest (get_or z 0 0) s.homes w (learns r w.published)) (sym (set-get_or s.words 0 0)) ok),
+            (subst (λ (z : List ℕ). LawfulBuffers longest (get_or z 0 0) s.homes w (learns r w.published)) (sym (set-get_or s.words 0 0)) ok),
         (refl, refl, l.known),
       )
 
-  pub tell_at : (me : At) (w : WriterView) (r : ReaderView) → me.0 ≡ Meets w r → May me (λ x. x) (told (step slots 0 0 0 none) me)
-  tell_at me w r is = subst (λ (y : SeatView). May (y, me.1) (λ x. x) (told (step slots 0 0 0 none) (y, me.1))) (sym is) (tell_allowed w r me.1)
+  pub tell_at : (me : At) (w : WriterView) (r : ReaderView) → me.0 ≡ Meets w r → May me (λ x. x) (tells_published (step slots 0 0 0 none) me)
+  tell_at me w r is = subst (λ (y : SeatView). May (y, me.1) (λ x. x) (tells_published (step slots 0 0 0 none) (y, me.1))) (sym is) (tell_allowed w r me.1)

@@ -72,7 +72,7 @@ pub record IsWriter (me : At) (slot longest count : ℕ) : Type 0 where
   pub count_is : count ≡ length (writer_of me.0).published
 
 -- A reader has its buffer beside its place, which is vacant between its calls.
-pub record IsReader (me : At) (slot longest : ℕ) (has : Option Latest) : Type 0 where
+pub record IsReaderSeat (me : At) (slot longest : ℕ) (has : Option Latest) : Type 0 where
   pub view : me.0 ≡ Reads (reader_of me.0)
   pub place : (reader_of me.0).slot ≡ slot
   pub below : slot < 3
@@ -98,7 +98,7 @@ pub record MaySend (longest : ℕ) (me : At) (slot : ℕ) : Type 0 where
   pub number : own.number ≡ length (writer_of me.0).published + 1
 
 -- it published it, and has another buffer
-pub record IsSent (longest : ℕ) (before after : At) (sent : Latest) (slot : ℕ) : Type 0 where
+pub record IsPublishedBy (longest : ℕ) (before after : At) (sent : Latest) (slot : ℕ) : Type 0 where
   pub view : after.0 ≡ Writes (publishes (writer_of before.0) (message_in sent) slot)
   pub below : slot < 3
   pub own : Latest

@@ -2,7 +2,7 @@
 use Rattle.std.specs.Prelude.{◌≡◌, ℕ, ◌<◌, ◌≤◌, true, false, List, [], ◌∷◌, ◌++◌, length, Option, Some}
 use Rattle.atomic_table.specs.Table.{Me, Step}
 use Rattle.es_base.specs.declared.event.Message.{Message}
-use Rattle.triple_buffer.specs.Rule.{HasRoom, IsLastOf, StartsWith, message_in, place_in, first_writer, first_reader}
+use Rattle.triple_buffer.specs.Rule.{HasRoom, IsLastOf, StartsWith, message_in, place_of_word, first_writer, first_reader}
 use Rattle.triple_buffer.specs.declared.latest.Latest.{Latest}
 use Rattle.triple_buffer.specs.declared.rule.WriterView.{WriterView}
 use Rattle.triple_buffer.specs.declared.rule.ReaderView.{ReaderView}
@@ -42,8 +42,8 @@ publishes writer message slot = record writer { published = writer.published ++ 
 -- rule: CONC-16
 abbrev pub published : Step (Option Latest) → At → ℕ → At → Type 0
 published step me found me' = (slot : ℕ) (own : Latest) → me.1 ≡ (slot, Some own) ∷ [] → (other : Latest)
-    × (me'.0 ≡ Writes (publishes (writer_of me.0) (message_in own) (place_in found))) × (me'.1 ≡ (place_in found, Some other) ∷ [])
-    × (place_in found < 3) × HasRoom (writer_of me.0).longest other
+    × (me'.0 ≡ Writes (publishes (writer_of me.0) (message_in own) (place_of_word found))) × (me'.1 ≡ (place_of_word found, Some other) ∷ [])
+    × (place_of_word found < 3) × HasRoom (writer_of me.0).longest other
 
 -- ---- the reader
 
@@ -65,8 +65,8 @@ looked step me found me' = (me'.1 ≡ me.1) × (4 ≤ found → me'.0 ≡ Reads 
 -- it swapped its buffer with the one between the ends, which has the last message that was published
 -- rule: CONC-16
 abbrev pub taken : Step (Option Latest) → At → ℕ → At → Type 0
-taken step me found me' = (all : List Message) × (latest : Latest) × (me'.0 ≡ Reads (takes (reader_of me.0) all (place_in found)))
-    × (me'.1 ≡ (place_in found, Some latest) ∷ []) × (place_in found < 3) × HasRoom (reader_of me.0).longest latest × IsLastOf latest all
+taken step me found me' = (all : List Message) × (latest : Latest) × (me'.0 ≡ Reads (takes (reader_of me.0) all (place_of_word found)))
+    × (me'.1 ≡ (place_of_word found, Some latest) ∷ []) × (place_of_word found < 3) × HasRoom (reader_of me.0).longest latest × IsLastOf latest all
     × StartsWith all (reader_of me.0).known
 
 -- ---- the opening: the two are parted, and each takes its buffer
@@ -96,6 +96,6 @@ abbrev pub met : SeatView → SeatView → SeatView
 met (Reads reader) (Writes writer) = Meets writer reader
 met view other = view
 
-abbrev pub told : Step (Option Latest) → At → ℕ → At → Type 0
-told step me found me' = (me'.1 ≡ me.1) × (me'.0 ≡ Meets (writer_of me.0) (learns (reader_of me.0) (writer_of me.0).published))
+abbrev pub tells_published : Step (Option Latest) → At → ℕ → At → Type 0
+tells_published step me found me' = (me'.1 ≡ me.1) × (me'.0 ≡ Meets (writer_of me.0) (learns (reader_of me.0) (writer_of me.0).published))
     × StartsWith (writer_of me.0).published (reader_of me.0).known

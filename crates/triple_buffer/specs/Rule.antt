@@ -22,8 +22,8 @@ message_in latest = message latest.time (take latest.len latest.octets.items)
 abbrev pub StartsWith : List Message → List Message → Type 0
 StartsWith messages first = (rest : List Message) × (messages ≡ first ++ rest)
 
-abbrev pub EndsWith : List Message → Message → Type 0
-EndsWith messages last = (before : List Message) × (messages ≡ before ++ last ∷ [])
+abbrev pub HasLast : List Message → Message → Type 0
+HasLast messages last = (before : List Message) × (messages ≡ before ++ last ∷ [])
 
 -- a buffer with room for this many octets
 abbrev pub HasRoom : ℕ → Latest → Type 0
@@ -33,22 +33,22 @@ HasRoom longest latest = length latest.octets.items ≡ longest
 -- rule: CONC-15, CONC-17
 pub record IsLastOf (latest : Latest) (messages : List Message) : Type 0 where
   pub number : latest.number ≡ length messages
-  pub last : 0 < length messages → EndsWith messages (message_in latest)
+  pub last : 0 < length messages → HasLast messages (message_in latest)
 
 -- the word: the place of the buffer between the ends, and 4 more if the reader hasn't taken it
 -- rule: CONC-16
-abbrev pub place_in : ℕ → ℕ
-place_in word = word % 4
+abbrev pub place_of_word : ℕ → ℕ
+place_of_word word = word % 4
 
 -- what the writer and the reader know is true of the word and of the buffers that no end has
 -- rule: CONC-15, CONC-16
-pub record Lawful (longest word : ℕ) (homes : List (maybe.Option (Option Latest))) (w : WriterView) (r : ReaderView) : Type 0 where
+pub record LawfulBuffers (longest word : ℕ) (homes : List (maybe.Option (Option Latest))) (w : WriterView) (r : ReaderView) : Type 0 where
   pub count : length homes ≡ 3
-  pub places : (place_in word < 3) × (w.slot < 3) × (r.slot < 3)
-  pub apart : (w.slot ≢ place_in word) × (r.slot ≢ place_in word) × (w.slot ≢ r.slot)
+  pub places : (place_of_word word < 3) × (w.slot < 3) × (r.slot < 3)
+  pub apart : (w.slot ≢ place_of_word word) × (r.slot ≢ place_of_word word) × (w.slot ≢ r.slot)
   pub longest_is : (w.longest ≡ longest) × (r.longest ≡ longest)
   pub latest : Latest
-  pub home : get_elem? homes (place_in word) ≡ some (some (Some latest))
+  pub home : get_elem? homes (place_of_word word) ≡ some (some (Some latest))
   pub room : HasRoom longest latest
   pub newest : 4 ≤ word → IsLastOf latest w.published
   pub all_seen : word < 4 → r.seen ≡ w.published
@@ -67,13 +67,13 @@ module _ (w : WriterView) (r : ReaderView) (writer reader seat : ℕ) where
   Knows Spent = Unit {0}
 
 -- rule: CONC-15
-pub record Kept (longest : ℕ) (s : table.State (Option Latest) SeatView) : Type 0 where
+pub record KeptTable (longest : ℕ) (s : table.State (Option Latest) SeatView) : Type 0 where
   pub writer : WriterView
   pub reader : ReaderView
   pub writer_seat : ℕ
   pub reader_seat : ℕ
   pub one : length s.words ≡ 1
-  pub lawful : Lawful longest (slice_index s.words 0) s.homes writer reader
+  pub lawful : LawfulBuffers longest (slice_index s.words 0) s.homes writer reader
   pub seats : (seat : ℕ) (view : SeatView) → get_elem? s.views seat ≡ some view → Knows writer reader writer_seat reader_seat seat view
 
 -- ---- before the first step: the word is 1

@@ -12,7 +12,7 @@ use Rattle.es_base.specs.Port.{Port}
 use Rattle.es_base.specs.Settings.{Settings}
 use Rattle.es_base.specs.Config.{has_name, ports_in}
 use Rattle.vl_config.specs.declared.names.Names.{Names}
-use Rattle.vl_config.specs.Names.{is_among, AreNamesOf}
+use Rattle.vl_config.specs.Names.{is_among_names, AreNamesOf}
 use Rattle.vl_config.proofs.Links.{ports_push}
 
 either : (this others : Bool) → cond this true others ≡ (others || (this || false))
@@ -26,7 +26,7 @@ pub one_more_name : (names more : Names) (key : ArrayString) (ports : List Port)
     → AreNamesOf names ports → AreNamesOf more (ports ++ port ∷ [])
 one_more_name names more key ports port updates spelled known name =
     updates.0 (record { bytes = name; spare = [] })
-    ∙ ap (λ this. cond this true (is_among names name))
+    ∙ ap (λ this. cond this true (is_among_names names name))
     (is_eq-slice_cmp key.bytes name ∙ ap (λ text. bytes_eq text name) spelled ∙ nat_list_eq_equiv.symm port.name name)
     ∙ ap (λ others. cond (has_name name port) true others) (known name)
     ∙ either (has_name name port) (list_any (has_name name) ports)

@@ -2,19 +2,19 @@
 use Rattle.std.proofs.Common.{◌≡◌, ℕ, ◌+◌, ◌<◌, List, [], ◌∷◌, ◌++◌, length, get_or, drop, Option, Some, Result, Ok, Err, ◌≤◌, refl}
 use Rattle.std.proofs.lemmas.List.{drop_all, drop_more}
 use Rattle.es_base.specs.Settings.{Settings}
-use Rattle.vl_config.specs.Rows.{if_none_left, link_of_row, links_of_rows, placed}
+use Rattle.vl_config.specs.Rows.{if_none_left, link_of_row, links_of_rows, read_each}
 use Rattle.vl_config.specs.declared.fault.ConfigFault.{ConfigFault}
 use Rattle.vl_config.specs.declared.rows.LinkRow.{LinkRow}
 use Rattle.vl_config.specs.declared.rows.PortRow.{PortRow}
 
 -- the row at place i
 pub one_more_row : {X Y E : Type 0} (read : List Y → X → Result Y E) (done : List Y) (rows : List X) (i : ℕ) (other : X) (one : Y) → i < length rows
-    → read done (get_or rows i other) ≡ Ok one → placed read done (drop i rows) ≡ placed read (done ++ one ∷ []) (drop (i + 1) rows)
+    → read done (get_or rows i other) ≡ Ok one → read_each read done (drop i rows) ≡ read_each read (done ++ one ∷ []) (drop (i + 1) rows)
 one_more_row read done rows i other one within gives = rw (drop_more rows i other within, gives) refl
 
 -- what is read of the rest, if the row at place i has a fault
 pub first_row_fault : {X Y E : Type 0} (read : List Y → X → Result Y E) (done : List Y) (rows : List X) (i : ℕ) (other : X) (fault : E) → i < length rows
-    → read done (get_or rows i other) ≡ Err fault → placed read done (drop i rows) ≡ Err (fault, length done)
+    → read done (get_or rows i other) ≡ Err fault → read_each read done (drop i rows) ≡ Err (fault, length done)
 first_row_fault read done rows i other fault within fails = rw (drop_more rows i other within, fails) refl
 
 -- the link's row at place i has no fault

@@ -18,8 +18,8 @@ use Rattle.vl_config.specs.Link.{links_from}
 
 -- 8 hexadecimal digits of either case
 -- rule: CONF-2
-abbrev pub octets_from : List ℕ → Result (List ℕ) ConfigFault
-octets_from text = ok_or (result_ok (decode_sized text 4)) (Range keys.Constant)
+abbrev pub constant_from : List ℕ → Result (List ℕ) ConfigFault
+constant_from text = ok_or (result_ok (decode_sized text 4)) (Range keys.Constant)
 
 -- without the key it is 03 00 00 00 (own)
 -- rule: CONF-2
@@ -27,7 +27,7 @@ abbrev pub constant_if : Option Data → Result (List ℕ) ConfigFault
 constant_if None = Ok (3 ∷ 0 ∷ 0 ∷ 0 ∷ [])
 constant_if (Some value) = do
   text ← text_from keys.Constant value
-  octets_from text
+  constant_from text
 
 -- ---- the tables of the links, 1 to 64
 

@@ -35,16 +35,16 @@ abbrev pub bare : List ℕ → List ℕ
 bare line = drop (prefix_len is_ascii_whitespace line) line
 
 -- the line begins with this word
-abbrev pub begins : List ℕ → List ℕ → Bool
-begins line word = starts_with (λ a b. a == b) (bare line) word
+abbrev pub begins_with_word : List ℕ → List ℕ → Bool
+begins_with_word line word = starts_with (λ a b. a == b) (bare line) word
 
 abbrev pub heading_of : List ℕ → Heading
 heading_of line =
-    if begins line (codes "[[link.port]]") then Port else if begins line (codes "[[link]]") then Link else if begins line (codes "[") then Other else Not
+    if begins_with_word line (codes "[[link.port]]") then Port else if begins_with_word line (codes "[[link]]") then Link else if begins_with_word line (codes "[") then Other else Not
 
 -- the line gives the value of this key
 abbrev pub gives : List ℕ → Key → Bool
-gives line key = begins line (key_name key) && begins (drop (length (key_name key)) (bare line)) (codes "=")
+gives line key = begins_with_word line (key_name key) && begins_with_word (drop (length (key_name key)) (bare line)) (codes "=")
 
 -- ---- the table
 
@@ -58,19 +58,19 @@ list_key None = keys.Link
 list_key (Some link) = keys.Port
 
 -- key of a fault
-abbrev pub key_of : ConfigFault → FaultPlace → Key
-key_of (faults.Missing key) place = key
-key_of (faults.Kind key) place = key
-key_of (faults.Range key) place = key
-key_of faults.DoubleLink place = keys.Vl
-key_of faults.DoublePort place = keys.Udp
-key_of faults.DoubleName place = keys.Name
-key_of faults.TooMany place = list_key place.link
-key_of faults.Text place = keys.Link
-key_of faults.Memory place = keys.Link
+abbrev pub key_of_fault : ConfigFault → FaultPlace → Key
+key_of_fault (faults.Missing key) place = key
+key_of_fault (faults.Kind key) place = key
+key_of_fault (faults.Range key) place = key
+key_of_fault faults.DoubleLink place = keys.Vl
+key_of_fault faults.DoublePort place = keys.Udp
+key_of_fault faults.DoubleName place = keys.Name
+key_of_fault faults.TooMany place = list_key place.link
+key_of_fault faults.Text place = keys.Link
+key_of_fault faults.Memory place = keys.Link
 
 abbrev pub sought_by : ConfigFault → FaultPlace → Sought
-sought_by fault place = record { links = passed place.link; ports = passed place.port; key = key_of fault place }
+sought_by fault place = record { links = passed place.link; ports = passed place.port; key = key_of_fault fault place }
 
 -- ---- the lines, one after another
 
@@ -83,8 +83,8 @@ after_heading Port seen = record seen { ports = next seen.ports; elsewhere = fal
 after_heading Other seen = record seen { elsewhere = true }
 after_heading Not seen = seen
 
-abbrev pub after : Heading → Seen → Seen
-after heading seen = after_heading heading (record seen { lines = next seen.lines })
+abbrev pub after_line : Heading → Seen → Seen
+after_line heading seen = after_heading heading (record seen { lines = next seen.lines })
 
 -- the last line is in the sought table
 abbrev pub is_there : Sought → Seen → Bool
@@ -99,7 +99,7 @@ noted sought seen Other line = record seen { found = seen.lines }
 
 abbrev pub step : Sought → Seen → List ℕ → Seen
 step sought seen line =
-    let now = after (heading_of line) seen in
+    let now = after_line (heading_of line) seen in
     if is_there sought now then noted sought now (heading_of line) line else now
 
 -- rule: CONF-25

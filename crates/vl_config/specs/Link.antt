@@ -65,8 +65,8 @@ head_from links table = do
   tables ← port_tables table
   Ok (record { vl = vl; skew_max = skew_max; redundancy = redundancy; reassembly = reassembly; window = window; tables = tables })
 
-abbrev pub link_of : Head → List Port → Settings
-link_of head ports = record {
+abbrev pub link_of_head : Head → List Port → Settings
+link_of_head head ports = record {
   vl = record { 0 = head.vl };
   skew_max = head.skew_max;
   redundancy = head.redundancy;
@@ -81,7 +81,7 @@ abbrev pub link_from : List Settings → Members → Result Settings ConfigFault
 link_from links table = do
   head ← head_from links table
   ports ← ports_from (ports_in links) head.tables
-  Ok (link_of head ports)
+  Ok (link_of_head head ports)
 
 abbrev pub links_from : List Members → Result (List Settings) ConfigFault
 links_from = collected link_from []

@@ -10,9 +10,9 @@ use Rattle.vl_config.specs.declared.names.Names.{Names}
 
 -- whether this name is one of them
 -- rule: CONF-22
-abbrev pub is_among : Names → List ℕ → Bool
-is_among names name = contains_by (λ key. slice_cmp nat_cmp name key.bytes) names.names
+abbrev pub is_among_names : Names → List ℕ → Bool
+is_among_names names name = contains_by (λ key. slice_cmp nat_cmp name key.bytes) names.names
 
 -- these are the names of these ports
 abbrev pub AreNamesOf : Names → List Port → Type 0
-AreNamesOf names ports = (name : List ℕ) → is_among names name ≡ list_any (has_name name) ports
+AreNamesOf names ports = (name : List ℕ) → is_among_names names name ≡ list_any (has_name name) ports

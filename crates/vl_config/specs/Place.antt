@@ -58,5 +58,5 @@ place_from (Some document) = place_if (do
   link_tables document)
 
 -- rule: CONF-24
-unfoldable pub place_of : List ℕ → FaultPlace
-place_of text = place_from (parse_document text)
+unfoldable pub fault_place_of : List ℕ → FaultPlace
+fault_place_of text = place_from (parse_document text)

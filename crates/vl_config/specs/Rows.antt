@@ -41,8 +41,8 @@ is_this name (Ok own) = bytes_eq own name
 is_this name (Err fault) = false
 
 -- whether this is the name of the row's port
-abbrev pub has_name : List ℕ → PortRow → Bool
-has_name name row = is_this name (name_of_row row)
+abbrev pub has_row_name : List ℕ → PortRow → Bool
+has_row_name name row = is_this name (name_of_row row)
 
 abbrev pub service_of_row : PortRow → Result Service ConfigFault
 service_of_row row = if row.service == 1 then Ok Sampling else if row.service == 2 then Ok Queuing else Err (Range keys.Kind)
@@ -74,9 +74,9 @@ on_read_row (Ok one) next at = next one
 on_read_row (Err fault) next at = Err (fault, at)
 
 -- what each of the rows gives, each read after those before it; or the first fault, and the place of its row
-abbrev pub placed : {X Y E : Type 0} → (List Y → X → Result Y E) → List Y → List X → Result (List Y) (E × ℕ)
-placed read done [] = Ok done
-placed read done (row ∷ rows) = on_read_row (read done row) (λ one. placed read (done ++ one ∷ []) rows) (length done)
+abbrev pub read_each : {X Y E : Type 0} → (List Y → X → Result Y E) → List Y → List X → Result (List Y) (E × ℕ)
+read_each read done [] = Ok done
+read_each read done (row ∷ rows) = on_read_row (read done row) (λ one. read_each read (done ++ one ∷ []) rows) (length done)
 
 -- memory ran out, or this is returned
 abbrev pub GivesRow : {A B : Type 0} → (A → B) → Result A (ConfigFault × ℕ) → Result B (ConfigFault × ℕ) → Type 0
@@ -84,7 +84,7 @@ GivesRow seen (Ok a) wanted = wanted ≡ Ok (seen a)
 GivesRow seen (Err fault) wanted = (fault.0 ≡ Memory) ⊎ (wanted ≡ Err fault)
 
 abbrev pub ports_of_rows : List Port → List PortRow → Result (List Port) (ConfigFault × ℕ)
-ports_of_rows earlier = placed (port_of_row earlier) []
+ports_of_rows earlier = read_each (port_of_row earlier) []
 
 -- ---- a link
 
@@ -123,8 +123,8 @@ head_of_row links rest row = do
   rows ← rows_of_link rest row
   Ok (record { vl = vl; skew_max = skew_max; redundancy = redundancy; reassembly = reassembly; window = window; rows = rows })
 
-abbrev pub link_with : RowHead → Result (List Port) (ConfigFault × ℕ) → Result Settings (ConfigFault × Option ℕ)
-link_with head (Ok ports) = Ok (record {
+abbrev pub link_of_rows : RowHead → Result (List Port) (ConfigFault × ℕ) → Result Settings (ConfigFault × Option ℕ)
+link_of_rows head (Ok ports) = Ok (record {
   vl = record { 0 = head.vl };
   skew_max = head.skew_max;
   redundancy = head.redundancy;
@@ -132,10 +132,10 @@ link_with head (Ok ports) = Ok (record {
   window = head.window;
   ports = ports;
 })
-link_with head (Err fault) = Err (fault.0, Some fault.1)
+link_of_rows head (Err fault) = Err (fault.0, Some fault.1)
 
 abbrev pub link_if : List Settings → Result RowHead ConfigFault → Result Settings (ConfigFault × Option ℕ)
-link_if links (Ok head) = link_with head (ports_of_rows (ports_in links) head.rows)
+link_if links (Ok head) = link_of_rows head (ports_of_rows (ports_in links) head.rows)
 link_if links (Err fault) = Err (fault, None)
 
 -- the link of this row, after these links, if these rows of ports are left; or the fault, and the place of its port
@@ -148,9 +148,9 @@ GivesLink (Err fault) wanted = (fault.0 ≡ Memory) ⊎ (wanted ≡ Err fault)
 
 -- ---- the table
 
-abbrev pub on_link : Result Settings (ConfigFault × Option ℕ) → ℕ → (Settings → Result (List Settings) TableFault) → Result (List Settings) TableFault
-on_link (Ok link) at next = next link
-on_link (Err fault) at next = Err (record { fault = fault.0; place = record { link = Some at; port = fault.1 } })
+abbrev pub on_row : Result Settings (ConfigFault × Option ℕ) → ℕ → (Settings → Result (List Settings) TableFault) → Result (List Settings) TableFault
+on_row (Ok link) at next = next link
+on_row (Err fault) at next = Err (record { fault = fault.0; place = record { link = Some at; port = fault.1 } })
 
 abbrev pub if_none_left : List PortRow → List Settings → Result (List Settings) TableFault
 if_none_left [] links = Ok links
@@ -160,7 +160,7 @@ if_none_left (row ∷ rows) links = Err (record { fault = TooMany; place = nowhe
 abbrev pub links_of_rows : List Settings → List PortRow → List LinkRow → Result (List Settings) TableFault
 links_of_rows links rest [] = if_none_left rest links
 links_of_rows links rest (row ∷ rows) =
-    on_link (link_of_row links rest row) (length links) (λ link. links_of_rows (links ++ link ∷ []) (drop row.ports rest) rows)
+    on_row (link_of_row links rest row) (length links) (λ link. links_of_rows (links ++ link ∷ []) (drop row.ports rest) rows)
 
 abbrev pub config_with : List ℕ → Result (List Settings) TableFault → Result Configuration TableFault
 config_with constant (Ok links) = Ok (record { constant = constant; links = links })

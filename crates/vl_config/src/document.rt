@@ -6,7 +6,7 @@ ghost use Rattle.es_base.specs.Limits.{most_links};
 ghost use Rattle.toml.specs.Errors.{IsMemory};
 ghost use Rattle.vl_config.specs.declared.fault.ConfigFault.TheVariants.{Memory, Text};
 ghost use Rattle.vl_config.specs.Fault.{GivesOrMemory};
-ghost use Rattle.vl_config.specs.Document.{config_in, config_from, constant_if, octets_from, link_tables};
+ghost use Rattle.vl_config.specs.Document.{config_in, config_from, constant_if, constant_from, link_tables};
 ghost use Rattle.vl_config.specs.Link.{links_from};
 
 use crate::link::link_from;
@@ -68,7 +68,7 @@ pub(crate) fn constant_if(value: Option<&Value>) -> Result<[u8; 4], ConfigFault>
 
 /// The 4 octets of this text: 8 hexadecimal digits of either case.
 fn octets_from(text: &str) -> Result<[u8; 4], ConfigFault>
-    ensures { result ≡ octets_from text.now }
+    ensures { result ≡ constant_from text.now }
 {
     match <[u8; 4] as FromHex>::from_hex(text) {
         Ok(octets) => Ok(octets),

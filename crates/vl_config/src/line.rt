@@ -2,7 +2,7 @@
 ghost use Rattle.std.specs.Prelude.{◌≡◌, option_map};
 ghost use Rattle.std.specs.List.{fold};
 ghost use Rattle.std.specs.Str.Lines.{lines};
-ghost use Rattle.vl_config.specs.Line.{after, bare, begins, gives, heading_of, is_there, key_of, line_in, line_of_octet, next, noted, passed, sought_by, start, step, step_octet};
+ghost use Rattle.vl_config.specs.Line.{after_line, bare, begins_with_word, gives, heading_of, is_there, key_of_fault, line_in, line_of_octet, next, noted, passed, sought_by, start, step, step_octet};
 
 use crate::{ConfigFault, FaultPlace, Key};
 
@@ -119,7 +119,7 @@ fn sought_by(fault: ConfigFault, place: FaultPlace) -> Sought
 
 /// Key of a fault: for a value given twice, the value's; for too many entries, the list's.
 fn key_of(fault: ConfigFault, place: FaultPlace) -> Key
-    ensures { result ≡ key_of fault place }
+    ensures { result ≡ key_of_fault fault place }
 {
     match fault {
         ConfigFault::Missing(key) | ConfigFault::Kind(key) | ConfigFault::Range(key) => key,
@@ -189,7 +189,7 @@ fn is_there(sought: Sought, seen: Seen) -> bool
 }
 
 fn after(heading: Heading, seen: Seen) -> Seen
-    ensures { result ≡ after heading seen }
+    ensures { result ≡ after_line heading seen }
 {
     let seen = Seen {
         lines: next(seen.lines),
@@ -238,7 +238,7 @@ fn bare(line: &[u8]) -> &[u8]
 
 /// Whether a line begins with this word, after white space.
 fn begins(line: &[u8], word: &[u8]) -> bool
-    ensures { result ≡ begins line.now word.now }
+    ensures { result ≡ begins_with_word line.now word.now }
 {
     bare(line).starts_with(word)
 }

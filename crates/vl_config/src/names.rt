@@ -2,7 +2,7 @@
 ghost use Rattle.std.specs.Prelude.{◌≡◌, ◌++◌, List, [], ◌∷◌, IfOk, OnOk};
 ghost use Rattle.es_base.specs.Config.{ports_in};
 ghost use Rattle.es_base.specs.Port.{Port};
-ghost use Rattle.vl_config.specs.Names.{is_among, AreNamesOf};
+ghost use Rattle.vl_config.specs.Names.{is_among_names, AreNamesOf};
 
 use arrayvec::ArrayString;
 use es_base::{LONGEST_NAME, LinkSettings, Memory, PortName, PortSettings};
@@ -27,7 +27,7 @@ impl Names {
 
     /// Whether this name is among them.
     pub(crate) fn has(&self, name: &PortName) -> bool
-        ensures { result ≡ is_among self.now name.now }
+        ensures { result ≡ is_among_names self.now name.now }
     {
         self.names.contains(&key_of(name))
     }

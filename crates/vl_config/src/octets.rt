@@ -1,7 +1,7 @@
 //! A configuration in octets, which may be no text.
 ghost use Rattle.std.specs.Prelude.{◌≡◌, IfOk, option_map};
 ghost use Rattle.vl_config.specs.Fault.{GivesOrMemory};
-ghost use Rattle.vl_config.specs.Octets.{IsLineOf, config_of, line_if, place_in, text_of};
+ghost use Rattle.vl_config.specs.Octets.{IsLineOf, config_of, line_of_fault_if, fault_place_in, text_of};
 
 use crate::line::{line_in, line_of_octet};
 use crate::place::NOWHERE;
@@ -32,7 +32,7 @@ pub fn read_octets(alloc: Global, octets: &[u8]) -> Result<Config, ConfigFault>
 
 /// Place of the fault that [`read_octets`] returns of these octets. It reads them again.
 pub fn place_in_octets(alloc: Global, octets: &[u8]) -> Result<FaultPlace, Memory>
-    ensures { IfOk result (λ place. place ≡ place_in octets.now) }
+    ensures { IfOk result (λ place. place ≡ fault_place_in octets.now) }
 {
     match text_of(octets) {
         Some(text) => place_of_fault(alloc, text),
@@ -59,7 +59,7 @@ pub fn line_in_octets(
 }
 
 fn line_if(text: Option<&str>, fault: ConfigFault, place: FaultPlace) -> u64
-    ensures { result ≡ line_if (option_map (λ text. text.now) text.entry) fault place }
+    ensures { result ≡ line_of_fault_if (option_map (λ text. text.now) text.entry) fault place }
 {
     match text {
         Some(text) => line_in(text, fault, place),

@@ -6,7 +6,7 @@ ghost use Rattle.es_base.specs.Config.{ports_in, same_name};
 ghost use Rattle.es_base.specs.Port.{Port};
 ghost use Rattle.vl_config.specs.Names.{AreNamesOf};
 ghost use Rattle.vl_config.specs.Link.{head_from};
-ghost use Rattle.vl_config.specs.Place.{link_place, place_of, port_place, port_place_if};
+ghost use Rattle.vl_config.specs.Place.{link_place, fault_place_of, port_place, port_place_if};
 
 use crate::document::{constant_if, link_tables};
 use crate::link::{head_from, link_from};
@@ -32,9 +32,9 @@ pub(crate) const NOWHERE: FaultPlace = FaultPlace {
 };
 
 /// Place of the fault that [`read_config`](crate::read_config) returns of this text. It reads the text again.
-#[tactic(auto, unfolding(crate::specs::Place::place_of), using(crate::proofs::Links::none_distinct))]
+#[tactic(auto, unfolding(crate::specs::Place::fault_place_of), using(crate::proofs::Links::none_distinct))]
 pub fn place_of_fault(alloc: Global, text: &str) -> Result<FaultPlace, Memory>
-    ensures { IfOk result (λ place. place ≡ place_of text.now) }
+    ensures { IfOk result (λ place. place ≡ fault_place_of text.now) }
 {
     let document = match toml::table_from_str(alloc, text) {
         Ok(document) => document,

@@ -3,7 +3,7 @@ ghost use Rattle.std.specs.Prelude.{◌≡◌, ◌++◌, List, true, false, IfOk
 ghost use Rattle.std.specs.List.{list_any};
 ghost use Rattle.toml.specs.View.{table_view};
 ghost use Rattle.es_base.specs.Port.{Port, accepts, is_kind_within_limits, largest_payload};
-ghost use Rattle.vl_config.specs.Names.{is_among, AreNamesOf};
+ghost use Rattle.vl_config.specs.Names.{is_among_names, AreNamesOf};
 ghost use Rattle.vl_config.specs.Port.{port_from, name_at, service_at, address_at, address_from, largest_message, kind_from};
 
 use crate::names::Names;
@@ -31,7 +31,7 @@ pub(crate) fn port_from(
     ports: &[PortSettings],
 ) -> Result<PortSettings, ConfigFault>
     ensures value { (earlier : List Port) → AreNamesOf names.now (earlier ++ ports.now) → result ≡ port_from earlier ports.now (table_view table.now) }
-    ensures name { IfOk result (λ port. is_among names.now port.name ≡ false) }
+    ensures name { IfOk result (λ port. is_among_names names.now port.name ≡ false) }
     ensures apart { IfOk result (λ port. list_any (accepts port.address port.udp) ports.now ≡ false) }
 {
     let name = name_at(table)?;

@@ -6,9 +6,9 @@ ghost use Rattle.es_base.specs.Limits.{longest_reassembly, longest_skew, most_li
 ghost use Rattle.es_base.specs.Port.{Port, accepts, are_apart, is_kind_within_limits, largest_payload};
 ghost use Rattle.es_base.specs.Returns.{Gives};
 ghost use Rattle.vl_config.specs.Place.{nowhere};
-ghost use Rattle.vl_config.specs.Names.{AreNamesOf, is_among};
+ghost use Rattle.vl_config.specs.Names.{AreNamesOf, is_among_names};
 ghost use Rattle.vl_config.specs.Port.{largest_message};
-ghost use Rattle.vl_config.specs.Rows.{GivesLink, GivesRow, GivesTable, bounded, has_name, head_of_row, if_none_left, kind_of_row, link_number_of_row, link_of_row, links_of_rows, name_of_row, port_of_row, ports_of_rows, redundancy_of_row, rows_of_link, service_of_row, table_of};
+ghost use Rattle.vl_config.specs.Rows.{GivesLink, GivesRow, GivesTable, bounded, has_row_name, head_of_row, if_none_left, kind_of_row, link_number_of_row, link_of_row, links_of_rows, name_of_row, port_of_row, ports_of_rows, redundancy_of_row, rows_of_link, service_of_row, table_of};
 
 use crate::link::has_link_number;
 use crate::names::Names;
@@ -66,7 +66,7 @@ pub struct PortRow {
 impl PortRow {
     /// Whether this is its name.
     pub fn has_name(&self, name: &str) -> bool
-        ensures { result ≡ has_name name.now self.now }
+        ensures { result ≡ has_row_name name.now self.now }
     {
         match name_of_row(self) {
             Ok(own) => own.as_str() == name,
@@ -134,7 +134,7 @@ fn port_of_row(
     ports: &[PortSettings],
 ) -> Result<PortSettings, ConfigFault>
     ensures value { (earlier : List Port) → AreNamesOf names.now (earlier ++ ports.now) → result ≡ port_of_row earlier ports.now row.now }
-    ensures name { IfOk result (λ port. is_among names.now port.name ≡ false) }
+    ensures name { IfOk result (λ port. is_among_names names.now port.name ≡ false) }
     ensures apart { IfOk result (λ port. list_any (accepts port.address port.udp) ports.now ≡ false) }
 {
     let name = name_of_row(row)?;

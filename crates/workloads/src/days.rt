@@ -15,7 +15,7 @@ use slot_core::READERS;
 use std::alloc::Global;
 use std::io;
 use std::sync::Wait;
-use test_inputs_systems::Running;
+use test_inputs_end_system::Running;
 
 const SHAPE: Shape = Shape {
     links: 16,

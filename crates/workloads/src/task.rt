@@ -84,7 +84,7 @@ const READERS: usize = 1;
 /// Opens the receiver of a configuration, and has the ends of all ports handed out.
 fn open(alloc: Global, shape: Shape) -> io::Result<Receiving> {
     let mut receiving = Receiving {
-        receiver: ReceiverSlot::empty(),
+        receiver: ReceiverSlot::new(),
         readers: Vec::new(alloc),
         takers: Vec::new(alloc),
         room: vec![in alloc; 0u8; 8192]?,
@@ -108,7 +108,7 @@ fn open(alloc: Global, shape: Shape) -> io::Result<Receiving> {
 fn hand_ends(alloc: Global, receiving: &mut Receiving, shape: Shape, link: u8) -> io::Result<()> {
     for place in 0..shape.sampling {
         let name = format!(in alloc; "s{link}-{place}")?;
-        let mut slot = ReaderSlot::empty();
+        let mut slot = ReaderSlot::new();
         let code = receiving.receiver.hand_reader(&mut slot, name.as_bytes());
         match slot.into_reader() {
             Some(reader) if code == DONE => receiving.readers.push(reader)?,
@@ -117,7 +117,7 @@ fn hand_ends(alloc: Global, receiving: &mut Receiving, shape: Shape, link: u8) -
     }
     for place in 0..shape.queuing {
         let name = format!(in alloc; "q{link}-{place}")?;
-        let mut slot = TakerSlot::empty();
+        let mut slot = TakerSlot::new();
         if receiving.receiver.hand_taker(&mut slot, name.as_bytes()) != DONE {
             return Err(refused());
         }

@@ -7,7 +7,7 @@ use Rattle.receiver.specs.declared.partition.PartitionEnd.{PartitionEnd}
 use Rattle.network_calls.specs.Threads.{steps_of}
 use Rattle.network_calls.proofs.Threads.{together}
 use Rattle.live_system.specs.Burst.{steps_in_turn}
-use Rattle.live_system.specs.Run.{AreOpened, Does, HasSettled, Passes, Ran, RanAlone, Step, came, net_in}
+use Rattle.live_system.specs.Run.{AreOpened, Does, HasSettled, Passes, Ran, RanAlone, Step, received, net_in}
 use Rattle.live_system.specs.System.{IsPassOf, System}
 use Rattle.live_system.proofs.Running.{ended}
 use Rattle.live_system_example.specs.Whole.{Gave, GaveAll, frame_and_burst}
@@ -25,7 +25,7 @@ returns g c =
     let on_b : GaveAll system opening.b c.args.on_b.now c.join-a.result.1.0 to_b = c.join-a.ensures.second in
     let last : Passes = record { a = c.join-a.result.0.0; b = c.join-a.result.1.0 } in
     let calls_b = steps_in_turn c.args.on_b.now to_b in
-    let call_a = came 1000 c.args.on_a.now c.join-a.result.0.1 in
+    let call_a = received 1000 c.args.on_a.now c.join-a.result.0.1 in
     let steps : List (Net × Step) = frame_and_burst c.args.on_a.now c.args.on_b.now c.join-a.result.0.1 to_b in
     let opened : AreOpened (λ _. most_readers) system first ends = record {
       own_a = c.in_ok-system.ensures.a.0;

@@ -1,7 +1,7 @@
 use Rattle.std.proofs.Common.{◌≡◌, ◌∙◌, List, true, refl, sym, ap, subst}
 use Rattle.clap.specs.Words.{App, HasKind, Row, fault_of, is_simple, is_simple_and_free, matches_of, takes}
 use Rattle.clap.specs.declared.error.kind.ErrorKind.{ErrorKind}
-use Rattle.command_line.specs.Command.{IsFaultOf, IsLineIn, IsLineOf, IsTaken, play_command, texts_of, fault_from}
+use Rattle.command_line.specs.Command.{IsFaultOfWords, IsLineIn, IsLineOfWords, IsTakenByCommand, play_command, texts_of, fault_from}
 use Rattle.command_line.specs.declared.fault.LineFault.{LineFault}
 use Rattle.command_line.proofs.Faults.{fault_says, fault_of_words, free}
 use Rattle.command_line.proofs.Options.{config_given, a_given, b_given, time_read, time_in_range}
@@ -23,7 +23,7 @@ pub line_from-requires-clause-at : goal.line_from-requires-clause-at
 line_from-requires-clause-at c = time_in_range c.in_ok-play_command.field-0 c.in_ok-play_command.ensures c.in-Ok.matches c.in-Ok.ensures.parsed
 
 pub returns-in_ok-line_from-in-Ok-clause-taken : goal.returns-in_ok-line_from-in-Ok-clause-taken
-unfolding IsTaken
+unfolding IsTakenByCommand
 returns-in_ok-line_from-in-Ok-clause-taken c =
     let is = c.in_ok-play_command.ensures in
     let none = c.in-Ok.ensures.kinds (ap is_simple_and_free is ∙ free) in
@@ -33,7 +33,7 @@ simple : is_simple play_command ≡ true
 simple = refl
 
 pub returns-in_ok-line_from-in-Ok-clause-line : goal.returns-in_ok-line_from-in-Ok-clause-line
-unfolding IsLineOf
+unfolding IsLineOfWords
 returns-in_ok-line_from-in-Ok-clause-line c =
     let is = c.in_ok-play_command.ensures in
     let rows = (c.in-Ok.ensures.matches (ap is_simple is ∙ simple)).0 ∙ ap (λ (a : App). matches_of a (texts_of c.args.words.now)) is in
@@ -45,10 +45,10 @@ returns-in-Err-clause-fault c =
     let failed = c.in-Err.ensures.kinds (ap is_simple_and_free is ∙ free) in
     let read = fault_of_words c.args.words.now c.in-Err.error
     (subst (λ (a : App). HasKind (fault_of a (texts_of c.args.words.now)) c.in-Err.error) is failed) in
-    subst (λ (f : LineFault). IsFaultOf c.args.words.now f) (sym c.fault_from.ensures) read
+    subst (λ (f : LineFault). IsFaultOfWords c.args.words.now f) (sym c.fault_from.ensures) read
 
 pub returns-in-Err-clause-memory : goal.returns-in-Err-clause-memory
-unfolding IsTaken
+unfolding IsTakenByCommand
 returns-in-Err-clause-memory c taken =
     let is = c.in_ok-play_command.ensures in
     let none = c.in-Err.ensures.passes (ap (λ (a : App). takes a (texts_of c.args.words.now)) is ∙ taken) in

@@ -1,7 +1,7 @@
 use Rattle.std.proofs.Common.{◌∙◌, ◌++◌, [], append_assoc, ap, rules, sym}
 use Rattle.std.proofs.KnownBytes.{Consumes-trans}
 use Rattle.std.proofs.lemmas.Result.{err_from_is_err_and}
-use Rattle.hex_trace.specs.Trace.{frames_in, with_front}
+use Rattle.hex_trace.specs.Trace.{frames_of_text, with_front}
 use Rattle.hex_trace.proofs.Pieces.{ended_whole, whole_fault, whole_said, with_none}
 use Rattle.hex_trace.proofs.trace.read_trace.Goals as goal
 
@@ -36,6 +36,6 @@ pieces-preserved g c =
     record {
       bytes = before.bytes ++ told.1.0;
       consumed = Consumes-trans (remaining c.args.source.now) (remaining c.pieces.source) (remaining c.read_on.new.source) before.bytes told.1.0 before.consumed told.1.1;
-      said = λ more. ap frames_in (append_assoc before.bytes told.1.0 more) ∙ before.said (told.1.0 ++ more) ∙ ap (with_front []) (sym (told.1.2 more));
+      said = λ more. ap frames_of_text (append_assoc before.bytes told.1.0 more) ∙ before.said (told.1.0 ++ more) ∙ ap (with_front []) (sym (told.1.2 more));
       flag = told.0;
     }

@@ -1,6 +1,6 @@
 use Rattle.std.proofs.Common.{◌≡◌, true, false, ⊎_elim, arith}
 use Rattle.std.proofs.lemmas.Bool.{cases_Bool}
-use Rattle.message_ring.specs.Queue.{MayBeFull}
+use Rattle.message_ring.specs.Queue.{SeemsFull}
 use Rattle.message_ring.proofs.Puts.{look_keeps, look_told, full_all, full_put, room_all}
 use Rattle.message_ring.proofs.RingPutter.has_room.Goals as goal
 
@@ -28,6 +28,6 @@ returns-clause-room_is_known c = λ less.
     ⊎_elim
     (λ (is : c.has_room.result ≡ true). is)
     (λ (is : c.has_room.result ≡ false).
-    let full : MayBeFull c.args.self.now = rw (← c.self.view_is) (full_put c.self.inside.max c.self.inside.depth c.self.inside.needed c.self.inside.latest c.self.inside.ring c.has_room.new.ring c.self.invariant.0 c.has_room.ensures.looked (c.has_room.ensures.full is)) in
+    let full : SeemsFull c.args.self.now = rw (← c.self.view_is) (full_put c.self.inside.max c.self.inside.depth c.self.inside.needed c.self.inside.latest c.self.inside.ring c.has_room.new.ring c.self.invariant.0 c.has_room.ensures.looked (c.has_room.ensures.full is)) in
     absurd (omega (arith, less, full)))
     (cases_Bool c.has_room.result)

@@ -1,6 +1,7 @@
 use Rattle.std.proofs.Common.{rules, ◌≡◌, Some, ap, refl}
 use Rattle.std.specs.Prelude.{slice_index_or}
-use Rattle.receiver.specs.Named.{HasEndAt, place_named}
+use Rattle.es_base.specs.Ends.{HasEndAt, place_named}
+use Rattle.receiver.specs.Named.{directory}
 use Rattle.receiver.specs.Taking.{HandsReader}
 use Rattle.receiver.proofs.Handed.{handed_at}
 use Rattle.receiver_slots.proofs.handing.reader_named.Goals as goal
@@ -10,8 +11,8 @@ returns c =
     let ends = c.args.ends.now in
     let place = c.in_ok-place.place in
     let link = slice_index_or ends place c.index-ends-place.result in
-    let found : place_named c.args.name.now ends ≡ Some (place, c.in_ok-place.at) = search rules in
-    let there : HasEndAt ends (place, c.in_ok-place.at) = search rules in
+    let found : place_named directory c.args.name.now ends ≡ Some (place, c.in_ok-place.at) = search rules in
+    let there : HasEndAt directory ends (place, c.in_ok-place.at) = search rules in
     let read : link ≡ slice_index_or ends place link = ap (slice_index_or ends place) c.index-ends-place.is in
     handed_at HandsReader c.args.name.now ends place c.in_ok-place.at link _ c.index_mut.result.now c.take_reader.new.self c.take_reader.result
     found there read c.index_mut.ensures.value c.take_reader.ensures refl refl

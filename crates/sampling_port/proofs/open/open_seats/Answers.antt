@@ -1,7 +1,7 @@
 use Rattle.std.proofs.Common.{◌≡◌, ℕ, List, [], replicate, rules, arith, subst, sym, ap, ◌∙◌, ◌++◌, ◌∷◌, length}
 use Rattle.atomic_table.specs.Table.{opening}
 use Rattle.slot_core.specs.Words.{table_words}
-use Rattle.sampling_port.specs.Rule.{Kept, slots_for}
+use Rattle.sampling_port.specs.Rule.{KeptTable, slots_for}
 use Rattle.sampling_port.specs.declared.rule.SeatView.TheVariants.{Opens}
 use Rattle.std.specs.Vec.{vec_len}
 use Rattle.sampling_port.specs.Seats.{ReaderSeated}
@@ -12,7 +12,7 @@ use Rattle.sampling_port.proofs.open.open_seats.Goals as goal
 pub of_words-requires : goal.of_words-requires
 of_words-requires g c =
     let zeros : c.deref.result.now ≡ replicate (table_words g.row.READERS (slots_for g.row.READERS)) 0 = search rules in
-    subst (λ (z : List ℕ). Kept g.row.READERS (slots_for g.row.READERS) (opening z [] (Opens 0))) (sym zeros) (opens_at g.row.READERS (slots_for g.row.READERS))
+    subst (λ (z : List ℕ). KeptTable g.row.READERS (slots_for g.row.READERS) (opening z [] (Opens 0))) (sym zeros) (opens_at g.row.READERS (slots_for g.row.READERS))
 
 pub split_seat-part-requires : goal.split_seat-part-requires
 split_seat-part-requires g c = (search rules, search rules, part_at g.row.READERS (slots_for g.row.READERS) _ _ _ c.loop-place.invariant.parted (omega arith))

@@ -3,7 +3,7 @@ use Rattle.std.proofs.lemmas.List.{take_more}
 use Rattle.slot_core.specs.declared.event.CoreEvent.TheVariants.{Scan}
 use Rattle.slot_core.specs.Limits.{port_readers, port_slots}
 use Rattle.slot_core.specs.State.{State, opening}
-use Rattle.slot_core.specs.Steps.{after, after_all}
+use Rattle.slot_core.specs.Steps.{after_event, after_all}
 use Rattle.slot_core.specs.Allowed.{Allowed}
 use Rattle.slot_core.proofs.Interleavings.{one_more}
 use Rattle.slot_core.proofs.schedule.run.Goals as goal
@@ -18,4 +18,4 @@ loop-place-preserved c =
     let invariant = c.loop-place.invariant in
     let here : Allowed port_readers port_slots (after_all port_readers start before) event = rw invariant.1 at c.in_default.ensures.allowed in
     let more = one_more port_readers port_slots start before event invariant.0 here in
-    rw split (more.0, c.in_default.ensures.state ∙ ap (λ (s : State). after port_readers s event) invariant.1 ∙ sym more.1)
+    rw split (more.0, c.in_default.ensures.state ∙ ap (λ (s : State). after_event port_readers s event) invariant.1 ∙ sym more.1)

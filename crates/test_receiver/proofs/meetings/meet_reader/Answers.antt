@@ -3,7 +3,7 @@ use Rattle.es_base.specs.declared.place.Net.TheVariants as nets
 use Rattle.es_base.specs.Past.{arrived}
 use Rattle.receiver.specs.Meetings.{HasOutlet}
 use Rattle.receiver.specs.Port.{IsPortOf}
-use Rattle.receiver.specs.Run.{came}
+use Rattle.receiver.specs.Run.{received}
 use Rattle.receiver.specs.Taking.{HandsReader}
 use Rattle.receiver.proofs.HandedOut.{reader_stays}
 use Rattle.receiver.proofs.Handed.{of_their_outlets, reader_of_its_port}
@@ -18,4 +18,4 @@ meet_reader-requires g c =
     let found = sym c.place_of.ensures ∙ c.expect-place.ensures in
     let was : HasOutlet opened.receiver place.0 place.1 (λ outlet. IsPortOf outlet c.expect-reader.result) = rw (found, c.expect-reader.ensures) at of_it.1 in
     let has : HasOutlet c.take_reader.new.self.receiver place.0 place.1 (λ outlet. IsPortOf outlet c.expect-reader.result) = rw c.take_reader.ensures.receiver was in
-    reader_stays (came (arrived nets.A 1000 c.as_slice.result.now) c.receive-reply.result) c.take_reader.new.self.receiver c.receive-reply.new.self c.receive-reply.ensures.replies place.0 place.1 c.expect-reader.result has
+    reader_stays (received (arrived nets.A 1000 c.as_slice.result.now) c.receive-reply.result) c.take_reader.new.self.receiver c.receive-reply.new.self c.receive-reply.ensures.replies place.0 place.1 c.expect-reader.result has

@@ -3,7 +3,7 @@ use Rattle.es_base.specs.declared.place.Net.TheVariants as nets
 use Rattle.es_base.specs.Past.{arrived}
 use Rattle.receiver.specs.Meetings.{HasOutlet}
 use Rattle.receiver.specs.Port.{IsQueueOf}
-use Rattle.receiver.specs.Run.{came}
+use Rattle.receiver.specs.Run.{received}
 use Rattle.receiver.specs.Taking.{HandsTaker}
 use Rattle.receiver.proofs.HandedOut.{taker_stays}
 use Rattle.receiver.proofs.Handed.{of_their_outlets, taker_of_its_queue}
@@ -18,4 +18,4 @@ meet_taker-requires g c =
     let found = sym c.place_of.ensures ∙ c.expect-place.ensures in
     let was : HasOutlet opened.receiver place.0 place.1 (λ outlet. IsQueueOf outlet c.expect-taker.result) = rw (found, c.expect-taker.ensures) at of_it.1 in
     let has : HasOutlet c.take_taker.new.self.receiver place.0 place.1 (λ outlet. IsQueueOf outlet c.expect-taker.result) = rw c.take_taker.ensures.receiver was in
-    taker_stays (came (arrived nets.A 1000 c.as_slice.result.now) c.receive-reply.result) c.take_taker.new.self.receiver c.receive-reply.new.self c.receive-reply.ensures.replies place.0 place.1 c.expect-taker.result has
+    taker_stays (received (arrived nets.A 1000 c.as_slice.result.now) c.receive-reply.result) c.take_taker.new.self.receiver c.receive-reply.new.self c.receive-reply.ensures.replies place.0 place.1 c.expect-taker.result has

@@ -2,7 +2,7 @@ use Rattle.std.proofs.Common.{rules, ◌≡◌, ◌∙◌, List, [], ◌∷◌, 
 use Rattle.atomic_table.specs.Table.{opening}
 use Rattle.triple_buffer.specs.declared.latest.Latest.{Latest}
 use Rattle.triple_buffer.specs.declared.rule.SeatView.TheVariants.{Meets, Reads, Writes}
-use Rattle.triple_buffer.specs.Rule.{Kept, first_reader, first_writer}
+use Rattle.triple_buffer.specs.Rule.{KeptTable, first_reader, first_writer}
 use Rattle.triple_buffer.specs.Plays.{At, parted, writer_again}
 use Rattle.triple_buffer.proofs.Opens.{opens_at, part_at}
 use Rattle.triple_buffer.proofs.Turns.{reader_enters_at, writer_enters_at}
@@ -11,7 +11,7 @@ use Rattle.triple_buffer.proofs.open.open_buffer.Goals as goal
 
 pub new-requires : goal.new-requires
 new-requires c = let t = c.in_ok-slots.ensures in
-    subst (λ (l : List (Option Latest)). Kept c.args.longest (opening (1 ∷ []) l (Meets (first_writer c.args.longest) (first_reader c.args.longest)))) (sym t.3)
+    subst (λ (l : List (Option Latest)). KeptTable c.args.longest (opening (1 ∷ []) l (Meets (first_writer c.args.longest) (first_reader c.args.longest)))) (sym t.3)
     (opens_at c.args.longest t.0 t.1 t.2 t.4.0 t.5.0 t.6.0 t.6.1)
 
 pub split_seat-writer-requires : goal.split_seat-writer-requires

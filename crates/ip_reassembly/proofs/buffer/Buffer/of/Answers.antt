@@ -1,5 +1,5 @@
 use Rattle.std.proofs.Common.{◌≡◌, ◌∙◌, ap, false, length, arith}
-use Rattle.ip_reassembly.specs.Stretch.{placed}
+use Rattle.ip_reassembly.specs.Stretch.{placed_among}
 use Rattle.ip_reassembly.proofs.Stretches.{placed_is, placed_long}
 use Rattle.ip_reassembly.proofs.buffer.Buffer.of.Goals as goal
 
@@ -8,8 +8,8 @@ invariant_of-result c =
     let s = c.stretch.inside in
     let long = c.stretch.invariant.0 in
     let within = c.stretch.invariant.1 in
-    let octets : c.in_ok-octets.octets.items ≡ placed 0 s.least s.octets.items = rw c.deref.ensures.value at c.in_ok-octets.ensures in
-    let marks : c.in_ok-marks.marks.items ≡ placed false s.least s.marks.items = rw c.deref-2.ensures.value at c.in_ok-marks.ensures in (
+    let octets : c.in_ok-octets.octets.items ≡ placed_among 0 s.least s.octets.items = rw c.deref.ensures.value at c.in_ok-octets.ensures in
+    let marks : c.in_ok-marks.marks.items ≡ placed_among false s.least s.marks.items = rw c.deref-2.ensures.value at c.in_ok-marks.ensures in (
       ap length octets ∙ placed_long 0 s.least s.octets.items within,
       ap length marks ∙ placed_long false s.least s.marks.items (omega (arith, long, within)),
       rw marks c.stretch.invariant.2,

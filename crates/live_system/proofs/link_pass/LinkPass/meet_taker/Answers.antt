@@ -6,7 +6,7 @@ use Rattle.live_system.proofs.link_pass.LinkPass.meet_taker.Goals as goal
 pub visit-requires-clause-keeps : goal.visit-requires-clause-keeps
 visit-requires-clause-keeps g c lists found left answer finds did =
     let met : MeetsTaker c.args.port c.args.taker answer found left = search rules in
-    leaves_still found left met.core met.came met.outlets _ lists finds
+    leaves_still found left met.core met.received met.outlets _ lists finds
 
 pub visit-requires-clause-callable : goal.visit-requires-clause-callable
 visit-requires-clause-callable g c = λ lists found finds p is.

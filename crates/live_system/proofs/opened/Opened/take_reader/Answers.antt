@@ -1,12 +1,13 @@
 use Rattle.std.proofs.Common.{rules, ◌≡◌, Some, refl}
-use Rattle.receiver.specs.Named.{HasEndAt, place_named}
+use Rattle.es_base.specs.Ends.{HasEndAt, place_named}
+use Rattle.receiver.specs.Named.{directory}
 use Rattle.receiver.specs.Taking.{HandsReader}
 use Rattle.receiver.proofs.Handed.{handed_at}
 use Rattle.live_system.proofs.opened.Opened.take_reader.Goals as goal
 
 pub returns-clause-reader : goal.returns-clause-reader
 returns-clause-reader c =
-    let found : place_named c.args.name.now c.args.self.now.ends.items ≡ Some (c.in_ok-place.place, c.in_ok-place.at) = search rules in
-    let there : HasEndAt c.args.self.now.ends.items (c.in_ok-place.place, c.in_ok-place.at) = rw c.deref.ensures.value at c.in_ok-place.ensures.there in
+    let found : place_named directory c.args.name.now c.args.self.now.ends.items ≡ Some (c.in_ok-place.place, c.in_ok-place.at) = search rules in
+    let there : HasEndAt directory c.args.self.now.ends.items (c.in_ok-place.place, c.in_ok-place.at) = rw c.deref.ensures.value at c.in_ok-place.ensures.there in
     handed_at HandsReader c.args.name.now c.args.self.now.ends.items c.in_ok-place.place c.in_ok-place.at c.index_mut.result.now _ c.index_mut-2.result.now c.take_reader.new.self c.take_reader.result
     found there c.index_mut.ensures.value c.index_mut-2.ensures.value c.take_reader.ensures refl refl

@@ -23,7 +23,7 @@ returns-clause-stays c =
     let place = c.args.place in
     let there : slice_get links place ≡ Some c.in_ok-link.link.now = slice_get-get_or links place c.in_ok-link.link.now (c.in_ok-link.ensures.item.3.0) ∙ ap (λ link. Some link) (sym c.in_ok-link.ensures.value) in
     rw (← c.self.view_is) (one_stays ShowsPort HasSpacePort GivesPort AnswersPort port_stays (record { config = s.config; links = links; filtered = s.filtered }) place c.in_ok-link.link.now c.waiting.new.self there
-    (record { core = c.waiting.ensures.core; came = c.waiting.ensures.came; outlets = c.waiting.ensures.outlets }))
+    (record { core = c.waiting.ensures.core; received = c.waiting.ensures.received; outlets = c.waiting.ensures.outlets }))
 
 pub returns-clause-waiting : goal.returns-clause-waiting
 returns-clause-waiting c =

@@ -20,7 +20,7 @@ use denote.Struct.Owning.{shape}
 use denote.Triple.Walked.{Goes-spent_ref}
 use Rattle.std.proofs.VecSteps.Shapes.{after}
 use Rattle.system_c.specs.contracts.marked.MarkedSystem.{the_row as T}
-use Rattle.system_c.specs.SystemLending.{with_room}
+use Rattle.system_c.specs.SystemLending.{with_slot}
 use Rattle.system_c.specs.declared.system_handle.SystemHandle.{SystemHandle as Handle}
 use Rattle.system_c.specs.contracts.system_handle.SystemHandle.{the_row as R, the_type}
 use Rattle.system_c.specs.contracts.system_handle.SystemHandle.lend as f
@@ -44,14 +44,14 @@ module _ {M : Type 1} {𝓤 : Ura M} {𝓛 : Logic 𝓤} {K : Type 0} {Γ : List
       fpack t (Valss (RawPtr ∷ [])) (within (shape the_type) (h.at, tt) (word h.at ∷ [])) (ptr_val h.at ∷ [], tt) $ fjoin t $ s)
 
 back : {M : Type 1} {𝓤 : Ura M} (𝓛 : Logic 𝓤) (b o : _) (h : Handle) (b' o' : _) → h.at ≡ block_ptr b' o' → (w : T.Denot)
-    → ent 𝓤 (sep 𝓤 (sem 𝓛 ((mem T).own_at w b' o')) (sem 𝓛 (cell_at full_share R.mir (word (block_ptr b' o') ∷ []) b o))) (sem 𝓛 ((mem R).own_at (with_room h w) b o))
+    → ent 𝓤 (sep 𝓤 (sem 𝓛 ((mem T).own_at w b' o')) (sem 𝓛 (cell_at full_share R.mir (word (block_ptr b' o') ∷ []) b o))) (sem 𝓛 ((mem R).own_at (with_slot h w) b o))
 unfolding part_of
 back 𝓛 b o h b' o' e w =
     qed 𝓛 (‵ (part_at T full_share w b' o') ∷ ‵ (cell_at full_share R.mir (word (block_ptr b' o') ∷ []) b o) ∷ []) ∵
     rewrite ! 0 (λ (p : Ptr). ‵ (points_to T p w)) (sym e) refl $
     rewrite ! 1 (λ (p : Ptr). ‵ (cell_at full_share R.mir (word p ∷ []) b o)) (sym e) refl $
-    handle_in ! (with_room h w) $ move ! (1 ∷ 0 ∷ []) $ fjoin ! $
-    fpack ! (List Val) (λ us. fsep (cell_at full_share R.mir us b o) (R.own_val (with_room h w) us)) (word h.at ∷ []) $ done !
+    handle_in ! (with_slot h w) $ move ! (1 ∷ 0 ∷ []) $ fjoin ! $
+    fpack ! (List Val) (λ us. fsep (cell_at full_share R.mir us b o) (R.own_val (with_slot h w) us)) (word h.at ∷ []) $ done !
 
 pub lend_spec : {M : Type 1} → statement M
 lend_spec 𝓤 𝓛 𝓜 𝓡 wired =
@@ -78,8 +78,8 @@ lend_spec 𝓤 𝓛 𝓜 𝓡 wired =
     sets ! (of_opd ! (get ! refl)) refl (tt, tt) $
     let Rest = sem 𝓛 (cell_at full_share R.mir (word (block_ptr b' o') ∷ []) b o) in
     move ! (2 ∷ 3 ∷ 4 ∷ 0 ∷ 1 ∷ []) $ group ! 5 $
-    use1 𝓛 (later (some (λ (δ : GName). ‵ ((MutRef (named 0) κ T).own_val (record { ref_ptr = (b', o'); ghost_name = δ; now = h.room }) (vptr b' o' ∷ [])) ⊛ (‵ (flft κ q) ⊛ ‵ (follows R T γ δ (with_room h))))))
-    (lends_Part 𝓛 R T (with_room h) (named 0) κ q b o b' o' γ Rest (back 𝓛 b o h b' o' e) (R.coded.code h) (R.coded.code h) h.room) $ await ! tt $ pick ! (λ δ.
+    use1 𝓛 (later (some (λ (δ : GName). ‵ ((MutRef (named 0) κ T).own_val (record { ref_ptr = (b', o'); ghost_name = δ; now = h.room }) (vptr b' o' ∷ [])) ⊛ (‵ (flft κ q) ⊛ ‵ (follows R T γ δ (with_slot h))))))
+    (lends_Part 𝓛 R T (with_slot h) (named 0) κ q b o b' o' γ Rest (back 𝓛 b o h b' o' e) (R.coded.code h) (R.coded.code h) h.room) $ await ! tt $ pick ! (λ δ.
     returns ! (look_at ! 0 refl) $ free_all ! refl $ keep ! (0 ∷ []) $ split ! $ move ! (1 ∷ []) $ split ! $ move ! (2 ∷ 0 ∷ 1 ∷ []) $
     -- [the reference; the token; that the handle follows]
     suffices ! _ (ends_at 𝓛 f.ended stayed c y (vptr b' o') (record { ref_ptr = (b', o'); ghost_name = δ; now = h.room }) (tt, tt) (tt, tt)) $

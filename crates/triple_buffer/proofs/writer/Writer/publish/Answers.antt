@@ -1,5 +1,5 @@
 use Rattle.std.proofs.Common.{rules, arith, ◌≡◌, ◌∙◌, ℕ, sym, ap, subst}
-use Rattle.triple_buffer.specs.Ends.{IsSent, MaySend, WriterEnd}
+use Rattle.triple_buffer.specs.Ends.{IsPublishedBy, MaySend, WriterEnd}
 use Rattle.triple_buffer.proofs.Ends.{filled_may_send, sent_writer}
 use Rattle.triple_buffer.proofs.writer.Writer.publish.Goals as goal
 
@@ -19,7 +19,7 @@ pub invariant_of-self : goal.invariant_of-self
 invariant_of-self c =
     let key : c.deref-2.result.now.shared.key ≡ c.self.inside.longest = search rules in
     let t = c.send-self-inside.ensures.sent in
-    let got = subst (λ (n : ℕ). IsSent n c.fill.new.right.me c.send-self-inside.new.right.me t.0 c.send-self-inside.result) key t.2 in (
+    let got = subst (λ (n : ℕ). IsPublishedBy n c.fill.new.right.me c.send-self-inside.new.right.me t.0 c.send-self-inside.result) key t.2 in (
       c.self.invariant.0,
       c.self.invariant.1,
       c.send-self-inside.ensures.table ∙ c.fill.ensures.table.0 ∙ c.self.invariant.2,

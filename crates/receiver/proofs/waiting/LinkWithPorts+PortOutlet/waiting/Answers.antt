@@ -1,0 +1,38 @@
+use Rattle.std.proofs.Common.{◌≡◌, ◌∙◌, ap, sym, refl, [], Some}
+use Rattle.std.specs.List.{slice_get, slice_set}
+use Rattle.std.proofs.lemmas.Option.{slice_get-get_or, slice_get_within}
+use Rattle.receiver.specs.Link.{IsPorted, ported}
+use Rattle.receiver.specs.Port.{AnswersPort, GivesPort, HasSpacePort, ShowsPort}
+use Rattle.receiver.specs.PortLaws.{port_stays}
+use Rattle.receiver.proofs.Given.{given_one}
+use Rattle.receiver.proofs.Meets.{met}
+use Rattle.receiver.proofs.Queues.{wait_at}
+use Rattle.es_base.proofs.Elements.{slice_get-set_same}
+use Rattle.receiver.proofs.waiting.LinkWithPorts+PortOutlet.waiting.Goals as goal
+
+pub invariant_of-self-2 : goal.invariant_of-self-2
+invariant_of-self-2 c =
+    let s = c.self.inside in
+    let opened = s.outlets.items in
+    let at = c.args.port.0 in
+    let there : slice_get opened at ≡ Some c.in_ok-outlet.outlet.now = slice_get-get_or opened at c.in_ok-outlet.outlet.now (c.in_ok-outlet.ensures.item.3.0) ∙ ap (λ outlet. Some outlet) (sym c.in_ok-outlet.ensures.value) in
+    met s.core opened s.received at c.in_ok-outlet.outlet.now c.waiting.new.self there c.waiting.ensures.outlet c.self.invariant
+
+pub returns-clause-outlets : goal.returns-clause-outlets
+returns-clause-outlets c = λ place.
+    let s = c.self.inside in
+    let opened = s.outlets.items in
+    let at = c.args.port.0 in
+    let there : slice_get opened at ≡ Some c.in_ok-outlet.outlet.now = slice_get-get_or opened at c.in_ok-outlet.outlet.now (c.in_ok-outlet.ensures.item.3.0) ∙ ap (λ outlet. Some outlet) (sym c.in_ok-outlet.ensures.value) in
+    rw (← c.self.view_is) (given_one ShowsPort HasSpacePort GivesPort AnswersPort port_stays opened at c.in_ok-outlet.outlet.now c.waiting.new.self (λ p. []) there c.waiting.ensures.outlet (λ p other. refl) place)
+
+pub returns-clause-waiting : goal.returns-clause-waiting
+returns-clause-waiting c =
+    let s = c.self.inside in
+    let opened = s.outlets.items in
+    let at = c.args.port.0 in
+    let there : slice_get opened at ≡ Some c.in_ok-outlet.outlet.now = slice_get-get_or opened at c.in_ok-outlet.outlet.now (c.in_ok-outlet.ensures.item.3.0) ∙ ap (λ outlet. Some outlet) (sym c.in_ok-outlet.ensures.value) in
+    let after : IsPorted ShowsPort (ported s.core (slice_set opened at c.waiting.new.self) s.received) =
+    met s.core opened s.received at c.in_ok-outlet.outlet.now c.waiting.new.self there c.waiting.ensures.outlet c.self.invariant in
+    let here = slice_get-set_same opened at c.waiting.new.self (slice_get_within opened at c.in_ok-outlet.outlet.now there) in
+    rw here (wait_at _ c.waiting.new.self _ c.waiting.result (rw here at (after.shown at)) c.waiting.ensures.waiting)

@@ -1,0 +1,142 @@
+//! A walk through a history goes on from a copy of all that was kept before it, or from what waits of that: both come
+//! to the same messages.
+use crate::epochs::{Step, check_epoch, check_number, check_step};
+use crate::frames::opened;
+use crate::histories::{JOINED_PAYLOAD, Wanted, check_messages};
+use Step::{Nav, Packet};
+use es_base::LinkSettings;
+use es_base::Net::A;
+use es_base::Verdict::FragmentHeld;
+use frame_reader::read_frame;
+use link_core::RulesState;
+use link_deliveries::{deliveries, deliveries_after};
+use link_receiver::LinkState;
+use std::alloc::Global;
+use std::process::Abort;
+use std::sync::Wait;
+use test_inputs::fragments::PacketName::{First, First3, First4, First5, Last};
+use test_inputs::rows::{FOR_NAV, NAV, PacketRow, packet_row};
+use test_inputs::{CONSTANT, ETHERNET, LINK, PAYLOAD, frame_of};
+
+/// One frame more, with a packet that is held.
+fn keep(
+    rt: &impl Abort,
+    alloc: Global,
+    settings: &LinkSettings,
+    kept: &mut RulesState,
+    row: PacketRow,
+) {
+    let (net, now, number, ip, octets, padding, _) = packet_row(row);
+    let texts = [ETHERNET, ip, octets, padding];
+    let frame = frame_of(alloc, &texts, number).expect(rt, "octets");
+    let frame = read_frame(CONSTANT, &frame).expect(rt, "a frame");
+    let step = kept.look(settings, net, now, &frame);
+    let _ = kept.offer(&step, None);
+    kept.note(net, FragmentHeld);
+}
+
+/// What is kept of frames with these packets, each of which is held.
+fn kept_of(
+    rt: &impl Abort,
+    alloc: Global,
+    settings: &LinkSettings,
+    packets: &[PacketRow],
+) -> RulesState {
+    let mut kept = RulesState::open(alloc, settings).expect(rt, "memory");
+    for row in packets {
+        keep(rt, alloc, settings, &mut kept, *row);
+    }
+    kept
+}
+
+/// These packets come, an epoch is taken out, and then this frame comes.
+fn gone_on(
+    rt: &(impl Abort + Wait),
+    alloc: Global,
+    packets: &[PacketRow],
+    after: Step,
+) -> LinkState {
+    let (mut state, _) = opened(rt, alloc, LINK);
+    for row in packets {
+        check_step(rt, alloc, &mut state, Packet(*row));
+    }
+    check_epoch(rt, alloc, &mut state, 0, packets.len() as u64);
+    check_step(rt, alloc, &mut state, after);
+    state
+}
+
+/// Both walks through the history come to these messages for `nav`.
+fn check_walks(
+    rt: &impl Abort,
+    alloc: Global,
+    state: &LinkState,
+    kept: &RulesState,
+    wanted: &[Wanted],
+) {
+    let settings = state.settings();
+    let before = Some(kept.reassembly());
+    let messages = deliveries(alloc, settings, before, state.history(), NAV).expect(rt, "memory");
+    check_messages(rt, alloc, &messages, wanted);
+    let waiting = kept.reassembly().waiting(alloc).expect(rt, "memory");
+    let before = Some(&waiting);
+    let messages = deliveries_after(alloc, settings, before, state.history(), NAV).expect(
+        rt, "memory",
+    );
+    check_messages(rt, alloc, &messages, wanted);
+}
+
+/// After these packets, each of which is held, and this frame, both walks from what was kept of the packets come to
+/// these messages.
+fn check_after(
+    rt: &(impl Abort + Wait),
+    alloc: Global,
+    packets: &[PacketRow],
+    after: Step,
+    wanted: &[Wanted],
+) {
+    let state = gone_on(rt, alloc, packets, after);
+    let kept = kept_of(rt, alloc, state.settings(), packets);
+    let copy = kept.copy(alloc).expect(rt, "memory");
+    check_number(rt, "held", copy.tally().count(A, 5), packets.len() as u64);
+    check_walks(rt, alloc, &state, &copy, wanted);
+}
+
+fn four_that_wait() -> [PacketRow; 4] {
+    [
+        (A, 1000, 1, First, FragmentHeld),
+        (A, 1010, 2, First3, FragmentHeld),
+        (A, 1020, 3, First4, FragmentHeld),
+        (A, 1030, 4, First5, FragmentHeld),
+    ]
+}
+
+// rule: HIST-4
+#[test]
+fn a_walk_from_a_copy_and_from_what_waits_come_to_the_same(rt: HostRuntime) {
+    let nothing_waits = Nav(A, 1100, 1, FOR_NAV);
+    check_after(&rt, rt.alloc(), &[], nothing_waits, &[(1100, PAYLOAD)]);
+    let joined = [(1100, JOINED_PAYLOAD)];
+    let last = Packet((A, 1100, 2, Last, FOR_NAV));
+    check_after(&rt, rt.alloc(), &four_that_wait()[..1], last, &joined);
+    let last = Packet((A, 1100, 5, Last, FOR_NAV));
+    check_after(&rt, rt.alloc(), &four_that_wait(), last, &joined);
+}
+
+/// Nothing was before the history.
+fn check_from_the_beginning(rt: &(impl Abort + Wait), alloc: Global) {
+    let (mut state, _) = opened(rt, alloc, LINK);
+    check_step(rt, alloc, &mut state, Nav(A, 1100, 1, FOR_NAV));
+    let settings = state.settings();
+    let messages = deliveries(alloc, settings, None, state.history(), NAV).expect(rt, "memory");
+    check_messages(rt, alloc, &messages, &[(1100, PAYLOAD)]);
+    let messages = deliveries_after(alloc, settings, None, state.history(), NAV).expect(
+        rt, "memory",
+    );
+    check_messages(rt, alloc, &messages, &[(1100, PAYLOAD)]);
+}
+
+// rule: HIST-4
+#[test]
+fn both_walks_begin_where_nothing_was_before(rt: HostRuntime) {
+    check_from_the_beginning(&rt, rt.alloc());
+}
