@@ -8,7 +8,7 @@ import re
 from typing import NamedTuple
 
 import parts.options  # noqa: F401  (the tools are on the path then)
-from verdict_words import ALLOWED, FILTER_CAUSES, HEADER_CAUSES, KINDS, NETWORKS
+from verdict_words import FILTER_CAUSES, HEADER_CAUSES, KINDS, NETWORKS
 
 CALLS = ("crates/receiver_c/src/lib.rt", *(f"crates/system_c/src/{name}_calls.rt" for name in ("system", "pass")))
 HELD = "crates/receiver_c/src/held_octets.rt"
@@ -55,6 +55,24 @@ PREFIXES = {
     "Service": ("SERVICE_", "Service_"),
     "Bound": ("", ""),
     "Interface": ("", ""),
+}
+# What each key of a configuration may have.
+ALLOWED = {
+    "constant": "a string of 8 hexadecimal digits",
+    "link": "1 to 64 tables",
+    "vl": "an integer from 0 to 65535",
+    "skew_max_us": "an integer from 0 to 1000000",
+    "redundancy": "true or false",
+    "reassembly_us": "an integer from 0 to 10000000",
+    "window": "an integer from 1 to 4",
+    "port": "0 to 32 tables",
+    "name": "a string of 1 to 16 of a-z 0-9 _ -",
+    "kind": '"sampling" or "queuing"',
+    "address": "a string of four numbers from 0 to 255 with dots between them",
+    "udp": "an integer from 0 to 65535",
+    "max": "an integer from 0 to 1471 of a sampling port, 8192 of a queuing port",
+    "refresh_us": "an integer from 0 to 1000000000",
+    "depth": "an integer from 1 to 64",
 }
 # The groups whose numbers are plain constants in Rust, and have no words.
 PLAIN = ("Bound", "Interface")
@@ -287,7 +305,7 @@ def allowed_of_c(tree):
 
 
 def allowed_of_source(words):
-    """What each key may have, by the words of the tools."""
+    """What each key may have, by the table above."""
     return {name: ALLOWED.get(word, "") for name, word in words["Key"].items()}
 
 

@@ -4,7 +4,6 @@ import random
 import re
 import subprocess
 import tempfile
-import tomllib
 
 import pytest
 from conftest import CAPTURES, CONFIG, PROGRAM, ROOT, run
@@ -207,11 +206,10 @@ def test_names_of_any_letters(written):
 def test_places_of_odd_forms():
     """What isn't taken apart falls back on what it stands in; and on line 1 where a text looks like a header."""
     text = 'x = 1\nlink = [{vl = 1, port = [\n {name = "a"},\n {name = "b"}]}]\n[other]\nvl = 3\n'
-    found = places.places_of(text, tomllib.loads(text))
-    assert [places.line_at(found, path) for path in [("x",), ("link", 0, "port", 1, "name"), ("other", "vl"), ("y",)]] == \
-        [1, 2, 6, 1]
+    found = places.Document("c.toml", text.encode())
+    assert [found.line_of(path) for path in [("x",), ("link", 0, "port", 1, "name"), ("other", "vl"), ("y",)]] == [1, 2, 6, 1]
     text = '[[link]]\nvl = 1\ny = """\n[[link]]\n"""\n'
-    assert places.places_of(text, tomllib.loads(text)) == {(): 1}
+    assert places.Document("c.toml", text.encode()).lines == {(): 1}
 
 
 VALUES = ["1", "-1", "0", "5000", "1.5", "true", '""', '"sampling"', '"queuing"', '"224.224.0.17"', '"x"', "[]", "[1]", "{}",

@@ -67,4 +67,4 @@ def words(function):
     numbers = {name: number for line in re.findall(r"^enum (\w+)", HEADER.read_text(encoding="ascii"), re.MULTILINE)
                for number, name in ffi.typeof(f"enum {line}").elements.items()}
     body = re.search(rf"\*yelunnavi_{function}\(.*?^}}", WORDS.read_text(encoding="ascii"), re.DOTALL | re.MULTILINE)[0]
-    return {numbers[name]: word for name, word in re.findall(r'case (\w+): return "(.*)";', body)}
+    return {numbers[name]: word.replace('\\"', '"') for name, word in re.findall(r'case (\w+): return "(.*)";', body)}

@@ -17,19 +17,17 @@ def blocks(seen, packets, found, alone):
     yield captures.written_section("yelunnavi")
     for number, net in enumerate(NETWORKS):
         yield captures.written_interface(net, packets.source(number))
-    with files.bar("writing", 0) as add:
-        for one, now, reply in seen:
-            source = packets.source(one.net)
-            if one.time >= stream.MOST_TIME:
-                raise Fault(f"{source}: {packets.unit} {one.number}: its time is past what a capture can have")
-            told = f"left out: {one.left_out}"
-            if reply:
-                why = reason(one, found.see(one, now, reply), found.links.get(reply.vl), reply)
-                fault = alone and alone.fault(one, now, reply)
-                told = reply.words + "".join(f", {part}" for part in why) + (f", alone {fault.words}" if fault else "")
-            yield captures.written_packet(one.net, one.time, one.octets, one.length,
-                                          f"{told} ({packets.unit} {one.number} of {source})")
-            add(1)
+    for one, now, reply in seen:
+        source = packets.source(one.net)
+        if one.time >= stream.MOST_TIME:
+            raise Fault(f"{source}: {packets.unit} {one.number}: its time is past what a capture can have")
+        told = f"left out: {one.left_out}"
+        if reply:
+            why = reason(one, found.see(one, now, reply), found.links.get(reply.vl), reply)
+            fault = alone and alone.fault(one, now, reply)
+            told = reply.words + "".join(f", {part}" for part in why) + (f", alone {fault.words}" if fault else "")
+        yield captures.written_packet(one.net, one.time, one.octets, one.length,
+                                      f"{told} ({packets.unit} {one.number} of {source})")
 
 
 def reason(one, note, link, reply):

@@ -19,6 +19,7 @@ PCAP = {b"\xd4\xc3\xb2\xa1": ("<", 1000), b"\xa1\xb2\xc3\xd4": (">", 1000),
         b"\x4d\x3c\xb2\xa1": ("<", 1), b"\xa1\xb2\x3c\x4d": (">", 1)}
 SECTION, INTERFACE, OBSOLETE_PACKET, SIMPLE_PACKET, STATISTICS, PACKET = 0x0A0D0D0A, 1, 2, 3, 5, 6
 SECTION_MAGIC = b"\x0a\x0d\x0d\x0a"
+MAGICS = {SECTION_MAGIC, *PCAP}
 ORDERS = {b"\x4d\x3c\x2b\x1a": "<", b"\x1a\x2b\x3c\x4d": ">"}
 LENGTHS = {order: struct.Struct(order + "I") for order in "<>"}
 HEADS = {(order, kind): struct.Struct(order + fields) for order in "<>"
@@ -55,10 +56,6 @@ class Cut(Exception):
 
 class Broken(Fault):
     """From here on the file isn't of its form."""
-
-
-def is_capture(magic):
-    return magic in PCAP or magic == SECTION_MAGIC
 
 
 def packets(file, magic, lost=None):

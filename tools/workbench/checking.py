@@ -9,7 +9,7 @@ import json
 from receiver import ConfigFault
 from workbench import files, settings
 from workbench.faults import Fault, plain
-from workbench.places import is_table, line_at, line_of, places_of, tables, where
+from workbench.places import is_table, members
 
 LEVELS = {
     "the top": ("constant", "link"),
@@ -36,20 +36,20 @@ def slips_of(given):
     octets = settings.read(given.config)
     fault = fault_of(octets)
     try:
-        text, config = settings.parsed(octets)
-    except (ValueError, RecursionError) as error:
+        document = settings.document(given.config, octets, fault)
+    except Fault as told:
         if not fault:
-            raise Fault(f"{given.config}: the receiver takes it, but this Python reads no TOML 1.1: {error}") from None
-        yield f"{given.config}:{line_of(error, octets)}: refused: {fault}: {error}"
+            raise
+        yield str(told)
         return
-    places = places_of(text, config)
-    for path, told in (*refused(config, fault), *settings.wrong_keys(config), *silences(config)):
-        yield f"{given.config}:{line_at(places, path)}: {where(config, path)}{told}"
-    if given.files and (fault or any(settings.wrong_keys(config))):
+    wrong = list(settings.wrong_keys(document.tables))
+    for path, told in (*refused(document.tables, fault), *wrong, *silences(document.tables)):
+        yield document.slip(path, told)
+    if given.files and (fault or wrong):
         yield f"{given.config}: the captures weren't compared with it, since it is refused"
     elif given.files:
         from workbench import showing
-        yield from showing.slips(given, config, places)
+        yield from showing.slips(given, document)
 
 
 # ---- what the receiver refuses
@@ -69,7 +69,7 @@ def refused(config, fault):
         if not fault:
             return
         path = settings.path_of(fault)
-        yield path, f"refused: {fault}{settings.allowed(fault, path)}"
+        yield path, f"refused: {fault}{fault.allowed}"
         if not mend(config, path, str(fault)):
             return
         fault = fault_of(written(config).encode())
@@ -97,8 +97,7 @@ def mend(config, path, told):
 
 def unused(config, key):
     """A value of a key that no link or port has."""
-    found = [table.get(key) for _, link in tables(config["link"]) for table in
-             (link, *(port for _, port in tables(link.get("port"))))]
+    found = [table.get(key) for _, table, _ in members(config)]
     values = (f"name-{number}" if key == "name" else number for number in range(65536))
     return next(value for value in values if value not in found)
 
@@ -121,18 +120,14 @@ def silences(config):
     """The path of each, and words."""
     yield from unknown((), config, "the top")
     owners, ends = {}, []
-    for place, link in tables(config.get("link")):
-        yield from unknown(("link", place), link, "a link")
-        for number, port in tables(link.get("port")):
-            path = ("link", place, "port", number)
-            yield from unknown(path, port, "a port")
-            end = end_of(port.get("address"))
-            if end is None:
-                continue
-            pair = f"{port['address']} UDP {port.get('udp')}"
+    for path, table, level in members(config):
+        yield from unknown(path, table, level)
+        end = end_of(table.get("address")) if level == "a port" else None
+        if end is not None:
+            pair, place = f"{table['address']} UDP {table.get('udp')}", path[1]
             if owners.setdefault(pair, place) != place:
                 yield path, f"{pair} is also a port of link {config['link'][owners[pair]].get('vl')}"
-            ends.append((path, link.get("vl"), end))
+            ends.append((path, config["link"][place].get("vl"), end))
     if 2 * sum(vl == end for _, vl, end in ends) > len(ends):
         for path, vl, end in ends:
             if vl != end:

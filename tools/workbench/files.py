@@ -53,7 +53,7 @@ class Watched(io.RawIOBase):
 
 
 @contextlib.contextmanager
-def reading(name, what):
+def reading(name):
     """The octets of a file, or of the standard input if its name is `-`."""
     try:
         raw = open(0 if name == "-" else name, "rb", buffering=0, closefd=name != "-")
@@ -61,7 +61,7 @@ def reading(name, what):
         raise not_read(name, error) from None
     with raw:
         about = os.fstat(raw.fileno())
-        with bar(f"{what} {plain(name)}", about.st_size if stat.S_ISREG(about.st_mode) else 0) as add:
+        with bar(f"reading {plain(name)}", about.st_size if stat.S_ISREG(about.st_mode) else 0) as add:
             yield io.BufferedReader(Watched(raw, name, add), BLOCK)
 
 

@@ -1,10 +1,11 @@
 """The lines of hex traces, the player's input, and their faults (docs/FORMATS.md)."""
-import contextlib
+import re
 
 from verdict_words import NETWORKS
 from workbench.faults import BROKEN, Fault
 
 LONGEST, MOST_TIME = 8192, 2**64  # bytes of a line; microseconds
+LINE = re.compile(rb"(0|[1-9][0-9]*)?( )?((?:[0-9A-Fa-f]{2})*)(.*)", re.DOTALL)
 
 
 def lines(file, first, net, latest=0):
@@ -30,15 +31,11 @@ def fault(net, number, cause):
 
 def frame_of(text, net, number):
     """Time and octets of a line, or its fault in the player's words."""
-    digits = text[:1] if text[:1] == b"0" else text[:len(text) - len(text.lstrip(b"0123456789"))]
-    if not digits or len(digits) > 20 or (time := int(digits)) >= MOST_TIME:
+    time, space, octets, rest = LINE.fullmatch(text).groups()
+    if not time or len(time) > 20 or int(time) >= MOST_TIME:
         raise fault(net, number, "time")
-    rest = text[len(digits):]
-    if rest[:1] != b" ":
+    if not space:
         raise fault(net, number, "space")
-    with contextlib.suppress(ValueError):
-        octets = bytes.fromhex(rest[1:].decode())
-        if 2 * len(octets) == len(rest) - 1:
-            return time, octets
-    hint = r" (the line ends of Windows: sed 's/\r$//')" if rest.endswith(b"\r") else ""
-    raise fault(net, number, f"hex{hint}")
+    if rest:
+        raise fault(net, number, "hex" + (r" (the line ends of Windows: sed 's/\r$//')" if rest == b"\r" else ""))
+    return int(time), bytes.fromhex(octets.decode())

@@ -1,8 +1,28 @@
 """Where a link, a port or a key stands in a configuration: its line, and what people call it."""
 import re
+import tomllib
 
 HEADER = re.compile(r'\s*\[\[?\s*"?([\w-]+)"?(\s*\.\s*"?port"?)?\s*[\].]')
 KEY = re.compile(r'\s*"?([\w-]+)"?\s*[=.]')
+
+
+class Document:
+    """A configuration's tables, and the line of each table and key by its path, as ("link", 0, "port", 1, "udp"), if each has
+    a line of its own. What stands inside of a value isn't taken apart: the key or table around it has the line."""
+
+    def __init__(self, name, octets):
+        self.name, text = name, octets.decode("utf-8-sig")
+        self.tables = tomllib.loads(text)
+        self.lines = lines_of(text, self.tables)
+
+    def line_of(self, path):
+        while path not in self.lines:
+            path = path[:-1]
+        return self.lines[path]
+
+    def slip(self, path, told):
+        """A line for people, FILE:LINE: TEXT, with the link and the port of a path as they call them."""
+        return f"{self.name}:{self.line_of(path)}: {where(self.tables, path)}{told}"
 
 
 def line_of(error, octets):
@@ -13,10 +33,8 @@ def line_of(error, octets):
     return int(found[1]) if found else 1
 
 
-def places_of(text, config):
-    """The line of each table and key by its path, as ("link", 0, "port", 1, "udp"), in a document with a line for each.
-    What stands inside of a value isn't taken apart: `line_at` falls back on the key or table around it."""
-    places, tables, path, links, ports = {(): 1}, [], (), 0, 0
+def lines_of(text, config):
+    lines, tables, path, links, ports = {(): 1}, [], (), 0, 0
     for number, line in enumerate(text.split("\n"), 1):
         header, key = HEADER.match(line), KEY.match(line)
         if header and header[1] == "link" and header[2]:
@@ -26,11 +44,11 @@ def places_of(text, config):
         elif header:
             path = (header[1],)
         if header:
-            places.setdefault(path, number)
+            lines.setdefault(path, number)
             tables.append(path)
         elif key:
-            places.setdefault((*path, key[1]), number)
-    return places if all(has(config, path) for path in tables) else {(): 1}
+            lines.setdefault((*path, key[1]), number)
+    return lines if all(has(config, path) for path in tables) else {(): 1}
 
 
 def has(config, path):
@@ -42,14 +60,7 @@ def has(config, path):
     return True
 
 
-def line_at(places, path):
-    while path not in places:
-        path = path[:-1]
-    return places[path]
-
-
 def where(config, path):
-    """The link and the port of a path, as people call them."""
     if len(path) < 2:
         return ""
     link = config["link"][path[1]]
@@ -72,3 +83,11 @@ def is_integer(value):
 def tables(value):
     """The members of an array that are tables, with their places."""
     return [(place, one) for place, one in enumerate(value if isinstance(value, list) else []) if is_table(one)]
+
+
+def members(config):
+    """The path of each link and of each of its ports, its table, and what it is."""
+    for place, link in tables(config.get("link")):
+        yield ("link", place), link, "a link"
+        for number, port in tables(link.get("port")):
+            yield ("link", place, "port", number), port, "a port"

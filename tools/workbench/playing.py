@@ -1,46 +1,25 @@
 """Plays captures of any length, also from a pipe: a line for each frame as it comes, and the report at the end."""
-import os
-import select
-
 from verdict_words import NETWORKS
-from workbench import station, stream
-from workbench.faults import NOT_READ, Fault
-
-LINES = 1000  # that wait for their writing, while the input has more
-
-
-class Output:
-    """The standard output. Lines go out in blocks, and at once where a pipe has no more to give just now."""
-
-    def __init__(self, has_pipe, mark):
-        self.has_pipe, self.mark, self.parts = has_pipe, mark, []
-
-    def add(self, line, number="-"):
-        self.parts.append(f"{number} {line}\n" if self.mark else f"{line}\n")
-        if len(self.parts) >= LINES or self.has_pipe and not select.select([0], [], [], 0)[0]:
-            self.flush()
-
-    def flush(self):
-        octets, self.parts = "".join(self.parts).encode(), []
-        try:
-            while octets:
-                octets = octets[os.write(1, octets):]
-        except OSError:
-            raise Fault("output not written", NOT_READ) from None
+from workbench import files, station, stream
 
 
 def play(given):
-    out = Output("-" in given.files, given.packets)
+    is_live = "-" in given.files
     played = station.opened(given.config, not given.never_taken,
-                            lambda *found: [out.add(line) for line in lines_of_end(*found)])
-    with stream.opened(given) as found:
-        for one, now, reply in played.seen(found):
-            if reply:
-                out.add(f"{now} {NETWORKS[one.net]} {reply.words}", one.number)
-    found.tell_beginning()
-    for line in report(played, played.latest if given.at is None else given.at):
-        out.add(line)
-    out.flush()
+                            lambda *found: [add(line) for line in lines_of_end(*found)])
+    with files.output() as out:
+        def add(line, number="-"):
+            out.write(f"{number} {line}\n".encode() if given.packets else f"{line}\n".encode())
+            if is_live:
+                out.flush()
+
+        with stream.opened(given) as found:
+            for one, now, reply in played.seen(found):
+                if reply:
+                    add(f"{now} {NETWORKS[one.net]} {reply.words}", one.number)
+        found.tell_beginning()
+        for line in report(played, played.latest if given.at is None else given.at):
+            add(line)
     return found.status
 
 

@@ -1,10 +1,8 @@
 """A configuration: the receiver that it opens, and the keys that the receiver passes over: what people call a link, how
 often it sends, and when partitions read and take."""
-import tomllib
 from typing import NamedTuple, Optional
 
 from receiver import ConfigFault, NoLibrary, Receiver
-from verdict_words import ALLOWED
 from workbench import files, places
 from workbench.faults import NOT_READ, Fault, plain
 
@@ -26,7 +24,7 @@ class Own(NamedTuple):
 
 
 def read(path):
-    with files.reading(path, "reading") as file:
+    with files.reading(path) as file:
         return file.read()
 
 
@@ -38,27 +36,13 @@ def opened(octets):
         raise Fault(error, NOT_READ) from None
 
 
-def parsed(octets):
-    """The text and its tables."""
-    text = octets.decode("utf-8-sig")
-    return text, tomllib.loads(text)
-
-
-def refusal(path, octets, fault):
-    """The line of a fault that the receiver finds, with its place; of its text's faults as Python words them."""
+def document(path, octets, fault=None):
+    """A configuration's text, of which the receiver may have told a fault; one that Python doesn't read is refused."""
     try:
-        text, config = parsed(octets)
+        return places.Document(path, octets)
     except (ValueError, RecursionError) as error:
-        return f"{path}:{places.line_of(error, octets)}: refused: {fault}: {error}"
-    at = path_of(fault)
-    at_line = places.line_at(places.places_of(text, config), at)
-    return f"{path}:{at_line}: {places.where(config, at)}refused: {fault}{allowed(fault, at)}"
-
-
-def allowed(fault, path):
-    """What the key that is missing or refused may have, in brackets, if a key is named."""
-    names_key = str(fault).startswith(("missing ", "wrong kind of ")) or str(fault).endswith(" out of range")
-    return f" (allowed: {ALLOWED[path[-1]]})" if names_key else ""
+        told = f"refused: {fault}" if fault else "the receiver takes it, but this Python reads no TOML 1.1"
+        raise Fault(f"{path}:{places.line_of(error, octets)}: {told}: {error}") from None
 
 
 def path_of(fault):
@@ -80,13 +64,10 @@ def is_right(key, value):
 
 def wrong_keys(config):
     """The path of each own key whose value can't be, with what it has to be."""
-    for place, link in places.tables(config.get("link")):
-        levels = [(("link", place), link, "a link"), *((("link", place, "port", number), port, "a port")
-                                                       for number, port in places.tables(link.get("port")))]
-        for path, table, level in levels:
-            for key, wanted in OWN_KEYS[level].items():
-                if key in table and not is_right(key, table[key]):
-                    yield (*path, key), f"{key} isn't {wanted}"
+    for path, table, level in places.members(config):
+        for key, wanted in OWN_KEYS[level].items():
+            if key in table and not is_right(key, table[key]):
+                yield (*path, key), f"{key} isn't {wanted}"
 
 
 class Settings:
@@ -97,19 +78,15 @@ class Settings:
         try:
             self.receiver = opened(self.octets)
         except ConfigFault as fault:
-            raise Fault(refusal(path, self.octets, fault)) from None
+            raise Fault(document(path, self.octets, fault).slip(path_of(fault), f"refused: {fault}{fault.allowed}")) from None
         self.own = {}
 
     def read_own(self):
         """Reads the own keys."""
-        try:
-            text, config = parsed(self.octets)
-        except ValueError as error:
-            raise Fault(f"{self.path}: the receiver takes it, but this Python reads no TOML 1.1: {error}") from None
-        for path, told in wrong_keys(config):
-            at = places.line_at(places.places_of(text, config), path)
-            raise Fault(f"{self.path}:{at}: {places.where(config, path)}{told}")
-        for link in config["link"]:
+        found = document(self.path, self.octets)
+        for path, told in wrong_keys(found.tables):
+            raise Fault(found.slip(path, told))
+        for link in found.tables["link"]:
             periods = {port["name"]: port.get("read_us" if port["kind"] == "sampling" else "take_us")
                        for port in link.get("port", [])}
             self.own[link["vl"]] = Own(link.get("name"), link.get("bag_us"), periods)

@@ -5,7 +5,7 @@ import ipaddress
 from verdict_words import NETWORKS
 from workbench import frames, station, stream
 from workbench.health import Health
-from workbench.places import line_at
+from workbench.places import members
 
 AHEAD = 128  # gaps after which a sequence number isn't ahead any more
 MOST_KEPT = 1000  # constants, strange links and destinations that are counted
@@ -74,16 +74,14 @@ class Shown:
             found[key] = first, number + 1
 
 
-def slips(given, config, places):
-    shown = Shown(given, bytes.fromhex(config.get("constant", "03000000")))
+def slips(given, document):
+    shown = Shown(given, bytes.fromhex(document.tables.get("constant", "03000000")))
     yield from of_files(shown)
     yield from strangers(shown)
-    for place, link in enumerate(config["link"]):
-        at = f"{given.config}:{line_at(places, ('link', place))}: link {link['vl']}"
-        yield from (f"{at}: {text}" for text in of_link(shown, link["vl"]))
-        for number, port in enumerate(link.get("port", [])):
-            at = f"{given.config}:{line_at(places, ('link', place, 'port', number))}: link {link['vl']} port {port['name']}"
-            yield from (f"{at}: {text}" for text in of_port(shown, link, port))
+    for path, table, level in members(document.tables):
+        link = document.tables["link"][path[1]]
+        found = of_link(shown, link["vl"]) if level == "a link" else of_port(shown, link, table)
+        yield from (document.slip(path, told) for told in found)
 
 
 # ---- networks

@@ -193,24 +193,19 @@ class Input:
 
     def __init__(self, name, stack):
         self.name, self.label = name, "standard input" if name == "-" else plain(os.path.basename(name))
-        self.file = stack.enter_context(files.reading(name, "reading"))
+        self.file = stack.enter_context(files.reading(name))
         self.magic = self.file.read(4)
-        self.is_capture = captures.is_capture(self.magic)
+        self.is_capture = self.magic in captures.MAGICS
         if not self.is_capture and self.magic and self.magic[0] not in b"0123456789#\n":
             hint = next((hint for magic, hint in HINTS.items() if self.magic.startswith(magic)),
                         "`editcap -F pcapng FILE -` makes one of what Wireshark reads")
             raise Fault(f"{name}: neither a capture (pcap, pcapng) nor a trace; {hint}")
 
 
-def by_source(_, octets):
-    """The network that the source address says."""
-    return {1: 0, 2: 1}.get(frames.interface_of(octets))
-
-
 def networks_of(place, count, given):
     """The network of each packet of a capture: one of two captures has one; else by interface or by source."""
     if given.networks == "source":
-        return by_source
+        return lambda _, octets: {1: 0, 2: 1}.get(frames.interface_of(octets))
     if count == 2:
         return lambda interface, octets: place
     nets = dict(zip(given.interfaces, (0, 1)))
