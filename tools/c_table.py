@@ -1,7 +1,8 @@
 #!/usr/bin/env python3
 """Writes a configuration as a table in C, for yelunnavi_receiver_open_table: a file that can be reviewed, and compiled in.
 
-    tools/c_table.py CONFIG     the table of a configuration that the program takes (docs/FORMATS.md), on the standard output
+    tools/c_table.py CONFIG     the table of a configuration that the program takes (docs/FORMATS.md), on the standard output;
+                                `tools/yelunnavi export --c-table` asks the receiver first
 
 Whether the program takes it is asked of the library when the table is opened. Keys that have no meaning are left out, but
 for `readers` at a sampling port: how many readers it gets, 1 to 8; without it as many as the opening is told.
@@ -51,6 +52,12 @@ def table(config):
         f"static const struct yelunnavi_port_row table_ports[{len(ports) or 1}] = {{", *map(port_row, ports), "};",
         f"enum {{ TABLE_LINKS = {len(config['link'])}, TABLE_PORTS = {len(ports)} }};",
     ]
+
+
+def write(octets, name, writing):
+    """Writes the table of a configuration's text, by what opens a file to write."""
+    with writing(name) as out:
+        out.write(("\n".join(table(tomllib.loads(octets.decode("utf-8-sig")))) + "\n").encode())
 
 
 def main():

@@ -172,6 +172,18 @@ def test_records_of_filtered_frames_name_their_link():
     assert [(record["cause"], record["link"], record["place"]) for record in filtered] == [("unknown-link", 19, None)]
 
 
+def test_a_configuration_as_a_table_in_c(written, tmp_path):
+    """What tools/c_table.py writes, once the receiver takes the configuration; and nothing of a capture."""
+    table = done("export", "--c-table", "--config", CONFIG)
+    assert table == subprocess.run([ROOT / "tools" / "c_table.py", CONFIG], check=True, capture_output=True).stdout
+    assert b"{17, 1, 1000, 50000, 2, 2}" in table and b"YELUNNAVI_SERVICE_QUEUING" in table
+    wrong = written("c.toml", CONFIG.read_text().replace("depth = 4", "depth = 65"))
+    assert "depth out of range" in fault(1, "export", "--c-table", "--config", wrong, "--to", tmp_path / "out")
+    assert not (tmp_path / "out").exists()
+    for words in (["--c-table", A], ["--c-table", "--csv"], ["--csv"], [A]):
+        assert run("export", "--config", CONFIG, *words).returncode == 2
+
+
 def test_records_have_links_whatever_the_constant_field_is(written):
     config = written("c.toml", 'constant = "0a0b0c0d"\n' + CONFIG.read_text())
     names = [written(path.name, path.read_text().replace(" 03000000", " 0a0b0c0d")) for path in TRACES]

@@ -119,8 +119,9 @@ COMMANDS = {
     "annotate": ("workbench.annotating:annotate", "writes one capture of both networks, each packet with its verdict as a "
                  "comment, and why", {**PLAYED, **to("OUT.pcapng", required=True), **EACH}, (INPUTS, FILTERS)),
     "export": ("workbench.exporting:export", "writes one record a frame, for spreadsheets and pandas", {
-        **PLAYED, **to("OUT", default="-"),
-        "--csv": flag("a table with commas"), "--json": flag("an array, a line for each record")}, (INPUTS,)),
+        **PLAYED, **to("OUT", default="-"), "files": {**CAPTURES["files"], "nargs": "*"},
+        "--csv": flag("a table with commas"), "--json": flag("an array, a line for each record"),
+        "--c-table": flag("the configuration alone, as a table in C for yelunnavi_receiver_open_table")}, (INPUTS,)),
     "draw": ("drawing.draw:draw", "draws what became of the frames, as a page for a browser", {
         **PLAYED, **to("OUT.html", default="-"), **EACH}, (INPUTS, PARTITIONS)),
     "check": ("workbench.checking:check", "looks for slips in a configuration, and in what captures show of it", {
@@ -155,11 +156,6 @@ def words():
     return parser
 
 
-def end_on(number, _):
-    """Ends the run as a shell shows a signal; what has to go goes."""
-    sys.exit(128 + number)
-
-
 def look_at(parser, given):
     """Refuses words that don't go together."""
     names = getattr(given, "files", [])
@@ -168,8 +164,8 @@ def look_at(parser, given):
         parser.error("one capture or trace, or two")
     if is_many and "-" in names:
         parser.error("many captures are files")
-    if hasattr(given, "csv") and given.csv == given.json:
-        parser.error("one of --csv and --json")
+    if hasattr(given, "csv") and (given.csv + given.json + given.c_table != 1 or given.c_table == bool(names)):
+        parser.error("export takes --csv or --json with captures, or --c-table with none")
     given.fcs = {"auto": None, "yes": True, "no": False}[getattr(given, "fcs", "auto")]
 
 
@@ -177,8 +173,8 @@ def main(arguments):
     parser = words()
     given = parser.parse_args(arguments)
     look_at(parser, given)
-    for number in (signal.SIGINT, signal.SIGTERM, signal.SIGHUP):
-        signal.signal(number, end_on)
+    for number in (signal.SIGINT, signal.SIGTERM, signal.SIGHUP):  # the run ends as a shell shows it; what has to go goes
+        signal.signal(number, lambda number, _: sys.exit(128 + number))
     module, _, function = given.function.partition(":")
     try:
         return getattr(importlib.import_module(module), function)(given) or 0

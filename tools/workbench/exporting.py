@@ -1,9 +1,10 @@
-"""One record a frame, for spreadsheets and pandas."""
+"""One record a frame, for spreadsheets and pandas; or a configuration as a table in C."""
 import csv
 import io
 import itertools
 import json
 
+import c_table
 from verdict_words import NETWORKS
 from workbench import files, frames, station, stream
 
@@ -13,6 +14,8 @@ COLUMNS = ("packet", "time_us", "epoch_ns", "network", "link", "source", "interf
 
 def export(given):
     played, write = station.opened(given.config), write_csv if given.csv else write_json
+    if given.c_table:
+        return c_table.write(played.config.octets, given.to, files.writing)
     with files.writing(given.to) as out, stream.opened(given) as packets:
         write(out, records(played.seen(packets)))
     return packets.status
