@@ -54,10 +54,9 @@ def table(config):
     ]
 
 
-def write(octets, name, writing):
-    """Writes the table of a configuration's text, by what opens a file to write."""
-    with writing(name) as out:
-        out.write(("\n".join(table(tomllib.loads(octets.decode("utf-8-sig")))) + "\n").encode())
+def text_of(octets):
+    """The table of a configuration's text."""
+    return "\n".join(table(tomllib.loads(octets.decode("utf-8-sig")))) + "\n"
 
 
 def main():
@@ -65,10 +64,10 @@ def main():
         sys.exit(__doc__)
     try:
         with open(sys.argv[1], "rb") as file:
-            lines = table(tomllib.load(file))
+            text = text_of(file.read())
     except (OSError, ValueError, KeyError, TypeError, AttributeError) as error:
         sys.exit(f"c_table: {sys.argv[1]}: {type(error).__name__}: {error}; tools/yelunnavi check says what the program refuses")
-    print("\n".join(lines))
+    print(text, end="")
 
 
 if __name__ == "__main__":

@@ -15,7 +15,9 @@ COLUMNS = ("packet", "time_us", "epoch_ns", "network", "link", "source", "interf
 def export(given):
     played, write = station.opened(given.config), write_csv if given.csv else write_json
     if given.c_table:
-        return c_table.write(played.config.octets, given.to, files.writing)
+        with files.writing(given.to) as out:
+            out.write(c_table.text_of(played.config.octets).encode())
+        return 0
     with files.writing(given.to) as out, stream.opened(given) as packets:
         write(out, records(played.seen(packets)))
     return packets.status
