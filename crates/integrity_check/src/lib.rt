@@ -56,16 +56,6 @@ impl Sequence {
     {
         self.last = Some(sequence_number);
     }
-
-    /// A copy, of the same sequence numbers.
-    pub fn copy(&self) -> Sequence
-        ensures { result ≡ self.now }
-    {
-        Sequence {
-            window: self.window,
-            last: self.last,
-        }
-    }
 }
 
 /// Whether a sequence number is among the first `window` that follow `before`.

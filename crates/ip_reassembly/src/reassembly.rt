@@ -80,22 +80,6 @@ impl Reassembly {
         })
     }
 
-    /// A copy, with the same pieces and as much memory. The only error is that memory ran out.
-    pub fn copy(&self, alloc: Global) -> Result<Reassembly, Memory>
-        ensures { IfOk result (λ copy. copy ≡ self.now) }
-    {
-        let first = self.partials[0].copy(alloc)?;
-        let second = self.partials[1].copy(alloc)?;
-        let third = self.partials[2].copy(alloc)?;
-        let fourth = self.partials[3].copy(alloc)?;
-        Ok(Reassembly {
-            limit: self.limit,
-            given_up: self.given_up,
-            standing: self.standing,
-            partials: ArrayVec::from([first, second, third, fourth]),
-        })
-    }
-
     /// A reassembly of these partial datagrams: first the given number that stand, in the order in which they began,
     /// then spare ones.
     pub(crate) fn of(

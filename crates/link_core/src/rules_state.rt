@@ -55,19 +55,6 @@ impl RulesState {
         count(&mut self.delivered, verdict);
     }
 
-    /// A copy, which stays as it is while this one goes on. It takes the memory of four buffers of reassembly.
-    pub fn copy(&self, alloc: Global) -> Result<RulesState, Memory>
-        ensures { IfOk result (λ copy. copy ≡ self.now) }
-    {
-        let reassembly = self.reassembly.copy(alloc)?;
-        Ok(RulesState {
-            checks: self.checks.copy(),
-            reassembly,
-            tally: self.tally.copy(),
-            delivered: self.delivered,
-        })
-    }
-
     /// The partial datagrams.
     pub fn reassembly(&self) -> &Reassembly
         ensures { result.now ≡ self.now.reassembly }

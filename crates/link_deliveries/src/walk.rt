@@ -21,32 +21,9 @@ use ip_reassembly::{Reassembly, Waiting};
 use link_core::tells_delivered;
 use std::alloc::Global;
 
-/// The messages that a lawful history of a link delivered to a port, in order. `before` is the reassembly before the
-/// history, or None if nothing was before. Pieces are joined anew, so this takes a walk through the history, up to the
-/// last event that delivered a message.
-pub fn deliveries(
-    alloc: Global,
-    settings: &LinkSettings,
-    before: Option<&Reassembly>,
-    history: &BlockList<Event>,
-    port: PortNo,
-) -> Result<Vec<Message>, Memory>
-    requires frames { AreFramesOf settings.now (reverse history.now.items) }
-    ensures { IfOk result (λ messages. (earlier : List Event) →
-        KeepsPieces (option_copied before.entry) settings.now earlier →
-        IsRun settings.now (reverse history.now.items ++ earlier) →
-        AreSince settings.now earlier (reverse history.now.items) port messages.items) }
-{
-    let end = end_of(history, port);
-    if end == 0 {
-        return Ok(Vec::new(alloc));
-    }
-    let reassembly = reassembly_from(alloc, settings, before)?;
-    deliveries_before(alloc, settings, reassembly, history, end, port)
-}
-
-/// The messages that a lawful history of a link delivered to a port, as `deliveries` returns them; `before` are the
-/// pieces that waited before the history, or None if nothing was before.
+/// The messages that a lawful history of a link delivered to a port, in order. `before` are the pieces that waited
+/// before the history, or None if nothing was before. Pieces are joined anew, so this takes a walk through the
+/// history, up to the last event that delivered a message.
 pub fn deliveries_after(
     alloc: Global,
     settings: &LinkSettings,
@@ -114,22 +91,6 @@ fn deliveries_before(
         }
     }
     Ok(messages)
-}
-
-/// The reassembly that a walk begins with: a copy of the one before the history, or a new one.
-fn reassembly_from(
-    alloc: Global,
-    settings: &LinkSettings,
-    before: Option<&Reassembly>,
-) -> Result<Reassembly, Memory>
-    ensures { IfOk result (λ reassembly. (earlier : List Event) →
-        KeepsPieces (option_copied before.entry) settings.now earlier →
-        StandsFor reassembly settings.now.reassembly (groups_in settings.now earlier)) }
-{
-    match before {
-        None => Reassembly::open(alloc, settings.reassembly()),
-        Some(before) => before.copy(alloc),
-    }
 }
 
 /// The reassembly that a walk begins with: one that goes on from the pieces that waited, or a new one.

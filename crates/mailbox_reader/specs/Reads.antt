@@ -1,7 +1,7 @@
 -- What a contract sees of a partition's reader, and what a read tells (ARINC 653, READ_SAMPLING_MESSAGE).
 use Rattle.std.specs.Prelude.{◌≡◌, ℕ, [], List, drop, length, min, take}
 use Rattle.es_base.specs.declared.event.Message.{Message as Published}
-use Rattle.sampling_port.specs.declared.state.Freshness.{Freshness}
+use Rattle.es_base.specs.declared.validity.Freshness.{Freshness}
 use Rattle.triple_buffer.specs.Ends.{IsReadOf}
 use Rattle.triple_buffer.specs.Rule.{HasLast, message}
 use Rattle.mailbox_port.specs.Port.{told as told_mailbox}

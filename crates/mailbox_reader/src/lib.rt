@@ -18,7 +18,7 @@
 mod reader;
 mod reading;
 
+pub use es_base::Freshness;
 pub use mailbox_port::Latest;
 pub use reader::MailboxReader;
 pub use reading::Reading;
-pub use sampling_port::Freshness;

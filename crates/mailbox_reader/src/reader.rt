@@ -1,13 +1,13 @@
 //! A partition's reader.
 ghost use Rattle.std.specs.Prelude.{◌≡◌, ◌≤◌, [], IfNone, IfSome, drop, length, min, take};
-ghost use Rattle.sampling_port.specs.Age.{freshness as freshness_at};
+ghost use Rattle.es_base.specs.Age.{freshness as freshness_at};
 ghost use Rattle.triple_buffer.specs.Rule.{HasLast, StartsWith, message_in};
 ghost use Rattle.mailbox_port.specs.Port.{IsMailboxOf};
 ghost use Rattle.mailbox_reader.specs.Reads.{IfEmpty, IfMessage, IsCopied, IsLookOf, IsReadAs, told};
 
 use crate::reading::Reading;
+use es_base::{Freshness, freshness};
 use mailbox_port::{Latest, Mailbox, PortWriter};
-use sampling_port::{Freshness, freshness};
 use std::marker::Model;
 
 /// Reading end of a sampling port, for a partition. Contracts see its mailbox and the port's refresh period.

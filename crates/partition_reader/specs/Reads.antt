@@ -5,7 +5,7 @@ use Rattle.slot_core.specs.State.{last_of}
 use Rattle.sampling_port.specs.Ends.{IsHeadOf, IsHeldAfter, IsNothing, IsReadOvertaken, IsSameEnd, ReaderEnd, is_told}
 use Rattle.sampling_port.specs.declared.reader.Read.{Read}
 use Rattle.sampling_port.specs.declared.reader.Read.TheVariants.{Message as Found, Empty as Nothing, Busy as Overtaken}
-use Rattle.sampling_port.specs.declared.state.Freshness.{Freshness}
+use Rattle.es_base.specs.declared.validity.Freshness.{Freshness}
 use Rattle.partition_reader.specs.declared.reading.Reading.{Reading}
 use Rattle.partition_reader.specs.declared.reading.Reading.TheVariants.{Message, Empty, Busy}
 

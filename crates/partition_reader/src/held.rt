@@ -3,12 +3,13 @@ ghost use Rattle.std.specs.Prelude.{◌≡◌, ℕ, ◌+◌, ◌<◌, ◌≤◌,
 ghost use Rattle.slot_core.specs.Limits.{longest_message};
 ghost use Rattle.slot_core.specs.Octets.{octet_of_words};
 ghost use Rattle.slot_core.specs.State.{last_of};
-ghost use Rattle.sampling_port.specs.Age.{freshness as freshness_at};
+ghost use Rattle.es_base.specs.Age.{freshness as freshness_at};
 ghost use Rattle.partition_reader.specs.Reads.{after_steps, words_of_range};
 
 use crate::copy::copy_octets;
 use crate::partition::PartitionReader;
-use sampling_port::{Freshness, Held, freshness};
+use es_base::{Freshness, freshness};
+use sampling_port::Held;
 use slot_core::READERS;
 use std::marker::Model;
 

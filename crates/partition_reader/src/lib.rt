@@ -17,7 +17,8 @@ mod held;
 mod partition;
 mod reading;
 
+pub use es_base::Freshness;
 pub use held::HeldMessage;
 pub use partition::PartitionReader;
 pub use reading::Reading;
-pub use sampling_port::{Freshness, NotHeld};
+pub use sampling_port::NotHeld;

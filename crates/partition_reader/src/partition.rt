@@ -2,7 +2,7 @@
 ghost use Rattle.std.specs.Prelude.{◌≡◌, ℕ, ◌+◌, ◌/◌, ◌≤◌, min, length, IfErr, IfOk};
 ghost use Rattle.slot_core.specs.Limits.{longest_message};
 ghost use Rattle.slot_core.specs.State.{StartsWithSeen, last_of};
-ghost use Rattle.sampling_port.specs.Age.{freshness as freshness_at};
+ghost use Rattle.es_base.specs.Age.{freshness as freshness_at};
 ghost use Rattle.sampling_port.specs.Ends.{IsCopy, IsHeadOf, IsHeldAfter, IsNotHeld, IsNothing, IsReadOvertaken};
 ghost use Rattle.partition_reader.specs.Reads.{IfBusy, IfEmpty, IfMessage, IsCopyThatFits, IsSamePort, most_tries, told};
 
@@ -10,7 +10,8 @@ use crate::copy::read_moved;
 use crate::held::HeldMessage;
 use crate::reading::Reading;
 use core::mem::replace_with;
-use sampling_port::{MOST_TRIES, NotHeld, Read, Reader, Writer, freshness, meet};
+use es_base::freshness;
+use sampling_port::{MOST_TRIES, NotHeld, Read, Reader, Writer, meet};
 use slot_core::READERS;
 use std::marker::Model;
 

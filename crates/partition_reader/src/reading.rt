@@ -1,5 +1,5 @@
 //! Result of a read.
-use sampling_port::Freshness;
+use es_base::Freshness;
 
 /// Result of a partition's read.
 #[derive(Clone, Copy, Debug, PartialEq, Eq)]

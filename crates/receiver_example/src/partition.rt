@@ -3,7 +3,7 @@ ghost use Rattle.std.specs.Prelude.{◌≡◌, ◌<◌, IfNone, IfOk, IfSome, Is
 ghost use Rattle.es_base.specs.Queue.{with_taken};
 ghost use Rattle.message_ring.specs.Queue.{SeemsEmpty, message};
 ghost use Rattle.mailbox_reader.specs.Reads.{IfMessage, IsRead};
-ghost use Rattle.sampling_port.specs.Age.{freshness as freshness_at};
+ghost use Rattle.es_base.specs.Age.{freshness as freshness_at};
 
 use receiver::{MailboxReader, Memory, Reading, RingTaker, Taken};
 use std::alloc::Global;

@@ -77,16 +77,6 @@ impl Redundancy {
             greatest_time,
         });
     }
-
-    /// A copy, of the same frames.
-    pub fn copy(&self) -> Redundancy
-        ensures { result ≡ self.now }
-    {
-        Redundancy {
-            skew_max: self.skew_max,
-            summary: self.summary,
-        }
-    }
 }
 
 /// Whether sequence number `sequence_number` is ahead of `latest`: one of the 127 numbers after it on the

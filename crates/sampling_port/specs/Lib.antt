@@ -1,4 +1,3 @@
-pub mod Age
 pub mod Rule
 pub mod Plays
 pub mod Seats

@@ -19,7 +19,6 @@
 //! says what follows at every moment.
 #![tactic(auto)]
 
-mod age;
 mod copy;
 pub mod laws;
 mod meeting;
@@ -29,14 +28,12 @@ mod reader;
 mod reader_seat;
 mod rule;
 mod seek;
-mod state;
 pub mod steps;
 mod writer;
 mod writer_seat;
 
-pub use age::freshness;
+pub use es_base::{Freshness, freshness};
 pub use meeting::{meet, read_last};
 pub use open::open_port;
 pub use reader::{Held, MOST_TRIES, NotHeld, Read, Reader};
-pub use state::Freshness;
 pub use writer::{PublishFault, Writer};

@@ -51,18 +51,14 @@ pub(crate) fn check_given_up(rt: &impl Abort, alloc: Global, steps: &[Step], giv
     assert!(rt; reassembly.given_up() == given_up);
 }
 
-/// A Reassembly is copied after the steps of `before`, and another goes on from the pieces that wait then. It, its copy
-/// and that other each do the steps of `after`.
-pub(crate) fn check_copied(rt: &impl Abort, alloc: Global, before: &[Step], after: &[Step]) {
+/// After the steps of `before` another Reassembly goes on from the pieces that wait then. Both do the steps of `after`.
+pub(crate) fn check_gone_on(rt: &impl Abort, alloc: Global, before: &[Step], after: &[Step]) {
     let mut first = Reassembly::open(alloc, LIMIT).expect(rt, "memory");
     check_steps(rt, alloc, &mut first, before);
-    let mut copy = first.copy(alloc).expect(rt, "memory");
     let waiting = first.waiting(alloc).expect(rt, "memory");
     let mut other = waiting.begin(alloc).expect(rt, "memory");
-    check_steps(rt, alloc, &mut copy, after);
     check_steps(rt, alloc, &mut other, after);
     check_steps(rt, alloc, &mut first, after);
-    assert!(rt; copy.given_up() == first.given_up());
     assert!(rt; other.given_up() == first.given_up());
 }
 

@@ -1,5 +1,4 @@
-//! A walk through a history goes on from a copy of all that was kept before it, or from what waits of that: both come
-//! to the same messages.
+//! A walk through a history goes on from the pieces that waited before it.
 use crate::epochs::{Step, check_epoch, check_number, check_step};
 use crate::frames::opened;
 use crate::histories::{JOINED_PAYLOAD, Wanted, check_messages};
@@ -9,7 +8,7 @@ use es_base::Net::A;
 use es_base::Verdict::FragmentHeld;
 use frame_reader::read_frame;
 use link_core::RulesState;
-use link_deliveries::{deliveries, deliveries_after};
+use link_deliveries::deliveries_after;
 use link_receiver::LinkState;
 use std::alloc::Global;
 use std::process::Abort;
@@ -65,8 +64,8 @@ fn gone_on(
     state
 }
 
-/// Both walks through the history come to these messages for `nav`.
-fn check_walks(
+/// A walk through the history from what waits comes to these messages for `nav`.
+fn check_walk(
     rt: &impl Abort,
     alloc: Global,
     state: &LinkState,
@@ -74,9 +73,6 @@ fn check_walks(
     wanted: &[Wanted],
 ) {
     let settings = state.settings();
-    let before = Some(kept.reassembly());
-    let messages = deliveries(alloc, settings, before, state.history(), NAV).expect(rt, "memory");
-    check_messages(rt, alloc, &messages, wanted);
     let waiting = kept.reassembly().waiting(alloc).expect(rt, "memory");
     let before = Some(&waiting);
     let messages = deliveries_after(alloc, settings, before, state.history(), NAV).expect(
@@ -85,8 +81,8 @@ fn check_walks(
     check_messages(rt, alloc, &messages, wanted);
 }
 
-/// After these packets, each of which is held, and this frame, both walks from what was kept of the packets come to
-/// these messages.
+/// After these packets, each of which is held, and this frame, a walk from what waits of the packets comes to these
+/// messages.
 fn check_after(
     rt: &(impl Abort + Wait),
     alloc: Global,
@@ -96,9 +92,8 @@ fn check_after(
 ) {
     let state = gone_on(rt, alloc, packets, after);
     let kept = kept_of(rt, alloc, state.settings(), packets);
-    let copy = kept.copy(alloc).expect(rt, "memory");
-    check_number(rt, "held", copy.tally().count(A, 5), packets.len() as u64);
-    check_walks(rt, alloc, &state, &copy, wanted);
+    check_number(rt, "held", kept.tally().count(A, 5), packets.len() as u64);
+    check_walk(rt, alloc, &state, &kept, wanted);
 }
 
 fn four_that_wait() -> [PacketRow; 4] {
@@ -112,7 +107,7 @@ fn four_that_wait() -> [PacketRow; 4] {
 
 // rule: HIST-4
 #[test]
-fn a_walk_from_a_copy_and_from_what_waits_come_to_the_same(rt: HostRuntime) {
+fn a_walk_goes_on_from_what_waits(rt: HostRuntime) {
     let nothing_waits = Nav(A, 1100, 1, FOR_NAV);
     check_after(&rt, rt.alloc(), &[], nothing_waits, &[(1100, PAYLOAD)]);
     let joined = [(1100, JOINED_PAYLOAD)];
@@ -127,8 +122,6 @@ fn check_from_the_beginning(rt: &(impl Abort + Wait), alloc: Global) {
     let (mut state, _) = opened(rt, alloc, LINK);
     check_step(rt, alloc, &mut state, Nav(A, 1100, 1, FOR_NAV));
     let settings = state.settings();
-    let messages = deliveries(alloc, settings, None, state.history(), NAV).expect(rt, "memory");
-    check_messages(rt, alloc, &messages, &[(1100, PAYLOAD)]);
     let messages = deliveries_after(alloc, settings, None, state.history(), NAV).expect(
         rt, "memory",
     );
@@ -137,6 +130,6 @@ fn check_from_the_beginning(rt: &(impl Abort + Wait), alloc: Global) {
 
 // rule: HIST-4
 #[test]
-fn both_walks_begin_where_nothing_was_before(rt: HostRuntime) {
+fn a_walk_begins_where_nothing_was_before(rt: HostRuntime) {
     check_from_the_beginning(&rt, rt.alloc());
 }

@@ -1,5 +1,5 @@
 //! How long a message is fresh.
-use sampling_port::{Freshness, freshness};
+use es_base::{Freshness, freshness};
 use std::process::Abort;
 
 /// The time that it is, that of a message, the refresh period, all in microseconds, and the freshness.

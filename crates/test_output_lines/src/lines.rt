@@ -1,11 +1,10 @@
 //! Lines of the output, printed.
 use es_base::Net::{A, B};
-use es_base::{FILTER_CAUSES, LinkNo, PortNo, Verdict, VerdictTally};
+use es_base::{FILTER_CAUSES, Freshness, LinkNo, PortNo, Verdict, VerdictTally};
 use output_lines::{
     BusyLine, CountLine, EmptyLine, EventLine, FilteredCountLine, MessageLine, QueueLine,
     SampleLine, VerdictText, add_line, add_words,
 };
-use sampling_port::Freshness;
 use std::alloc::Global;
 use std::fmt::Display;
 use std::process::Abort;

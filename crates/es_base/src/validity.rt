@@ -1,6 +1,6 @@
 //! Validity of a message, by its age and its port's refresh period.
 ghost use Rattle.std.specs.Prelude.{Some};
-ghost use Rattle.sampling_port.specs.Age.{freshness_word};
+ghost use Rattle.es_base.specs.Age.{freshness_word};
 
 use std::fmt;
 

@@ -1,8 +1,8 @@
 //! Freshness of messages.
 ghost use Rattle.std.specs.Prelude.{◌≡◌};
-ghost use Rattle.sampling_port.specs.Age.{freshness};
+ghost use Rattle.es_base.specs.Age.{freshness};
 
-use crate::state::Freshness;
+use crate::validity::Freshness;
 
 /// Freshness at `now` of a message that came at `time`, at a port with this refresh period (own). All
 /// three are in microseconds. The age is 0 if `now` is earlier than `time`.
