@@ -228,6 +228,7 @@ static void want_no_receiver(struct yelunnavi_receiver *h) {
     struct yelunnavi_port port;
     struct yelunnavi_place place;
     struct yelunnavi_health health;
+    struct yelunnavi_fill fill;
     uint8_t name[YELUNNAVI_LONGEST_NAME];
     uint64_t count;
     size_t links;
@@ -237,7 +238,7 @@ static void want_no_receiver(struct yelunnavi_receiver *h) {
     WANT(NOT_MADE, yelunnavi_receiver_count(h, 0, YELUNNAVI_A, YELUNNAVI_VERDICT_SAMPLED, &count));
     WANT(NOT_MADE, yelunnavi_receiver_filtered(h, YELUNNAVI_A, YELUNNAVI_FILTER_TOO_SHORT, &count));
     WANT(NOT_MADE, yelunnavi_receiver_health(h, 0, &health));
-    WANT(NOT_MADE, yelunnavi_receiver_waiting(h, 0, 0, &links));
+    WANT(NOT_MADE, yelunnavi_receiver_fill(h, 0, 0, &fill));
     WANT(NOT_MADE, yelunnavi_receiver_links(h, &links));
     WANT(NOT_MADE, yelunnavi_receiver_link(h, 0, &link));
     WANT(NOT_MADE, yelunnavi_receiver_port(h, 0, 0, &port, &name));

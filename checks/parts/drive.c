@@ -218,9 +218,10 @@ static void health(void) {
                told.given_up);
 }
 
-static void waiting(void) {
-    size_t told, link = number();
-    if (code(yelunnavi_receiver_waiting(&receiver, link, number(), &told))) printf(" %zu", told);
+static void fill(void) {
+    struct yelunnavi_fill told;
+    size_t link = number();
+    if (code(yelunnavi_receiver_fill(&receiver, link, number(), &told))) printf(" %zu %zu", told.waiting, told.greatest);
 }
 #endif
 
@@ -250,7 +251,7 @@ static void call(const char *name) {
     else if (!strcmp(name, "filtered")) filtered();
 #ifndef SYSTEM
     else if (!strcmp(name, "health")) health();
-    else if (!strcmp(name, "waiting")) waiting();
+    else if (!strcmp(name, "fill")) fill();
 #endif
     else if (!strcmp(name, "place")) place();
     else if (!strcmp(name, "close")) yelunnavi_receiver_close(&receiver);

@@ -78,7 +78,7 @@ class Script:
 
     def between(self):
         ends = [self.read] * 4 + [self.hold, self.hold, self.copy, self.octets, self.release, self.take, self.take, self.take]
-        return [*ends, self.hand_reader, self.hand_taker, self.count, self.filtered, self.health, self.waiting, self.limits,
+        return [*ends, self.hand_reader, self.hand_taker, self.count, self.filtered, self.health, self.fill, self.limits,
                 self.longest, self.place, self.chance_of_closing]
 
     # ---- the receiver
@@ -139,9 +139,9 @@ class Script:
         link = self.r.choice([0, 0, 0, 1, 2, 3, WRONG])
         self.call(self.receiver.health(link), "health", link)
 
-    def waiting(self):
+    def fill(self):
         words = self.r.choice([0, 0, 0, 1, 2, 3, WRONG]), self.r.choice([0, 0, 1, 1, 2, 3, 32, 256, WRONG])
-        self.call(self.receiver.waiting(*words), "waiting", *words)
+        self.call(self.receiver.fill(*words), "fill", *words)
 
     def place(self):
         name = self.name(self.r.random() < 0.5)

@@ -33,13 +33,13 @@ STRUCTS_OF_C = {
     "FaultReply": "yelunnavi_fault", "FrameReply": "yelunnavi_frame", "ReadReply": "yelunnavi_read",
     "TakeReply": "yelunnavi_taken", "LinkReply": "yelunnavi_link", "PortReply": "yelunnavi_port",
     "PlaceReply": "yelunnavi_place", "LimitReply": "yelunnavi_limits", "HeldOctets": "yelunnavi_octets",
-    "HealthReply": "yelunnavi_health",
+    "HealthReply": "yelunnavi_health", "FillReply": "yelunnavi_fill",
     "LinkRow": "yelunnavi_link_row", "PortRow": "yelunnavi_port_row",
     **{f"{kind}Handle": f"yelunnavi_{kind.lower()}" for kind in KINDS_OF_HANDLES},
 }
 STRUCTS_OF_RUST = {
     "FaultReply": "Fault", "FrameReply": "Frame", "ReadReply": "Read", "TakeReply": "Taken", "LinkReply": "Link",
-    "HealthReply": "Health",
+    "HealthReply": "Health", "FillReply": "Fill",
     "PortReply": "Port", "PlaceReply": "Place", "LimitReply": "Limits", "LinkRow": "LinkRow", "PortRow": "PortRow", "HeldOctets": "Held",
 }
 # What a number's name begins with in C, after YELUNNAVI_, and in Ada. In Rust it is a constant of a type of its group.

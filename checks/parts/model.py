@@ -44,7 +44,7 @@ class Port:
         self.address, self.udp = bytes([224, 224, link, 1]), settings.udp
         self.max = (1471 if self.samples else 8192) if settings.max is None else settings.max
         self.refresh, self.depth = settings.refresh, settings.depth
-        self.newest, self.waiting, self.count, self.left = None, [], 0, 0
+        self.newest, self.waiting, self.greatest, self.count, self.left = None, [], 0, 0, 0
 
     def deliver(self, time, octets):
         """The kind of the verdict, and the message's number."""
@@ -55,6 +55,7 @@ class Port:
         if len(self.waiting) == self.depth:
             return OVERFLOW, 0
         self.waiting.append(Message(0, time, octets))
+        self.greatest = max(self.greatest, len(self.waiting))
         return QUEUED, 0
 
 
@@ -295,11 +296,11 @@ class Receiver:
         found = self.links[link]
         return DONE, *(int(time is not None) for time in found.heard), *(time or 0 for time in found.heard), found.given_up
 
-    def waiting(self, link, place):
+    def fill(self, link, place):
         if self.links is None or link >= len(self.links) or place >= len(self.links[link].ports):
             return (NOT_OPEN if self.links is None else NO_PLACE,)
         port = self.links[link].ports[place]
-        return (NONE_LEFT,) if port.samples else (DONE, len(port.waiting))
+        return (NONE_LEFT,) if port.samples else (DONE, len(port.waiting), port.greatest)
 
     def place(self, name):
         if self.links is None:

@@ -12,7 +12,7 @@ package Yelunnavi is
    type Taker is limited record Room : System.Address; end record with Convention => C;
 
    --  The number of this interface: raised with each change of a struct, a call or a number. Library_Abi has the library's.
-   Abi : constant Unsigned_32 := 4;
+   Abi : constant Unsigned_32 := 5;
 
    subtype Code is Unsigned_32;
    Done : constant Code := 0;
@@ -123,6 +123,7 @@ package Yelunnavi is
    type Health_Reply is record
       Came_A, Came_B : Unsigned_32; Latest_A, Latest_B, Given_Up : Unsigned_64;
    end record with Convention => C;
+   type Fill_Reply is record Waiting, Greatest : size_t; end record with Convention => C;
    type Port_Reply is record
       Service, Address, Udp, Max : Unsigned_32; Limit : Unsigned_64; Name_Length : size_t;
    end record with Convention => C;
@@ -182,8 +183,8 @@ package Yelunnavi is
      with Import, Convention => C, External_Name => "yelunnavi_receiver_filtered";
    function Health (H : in out Receiver; Link : size_t; Reply : in out Health_Reply) return Code
      with Import, Convention => C, External_Name => "yelunnavi_receiver_health";
-   function Waiting (H : in out Receiver; Link, Port : size_t; Waiting : in out size_t) return Code
-     with Import, Convention => C, External_Name => "yelunnavi_receiver_waiting";
+   function Fill (H : in out Receiver; Link, Port : size_t; Reply : in out Fill_Reply) return Code
+     with Import, Convention => C, External_Name => "yelunnavi_receiver_fill";
    function Links (H : in out Receiver; Links : in out size_t) return Code
      with Import, Convention => C, External_Name => "yelunnavi_receiver_links";
    function Link (H : in out Receiver; Link : size_t; Reply : in out Link_Reply) return Code

@@ -97,7 +97,7 @@ extern "C" {
 typedef char yelunnavi_is_of_64_bits[sizeof(size_t) == 8 && sizeof(void *) == 8 ? 1 : -1];
 
 /* The number of this interface: raised with each change of a struct, a call or a number. */
-#define YELUNNAVI_ABI 4
+#define YELUNNAVI_ABI 5
 
 /* The number of the library's interface. A program compares both before its first opening: if they differ, the header that
    it was compiled with is of another library. */
@@ -378,9 +378,14 @@ struct yelunnavi_health {
 /* Tells how the link at this place is. Each of its frames counts as one that came, whatever became of it. NOT_OPEN, NO_PLACE. */
 uint32_t yelunnavi_receiver_health(struct yelunnavi_receiver *h, size_t link, struct yelunnavi_health *reply);
 
-/* Tells how many messages wait in the queue of this port of a link: those that were delivered to it and that weren't taken
-   when it was looked. Its time grows with them. NOT_OPEN, NO_PLACE; NONE_LEFT: the port samples. */
-uint32_t yelunnavi_receiver_waiting(struct yelunnavi_receiver *h, size_t link, size_t port, size_t *waiting);
+struct yelunnavi_fill {
+    size_t waiting;  /* how many messages wait: those that were delivered and that weren't taken when it was looked */
+    size_t greatest; /* the greatest number that waited since the opening */
+};
+
+/* Tells how full the queue of this port of a link is. Its time grows with the messages that wait. NOT_OPEN, NO_PLACE;
+   NONE_LEFT: the port samples. */
+uint32_t yelunnavi_receiver_fill(struct yelunnavi_receiver *h, size_t link, size_t port, struct yelunnavi_fill *reply);
 
 /* ---- the receiver: links and ports */
 

@@ -88,7 +88,7 @@ impl Verdict {
 }
 
 /// The number of this interface: raised with each change of a struct, a call or a number.
-pub const ABI: u32 = 4;
+pub const ABI: u32 = 5;
 pub const MOST_LINKS: usize = 64;
 /// Of a link.
 pub const MOST_PORTS: usize = 32;
@@ -128,6 +128,8 @@ replies! {
     /// How a link is: whether a frame came on each network, 1 or 0, when the latest did, in microseconds, and how many
     /// datagrams of which fragments came were given up.
     Health { came_a: u32, came_b: u32, latest_a: u64, latest_b: u64, given_up: u64 }
+    /// How full the queue of a port is: how many messages wait, and the greatest number that waited.
+    Fill { waiting: usize, greatest: usize }
     /// A port.
     Port { service: Service, address: u32, udp: u32, max: u32, limit: u64, name_len: usize }
     /// Where a port is.
@@ -198,7 +200,7 @@ calls! {
     yelunnavi_receiver_count(h: *mut Handle, link: usize, net: Network, kind: Verdict, count: *mut u64) -> Code;
     yelunnavi_receiver_filtered(h: *mut Handle, net: Network, cause: FilterCause, count: *mut u64) -> Code;
     yelunnavi_receiver_health(h: *mut Handle, link: usize, reply: *mut Health) -> Code;
-    yelunnavi_receiver_waiting(h: *mut Handle, link: usize, port: usize, waiting: *mut usize) -> Code;
+    yelunnavi_receiver_fill(h: *mut Handle, link: usize, port: usize, reply: *mut Fill) -> Code;
     yelunnavi_receiver_links(h: *mut Handle, links: *mut usize) -> Code;
     yelunnavi_receiver_link(h: *mut Handle, link: usize, reply: *mut Link) -> Code;
     yelunnavi_receiver_port(h: *mut Handle, link: usize, port: usize, reply: *mut Port, name: *mut [u8; 16]) -> Code;
@@ -333,9 +335,9 @@ impl Receiver<'_> {
         told(|reply| unsafe { yelunnavi_receiver_health(&mut self.handle, link, reply) })
     }
 
-    /// How many messages wait in the queue of a port. NONE_LEFT if it samples.
-    pub fn waiting(&mut self, link: usize, port: usize) -> Result<usize, Code> {
-        told(|waiting| unsafe { yelunnavi_receiver_waiting(&mut self.handle, link, port, waiting) })
+    /// How full the queue of a port is. NONE_LEFT if it samples.
+    pub fn fill(&mut self, link: usize, port: usize) -> Result<Fill, Code> {
+        told(|reply| unsafe { yelunnavi_receiver_fill(&mut self.handle, link, port, reply) })
     }
 
     pub fn links(&mut self) -> Result<usize, Code> {

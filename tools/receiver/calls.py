@@ -67,6 +67,12 @@ class Health(NamedTuple):
     given_up: int
 
 
+class Fill(NamedTuple):
+    """How many messages wait in a queue, and the greatest number that waited."""
+    waiting: int
+    greatest: int
+
+
 class Port(NamedTuple):
     """A port's settings. `limit` is the refresh period in microseconds, or the depth of the queue."""
     name: str
@@ -208,9 +214,10 @@ class Receiver(Links, Frames):
         came, latest = (found.came_a, found.came_b), (found.latest_a, found.latest_b)
         return Health({net: latest[number] if came[number] else None for number, net in enumerate(NETWORKS)}, found.given_up)
 
-    def waiting(self, link, place):
-        """How many messages wait in the queue of the port at a place of a link."""
-        return self.answer("size_t", "waiting", link, place)[0]
+    def fill(self, link, place):
+        """How full the queue of the port at a place of a link is."""
+        found = self.answer("struct yelunnavi_fill", "fill", link, place)
+        return Fill(found.waiting, found.greatest)
 
 
 class System(Links):

@@ -13,7 +13,7 @@ const TIME_OF_THE_REPORT: &str =
     "the time of the report, in microseconds; by default the greatest arrival time";
 
 /// The version that `--version` tells: that of the newest heading of CHANGELOG.
-const VERSION: &str = "0.3.0";
+const VERSION: &str = "0.4.0";
 
 /// The command of the program, with its five options.
 pub(crate) fn play_command<'a>(alloc: Global) -> Result<Command<'a>, AllocError>

@@ -8,7 +8,6 @@ use Rattle.es_base.specs.declared.port.PortKind.TheVariants as kinds
 use Rattle.es_base.specs.Port.{Port}
 use Rattle.es_base.specs.Settings.{Settings}
 use Rattle.mailbox_port.specs.Port.{new_port}
-use Rattle.es_base.specs.Queue.{opened}
 use Rattle.message_ring.specs.Queue.{QueueId}
 use Rattle.receiver.specs.declared.ends.PortEnd.{PortEnd}
 use Rattle.receiver.specs.declared.partition.PartitionEnd.{PartitionEnd}
@@ -18,6 +17,7 @@ use Rattle.receiver.specs.declared.port.PortOutlet.TheVariants as outlets
 use Rattle.receiver.specs.Ends.{ArePortsOpened}
 use Rattle.receiver.specs.Link.{IsNewLink}
 use Rattle.receiver.specs.Outlet.{GivesAt, reads_by}
+use Rattle.receiver.specs.Queue.{new_queue}
 use Rattle.receiver.specs.Port.{GivesPort, ReadsAs, ReadsPort, ShowsPort}
 use Rattle.live_system.specs.Calls.{LiveLink, as_opened, new_outlet}
 
@@ -25,7 +25,7 @@ same_outlet : (old new : PortOutlet) (messages : List Message) → GivesPort old
 same_outlet (outlets.Sampling old) (outlets.Sampling new) messages gives =
     ap (λ (buffers : List TableId). outlets.Sampling (new_port buffers new.longest)) gives.0 ∙ ap (λ (longest : ℕ). outlets.Sampling (new_port old.buffers longest)) gives.1
 same_outlet (outlets.Queuing old) (outlets.Queuing new) messages gives =
-    ap (λ (queue : QueueId). outlets.Queuing (opened queue new.depth)) gives.0 ∙ ap (λ (depth : ℕ). outlets.Queuing (opened old.queue depth)) gives.1
+    ap (λ (queue : QueueId). outlets.Queuing (new_queue queue new.known.depth)) gives.0 ∙ ap (λ (depth : ℕ). outlets.Queuing (new_queue old.known.queue depth)) gives.1
 same_outlet (outlets.Sampling old) (outlets.Queuing new) messages gives = absurd gives
 same_outlet (outlets.Queuing old) (outlets.Sampling new) messages gives = absurd gives
 

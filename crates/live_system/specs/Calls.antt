@@ -3,11 +3,11 @@ use Rattle.std.specs.Prelude.{◌≡◌, List, [], ◌++◌, length, drop, map, 
 use Rattle.es_base.specs.declared.event.Event.{Event}
 use Rattle.link_lock.specs.declared.user.User.{User}
 use Rattle.mailbox_port.specs.Port.{new_port}
-use Rattle.es_base.specs.Queue.{opened}
 use Rattle.receiver.specs.declared.port.PortOutlet.{PortOutlet}
 use Rattle.receiver.specs.declared.port.PortOutlet.TheVariants as outlets
 use Rattle.receiver.specs.Link.{IsPorted, Ported}
 use Rattle.receiver.specs.Port.{ShowsPort}
+use Rattle.receiver.specs.Queue.{new_queue}
 use Rattle.network_calls.specs.declared.call.Call.{Call}
 use Rattle.network_calls.specs.Calls.{calls_from, net_of}
 
@@ -24,7 +24,7 @@ events_of link = reverse link.core.past
 -- an outlet before any message
 abbrev pub new_outlet : PortOutlet → PortOutlet
 new_outlet (outlets.Sampling port) = outlets.Sampling (new_port port.buffers port.longest)
-new_outlet (outlets.Queuing queue) = outlets.Queuing (opened queue.queue queue.depth)
+new_outlet (outlets.Queuing queue) = outlets.Queuing (new_queue queue.known.queue queue.known.depth)
 
 -- what no visit changes: the link before any frame
 abbrev pub as_opened : LiveLink → LiveLink

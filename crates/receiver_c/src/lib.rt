@@ -18,7 +18,7 @@ ghost use Rattle.receiver_c.specs.HeldOctets.{TellsOctets};
 ghost use Rattle.slot_handles.specs.Made.{made_reader, made_receiver, made_taker};
 ghost use Rattle.slot_handles.specs.Marks.{after_close, if_made, is_made, reader_mark, receiver_mark, taker_mark};
 ghost use Rattle.receiver_slots.specs.Codes.{already_open, done, faulty, no_memory, none_left, not_made, not_open, out_of_range};
-ghost use Rattle.receiver_slots.specs.Health.{TellsHealth, TellsWaiting, health_code, waiting_code};
+ghost use Rattle.receiver_slots.specs.Health.{TellsFill, TellsHealth, fill_code, health_code};
 ghost use Rattle.receiver_slots.specs.Handing.{HandsOut, hand_reader_code, hand_taker_code};
 ghost use Rattle.receiver_slots.specs.Naming.{CountsLinks, TellsLink, TellsPlace, TellsPort, link_code, links_code, place_code, port_code};
 ghost use Rattle.receiver_slots.specs.Reading.{Copies, DidHold, DidRead, TellsReader, copy_code, held_octets, read_code, release_code, released};
@@ -32,8 +32,8 @@ ghost use Rattle.slot_handles.specs.contracts.marked.MarkedTaker.{the_row as tak
 
 use receiver_slots::codes::{DONE, HOLDS_NONE, NOT_MADE};
 use receiver_slots::{
-    FaultReply, FrameReply, HealthReply, LimitReply, LinkReply, LinkRow, PlaceReply, PortReply,
-    PortRow, ReadReply, TakeReply,
+    FaultReply, FillReply, FrameReply, HealthReply, LimitReply, LinkReply, LinkRow, PlaceReply,
+    PortReply, PortRow, ReadReply, TakeReply,
 };
 use std::alloc::Global;
 
@@ -46,7 +46,7 @@ use slot_handles::receiver_handle::ReceiverHandle;
 use slot_handles::taker_handle::TakerHandle;
 
 /// The number of the interface: raised with each change of a struct, a call or a number.
-pub const ABI: u32 = 4;
+pub const ABI: u32 = 5;
 
 /// The number of the interface of this library. A program compares it with that of the header that it was compiled
 /// with.
@@ -283,25 +283,26 @@ pub extern "C" fn yelunnavi_receiver_health(
     made.slot.health(link, reply)
 }
 
-/// Tells the number of messages in a port's queue, by the places of its link and of the port in it: delivered and not
-/// taken, as far as the receiver knows after it looked. NONE_LEFT if the port samples.
+/// Tells how full a port's queue is, by the places of its link and of the port in it: how many messages were delivered
+/// and not taken, as far as the receiver knows after it looked, and the greatest number that waited. NONE_LEFT if the
+/// port samples.
 #[unsafe(no_mangle)]
-pub extern "C" fn yelunnavi_receiver_waiting(
+pub extern "C" fn yelunnavi_receiver_fill(
     h: &mut ReceiverHandle,
     link: usize,
     port: usize,
-    waiting: &mut usize,
+    reply: &mut FillReply,
 ) -> u32
     ensures place { (h.new.at ≡ h.old.at) × (h.new.room.mark ≡ h.old.room.mark) }
-    ensures code { result ≡ if_made receiver_mark h.old.room.mark (waiting_code h.old.room.slot link port) }
-    ensures told { result ≡ done → TellsWaiting h.old.room.slot h.new.room.slot link port waiting.new }
-    ensures same { 0 < result → (h.new.room.slot ≡ h.old.room.slot) × (waiting.new ≡ waiting.old) }
+    ensures code { result ≡ if_made receiver_mark h.old.room.mark (fill_code h.old.room.slot link port) }
+    ensures told { result ≡ done → TellsFill h.old.room.slot h.new.room.slot link port reply.new }
+    ensures same { 0 < result → (h.new.room.slot ≡ h.old.room.slot) × (reply.new ≡ reply.old) }
 {
     let made = h.lend();
     if made.mark != RECEIVER {
         return NOT_MADE;
     }
-    made.slot.waiting(link, port, waiting)
+    made.slot.fill(link, port, reply)
 }
 
 /// Tells the number of links of the configuration.

@@ -8,10 +8,12 @@ use Rattle.receiver.specs.declared.port.PortOutlet.{PortOutlet}
 use Rattle.receiver.specs.Link.{Ported}
 use Rattle.receiver.specs.Port.{GivesPort}
 use Rattle.receiver.specs.Receiver.{LinksStay}
-use Rattle.receiver.specs.Waiting.{AreWaitingAt}
+use Rattle.receiver.specs.Fill.{IsFillAt}
+use Rattle.receiver.specs.declared.queue.Fill.{Fill}
 use Rattle.receiver_slots.specs.Codes.{done, no_place, none_left, not_open}
 use Rattle.receiver_slots.specs.Receiving.{Receiving}
 use Rattle.receiver_slots.specs.Replies.{or_0}
+use Rattle.receiver_slots.specs.declared.replies.FillReply.{FillReply}
 use Rattle.receiver_slots.specs.declared.replies.HealthReply.{HealthReply}
 
 -- 0: no frame came; 1: one came
@@ -38,7 +40,7 @@ abbrev pub TellsHealth : Option Receiving → ℕ → HealthReply → Type 0
 TellsHealth None place reply = ⊥
 TellsHealth (Some now) place reply = (link : Ported PortOutlet) × (slice_get now.receiver.links place ≡ Some link) × (reply ≡ health_reply_of link)
 
--- ---- how many messages wait
+-- ---- how full a queue is
 
 -- a port that samples has no queue
 abbrev pub queue_code : Option Port → ℕ
@@ -49,18 +51,22 @@ abbrev pub link_queue_code : Option (Ported PortOutlet) → ℕ → ℕ
 link_queue_code None port = no_place
 link_queue_code (Some link) port = queue_code (slice_get link.core.settings.ports port)
 
-abbrev pub waiting_code : Option Receiving → ℕ → ℕ → ℕ
-waiting_code None place port = not_open
-waiting_code (Some now) place port = link_queue_code (slice_get now.receiver.links place) port
+abbrev pub fill_code : Option Receiving → ℕ → ℕ → ℕ
+fill_code None place port = not_open
+fill_code (Some now) place port = link_queue_code (slice_get now.receiver.links place) port
 
--- this many messages wait at this port, after its end of the queue looked
-abbrev pub TellsWaitingOn : Receiving → Receiving → ℕ → ℕ → ℕ → Type 0
-TellsWaitingOn old new place port waiting =
+abbrev pub fill_reply_of : Fill → FillReply
+fill_reply_of fill = record { waiting = fill.waiting; greatest = fill.greatest }
+
+-- so full is the queue of this port, after its end of the queue looked
+abbrev pub TellsFillOn : Receiving → Receiving → ℕ → ℕ → FillReply → Type 0
+TellsFillOn old new place port reply =
     LinksStay GivesPort old.receiver new.receiver × (new.ends ≡ old.ends)
-    × ((link : Ported PortOutlet) × (slice_get new.receiver.links place ≡ Some link) × AreWaitingAt link (port_no port) (Some waiting))
+    × ((link : Ported PortOutlet) × (slice_get new.receiver.links place ≡ Some link)
+    × IsFillAt link (port_no port) (Some (record { waiting = reply.waiting; greatest = reply.greatest })))
 
 -- rule: EMB-21
-abbrev pub TellsWaiting : Option Receiving → Option Receiving → ℕ → ℕ → ℕ → Type 0
-TellsWaiting (Some old) (Some new) place port waiting = TellsWaitingOn old new place port waiting
-TellsWaiting (Some old) None place port waiting = ⊥
-TellsWaiting None new place port waiting = ⊥
+abbrev pub TellsFill : Option Receiving → Option Receiving → ℕ → ℕ → FillReply → Type 0
+TellsFill (Some old) (Some new) place port reply = TellsFillOn old new place port reply
+TellsFill (Some old) None place port reply = ⊥
+TellsFill None new place port reply = ⊥

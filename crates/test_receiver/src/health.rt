@@ -1,9 +1,9 @@
-//! What a program asks of a link: when frames came, what was given up, how many messages wait.
+//! What a program asks of a link: when frames came, what was given up, how full a queue is.
 use crate::opened::{Given, check_frames, opened};
 use crate::ports::{bring, take};
 use receiver::Net::{A, B};
-use receiver::PortNo;
 use receiver::Verdict::{OutOfSequence, Overflow, Queued, Redundant, Sampled};
+use receiver::{Fill, PortNo};
 use std::alloc::Global;
 use std::process::Abort;
 use test_inputs::rows::{NAV, POS, SmallestRow, five_begin, in_order, packet_row, smallest_row};
@@ -68,33 +68,61 @@ fn partial_datagrams_that_are_given_up_are_counted(rt: HostRuntime) {
     check_pieces(&rt, rt.alloc());
 }
 
-/// So many messages wait at `nav`.
-fn check_waiting(rt: &impl Abort, given: &mut Given, wanted: usize) {
-    assert!(rt; given.receiver.waiting(0, NAV) == Some(wanted));
+/// So many messages wait at `nav`, and so many waited at most.
+fn check_fill(rt: &impl Abort, given: &mut Given, waiting: usize, greatest: usize) {
+    assert!(rt; given.receiver.fill(0, NAV) == Some(Fill { waiting, greatest }));
 }
 
 fn check_queue(rt: &impl Abort, alloc: Global) {
     let mut given = opened(rt, alloc);
-    check_waiting(rt, &mut given, 0);
+    check_fill(rt, &mut given, 0, 0);
     for number in 1..=4 {
         bring(rt, alloc, &mut given, number, Queued(NAV));
-        check_waiting(rt, &mut given, number as usize);
+        check_fill(rt, &mut given, number as usize, number as usize);
     }
     bring(rt, alloc, &mut given, 5, Overflow(NAV));
-    check_waiting(rt, &mut given, 4);
+    check_fill(rt, &mut given, 4, 4);
     take(rt, &mut given.taker, 1000);
-    check_waiting(rt, &mut given, 3);
+    check_fill(rt, &mut given, 3, 4);
     for time in [2000, 3000, 4000] {
         take(rt, &mut given.taker, time);
     }
-    check_waiting(rt, &mut given, 0);
-    assert!(rt; given.receiver.waiting(0, POS).is_none());
-    assert!(rt; given.receiver.waiting(0, PortNo(2)).is_none());
-    assert!(rt; given.receiver.waiting(2, NAV).is_none());
+    check_fill(rt, &mut given, 0, 4);
+    assert!(rt; given.receiver.fill(0, POS).is_none());
+    assert!(rt; given.receiver.fill(0, PortNo(2)).is_none());
+    assert!(rt; given.receiver.fill(2, NAV).is_none());
 }
 
 // rule: EMB-7
 #[test]
 fn messages_that_nobody_took_wait(rt: HostRuntime) {
     check_queue(&rt, rt.alloc());
+}
+
+/// Messages are put and taken, by turns so many.
+fn put_and_taken() -> [(u8, u64); 4] {
+    [(1, 1), (1, 1), (2, 1), (2, 3)]
+}
+
+fn check_greatest(rt: &impl Abort, alloc: Global) {
+    let mut given = opened(rt, alloc);
+    let mut put = 0u8;
+    let mut taken = 0u64;
+    for (puts, takes) in put_and_taken() {
+        for _ in 0..puts {
+            put = put.wrapping_add(1);
+            bring(rt, alloc, &mut given, put, Queued(NAV));
+        }
+        for _ in 0..takes {
+            taken = taken.wrapping_add(1);
+            take(rt, &mut given.taker, taken.wrapping_mul(1000));
+        }
+    }
+    check_fill(rt, &mut given, 0, 3);
+}
+
+// rule: EMB-7
+#[test]
+fn the_greatest_number_that_waited_is_kept_while_nobody_asks(rt: HostRuntime) {
+    check_greatest(&rt, rt.alloc());
 }

@@ -1,7 +1,7 @@
-//! How a link is, and how many messages wait at a port.
+//! How a link is, and how full the queue of a port.
 use crate::given::{bring, frame, opened, reply};
 use receiver_slots::codes::{DONE, NO_PLACE, NONE_LEFT, NOT_OPEN};
-use receiver_slots::{HealthReply, ReceiverSlot};
+use receiver_slots::{FillReply, HealthReply, ReceiverSlot};
 use std::alloc::Global;
 use std::process::Abort;
 use test_inputs::fragments::{PacketName, padding_after};
@@ -32,11 +32,14 @@ fn health(slot: &ReceiverSlot, link: usize) -> (u32, HealthReply) {
     (code, reply)
 }
 
-/// Number of messages that wait at a port, and what is answered.
-fn waiting(slot: &mut ReceiverSlot, link: usize, port: usize) -> (u32, usize) {
-    let mut waiting = 99;
-    let code = slot.waiting(link, port, &mut waiting);
-    (code, waiting)
+/// How many messages wait at a port and waited at most, and what is answered.
+fn fill(slot: &mut ReceiverSlot, link: usize, port: usize) -> (u32, usize, usize) {
+    let mut reply = FillReply {
+        waiting: 99,
+        greatest: 99,
+    };
+    let code = slot.fill(link, port, &mut reply);
+    (code, reply.waiting, reply.greatest)
 }
 
 /// The frame of a fragment comes on A.
@@ -77,21 +80,21 @@ fn when_frames_came_and_what_was_given_up_is_told(rt: HostRuntime) {
     check_health(&rt, rt.alloc());
 }
 
-fn check_waiting(rt: &impl Abort, alloc: Global) {
+fn check_fill(rt: &impl Abort, alloc: Global) {
     let mut slot = opened(rt, alloc);
-    assert!(rt; waiting(&mut slot, 0, 1) == (DONE, 0));
+    assert!(rt; fill(&mut slot, 0, 1) == (DONE, 0, 0));
     let _ = bring(rt, alloc, &mut slot, true, 1);
     let _ = bring(rt, alloc, &mut slot, true, 2);
-    assert!(rt; waiting(&mut slot, 0, 1) == (DONE, 2));
-    assert!(rt; waiting(&mut slot, 0, 0) == (NONE_LEFT, 99));
-    assert!(rt; waiting(&mut slot, 0, 2) == (NO_PLACE, 99));
-    assert!(rt; waiting(&mut slot, 2, 0) == (NO_PLACE, 99));
+    assert!(rt; fill(&mut slot, 0, 1) == (DONE, 2, 2));
+    assert!(rt; fill(&mut slot, 0, 0) == (NONE_LEFT, 99, 99));
+    assert!(rt; fill(&mut slot, 0, 2) == (NO_PLACE, 99, 99));
+    assert!(rt; fill(&mut slot, 2, 0) == (NO_PLACE, 99, 99));
     slot.close();
-    assert!(rt; waiting(&mut slot, 0, 1) == (NOT_OPEN, 99));
+    assert!(rt; fill(&mut slot, 0, 1) == (NOT_OPEN, 99, 99));
 }
 
 // rule: EMB-21
 #[test]
-fn the_messages_that_wait_at_a_port_are_told(rt: HostRuntime) {
-    check_waiting(&rt, rt.alloc());
+fn how_full_a_queue_is_is_told(rt: HostRuntime) {
+    check_fill(&rt, rt.alloc());
 }

@@ -6,9 +6,9 @@ use Rattle.receiver.specs.Port.{AnswersPort, GivesPort, HasSpacePort, ShowsPort}
 use Rattle.receiver.specs.PortLaws.{port_stays}
 use Rattle.receiver.proofs.Given.{given_one}
 use Rattle.receiver.proofs.Meets.{met}
-use Rattle.receiver.proofs.Queues.{wait_at}
+use Rattle.receiver.proofs.Fills.{filled_at}
 use Rattle.es_base.proofs.Elements.{slice_get-set_same}
-use Rattle.receiver.proofs.waiting.LinkWithPorts+PortOutlet.waiting.Goals as goal
+use Rattle.receiver.proofs.fill.LinkWithPorts+PortOutlet.fill.Goals as goal
 
 pub invariant_of-self-2 : goal.invariant_of-self-2
 invariant_of-self-2 c =
@@ -16,7 +16,7 @@ invariant_of-self-2 c =
     let opened = s.outlets.items in
     let at = c.args.port.0 in
     let there : slice_get opened at ≡ Some c.in_ok-outlet.outlet.now = slice_get-get_or opened at c.in_ok-outlet.outlet.now (c.in_ok-outlet.ensures.item.3.0) ∙ ap (λ outlet. Some outlet) (sym c.in_ok-outlet.ensures.value) in
-    met s.core opened s.received at c.in_ok-outlet.outlet.now c.waiting.new.self there c.waiting.ensures.outlet c.self.invariant
+    met s.core opened s.received at c.in_ok-outlet.outlet.now c.fill.new.self there c.fill.ensures.outlet c.self.invariant
 
 pub returns-clause-outlets : goal.returns-clause-outlets
 returns-clause-outlets c = λ place.
@@ -24,15 +24,15 @@ returns-clause-outlets c = λ place.
     let opened = s.outlets.items in
     let at = c.args.port.0 in
     let there : slice_get opened at ≡ Some c.in_ok-outlet.outlet.now = slice_get-get_or opened at c.in_ok-outlet.outlet.now (c.in_ok-outlet.ensures.item.3.0) ∙ ap (λ outlet. Some outlet) (sym c.in_ok-outlet.ensures.value) in
-    rw (← c.self.view_is) (given_one ShowsPort HasSpacePort GivesPort AnswersPort port_stays opened at c.in_ok-outlet.outlet.now c.waiting.new.self (λ p. []) there c.waiting.ensures.outlet (λ p other. refl) place)
+    rw (← c.self.view_is) (given_one ShowsPort HasSpacePort GivesPort AnswersPort port_stays opened at c.in_ok-outlet.outlet.now c.fill.new.self (λ p. []) there c.fill.ensures.outlet (λ p other. refl) place)
 
-pub returns-clause-waiting : goal.returns-clause-waiting
-returns-clause-waiting c =
+pub returns-clause-fill : goal.returns-clause-fill
+returns-clause-fill c =
     let s = c.self.inside in
     let opened = s.outlets.items in
     let at = c.args.port.0 in
     let there : slice_get opened at ≡ Some c.in_ok-outlet.outlet.now = slice_get-get_or opened at c.in_ok-outlet.outlet.now (c.in_ok-outlet.ensures.item.3.0) ∙ ap (λ outlet. Some outlet) (sym c.in_ok-outlet.ensures.value) in
-    let after : IsPorted ShowsPort (ported s.core (slice_set opened at c.waiting.new.self) s.received) =
-    met s.core opened s.received at c.in_ok-outlet.outlet.now c.waiting.new.self there c.waiting.ensures.outlet c.self.invariant in
-    let here = slice_get-set_same opened at c.waiting.new.self (slice_get_within opened at c.in_ok-outlet.outlet.now there) in
-    rw here (wait_at _ c.waiting.new.self _ c.waiting.result (rw here at (after.shown at)) c.waiting.ensures.waiting)
+    let after : IsPorted ShowsPort (ported s.core (slice_set opened at c.fill.new.self) s.received) =
+    met s.core opened s.received at c.in_ok-outlet.outlet.now c.fill.new.self there c.fill.ensures.outlet c.self.invariant in
+    let here = slice_get-set_same opened at c.fill.new.self (slice_get_within opened at c.in_ok-outlet.outlet.now there) in
+    rw here (filled_at _ c.fill.new.self _ c.fill.result (rw here at (after.shown at)) c.fill.ensures.fill)

@@ -1,0 +1,39 @@
+//! Fill levels of the queues of a link's ports.
+ghost use Rattle.std.specs.Prelude.{◌≡◌, ℕ, [], slice_get};
+ghost use Rattle.receiver.specs.Outlet.{GivesAt};
+ghost use Rattle.receiver.specs.Port.{GivesPort};
+ghost use Rattle.receiver.specs.Receiver.{LinksStay};
+ghost use Rattle.receiver.specs.Fill.{IsFillAt, IsFillIn};
+
+use crate::link::LinkWithPorts;
+use crate::port::PortOutlet;
+use crate::queue::Fill;
+use crate::receiver::Receiver;
+use es_base::PortNo;
+
+impl LinkWithPorts<PortOutlet> {
+    /// How full a port's queue is: the messages that were delivered and not taken, as far as its end of the queue knows
+    /// after it looked, and the greatest number that waited. None if the port samples, or the link has no such port.
+    /// Takes no memory, and waits for nobody; it costs a step for each message that waits.
+    pub fn fill(&mut self, port: PortNo) -> Option<Fill>
+        ensures core { self.new.core ≡ self.old.core }
+        ensures received { self.new.received ≡ self.old.received }
+        ensures outlets { (at : ℕ) → GivesAt GivesPort (slice_get self.old.outlets at) (slice_get self.new.outlets at) [] }
+        ensures fill { IsFillAt self.new port result }
+    {
+        let outlet = self.outlets.get_mut(port.0 as usize)?;
+        outlet.fill()
+    }
+}
+
+impl Receiver<PortOutlet> {
+    /// How full the queue of a port of the link at this place is. None if the port samples, or there is no such port.
+    /// Takes no memory, and waits for nobody; it costs a step for each message that waits.
+    pub fn fill(&mut self, place: usize, port: PortNo) -> Option<Fill>
+        ensures stays { LinksStay GivesPort self.old self.new }
+        ensures fill { IsFillIn (slice_get self.new.links place) port result }
+    {
+        let link = self.links.get_mut(place)?;
+        link.fill(port)
+    }
+}

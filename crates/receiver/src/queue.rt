@@ -1,0 +1,123 @@
+//! The end of a port's queue that puts messages, which counts those that wait.
+ghost use Rattle.std.specs.Prelude.{◌≡◌, ◌+◌, ◌-◌, ◌<◌, ◌≤◌, IfOk, IsFalse, IsTrue, length, max};
+ghost use Rattle.es_base.specs.Queue.{BeginsWith, opened, with_put};
+ghost use Rattle.message_ring.specs.Queue.{SeemsFull, message};
+ghost use Rattle.receiver.specs.Queue.{IsGreatest, new_queue};
+
+use es_base::Memory;
+use message_ring::{RingPutter, RingTaker, meet, open_ring};
+use std::alloc::Global;
+use std::marker::Model;
+
+/// How full a queue is, as far as the end that puts knows.
+#[derive(Clone, Copy, Debug, PartialEq, Eq)]
+pub struct Fill {
+    /// Messages that wait: put and not taken.
+    pub waiting: usize,
+    /// The greatest number that waited, counted after each message that was put.
+    pub greatest: usize,
+}
+
+/// The end of a queue that puts messages, and knows the greatest number that waited.
+#[derive(Drop)]
+pub struct CountingPutter {
+    putter: RingPutter,
+    depth: usize,
+    // At most so many messages wait.
+    bound: usize,
+    greatest: usize,
+}
+
+impl Model for CountingPutter {
+    ghost use Rattle.std.specs.Prelude.{◌≡◌, ◌≤◌, ◌+◌, length};
+    ghost use Rattle.receiver.specs.Queue.{CountedQueue, IsGreatest};
+
+    ghost Value = { CountedQueue };
+
+    ghost view = { λ q. record { known = q.putter; greatest = q.greatest } };
+
+    ghost invariant = { λ q. (q.depth ≡ q.putter.depth) × (length q.putter.put ≤ length q.putter.taken + q.bound) × (q.bound ≤ q.greatest) × IsGreatest q.putter q.greatest };
+}
+
+impl CountingPutter {
+    /// Both ends of a new queue, which holds up to `depth` messages of up to `max` octets. All memory of the queue is
+    /// taken here.
+    pub(crate) fn open(
+        alloc: Global,
+        depth: usize,
+        max: usize,
+    ) -> Result<(CountingPutter, RingTaker), Memory>
+        requires { (0 < depth) × (depth ≤ 64) × (max ≤ 8192) }
+        ensures putter { IfOk result (λ ends. (ends.0 ≡ new_queue ends.0.known.queue depth) × (ends.0.known.queue.max ≡ max)) }
+        ensures taker { IfOk result (λ ends. ends.1 ≡ ends.0.known) }
+    {
+        let (putter, taker) = open_ring(alloc, depth, max)?;
+        let counting = CountingPutter {
+            putter,
+            depth,
+            bound: 0,
+            greatest: 0,
+        };
+        Ok((counting, taker))
+    }
+
+    /// Whether there is room for one more message; it stays, whatever the other end does. False: as many messages as
+    /// the queue holds were put that this end doesn't know to be taken, also after it looked. True if it knows of room
+    /// before the call.
+    pub(crate) fn has_room(&mut self) -> bool
+        ensures end { self.new ≡ record self.old { known = record self.old.known { taken = self.new.known.taken } } }
+        ensures told { BeginsWith self.new.known.taken self.old.known.taken }
+        ensures room { IsTrue result → length self.new.known.put < length self.new.known.taken + self.new.known.depth }
+        ensures full { IsFalse result → SeemsFull self.new.known }
+        ensures full_before { IsFalse result → SeemsFull self.old.known }
+        ensures room_is_known { length self.old.known.put < length self.old.known.taken + self.old.known.depth → IsTrue result }
+    {
+        self.putter.has_room()
+    }
+
+    /// Puts a message at the end of the queue. It looks what was taken only if more may wait than ever: a step for each
+    /// message that waits.
+    pub(crate) fn put(&mut self, time: u64, octets: &[u8])
+        requires short { length octets.now ≤ self.old.known.queue.max }
+        requires room { length self.old.known.put < length self.old.known.taken + self.old.known.depth }
+        ensures end { self.new.known ≡ with_put self.old.known (message time octets.now) self.new.known.taken }
+        ensures told { BeginsWith self.new.known.taken self.old.known.taken }
+        ensures greatest { self.new.greatest ≡ max self.old.greatest (length self.new.known.put - length self.new.known.taken) }
+    {
+        let _ = self.putter.put(time, octets);
+        if self.bound < self.greatest {
+            self.bound += 1;
+        } else if self.greatest < self.depth {
+            self.bound = self.putter.waiting();
+            self.greatest = self.greatest.max(self.bound);
+        }
+    }
+
+    /// Synchronizes the two ends of one queue: each then knows at least what the other did. Nothing else changes.
+    pub(crate) fn meet(&mut self, taker: &mut RingTaker)
+        requires { (taker.old.queue ≡ self.old.known.queue) × (taker.old.depth ≡ self.old.known.depth) }
+        ensures putter { self.new ≡ record self.old { known = record self.old.known { taken = self.new.known.taken } } }
+        ensures told { BeginsWith self.new.known.taken taker.old.taken }
+        ensures kept { BeginsWith self.new.known.taken self.old.known.taken }
+        ensures taker { (taker.new.queue ≡ taker.old.queue) × (taker.new.depth ≡ taker.old.depth) × (taker.new.taken ≡ taker.old.taken) × (taker.new.put ≡ self.old.known.put) }
+        ensures known { BeginsWith taker.new.put taker.old.put }
+        ensures begins { BeginsWith taker.new.put taker.new.taken }
+        ensures held { length taker.new.put ≤ length taker.new.taken + taker.old.depth }
+    {
+        meet(&mut self.putter, taker);
+    }
+
+    /// How full the queue is, after this end looked what the other end took. It costs a step for each message that
+    /// waits.
+    pub(crate) fn fill(&mut self) -> Fill
+        ensures end { self.new ≡ record self.old { known = record self.old.known { taken = self.new.known.taken } } }
+        ensures told { BeginsWith self.new.known.taken self.old.known.taken }
+        ensures waiting { (result.waiting + length self.new.known.taken ≡ length self.new.known.put) × (result.waiting ≤ self.new.known.depth) }
+        ensures greatest { (result.greatest ≡ self.new.greatest) × IsGreatest self.new.known result.greatest }
+    {
+        Fill {
+            waiting: self.putter.waiting(),
+            greatest: self.greatest,
+        }
+    }
+}
