@@ -10,9 +10,9 @@ NO_FAULTS = ("sampled", "queued", "redundant", "fragment-held")
 
 
 def draw(given):
-    played = station.opened(given.config, tell=lambda *found: gathered.served(*found))
+    played = station.Station(given.config, tell=lambda *found: gathered.served(*found))
     gathered, faults = Gathered(played), Faults()
-    alone = station.Alone(played.config) if given.each else None
+    alone = station.Alone(played.octets) if given.each else None
     with stream.opened(given) as packets:
         for one, now, reply in played.seen(packets):
             gathered.see(one, now, reply)

@@ -6,8 +6,8 @@ from workbench.health import Health
 
 
 def annotate(given):
-    played = station.opened(given.config)
-    found, alone = Health(played.config), station.Alone(played.config) if given.each else None
+    played = station.Station(given.config)
+    found, alone = Health(played), station.Alone(played.octets) if given.each else None
     with files.writing(given.to) as out, stream.opened(given) as packets:
         out.writelines(blocks(played.seen(packets), packets, found, alone))
     return packets.status

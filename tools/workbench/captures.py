@@ -7,7 +7,7 @@ a torn file, or a block of an absurd length, for the end of the capture. What is
 import struct
 from typing import NamedTuple, Optional
 
-from workbench.faults import Fault
+from workbench.faults import Broken
 
 ETHERNET = 1
 MOST_OCTETS, MOST_BLOCK = 262_144, 1 << 24  # of a packet and of a block, as Wireshark takes them
@@ -50,17 +50,9 @@ class Packet(NamedTuple):
     about: Interface
 
 
-class Cut(Exception):
-    """The file ends in the middle of something."""
-
-
-class Broken(Fault):
-    """From here on the file isn't of its form."""
-
-
 def packets(file, magic, lost=None):
-    """The packets of a capture whose first four octets were read. Ends with `Cut` where the file is cut short, and
-    with `Broken` where it isn't of its form. Into `lost` goes, by section and interface, how many packets whoever
+    """The packets of a capture whose first four octets were read. Ends with `EOFError` where the file is cut short,
+    and with `Broken` where it isn't of its form. Into `lost` goes, by section and interface, how many packets whoever
     captured says were lost."""
     return pcap(file, *PCAP[magic]) if magic in PCAP else pcapng(file, magic, {} if lost is None else lost)
 
@@ -68,7 +60,7 @@ def packets(file, magic, lost=None):
 def exactly(file, count):
     octets = file.read(count)
     if len(octets) < count:
-        raise Cut
+        raise EOFError
     return octets
 
 
@@ -79,7 +71,7 @@ def pcap(file, order, unit):
     while first := file.read(16):
         number += 1
         if len(first) < 16:
-            raise Cut
+            raise EOFError
         seconds, part, kept, length = head.unpack(first)
         if kept > MOST_OCTETS:
             raise Broken(f"packet {number} has an absurd length, {kept} octets")
@@ -88,48 +80,40 @@ def pcap(file, order, unit):
 
 def pcapng(file, magic, lost):
     """Each section of a file numbers its interfaces anew, and packets are numbered on, as tshark does."""
-    order, interfaces, number, sections = "<", [], 0, 0
+    interfaces, number, sections = [], 0, 0
+    for order, kind, body in blocks(file, magic):
+        if kind == SECTION:
+            interfaces, sections = [], sections + 1
+        elif kind == INTERFACE:
+            interfaces.append(interface(order, body, len(interfaces)))
+        elif kind == STATISTICS:
+            of_interface, count = statistics(order, body)
+            lost[sections, of_interface] = count
+        elif kind in (PACKET, SIMPLE_PACKET, OBSOLETE_PACKET):
+            number += 1
+            yield packet(order, kind, body, number, interfaces)
+
+
+def blocks(file, magic):
+    """Byte order, kind and body of each block. The header of a section says the order of its blocks by a magic number."""
+    order = "<"
     while magic:
         if len(magic) < 4:
-            raise Cut
+            raise EOFError
+        length, begun, least, what = exactly(file, 4), b"", 12, "a block"
         if magic == SECTION_MAGIC:
-            order, interfaces, sections = begin_section(file), [], sections + 1
-        else:
-            kind, body = block(file, order, magic)
-            if kind == INTERFACE:
-                interfaces.append(interface(order, body, len(interfaces)))
-            elif kind == STATISTICS:
-                of_interface, count = statistics(order, body)
-                lost[sections, of_interface] = count
-            elif kind in (PACKET, SIMPLE_PACKET, OBSOLETE_PACKET):
-                number += 1
-                yield packet(order, kind, body, number, interfaces)
+            begun, least, what = exactly(file, 4), 28, "a section header"
+            if begun not in ORDERS:
+                raise Broken("a section without its byte-order magic")
+            order = ORDERS[begun]
+        size, = LENGTHS[order].unpack(length)
+        if size < least or size % 4 or size > MOST_BLOCK:
+            raise Broken(f"a block of an absurd length, {size} octets")
+        body = exactly(file, size - 8 - len(begun))
+        if body[-4:] != length:
+            raise Broken(f"{what} that doesn't end with its length")
+        yield order, LENGTHS[order].unpack(magic)[0], body[:-4]
         magic = file.read(4)
-
-
-def begin_section(file):
-    """Skips the header of a section; its magic number says the byte order."""
-    length, magic = exactly(file, 4), exactly(file, 4)
-    if magic not in ORDERS:
-        raise Broken("a section without its byte-order magic")
-    if exactly(file, length_of_block(ORDERS[magic], length, 28) - 12)[-4:] != length:
-        raise Broken("a section header that doesn't end with its length")
-    return ORDERS[magic]
-
-
-def length_of_block(order, octets, least):
-    size, = LENGTHS[order].unpack(octets)
-    if size < least or size % 4 or size > MOST_BLOCK:
-        raise Broken(f"a block of an absurd length, {size} octets")
-    return size
-
-
-def block(file, order, magic):
-    length = exactly(file, 4)
-    body = exactly(file, length_of_block(order, length, 12) - 8)
-    if body[-4:] != length:
-        raise Broken("a block that doesn't end with its length")
-    return LENGTHS[order].unpack(magic)[0], body[:-4]
 
 
 def options(order, octets):
@@ -182,11 +166,9 @@ def packet(order, kind, body, number, interfaces):
         raise Broken(f"packet {number} is of interface {own}, which the capture hasn't")
     about = interfaces[own]
     if kind == SIMPLE_PACKET:
-        kept = min(found[0], about.snapshot or found[0])
-        time = None
+        kept, time = min(found[0], about.snapshot or found[0]), None
     else:
-        kept = found[3]
-        time = (found[1] << 32 | found[2]) * SECOND // about.units + about.offset * SECOND
+        kept, time = found[3], (found[1] << 32 | found[2]) * SECOND // about.units + about.offset * SECOND
     if kept > MOST_OCTETS or size + kept > len(body):
         raise Broken(f"packet {number} has an absurd length, {kept} octets")
     return Packet(number, own, time, body[size:size + kept], found[-1], about)
@@ -196,10 +178,8 @@ def packet(order, kind, body, number, interfaces):
 
 def written_block(kind, body, *chosen):
     """A block with options: pairs of code and octets."""
-    parts = [body]
-    if chosen:
-        parts += [struct.pack("<HH", code, len(value)) + padded(value) for code, value in (*chosen, (END, b""))]
-    body = b"".join(parts)
+    for code, value in (*chosen, (END, b"")) if chosen else ():
+        body += struct.pack("<HH", code, len(value)) + padded(value)
     size = struct.pack("<I", 12 + len(body))
     return struct.pack("<I", kind) + size + body + size
 

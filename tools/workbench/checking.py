@@ -2,6 +2,7 @@
 
 The rules are the receiver's alone: it is asked again with each fault mended, until it takes the configuration.
 """
+import contextlib
 import difflib
 import ipaddress
 import json
@@ -9,7 +10,7 @@ import json
 from receiver import ConfigFault
 from workbench import files, settings
 from workbench.faults import Fault, plain
-from workbench.places import is_table, members
+from workbench.places import Document, members
 
 LEVELS = {
     "the top": ("constant", "link"),
@@ -36,7 +37,7 @@ def slips_of(given):
     octets = settings.read(given.config)
     fault = fault_of(octets)
     try:
-        document = settings.document(given.config, octets, fault)
+        document = Document(given.config, octets, fault)
     except Fault as told:
         if not fault:
             raise
@@ -64,24 +65,23 @@ def fault_of(octets):
 
 def refused(config, fault):
     """The path and the words of each fault."""
-    config = json.loads(json.dumps(config, default=str))
+    # A copy, in which dates are texts, and a float is one that JSON has.
+    config = json.loads(json.dumps(config, default=str), parse_constant=lambda _: 0.5)
     for _ in range(MOST_FAULTS):
         if not fault:
             return
         path = settings.path_of(fault)
         yield path, f"refused: {fault}{fault.allowed}"
-        if not mend(config, path, str(fault)):
-            return
-        fault = fault_of(written(config).encode())
+        fault = fault_of(written(config).encode()) if mend(config, path) else None
 
 
-def mend(config, path, told):
-    """Makes what is refused right. Returns whether it can."""
+def mend(config, path):
+    """Makes what is refused right, or takes away what is too many. Returns whether it can."""
+    *around, key = path or (None,)
     table = config
-    for step in path[:-1]:
+    for step in around:
         table = table[step]
-    key = path[-1] if path else None
-    if told.startswith("too many"):
+    if isinstance(key, int):
         del table[key:]
     elif key == "kind":
         table["kind"] = "queuing" if "depth" in table else "sampling"
@@ -102,16 +102,10 @@ def unused(config, key):
     return next(value for value in values if value not in found)
 
 
-def written(value, is_document=True):
-    """A value as TOML."""
-    if is_table(value):
-        pairs = [f"{written(key)} = {written(one, False)}" for key, one in value.items()]
-        return "\n".join(pairs) if is_document else f"{{{', '.join(pairs)}}}"
-    if isinstance(value, list):
-        return f"[{', '.join(written(one, False) for one in value)}]"
-    if isinstance(value, str):
-        return json.dumps(value, ensure_ascii=False).replace("\x7f", "\\u007f")
-    return str(value).lower() if isinstance(value, bool) else str(value)
+def written(config):
+    """A document as TOML, whose values are those of JSON but for what stands after a key."""
+    pairs = (json.dumps({key: value}, ensure_ascii=False, separators=(", ", " = "))[1:-1] for key, value in config.items())
+    return "\n".join(pairs).replace("\x7f", "\\u007f")
 
 
 # ---- what the receiver passes over
@@ -135,11 +129,9 @@ def silences(config):
 
 
 def end_of(address):
-    """The last two octets of an IPv4 address as a number."""
-    try:
+    """The last two octets of an IPv4 address as a number; None if it is no address."""
+    with contextlib.suppress(ValueError):
         return int(ipaddress.IPv4Address(address if isinstance(address, str) else "")) & 0xFFFF
-    except ValueError:
-        return None
 
 
 def unknown(path, table, level):

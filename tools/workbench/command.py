@@ -1,8 +1,8 @@
 """The command line of `yelunnavi`."""
 import argparse
 import contextlib
-import importlib
 import os
+import pkgutil
 import re
 import signal
 import sys
@@ -133,19 +133,11 @@ COMMANDS = {
 }
 
 
-class TellVersion(argparse.Action):
-    """Tells the version, which is looked up only then."""
-
-    def __call__(self, parser, *rest):
-        print(parser.prog, version())
-        parser.exit()
-
-
 def words():
     parser = argparse.ArgumentParser(prog="yelunnavi", allow_abbrev=False, description="Plays captures of two AFDX networks "
                                      "with the proved receiver: what became of each frame, and whether the networks are "
                                      "healthy.")
-    parser.add_argument("--version", nargs=0, action=TellVersion, help="tell the version, and end")
+    parser.add_argument("--version", action="version", version=f"%(prog)s {version()}", help="tell the version, and end")
     commands = parser.add_subparsers(metavar="COMMAND", required=True)
     for name, (function, text, own, rest) in COMMANDS.items():
         command = commands.add_parser(name, help=text, description=f"{text[0].upper()}{text[1:]}.", epilog="\n".join(rest),
@@ -175,9 +167,8 @@ def main(arguments):
     look_at(parser, given)
     for number in (signal.SIGINT, signal.SIGTERM, signal.SIGHUP):  # the run ends as a shell shows it; what has to go goes
         signal.signal(number, lambda number, _: sys.exit(128 + number))
-    module, _, function = given.function.partition(":")
     try:
-        return getattr(importlib.import_module(module), function)(given) or 0
+        return pkgutil.resolve_name(given.function)(given) or 0
     except Fault as fault:
         status, line = fault.status, str(fault)
     except MemoryError:

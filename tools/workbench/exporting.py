@@ -5,6 +5,7 @@ import itertools
 import json
 
 import c_table
+from receiver import Reply
 from verdict_words import NETWORKS
 from workbench import files, frames, station, stream
 
@@ -13,13 +14,12 @@ COLUMNS = ("packet", "time_us", "epoch_ns", "network", "link", "source", "interf
 
 
 def export(given):
-    played, write = station.opened(given.config), write_csv if given.csv else write_json
-    if given.c_table:
-        with files.writing(given.to) as out:
-            out.write(c_table.text_of(played.config.octets).encode())
-        return 0
+    played = station.Station(given.config)
     with files.writing(given.to) as out, stream.opened(given) as packets:
-        write(out, records(played.seen(packets)))
+        if given.c_table:
+            out.write(c_table.text_of(played.octets).encode())
+        else:
+            (write_csv if given.csv else write_json)(out, records(played.seen(packets)))
     return packets.status
 
 
@@ -27,13 +27,12 @@ def records(seen):
     """A packet that was left out has the verdict `left-out`, and no time of the receiver's. What isn't a frame of the networks
     has no link and no sequence number; a frame of an unknown link has the networks' constant field."""
     for one, now, reply in seen:
-        octets = one.octets
-        is_frame = reply and (reply.vl is not None or reply.cause == "unknown-link")
+        octets, become = one.octets, reply or Reply("left-out", one.left_out)
+        is_frame = become.vl is not None or become.cause == "unknown-link"
         link, sequence = (int.from_bytes(octets[4:6], "big"), octets[-1]) if is_frame else (None, None)
-        now, *become = (now, reply.place, reply.kind, reply.cause, reply.port, reply.number or None) if reply else \
-            (None, None, "left-out", one.left_out, "", None)
-        yield (one.number, now, one.time, NETWORKS[one.net], link, octets[6:12].hex(":"), frames.interface_of(octets), sequence,
-               len(octets), *(None if word == "" else word for word in become))
+        yield (one.number, now if reply else None, one.time, NETWORKS[one.net], link, octets[6:12].hex(":"),
+               frames.interface_of(octets), sequence, len(octets), become.place, become.kind,
+               *(word or None for word in (become.cause, become.port, become.number)))
 
 
 def write_csv(out, found):

@@ -2,9 +2,8 @@
 import contextlib
 import io
 import os
-import stat
+import secrets
 import sys
-import tempfile
 import time
 
 from workbench.faults import NOT_READ, Fault, plain
@@ -32,20 +31,16 @@ def bar(what, total):
             print("\r\x1b[K", end="", file=sys.stderr, flush=True)
 
 
-class Watched(io.RawIOBase):
-    """A file whose reading is shown, and whose faults are lines."""
+class Watched(io.FileIO):
+    """A file whose reading is shown, and whose faults are lines. The standard input is `-`."""
 
-    def __init__(self, raw, name, add):
-        self.raw, self.name, self.add = raw, name, add
-
-    def readable(self):
-        return True
+    def __init__(self, name):
+        super().__init__(0 if name == "-" else name, closefd=name != "-")
+        self.name = name
 
     def readinto(self, buffer):
-        try:
-            count = self.raw.readinto(buffer)
-        except OSError as error:
-            raise not_read(self.name, error) from None
+        with telling(self.name, "read"):
+            count = super().readinto(buffer)
         if count is None:
             raise Fault(f"{self.name}: not read: it gives nothing without a wait (O_NONBLOCK)", NOT_READ)
         self.add(count)
@@ -55,49 +50,37 @@ class Watched(io.RawIOBase):
 @contextlib.contextmanager
 def reading(name):
     """The octets of a file, or of the standard input if its name is `-`."""
+    with telling(name, "read"):
+        raw = Watched(name)
+    with raw, bar(f"reading {plain(name)}", os.fstat(raw.fileno()).st_size) as raw.add:
+        yield io.BufferedReader(raw, BLOCK)
+
+
+@contextlib.contextmanager
+def telling(name, what):
+    """What the system refuses meanwhile is told of this name, and ends the run."""
     try:
-        raw = open(0 if name == "-" else name, "rb", buffering=0, closefd=name != "-")
+        yield
     except OSError as error:
-        raise not_read(name, error) from None
-    with raw:
-        about = os.fstat(raw.fileno())
-        with bar(f"reading {plain(name)}", about.st_size if stat.S_ISREG(about.st_mode) else 0) as add:
-            yield io.BufferedReader(Watched(raw, name, add), BLOCK)
-
-
-def not_read(name, error):
-    return Fault(f"{name}: not read: {error.strerror or error}", NOT_READ)
-
-
-def not_written(name, error, more=""):
-    return Fault(f"{name}: not written: {error.strerror or error}{more}", NOT_READ)
+        raise Fault(f"{name}: not {what}: {error.strerror or error}", NOT_READ) from None
 
 
 @contextlib.contextmanager
 def writing(name):
     """A file that has its name once it is whole; `-` is the standard output. A device or a pipe is written as it is."""
-    if name == "-":
-        with output() as file:
-            yield file
-        return
-    try:
-        whole = beside(name) if os.path.isfile(name) or not os.path.exists(name) else open(name, "wb", BLOCK)
-        with whole as file:
-            yield file
-    except OSError as error:
-        raise not_written(name, error) from None
+    is_whole = os.path.isfile(name) or not os.path.exists(name)
+    with telling(name, "written"), output() if name == "-" else beside(name) if is_whole else open(name, "wb", BLOCK) as file:
+        yield file
 
 
 @contextlib.contextmanager
 def beside(name):
     """A file in the same folder, which takes the name at its end. It goes if the caller fails."""
     name = os.path.realpath(name)
-    mask = os.umask(0)
-    os.umask(mask)
-    number, path = tempfile.mkstemp(prefix=".yelunnavi-", dir=os.path.dirname(name))
+    path = os.path.join(os.path.dirname(name), f".yelunnavi-{secrets.token_hex(8)}")
+    file = open(path, "xb", BLOCK)
     try:
-        with open(number, "wb", BLOCK) as file:
-            os.fchmod(number, 0o666 & ~mask)
+        with file:
             yield file
         os.replace(path, name)
     except BaseException:

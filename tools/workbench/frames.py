@@ -15,18 +15,14 @@ TOO_LONG = "longer than a line of a trace"
 
 def without_fcs(octets, has):
     """The frame without its frame check sequence, and why it can't be taken. `has` is None where that is to be seen."""
-    if has is False:
-        return octets, None
-    if crc32(octets) == WHOLE_WITH_FCS:
+    if has is not False and crc32(octets) == WHOLE_WITH_FCS:
         return octets[:-4], None
     return octets, BAD_FCS if has else None
 
 
 def refusal(octets):
     """Why a whole frame can't be a line of a trace."""
-    if octets[12:14] in TAGS:
-        return TAGGED
-    return TOO_LONG if len(octets) > MOST_OCTETS else None
+    return TAGGED if octets[12:14] in TAGS else TOO_LONG if len(octets) > MOST_OCTETS else None
 
 
 def has_wrong_udp_sum(octets):

@@ -67,7 +67,7 @@ class Link(copies.Listener):
 
     def __init__(self, link, own):
         self.link, self.own = link, own
-        self.nets = tuple(Network(own.bag if own else None) for _ in NETWORKS)
+        self.nets = tuple(Network(own.get("bag_us")) for _ in NETWORKS)
         self.copies, self.pieces = Copies(link.skew_max, self), Pieces(link.reassembly, self.given_up)
         self.conditions, self.delays, self.beyond = Conditions(link), Delays(), 0
         self.kinds, self.hidden = tuple(Counter() for _ in NETWORKS), tuple(Counter() for _ in NETWORKS)
@@ -162,8 +162,8 @@ class Health:
     """Of all links, by their numbers; and what was filtered, by network and cause. `made` makes what is known of a link, of
     its settings and its own keys."""
 
-    def __init__(self, config, made=Link):
-        self.links = {link.vl: made(link, config.own.get(link.vl)) for link in config.receiver.links}
+    def __init__(self, played, made=Link):
+        self.links = {link.vl: made(link, played.own.get(link.vl, {})) for link in played.receiver.links}
         self.filtered, self.left_out = (tuple(Counter() for _ in NETWORKS) for _ in range(2))
         self.interfaces = tuple(Counter() for _ in NETWORKS)
         self.frames, self.first, self.latest = 0, None, 0

@@ -1,8 +1,9 @@
 """The lines of hex traces, the player's input, and their faults (docs/FORMATS.md)."""
+import itertools
 import re
 
 from verdict_words import NETWORKS
-from workbench.faults import BROKEN, Fault
+from workbench.faults import Broken
 
 LONGEST, MOST_TIME = 8192, 2**64  # bytes of a line; microseconds
 LINE = re.compile(rb"(0|[1-9][0-9]*)?( )?((?:[0-9A-Fa-f]{2})*)(.*)", re.DOTALL)
@@ -10,9 +11,8 @@ LINE = re.compile(rb"(0|[1-9][0-9]*)?( )?((?:[0-9A-Fa-f]{2})*)(.*)", re.DOTALL)
 
 def lines(file, first, net, latest=0):
     """Line number, time in microseconds and octets of each frame of a trace whose first bytes were read."""
-    line, number = first + file.readline(LONGEST + 2 - len(first)), 0
-    while line:
-        number += 1
+    begun, rest = first + file.readline(LONGEST + 2 - len(first)), iter(lambda: file.readline(LONGEST + 2), b"")
+    for number, line in enumerate(itertools.chain([begun], rest), 1):
         text = line.removesuffix(b"\n")
         if len(text) > LONGEST:
             raise fault(net, number, "long line")
@@ -22,11 +22,10 @@ def lines(file, first, net, latest=0):
                 raise fault(net, number, "time falls")
             yield number, time, octets
             latest = time
-        line = file.readline(LONGEST + 2)
 
 
 def fault(net, number, cause):
-    return Fault(f"trace {NETWORKS[net]} line {number}: {cause}", BROKEN)
+    return Broken(f"trace {NETWORKS[net]} line {number}: {cause}")
 
 
 def frame_of(text, net, number):

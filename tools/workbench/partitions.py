@@ -10,7 +10,6 @@ FEW = 1000  # reads of a stretch in which nothing comes that are told one by one
 
 class SamplingEnd:
     """A sampling port: the ages of its newest message, at its reads or at any moment; what was stale, and what nobody read."""
-    is_sampling = True
 
     def __init__(self, receiver, port, period):
         self.port, self.period, self.reader = port, period, receiver.reader(port.name)
@@ -19,43 +18,34 @@ class SamplingEnd:
 
     def came(self, now, number):
         """A message was delivered."""
-        if self.period is None:
-            self.grow(now)
+        self.oldest, self.stale = self.worst(now)
         self.messages, self.latest = number, now
 
-    def grow(self, now):
-        """The message before was the newest up to now."""
-        if self.latest is not None:
-            age = max(0, now - self.latest)
-            self.oldest = max(self.oldest, age)
-            self.stale += age > self.port.limit
+    def worst(self, now):
+        """The oldest that a message was, and how often one was stale, with the newest up to now if no reads tell."""
+        if self.period is not None or self.latest is None:
+            return self.oldest, self.stale
+        age = max(0, now - self.latest)
+        return max(self.oldest, age), self.stale + (age > self.port.limit)
 
-    def serve(self, now):
-        """Reads."""
-        self.reads += 1
-        found = self.reader.read(now)
+    def serve(self, first, count):
+        """So many reads, from the first on, while nothing comes. Returns what a single one found."""
+        last, self.reads = first + (count - 1) * self.period, self.reads + count
+        found = self.reader.read(last)
         if found:
             self.missed += max(0, found.number - self.newest - 1)
             self.newest = found.number
-            self.oldest = max(self.oldest, now - found.time)
+            self.oldest = max(self.oldest, last - found.time)
             self.stale += not found.valid
-        return found
-
-    def serve_many(self, first, count):
-        """So many reads, from the first on, while nothing comes."""
-        last = first + (count - 1) * self.period
-        found = self.serve(last)
-        self.reads += count - 1
-        if found:
-            fresh = (found.time + self.port.limit - first) // self.period + 1  # of these reads
-            self.stale += count - max(0, min(count, fresh)) - (not found.valid)
+            if count > 1:
+                fresh = (found.time + self.port.limit - first) // self.period + 1
+                self.stale += count - 1 - max(0, min(count - 1, fresh))  # of the reads before the last
+        return found if count == 1 else None
 
     def told(self, now):
         age = None if self.latest is None else max(0, now - self.latest)
         state = "empty" if age is None else "stale" if age > self.port.limit else "fresh"
-        oldest, stale = self.oldest, self.stale
-        if self.period is None and age is not None:
-            oldest, stale = max(oldest, age), stale + (age > self.port.limit)
+        oldest, stale = self.worst(now)
         return {"port": self.port.name, "vl": self.port.vl, "kind": "sampling", "state": state, "messages": self.messages,
                 "age_us": age, "oldest_us": oldest, "refresh_us": self.port.limit, "stale": stale,
                 "read_us": self.period, "reads": self.reads, "missed": self.missed}
@@ -63,7 +53,6 @@ class SamplingEnd:
 
 class QueueEnd:
     """A queuing port: how many messages were taken, how many waited at most, how long, and how many were lost."""
-    is_sampling = False
 
     def __init__(self, receiver, port, period):
         self.port, self.period, self.taker = port, period, receiver.taker(port.name)
@@ -73,18 +62,14 @@ class QueueEnd:
         self.waiting += 1
         self.most = max(self.most, self.waiting)
 
-    def serve(self, now):
-        """Takes all that waits."""
+    def serve(self, now, _):
+        """Takes all that waits; after the first of many takings nothing does."""
         found = list(iter(self.taker.take, None))
         self.taken += len(found)
         self.waiting = 0
         if found:
             self.oldest = max(self.oldest, now - found[0].time)
         return found
-
-    def serve_many(self, first, count):
-        """After the first taking nothing waits."""
-        return self.serve(first)
 
     def told(self, now):
         return {"port": self.port.name, "vl": self.port.vl, "kind": "queuing", "state": "overflow" if self.overflows else "",
@@ -96,13 +81,10 @@ class Partition:
     """The ends of all ports. `tell` is called with the moment, the end and what it found, at each read and each taking."""
 
     def __init__(self, receiver, periods, tell=None):
-        self.tell, self.ends, self.due = tell, {}, []
-        for place, port in enumerate(receiver.ports):
-            period = periods.get(port.name)
-            self.ends[port.name] = end = (SamplingEnd if port.is_sampling else QueueEnd)(receiver, port, period)
-            if period:
-                self.due.append((period, place, end))
-        heapq.heapify(self.due)
+        self.tell = tell
+        self.ends = {port.name: (SamplingEnd if port.is_sampling else QueueEnd)(receiver, port, periods.get(port.name))
+                     for port in receiver.ports}
+        self.due = sorted((end.period, place, end) for place, end in enumerate(self.ends.values()) if end.period)  # a heap
         self.next = self.due[0][0] if self.due else float("inf")
 
     def wake(self, now):
@@ -110,17 +92,13 @@ class Partition:
         while self.due and self.due[0][0] <= now:
             moment, place, end = self.due[0]
             count = (now - moment) // end.period + 1
-            if count <= FEW:
-                count = 1
-                self.serve(moment, end)
-            elif (found := end.serve_many(moment, count)) and self.tell:
-                self.tell(moment, end, found)
+            count = count if count > FEW else 1
+            self.serve(moment, end, count)
             heapq.heapreplace(self.due, (moment + count * end.period, place, end))
         self.next = self.due[0][0] if self.due else float("inf")
 
-    def serve(self, moment, end):
-        found = end.serve(moment)
-        if found and self.tell:
+    def serve(self, moment, end, count=1):
+        if (found := end.serve(moment, count)) and self.tell:
             self.tell(moment, end, found)
 
     def came(self, now, reply):
@@ -130,9 +108,5 @@ class Partition:
             end.overflows += 1
         elif reply.kind in ("sampled", "queued"):
             end.came(now, reply.number)
-            if not end.is_sampling and end.period is None:
+            if not end.port.is_sampling and end.period is None:
                 self.serve(now, end)
-
-    def told(self, now):
-        """Plain data of each port."""
-        return [end.told(now) for end in self.ends.values()]

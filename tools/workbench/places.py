@@ -2,17 +2,26 @@
 import re
 import tomllib
 
+from workbench.faults import Fault
+
 HEADER = re.compile(r'\s*\[\[?\s*"?([\w-]+)"?(\s*\.\s*"?port"?)?\s*[\].]')
 KEY = re.compile(r'\s*"?([\w-]+)"?\s*[=.]')
+# The key that people call a link or a port by, and the kind of its value.
+CALLED = {"link": ("vl", int), "port": ("name", str)}
 
 
 class Document:
     """A configuration's tables, and the line of each table and key by its path, as ("link", 0, "port", 1, "udp"), if each has
     a line of its own. What stands inside of a value isn't taken apart: the key or table around it has the line."""
 
-    def __init__(self, name, octets):
-        self.name, text = name, octets.decode("utf-8-sig")
-        self.tables = tomllib.loads(text)
+    def __init__(self, name, octets, fault=None):
+        """The receiver may have told a fault of it; what Python doesn't read is refused."""
+        try:
+            self.name, text = name, octets.decode("utf-8-sig")
+            self.tables = tomllib.loads(text)
+        except (ValueError, RecursionError) as error:
+            told = f"refused: {fault}" if fault else "the receiver takes it, but this Python reads no TOML 1.1"
+            raise Fault(f"{name}:{line_of(error, octets)}: {told}: {error}") from None
         self.lines = lines_of(text, self.tables)
 
     def line_of(self, path):
@@ -61,28 +70,18 @@ def has(config, path):
 
 
 def where(config, path):
-    if len(path) < 2:
-        return ""
-    link = config["link"][path[1]]
-    told = f"link {link['vl']}" if is_table(link) and is_integer(link.get("vl")) else f"link at place {path[1] + 1}"
-    if len(path) > 3:
-        port = link["port"][path[3]]
-        name = port.get("name") if is_table(port) else None
-        told += f" port {name}" if name and isinstance(name, str) else f" port at place {path[3] + 1}"
-    return f"{told}: "
-
-
-def is_table(value):
-    return isinstance(value, dict)
-
-
-def is_integer(value):
-    return isinstance(value, int) and not isinstance(value, bool)
+    words, table = [], config
+    for what, place in zip(path[::2], path[1::2]):
+        table = table[what][place]
+        key, kind = CALLED[what]
+        name = table.get(key) if isinstance(table, dict) else None
+        words.append(f"{what} {name}" if type(name) is kind and name != "" else f"{what} at place {place + 1}")
+    return f"{' '.join(words)}: " if words else ""
 
 
 def tables(value):
     """The members of an array that are tables, with their places."""
-    return [(place, one) for place, one in enumerate(value if isinstance(value, list) else []) if is_table(one)]
+    return [(place, one) for place, one in enumerate(value if isinstance(value, list) else []) if isinstance(one, dict)]
 
 
 def members(config):

@@ -5,7 +5,7 @@ from workbench import files, station, stream
 
 def play(given):
     is_live = "-" in given.files
-    played = station.opened(given.config, not given.never_taken,
+    played = station.Station(given.config, not given.never_taken,
                             lambda *found: [add(line) for line in lines_of_end(*found)])
     with files.output() as out:
         def add(line, number="-"):
@@ -26,7 +26,7 @@ def play(given):
 def lines_of_end(moment, end, found):
     """What an end of a port found at a moment."""
     name = end.port.name
-    if end.is_sampling:
+    if end.port.is_sampling:
         return [f"{moment} read {name} {found.number} {max(0, moment - found.time)} {state_of(found)}"]
     return [f"{moment} taken {name} {one.time} {len(one.octets)}{hexed(one)}" for one in found]
 

@@ -32,6 +32,5 @@ class Shift:
 
     def hint(self):
         ahead = self.found() // 1000
-        which = "B" if ahead > 0 else "A"
-        return ahead and (f"{which}'s clock seems {abs(ahead)} us ahead of the other's, if it isn't its frames' delay: "
-                          f"--shift-b {-ahead}")
+        return ahead and (f"{'B' if ahead > 0 else 'A'}'s clock seems {abs(ahead)} us ahead of the other's, if it isn't its "
+                          f"frames' delay: --shift-b {-ahead}")

@@ -8,13 +8,14 @@ FAULTS = ("bad-header", "bad-fragment", "bad-udp", "no-port", "too-long", "fragm
 
 
 class Station:
-    """The receiver of a configuration. With `takes` partitions read and take; else nobody does, as in the player."""
+    """The receiver of a configuration, which is read before any capture. With `takes` partitions read and take; else nobody
+    does, as in the player."""
 
-    def __init__(self, config, takes=True, tell=None):
-        self.config, self.receiver, self.partition = config, config.receiver, None
+    def __init__(self, path, takes=True, tell=None):
+        self.octets, self.own, self.partition = settings.read(path), {}, None
+        self.receiver = settings.receiver_of(path, self.octets)
         if takes:
-            config.read_own()
-            periods = {name: period for own in config.own.values() for name, period in own.periods.items()}
+            self.own, periods = settings.own_keys(path, self.octets)
             self.partition = Partition(self.receiver, periods, tell)
         self.clock, self.latest = stream.Clock(), 0
 
@@ -33,27 +34,19 @@ class Station:
             partition.came(now, reply)
         return now, reply
 
-    def pass_time(self, now):
-        """Lets it be so late, though nothing came."""
-        if now > self.latest:
-            self.latest = now
-            if self.partition:
-                self.partition.wake(now)
-
     def seen(self, found):
         """Each arrival of a stream with its time and its reply."""
         self.clock = stream.Clock(found.is_of_captures)
         for one in found:
             yield one, *self.take(one)
-        self.pass_time(self.latest)
 
 
 class Alone:
     """A receiver of its own for each network: what of a network's frames the other one's copies hide. And the checksums of
     UDP, at which no receiver looks."""
 
-    def __init__(self, config):
-        self.receivers = [settings.opened(config.octets) for _ in range(2)]
+    def __init__(self, octets):
+        self.receivers = [settings.opened(octets) for _ in range(2)]
 
     def fault(self, one, now, reply):
         """The verdict of a frame on its network alone, if it is a fault that `reply` doesn't tell."""
@@ -61,8 +54,3 @@ class Alone:
         if found.kind in FAULTS:
             return found if found.kind != reply.kind else None
         return found._replace(kind=WRONG_SUM, port="", number=0) if found.port and frames.has_wrong_udp_sum(one.octets) else None
-
-
-def opened(path, takes=True, tell=None):
-    """The configuration is read before any capture."""
-    return Station(settings.Settings(path), takes, tell)

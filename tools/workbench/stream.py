@@ -10,7 +10,7 @@ import sys
 from typing import NamedTuple, Optional
 
 from workbench import captures, files, frames, hex_traces
-from workbench.faults import BROKEN, Fault, plain
+from workbench.faults import BROKEN, Broken, Fault, plain
 from workbench.shifts import Shift
 
 MOST_TIME = 2**64  # nanoseconds
@@ -40,8 +40,8 @@ class Account:
     broken = ""
 
     def __init__(self, name):
-        self.name, self.packets, self.whole, self.checked, self.moved = name, 0, 0, 0, 0
-        self.newest, self.lost = 0, {}
+        self.name, self.lost = "standard input" if name == "-" else plain(os.path.basename(name)), {}
+        self.packets = self.whole = self.checked = self.moved = self.newest = 0
         self.left_out = collections.defaultdict(list)
         self.counts = collections.Counter()
 
@@ -55,10 +55,9 @@ class Account:
         return self.checked == self.whole >= SHOWN or None
 
     def lines(self):
-        more = [f", {self.checked} check sequences cut off"] if self.checked else []
-        more += [f", {self.moved} put in order"] if self.moved else []
-        if more:
-            yield f"{self.name}: {self.packets} packets{''.join(more)}"
+        met = (self.checked, "check sequences cut off"), (self.moved, "put in order")
+        if more := "".join(f", {count} {what}" for count, what in met if count):
+            yield f"{self.name}: {self.packets} packets{more}"
         for (_, interface), count in self.lost.items():
             if count:
                 yield (f"{self.name}: {count} packets were lost while it was captured, on interface {interface}: what "
@@ -117,9 +116,9 @@ def arrivals(packets, net_of, given, account):
                 time, reason = latest, reason or NO_TIME
             yield Arrival(time, net, number, octets, reason, length)
             latest = time
-    except captures.Cut:
+    except EOFError:
         account.leave_out(account.packets + 1, TORN)
-    except captures.Broken as broken:
+    except Broken as broken:
         account.broken = f"{account.name}: {broken}; {account.packets} packets before were played"
     except Fault as fault:
         raise Fault(f"{account.name}: {fault}", fault.status) from None
@@ -129,47 +128,33 @@ def of_trace(found, net, account):
     """The lines of a trace."""
     try:
         for number, time, octets in found:
-            account.packets += 1
             yield Arrival(1000 * time, net, number, octets, None, len(octets))
-    except Fault as fault:
-        if fault.status != BROKEN:
-            raise
-        account.broken = str(fault)
+    except Broken as broken:
+        account.broken = str(broken)
 
 
 class Order:
-    """Puts arrivals in order of time. Those that come in order stand in a row, the others in a heap."""
+    """Puts arrivals in order of time."""
 
     def __init__(self, account):
-        self.row, self.late, self.latest, self.account = collections.deque(), [], [0, 0], account
-
-    def __len__(self):
-        return len(self.row) + len(self.late)
-
-    def put(self, one):
-        if self.row and one < self.row[-1]:
-            heapq.heappush(self.late, one)
-        else:
-            self.row.append(one)
+        self.heap, self.latest, self.account = [], [0, 0], account
 
     def next(self):
         """The earliest; it is left out if it comes too late for its network."""
-        from_heap = self.late and (not self.row or self.late[0] < self.row[0])
-        one = heapq.heappop(self.late) if from_heap else self.row.popleft()
-        account = self.account
-        if not one.left_out and one.time < self.latest[one.net]:
-            one = one._replace(left_out=LATE)
-        if one.left_out:
-            account.leave_out(one.number, one.left_out)
+        time, net, number, _, left_out, _ = one = heapq.heappop(self.heap)
+        if not left_out and time < self.latest[net]:
+            one, left_out = one._replace(left_out=LATE), LATE
+        if left_out:
+            self.account.leave_out(number, left_out)
         else:
-            self.latest[one.net] = one.time
-            account.moved += one.number < account.newest
-            account.newest = max(one.number, account.newest)
+            self.latest[net] = time
+            self.account.moved += number < self.account.newest
+            self.account.newest = max(number, self.account.newest)
         return one
 
     def until(self, time):
         """All up to this time."""
-        while self.row and self.row[0].time <= time or self.late and self.late[0].time <= time:
+        while self.heap and self.heap[0].time <= time:
             yield self.next()
 
 
@@ -177,60 +162,55 @@ def in_order(found, window, hold, account):
     """Each waits for so many packets or, where `hold` isn't None, so many nanoseconds of the capture's clock."""
     order = Order(account)
     for one in found:
-        order.put(one)
-        if len(order) > window:
+        heapq.heappush(order.heap, one)
+        if len(order.heap) > window:
             yield order.next()
         if hold is not None:
             yield from order.until(one.time - hold)
-    while len(order):
-        yield order.next()
+    yield from order.until(float("inf"))
 
 
 # ---- the files of a command line
 
-class Input:
-    """A file that is a capture or a trace."""
-
-    def __init__(self, name, stack):
-        self.name, self.label = name, "standard input" if name == "-" else plain(os.path.basename(name))
-        self.file = stack.enter_context(files.reading(name))
-        self.magic = self.file.read(4)
-        self.is_capture = self.magic in captures.MAGICS
-        if not self.is_capture and self.magic and self.magic[0] not in b"0123456789#\n":
-            hint = next((hint for magic, hint in HINTS.items() if self.magic.startswith(magic)),
-                        "`editcap -F pcapng FILE -` makes one of what Wireshark reads")
-            raise Fault(f"{name}: neither a capture (pcap, pcapng) nor a trace; {hint}")
+def begun(name, stack):
+    """A file, and its first four octets: of a capture or of a trace."""
+    file = stack.enter_context(files.reading(name))
+    magic = file.read(4)
+    if magic not in captures.MAGICS and magic and magic[0] not in b"0123456789#\n":
+        hint = next((hint for start, hint in HINTS.items() if magic.startswith(start)),
+                    "`editcap -F pcapng FILE -` makes one of what Wireshark reads")
+        raise Fault(f"{name}: neither a capture (pcap, pcapng) nor a trace; {hint}")
+    return file, magic
 
 
 def networks_of(place, count, given):
     """The network of each packet of a capture: one of two captures has one; else by interface or by source."""
     if given.networks == "source":
         return lambda _, octets: {1: 0, 2: 1}.get(frames.interface_of(octets))
-    if count == 2:
-        return lambda interface, octets: place
     nets = dict(zip(given.interfaces, (0, 1)))
-    return lambda interface, octets: nets.get(interface)
+    return lambda interface, _: place if count == 2 else nets.get(interface)
 
 
 class Stream:
-    """The arrivals of one capture with both networks, or of two; or of one or two traces."""
+    """The arrivals of one capture with both networks, or of two; or of one or two traces. `status` is that at their end."""
 
-    def __init__(self, inputs, given):
-        if len({one.is_capture for one in inputs if one.magic}) > 1:
+    def __init__(self, given, stack):
+        inputs = [begun(name, stack) for name in given.files]
+        kinds = {magic in captures.MAGICS for _, magic in inputs if magic}
+        if len(kinds) > 1:
             raise Fault("one capture and one trace: their times have nothing in common")
-        self.is_of_captures = any(one.is_capture for one in inputs)
-        self.unit, self.first = "packet" if self.is_of_captures else "line", None
-        self.accounts = [Account(one.label) for one in inputs]
-        self.shift = Shift()
-        self.feeds = [self.feed(place, one, given) for place, one in enumerate(inputs)]
+        self.is_of_captures = True in kinds
+        self.unit, self.first, self.status, self.shift = "packet" if self.is_of_captures else "line", None, 0, Shift()
+        self.accounts = [Account(name) for name in given.files]
+        self.feeds = [self.feed(place, *one, given) for place, one in enumerate(inputs)]
 
-    def feed(self, place, one, given):
+    def feed(self, place, file, magic, given):
         account = self.accounts[place]
         if not self.is_of_captures:
-            return of_trace(hex_traces.lines(one.file, one.magic, place), place, account)
-        packets = captures.packets(one.file, one.magic, account.lost) if one.magic else ()
+            return of_trace(hex_traces.lines(file, magic, place), place, account)
+        packets = captures.packets(file, magic, account.lost) if magic else ()
         found = arrivals(packets, networks_of(place, len(self.accounts), given), given, account)
-        return in_order(found, given.reorder, HOLD_OF_A_PIPE if one.name == "-" else None, account)
+        return in_order(found, given.reorder, HOLD_OF_A_PIPE if given.files[place] == "-" else None, account)
 
     def source(self, net):
         """The name of the file that a network's packets are of."""
@@ -244,17 +224,6 @@ class Stream:
                 self.shift.see(one)
             yield one
 
-    @property
-    def status(self):
-        return BROKEN if any(account.broken for account in self.accounts) else 0
-
-    def lines(self):
-        """What was met, for the standard error."""
-        for account in self.accounts:
-            yield from account.lines()
-        if hint := self.shift.hint():
-            yield hint
-
     def tell_beginning(self):
         if self.is_of_captures:
             print(f"yelunnavi: time 0 is {told_time(self.first or 0)}", file=sys.stderr)
@@ -262,11 +231,13 @@ class Stream:
 
 @contextlib.contextmanager
 def opened(given):
-    """The stream of the files that a command line names; at its end what was met is told."""
+    """The stream of the files that a command line names; at its end what was met is told, and its status is known."""
     with contextlib.ExitStack() as stack:
-        found = Stream([Input(name, stack) for name in given.files], given)
+        found = Stream(given, stack)
         yield found
-    for line in found.lines():
+    found.status = BROKEN if any(account.broken for account in found.accounts) else 0
+    met = [line for account in found.accounts for line in account.lines()]
+    for line in filter(None, [*met, found.shift.hint()]):
         print(f"yelunnavi: {line}", file=sys.stderr)
 
 

@@ -24,8 +24,8 @@ def health(given):
 
 def summed(given):
     """The health of a capture or a pair of them, as plain data, and the status of their files."""
-    played = station.opened(given.config)
-    found, alone = Health(played.config), station.Alone(played.config) if given.each else None
+    played = station.Station(given.config)
+    found, alone = Health(played), station.Alone(played.octets) if given.each else None
     with stream.opened(given) as packets:
         for one, now, reply in played.seen(packets):
             found.see(one, now, reply)

@@ -11,7 +11,7 @@ def micro(nanoseconds):
 
 def of_network(link, number, latest):
     net, side = link.nets[number], link.copies.sides[number]
-    bag = link.own.bag if link.own else None
+    bag = link.own.get("bag_us")
     return {"frames": net.frames, "rate": round(net.rate, 1),
             "least_gap_us": micro(net.least), "greatest_gap_us": micro(net.most),
             "usual_gap_ms": net.usual, "jitter_us": max(0, bag - micro(net.least)) if bag and net.least is not None else None,
@@ -36,7 +36,7 @@ def of_link(link, ports, latest):
     settings = link.link
     broken = {word: {"count": one.count, "first": one.where, "how": one.how} for word in CONDITIONS
               if (one := link.conditions.found.get(word))}
-    return {"vl": settings.vl, "name": link.own.name if link.own else None, "bag_us": link.own.bag if link.own else None,
+    return {"vl": settings.vl, "name": link.own.get("name"), "bag_us": link.own.get("bag_us"),
             "redundancy": settings.redundancy, "skew_max_us": settings.skew_max, "window": settings.window,
             "reassembly_us": settings.reassembly,
             "networks": {net: of_network(link, number, latest) for number, net in enumerate(NETWORKS)},
@@ -49,7 +49,7 @@ def of_link(link, ports, latest):
 
 def of_all(health, partition, now, lost=None):
     """Of all links, at a moment in microseconds since the first packet. `lost` are the packets that the tap lost."""
-    ports = partition.told(now) if partition else []
+    ports = [end.told(now) for end in partition.ends.values()] if partition else []
     links = [of_link(link, [port for port in ports if port["vl"] == link.link.vl], health.latest)
              for link in health.links.values()]
     counted = {name: {net: dict(counts) for net, counts in zip(NETWORKS, found)}

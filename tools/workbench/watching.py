@@ -1,5 +1,6 @@
 """Watches two interfaces live: the health of all links, refreshed each second, on a screen, as JSON lines, to Prometheus."""
 import contextlib
+import heapq
 import json
 import queue
 import signal
@@ -62,7 +63,7 @@ class Tapped:
                 yield from self.order.until(float("inf"))
             else:
                 one = self.corrected(one)
-                self.order.put(one)
+                heapq.heappush(self.order.heap, one)
                 yield from self.order.until(one.time - self.tap.patience)
 
     def close(self, take):
@@ -78,7 +79,7 @@ class Tapped:
         while not self.found.empty():
             self.behind += isinstance(self.found.get(), stream.Arrival)
         lost, untaken = self.tap.close()
-        self.behind += untaken + len(self.order)
+        self.behind += untaken + len(self.order.heap)
         return lost
 
     def time(self):
@@ -111,8 +112,8 @@ class Watch:
     """The station and the health that are watched."""
 
     def __init__(self, given):
-        self.played = station.opened(given.config)
-        self.health, self.frames, self.seconds = Health(self.played.config), {}, time.monotonic()
+        self.played = station.Station(given.config)
+        self.health, self.frames, self.seconds = Health(self.played), {}, time.monotonic()
         self.notes = []
 
     def take(self, one):
@@ -120,8 +121,12 @@ class Watch:
         self.health.see(one, now, reply)
 
     def pass_time(self, moment):
+        """Lets it be so late, though nothing came."""
         if self.health.first is not None and moment > self.health.latest:
-            self.played.pass_time(self.played.clock.since(moment))
+            now = self.played.clock.since(moment)
+            if now > self.played.latest:
+                self.played.latest = now
+                self.played.partition.wake(now)
             self.health.pass_time(moment)
 
     def picture(self, lost):
