@@ -217,7 +217,8 @@ def test_faults_of_a_configuration_have_their_place(written):
     ("1 00\n0 00\n", "trace A line 2: time falls", 1), ("1 00\n2 0\n", "trace A line 2: hex", 1), ("x", "", None),
     ("1 00\n2\n", "trace A line 2: space", 1), ("1 00\n#\n18446744073709551616 00\n", "trace A line 3: time", 1),
     ("1 00\n01 00\n", "trace A line 2: space", 1), ("1 00\n" + "0" * 9000, "trace A line 2: long line", 1),
-    ("1 00\n2 0 0\n", "trace A line 2: hex", 1)])
+    ("1 00\n2 0 0\n", "trace A line 2: hex", 1), ("#\n1 00\n2 00\n0 00\n", "trace A line 4: time falls", 2),
+    ("\n\n\n\n\n1 0\n", "trace A line 6: hex", 0)])
 def test_a_faulty_trace_is_played_up_to_its_fault(text, told, count, written):
     """The fault is the program's, which plays none of it."""
     trace = written("t", text)

@@ -11,8 +11,9 @@ LINE = re.compile(rb"(0|[1-9][0-9]*)?( )?((?:[0-9A-Fa-f]{2})*)(.*)", re.DOTALL)
 
 def lines(file, first, net, latest=0):
     """Line number, time in microseconds and octets of each frame of a trace whose first bytes were read."""
-    begun, rest = first + file.readline(LONGEST + 2 - len(first)), iter(lambda: file.readline(LONGEST + 2), b"")
-    for number, line in enumerate(itertools.chain([begun], rest), 1):
+    *short, begun = first.split(b"\n")
+    begun += file.readline(LONGEST + 2 - len(begun))
+    for number, line in enumerate(itertools.chain(short, [begun], iter(lambda: file.readline(LONGEST + 2), b"")), 1):
         text = line.removesuffix(b"\n")
         if len(text) > LONGEST:
             raise fault(net, number, "long line")
