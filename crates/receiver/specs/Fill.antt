@@ -11,8 +11,8 @@ use Rattle.receiver.specs.declared.queue.Fill.{Fill}
 use Rattle.receiver.specs.Link.{Ported, deliveries_of}
 use Rattle.receiver.specs.Queue.{IsGreatest}
 
--- of these messages so many wait in the queue, all but those that its putter knows to be taken; and so many waited once,
--- and never more
+-- of these messages so many wait in the queue, all but those that its putter knows to be taken, and no more than the
+-- greatest number that waited
 abbrev pub IsFillOf : PortOutlet → List Message → Fill → Type 0
 IsFillOf (outlets.Queuing queue) messages fill =
     (queue.known.put ≡ messages) × (fill.waiting + length queue.known.taken ≡ length messages)

@@ -13,7 +13,8 @@ pub record CountedQueue : Type 0 where
 abbrev pub new_queue : QueueId → ℕ → CountedQueue
 new_queue queue depth = record { known = opened queue depth; greatest = 0 }
 
--- Once so many messages waited, by what the end that puts knew: with these put, and these taken.
+-- So many more messages were put by one moment than were known to be taken by one. The two may differ: that they were one
+-- is said of each message, by `CountingPutter::put`.
 pub record HaveWaited (now : Known) (count : ℕ) : Type 0 where
   pub put : List Message
   pub taken : List Message
@@ -21,7 +22,7 @@ pub record HaveWaited (now : Known) (count : ℕ) : Type 0 where
   pub taken_since : BeginsWith now.taken taken
   pub waited : length put ≡ count + length taken
 
--- The greatest number of messages that waited: once so many did, and no more do.
+-- What holds of the greatest number of messages that waited: no more wait now, no more were put, and the queue holds as many.
 -- rule: EMB-7
 pub record IsGreatest (now : Known) (count : ℕ) : Type 0 where
   pub once : HaveWaited now count
