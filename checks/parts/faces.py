@@ -15,6 +15,8 @@ HELD = "crates/receiver_c/src/held_octets.rt"
 REPLIES, CODES, NUMBERS = (f"crates/receiver_slots/src/{name}.rt" for name in ("replies", "codes", "numbers"))
 VERDICTS = "crates/es_base/src/verdict.rt"
 FAULTS, ROWS = "crates/vl_config/src/fault.rt", "crates/vl_config/src/rows.rt"
+# What each key of a configuration may have, in the program's words.
+EXPLANATION = "crates/program/src/explanation.rt"
 BOUNDS = ("crates/es_base/src/config.rt", "crates/es_base/src/settings.rt", "crates/es_base/src/port.rt",
           "crates/es_base/src/name.rt", "crates/mailbox_port/src/count.rt")
 C, RUST, ADA = "examples/c/yelunnavi.h", "examples/rust/yelunnavi.rs", "examples/ada/yelunnavi.ads"
@@ -55,24 +57,6 @@ PREFIXES = {
     "Service": ("SERVICE_", "Service_"),
     "Bound": ("", ""),
     "Interface": ("", ""),
-}
-# What each key of a configuration may have.
-ALLOWED = {
-    "constant": "a string of 8 hexadecimal digits",
-    "link": "1 to 64 tables",
-    "vl": "an integer from 0 to 65535",
-    "skew_max_us": "an integer from 0 to 1000000",
-    "redundancy": "true or false",
-    "reassembly_us": "an integer from 0 to 10000000",
-    "window": "an integer from 1 to 4",
-    "port": "0 to 32 tables",
-    "name": "a string of 1 to 16 of a-z 0-9 _ -",
-    "kind": '"sampling" or "queuing"',
-    "address": "a string of four numbers from 0 to 255 with dots between them",
-    "udp": "an integer from 0 to 65535",
-    "max": "an integer from 0 to 1471 of a sampling port, 8192 of a queuing port",
-    "refresh_us": "an integer from 0 to 1000000000",
-    "depth": "an integer from 1 to 64",
 }
 # The groups whose numbers are plain constants in Rust, and have no words.
 PLAIN = ("Bound", "Interface")
@@ -296,17 +280,21 @@ def words_of_c(tree):
     return made
 
 
+def texts(pattern, text):
+    """The texts of cases, by their names."""
+    return {upper(name): word.replace('\\"', '"') for name, word in re.findall(pattern + r' "((?:[^"\\]|\\.)*)"', text)}
+
+
 def allowed_of_c(tree):
     """What the header of words says that each key may have, by the key."""
     text = (tree / WORDS).read_text(encoding="utf-8")
     body = found(r"yelunnavi_key_allowed\(uint32_t key\) \{(.*?)^\}", text, f"{WORDS}: yelunnavi_key_allowed")[1]
-    cases = re.findall(r'case YELUNNAVI_KEY_(\w+): return "((?:[^"\\]|\\.)*)";', body)
-    return {name: word.replace('\\"', '"') for name, word in cases}
+    return texts(r"case YELUNNAVI_KEY_(\w+): return", body)
 
 
-def allowed_of_source(words):
-    """What each key may have, by the table above."""
-    return {name: ALLOWED.get(word, "") for name, word in words["Key"].items()}
+def allowed_of_source(tree):
+    """The same by the program."""
+    return {"NONE": "", **texts(r"Key::(\w+) =>", function((tree / EXPLANATION).read_text(encoding="utf-8"), "allowed_of"))}
 
 
 def face_of_c(tree):

@@ -9,7 +9,8 @@ from parts import faces
 
 C, WORDS, RUST, ADA = faces.C, faces.WORDS, faces.RUST, faces.ADA
 HANDLES, CALLS = [*faces.HANDLES.values()], faces.CALLS[0]
-SOURCES = [*faces.CALLS, *HANDLES, faces.HELD, faces.REPLIES, faces.CODES, faces.NUMBERS, faces.VERDICTS, faces.FAULTS, faces.ROWS, *faces.BOUNDS]
+SOURCES = [*faces.CALLS, *HANDLES, faces.HELD, faces.REPLIES, faces.CODES, faces.NUMBERS, faces.VERDICTS, faces.FAULTS, faces.EXPLANATION, faces.ROWS,
+           *faces.BOUNDS]
 READ = [*SOURCES, C, WORDS, RUST, ADA]
 
 # A file, what stands there, what is planted in its place where it stands first, and what is told of it.
@@ -110,6 +111,8 @@ PLANTED = [
     (WORDS, "*yelunnavi_level_word(", "*yelunnavi_service_word(", "no word of Level::LINK"),
     (WORDS, 'return "missing "', 'return "missing"', "word of ConfigFault::MISSING"),
     (WORDS, 'return " out of range"', 'return " is out of range"', "word of ConfigFault::RANGE"),
+    (WORDS, 'return "1 to 64 tables"', 'return "1 to 65 tables"', "what is allowed of LINK"),
+    (faces.EXPLANATION, 'Key::Depth => "an integer from 1 to 64"', 'Key::Depth => "an integer from 1 to 63"', "what is allowed of DEPTH"),
     (WORDS, 'return "refresh_us"', 'return "refresh-us"', "word of Key::REFRESH_US"),
     (RUST, '"fragment-held"', '"held"', "word of Verdict::FRAGMENT_HELD: 'held'; in the source: 'fragment-held'"),
     (RUST, '"{} out of range"', '"out of range"', "word of ConfigFault::RANGE"),

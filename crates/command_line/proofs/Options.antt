@@ -36,10 +36,10 @@ apart t u lengths same = lengths (ap (λ (w : Text). length w) same)
 
 -- no other option has this name
 abbrev IsOnly : ℕ → Text → Type 0
-IsOnly k name = (j : ℕ) → j < 5 → bytes_eq (option_at j).id name ≡ true → j ≡ k
+IsOnly k name = (j : ℕ) → j < 6 → bytes_eq (option_at j).id name ≡ true → j ≡ k
 
 first_arg : (xs : List Arg) → map rule_of xs ≡ options → Arg
-first_arg [] e = let bad : ◌≡◌ {A = ℕ} 0 5 = ap (λ (rs : List Rule). length rs) e in absurd (omega arith)
+first_arg [] e = let bad : ◌≡◌ {A = ℕ} 0 6 = ap (λ (rs : List Rule). length rs) e in absurd (omega arith)
 first_arg (x ∷ xs) e = x
 
 module _ (c : Command) (is : app_of c ≡ play_command) where
@@ -62,24 +62,24 @@ module _ (c : Command) (is : app_of c ≡ play_command) where
   rule_at : (k : ℕ) (d : Arg) → k < length (args_of c) → rule_of (slice_index_or (args_of c) k d) ≡ option_at k
   rule_at k d lt = sym (get_or-map rule_of (args_of c) k d (new_rule []) lt) ∙ ap (λ rs. get_or rs k (new_rule [])) rules
 
-  five : length (args_of c) ≡ 5
-  five = sym (length-map (args_of c) rule_of) ∙ ap (λ (rs : List Rule). length rs) rules
+  six : length (args_of c) ≡ 6
+  six = sym (length-map (args_of c) rule_of) ∙ ap (λ (rs : List Rule). length rs) rules
 
   only_at : (k : ℕ) (d : Arg) (name : Text) → (slice_index_or (args_of c) k d).id.now ≡ name → IsOnly k name → (j : ℕ) (e : Arg) → j < length (args_of c)
       → bytes_eq (slice_index_or (args_of c) j e).id.now (slice_index_or (args_of c) k d).id.now ≡ true → j ≡ k
   only_at k d name id only j e below same =
       let there : (slice_index_or (args_of c) j e).id.now ≡ (option_at j).id = ap (λ (r : Rule). r.id) (rule_at j e below) in
-      let near : j < 5 = rw five at below in
+      let near : j < 6 = rw six at below in
       only j near (rw (there, id) at same)
 
   module _ (m : ArgMatches) (parsed : IsParsedFrom c m) where
-    given_at : (k : ℕ) (name : Text) → k < 5 → option_at k ≡ file_option name
+    given_at : (k : ℕ) (name : Text) → k < 6 → option_at k ≡ file_option name
         → IsOnly k name → (name ≡ [] → ⊥) → (name ≡ codes "help" → ⊥) → (name ≡ codes "version" → ⊥)
         → is_some (first_of name (rows_of (found_of m))) ≡ true
     given_at k name lt at only named helps versions =
         let d = first_arg (args_of c) rules in
         let a = slice_index_or (args_of c) k d in
-        let low : k < length (args_of c) = rw five lt in
+        let low : k < length (args_of c) = rw six lt in
         let rule : rule_of a ≡ file_option name = rule_at k d low ∙ at in
         let id : a.id.now ≡ name = ap (λ (r : Rule). r.id) rule in
         let range : a.num_vals ≡ None = ap (λ (r : Rule). r.range) rule in
@@ -102,7 +102,8 @@ module _ (c : Command) (is : app_of c ≡ play_command) where
         only (suc (suc zero)) lt same = absurd (true≢false (sym same))
         only (suc (suc (suc zero))) lt same = absurd (true≢false (sym same))
         only (suc (suc (suc (suc zero)))) lt same = absurd (true≢false (sym same))
-        only (suc (suc (suc (suc (suc j))))) lt same = absurd (omega arith)
+        only (suc (suc (suc (suc (suc zero))))) lt same = absurd (true≢false (sym same))
+        only (suc (suc (suc (suc (suc (suc j)))))) lt same = absurd (omega arith)
 
     pub a_given : is_some (first_of (codes "a") (rows_of (found_of m))) ≡ true
     a_given = given_at 1 (codes "a") (omega arith) refl only (apart (codes "a") [] (omega arith))
@@ -114,7 +115,8 @@ module _ (c : Command) (is : app_of c ≡ play_command) where
         only (suc (suc zero)) lt same = absurd (true≢false (sym same))
         only (suc (suc (suc zero))) lt same = absurd (true≢false (sym same))
         only (suc (suc (suc (suc zero)))) lt same = absurd (true≢false (sym same))
-        only (suc (suc (suc (suc (suc j))))) lt same = absurd (omega arith)
+        only (suc (suc (suc (suc (suc zero))))) lt same = absurd (true≢false (sym same))
+        only (suc (suc (suc (suc (suc (suc j)))))) lt same = absurd (omega arith)
 
     pub b_given : is_some (first_of (codes "b") (rows_of (found_of m))) ≡ true
     b_given = given_at 2 (codes "b") (omega arith) refl only (apart (codes "b") [] (omega arith))
@@ -126,7 +128,8 @@ module _ (c : Command) (is : app_of c ≡ play_command) where
         only (suc (suc zero)) lt same = refl
         only (suc (suc (suc zero))) lt same = absurd (true≢false (sym same))
         only (suc (suc (suc (suc zero)))) lt same = absurd (true≢false (sym same))
-        only (suc (suc (suc (suc (suc j))))) lt same = absurd (omega arith)
+        only (suc (suc (suc (suc (suc zero))))) lt same = absurd (true≢false (sym same))
+        only (suc (suc (suc (suc (suc (suc j)))))) lt same = absurd (omega arith)
 
     -- an argument of the built command that is the time's has the time's parser
     parser_of_time : (j : ℕ) (x : Arg) → j < length (args_of parsed.built) → slice_index_or (args_of parsed.built) j x ≡ x
@@ -134,7 +137,7 @@ module _ (c : Command) (is : app_of c ≡ play_command) where
     parser_of_time j x lt at same =
         let d = first_arg (args_of c) rules in
         let a = slice_index_or (args_of c) 3 d in
-        let low : 3 < length (args_of c) = rw five (omega arith) in
+        let low : 3 < length (args_of c) = rw six (omega arith) in
         let rule : rule_of a ≡ time_option (codes "at") = rule_at 3 d low in
         let id : a.id.now ≡ codes "at" = ap (λ (r : Rule). r.id) rule in
         let like : SameRules a x = same_rules_by_id c m parsed 3 d low (only_at 3 d (codes "at") id only)
@@ -151,7 +154,8 @@ module _ (c : Command) (is : app_of c ≡ play_command) where
         only (suc (suc zero)) lt same = absurd (true≢false (sym same))
         only (suc (suc (suc zero))) lt same = refl
         only (suc (suc (suc (suc zero)))) lt same = absurd (true≢false (sym same))
-        only (suc (suc (suc (suc (suc j))))) lt same = absurd (omega arith)
+        only (suc (suc (suc (suc (suc zero))))) lt same = absurd (true≢false (sym same))
+        only (suc (suc (suc (suc (suc (suc j)))))) lt same = absurd (omega arith)
 
     -- what was found for the time is read as it was written, and each of its values is a time
     time_entry : (x : MatchedArg) → matched_of (found_of m) (codes "at") ≡ Some x

@@ -1,5 +1,5 @@
--- The command line of the program, `afdx_play --config FILE --a FILE --b FILE [--at MICROSECONDS] [--threads]`,
--- as `clap` reads it.
+-- The command line of the program, `afdx_play --config FILE --a FILE --b FILE [--at MICROSECONDS] [--threads]
+-- [--explain]`, as `clap` reads it.
 use Rattle.std.specs.Prelude.{◌≡◌, ◌≤◌, ℕ, List, [], ◌∷◌, map, Bool, true, false, Option, Some, None, IfSome, option_map, ⊤, ◌⊎◌, String, codes, string_bytes}
 use Rattle.std.specs.Str.Parse.{digits_value, without_leading_plus}
 use Rattle.std.specs.declared.alloc.Global.{Global}
@@ -39,7 +39,7 @@ time_option name = record (new_rule name) {
 }
 
 -- an option that may be left out, and has no value: `--NAME`
--- rule: CMD-3
+-- rule: CMD-3, CMD-7
 abbrev pub flag_option : Text → Rule
 flag_option name = record (new_rule name) {
   long = Some name;
@@ -52,8 +52,9 @@ bare_command = on_top (λ top. record top { no_binary_name = true; has_version =
 
 -- rule: CMD-1
 abbrev pub play_command : App
-play_command = with_rule (with_rule (with_rule (with_rule (with_rule bare_command
-    (file_option (codes "config"))) (file_option (codes "a"))) (file_option (codes "b"))) (time_option (codes "at"))) (flag_option (codes "threads"))
+play_command = with_rule (with_rule (with_rule (with_rule (with_rule (with_rule bare_command
+    (file_option (codes "config"))) (file_option (codes "a"))) (file_option (codes "b"))) (time_option (codes "at")))
+    (flag_option (codes "threads"))) (flag_option (codes "explain"))
 
 -- the words as texts
 abbrev pub texts_of : List (String Global) → List Text
@@ -78,13 +79,13 @@ microseconds_in text = digits_value 10 (without_leading_plus text)
 
 -- a flag is on if the command matches `true` for it, as it does where the words have it, and off if it matches
 -- `false`, as it does where they don't, or nothing
--- rule: CMD-3
+-- rule: CMD-3, CMD-7
 abbrev pub IsFlag : Option Text → Bool → Type 0
 IsFlag matched flag = (matched ≡ Some (codes "true") → flag ≡ true) × (matched ≡ Some (codes "false") → flag ≡ false) × (matched ≡ None → flag ≡ false)
 
 -- the files are the values that the command matches in the words, each under its own option; the time of
--- the report is the number that it matches, and there is none if the option isn't given; the flag of the threads is
--- what it matches for it
+-- the report is the number that it matches, and there is none if the option isn't given; each flag is what it matches
+-- for it
 -- rule: CMD-1
 abbrev pub IsLineIn : List Row → Line → Type 0
 IsLineIn rows line = (first_of (codes "config") rows ≡ Some (string_bytes line.config))
@@ -92,6 +93,7 @@ IsLineIn rows line = (first_of (codes "config") rows ≡ Some (string_bytes line
     × (first_of (codes "b") rows ≡ Some (string_bytes line.b))
     × (option_map microseconds_in (first_of (codes "at") rows) ≡ line.at)
     × IsFlag (one_of (codes "threads") rows) line.threads
+    × IsFlag (one_of (codes "explain") rows) line.explain
 
 -- the time of the report, if it is given, is at most the latest
 -- rule: CMD-2

@@ -10,7 +10,7 @@ use clap::error::ErrorKind;
 use clap::{ArgMatches, Error};
 use std::alloc::{AllocError, Global};
 
-/// The files and the time that a command line names, and whether it asks for threads.
+/// The files and the time that a command line names, and what else it asks for.
 #[derive(Debug, Drop)]
 pub struct Line {
     /// The configuration.
@@ -24,6 +24,8 @@ pub struct Line {
     pub at: Option<u64>,
     /// Whether each network's trace is played in a thread of its own.
     pub threads: bool,
+    /// Whether the line of a configuration's fault is told, and what its key may have.
+    pub explain: bool,
 }
 
 /// Reads the words after the program's name. The fault is Shown if they ask for help or the version, Refused if
@@ -59,6 +61,7 @@ fn line_from(alloc: Global, matches: &ArgMatches<'_>) -> Result<Line, AllocError
         b: value_of(alloc, matches, "b")?,
         at: time_of(matches, "at"),
         threads: flag_of(matches, "threads"),
+        explain: flag_of(matches, "explain"),
     })
 }
 

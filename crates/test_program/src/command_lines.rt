@@ -12,7 +12,8 @@ fn read(alloc: Global, words: &[String]) -> Result<Line, LineFault> {
 fn text_of_line(alloc: Global, line: &Line) -> Result<String, AllocError> {
     let (config, a, b, at) = (&line.config, &line.a, &line.b, line.at);
     let threads = if line.threads { " threads" } else { "" };
-    format!(in alloc; "line {config} {a} {b} {at:?}{threads}")
+    let explain = if line.explain { " explain" } else { "" };
+    format!(in alloc; "line {config} {a} {b} {at:?}{threads}{explain}")
 }
 
 /// What `line_of` returns, as a text.
@@ -106,6 +107,7 @@ Options:
       --b <FILE>           the trace of network B
       --at <MICROSECONDS>  the time of the report, in microseconds; by default the greatest arrival time
       --threads            a thread for each network, as fast as it can: which frame a link takes first isn't told by its time
+      --explain            of a configuration that is refused, say its line, too, and what the key may have
   -h, --help               Print help
   -V, --version            Print version
 ";
@@ -140,7 +142,7 @@ fn the_time_stands_before_or_after_the_files(rt: HostRuntime) {
     check_lines(&rt, rt.alloc(), &places_of_the_time());
 }
 
-fn flags() -> [Row; 3] {
+fn flags() -> [Row; 5] {
     [
         (
             "--config c --a x --b y --threads",
@@ -150,13 +152,21 @@ fn flags() -> [Row; 3] {
             "--threads --config c --a x --b y --at 5",
             "line c x y Some(5) threads",
         ),
+        (
+            "--config c --a x --b y --explain",
+            "line c x y None explain",
+        ),
+        (
+            "--explain --threads --config c --a x --b y",
+            "line c x y None threads explain",
+        ),
         ("--config c --a x --b --threads", "refused: "),
     ]
 }
 
-// rule: CMD-1, CMD-3
+// rule: CMD-1, CMD-3, CMD-7
 #[test]
-fn reads_the_flag_of_the_threads(rt: HostRuntime) {
+fn reads_the_flags(rt: HostRuntime) {
     check_starts(&rt, rt.alloc(), &flags());
 }
 

@@ -10,6 +10,8 @@ mod configurations;
 #[cfg(test)]
 mod example;
 #[cfg(test)]
+mod explanations;
+#[cfg(test)]
 mod faults;
 #[cfg(test)]
 mod hostile;

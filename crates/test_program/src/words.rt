@@ -19,6 +19,7 @@ Options:
       --b <FILE>           the trace of network B
       --at <MICROSECONDS>  the time of the report, in microseconds; by default the greatest arrival time
       --threads            a thread for each network, as fast as it can: which frame a link takes first isn't told by its time
+      --explain            of a configuration that is refused, say its line, too, and what the key may have
   -h, --help               Print help
   -V, --version            Print version
 ";
