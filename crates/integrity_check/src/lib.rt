@@ -29,7 +29,7 @@ impl Model for Sequence {
 impl Sequence {
     /// The state before the first frame. `window` is the number of sequence numbers after the latest
     /// that pass.
-    pub fn new(window: u8) -> Sequence
+    pub fn opening(window: u8) -> Sequence
         ensures { StandsFor result window [] }
     {
         Sequence { window, last: None }
@@ -55,6 +55,16 @@ impl Sequence {
             StandsFor self.new window (sequence_number ∷ sequence_numbers) }
     {
         self.last = Some(sequence_number);
+    }
+
+    /// A copy, of the same sequence numbers.
+    pub fn copy(&self) -> Sequence
+        ensures { result ≡ self.now }
+    {
+        Sequence {
+            window: self.window,
+            last: self.last,
+        }
     }
 }
 

@@ -5,7 +5,7 @@ use Rattle.std.proofs.lemmas.List.{replicate-append-replicate, take-append-drop}
 use Rattle.std.proofs.lemmas.Grind.{common_steps}
 use Rattle.ip_reassembly.specs.declared.runs.Runs.{Runs}
 use Rattle.ip_reassembly.specs.Covering.{AreCovered}
-use Rattle.ip_reassembly.specs.Runs.{AreRuns, CameWithin, IsRunOfMarks, with_marks}
+use Rattle.ip_reassembly.specs.Runs.{AreRuns, ReceivedWithin, IsRunOfMarks, with_marks}
 
 -- ---- a mark with those of a piece
 
@@ -73,15 +73,15 @@ run_goes_on marks from place n m most run part = λ i above below.
 -- ---- where none came
 
 -- with a piece more, those that are set lie within any stretch that has both
-pub came_within_both : (marks : List Bool) (offset end least reach low high : ℕ) → offset ≤ end → end ≤ length marks → CameWithin marks least reach
-    → low ≤ least → low ≤ offset → reach ≤ high → end ≤ high → CameWithin (with_marks marks offset end) low high
+pub came_within_both : (marks : List Bool) (offset end least reach low high : ℕ) → offset ≤ end → end ≤ length marks → ReceivedWithin marks least reach
+    → low ≤ least → low ≤ offset → reach ≤ high → end ≤ high → ReceivedWithin (with_marks marks offset end) low high
 came_within_both marks offset end least reach low high order inside within low_least low_piece high_reach high_piece = record {
   none_before = λ i less. kept_before marks offset end i order inside (omega arith) ∙ within.none_before i (omega arith);
   none_from = λ i above. kept_past marks offset end i order inside (omega arith) ∙ within.none_from i (omega arith);
 }
 
 -- they lie within a longer stretch, too
-pub came_within_longer : (marks : List Bool) (least reach low : ℕ) → low ≤ least → CameWithin marks least reach → CameWithin marks low reach
+pub came_within_longer : (marks : List Bool) (least reach low : ℕ) → low ≤ least → ReceivedWithin marks least reach → ReceivedWithin marks low reach
 came_within_longer marks least reach low order within = record {
   none_before = λ i less. within.none_before i (omega arith);
   none_from = within.none_from;
@@ -130,7 +130,7 @@ in_three : (a b c n : ℕ) → a + (b + c) ≡ n → replicate a false ++ (repli
 in_three a b c n sum = rw (replicate-append-replicate, replicate-append-replicate, sum) refl
 
 -- without those of the stretch
-pub unset_within : (marks : List Bool) (least reach : ℕ) → least ≤ reach → reach ≤ length marks → CameWithin marks least reach
+pub unset_within : (marks : List Bool) (least reach : ℕ) → least ≤ reach → reach ≤ length marks → ReceivedWithin marks least reach
     → take least marks ++ (replicate (reach - least) false ++ drop reach marks) ≡ replicate (length marks) false
 unset_within marks least reach order within stretch =
     let front = none_first marks least (omega arith) stretch.none_before in
@@ -138,7 +138,7 @@ unset_within marks least reach order within stretch =
     rw (front, back) (in_three least (reach - least) (length marks - reach) (length marks) (omega arith))
 
 -- a stretch without an octet
-pub none_within : (marks : List Bool) (least reach : ℕ) → reach ≤ least → CameWithin marks least reach → marks ≡ replicate (length marks) false
+pub none_within : (marks : List Bool) (least reach : ℕ) → reach ≤ least → ReceivedWithin marks least reach → marks ≡ replicate (length marks) false
 none_within marks least reach order stretch =
     let long : length marks - 0 ≡ length marks = omega arith in
     rw long at (none_last marks 0 (λ i above.

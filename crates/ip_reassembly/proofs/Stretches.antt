@@ -5,7 +5,7 @@ use Rattle.std.proofs.lemmas.List.{drop-drop, take-append-drop, take_all}
 use Rattle.std.proofs.lemmas.Grind.{common_steps}
 use Rattle.es_base.specs.Fragments.{Piece}
 use Rattle.es_base.specs.Limits.{longest_joined}
-use Rattle.ip_reassembly.specs.Runs.{CameWithin}
+use Rattle.ip_reassembly.specs.Runs.{ReceivedWithin}
 use Rattle.ip_reassembly.specs.Held.{Held, HoldsPieces, held_at}
 use Rattle.ip_reassembly.specs.Stretch.{octets_marked, held_from, held_of, placed_among}
 use Rattle.ip_reassembly.proofs.Came.{none_first, none_last}
@@ -77,7 +77,7 @@ in_parts {T} xs least reach order =
     let past : drop (reach - least) (drop least xs) ≡ drop reach xs = drop-drop (reach - least) least xs ∙ ap (λ (n : ℕ). drop n xs) (omega (arith, order)) in
     sym (take-append-drop least xs) ∙ ap (λ (ys : List T). take least xs ++ ys) (sym (take-append-drop (reach - least) (drop least xs)) ∙ ap (λ (ys : List T). take (reach - least) (drop least xs) ++ ys) past)
 
-marks_are : (marks : List Bool) (least reach : ℕ) → length marks ≡ longest_joined → least ≤ reach → reach ≤ longest_joined → CameWithin marks least reach
+marks_are : (marks : List Bool) (least reach : ℕ) → length marks ≡ longest_joined → least ≤ reach → reach ≤ longest_joined → ReceivedWithin marks least reach
     → marks ≡ replicate least false ++ (take (reach - least) (drop least marks) ++ replicate (longest_joined - reach) false)
 marks_are marks least reach long order within stretch =
     let front = none_first marks least (omega (arith, long, order, within)) stretch.none_before in
@@ -86,7 +86,7 @@ marks_are marks least reach long order within stretch =
 
 -- what is held of the stretch is what is held of all
 pub stretch_is : (total : Option ℕ) (octets : List ℕ) (marks : List Bool) (least reach : ℕ) → length octets ≡ longest_joined → length marks ≡ longest_joined
-    → least ≤ reach → reach ≤ longest_joined → CameWithin marks least reach
+    → least ≤ reach → reach ≤ longest_joined → ReceivedWithin marks least reach
     → held_from total least (take (reach - least) (drop least octets)) (take (reach - least) (drop least marks)) ≡ held_of total octets marks
 stretch_is total octets marks least reach long marks_long order within stretch =
     let some = take (reach - least) (drop least octets) in
@@ -129,7 +129,7 @@ pub placed_long : {T : Type 0} (other : T) (least : ℕ) (some : List T) → lea
 placed_long other least some within = grind (arith, common_steps)
 
 -- the marks of a stretch in their places are those of the buffer
-pub placed_marks : (marks : List Bool) (least reach : ℕ) → length marks ≡ longest_joined → least ≤ reach → reach ≤ longest_joined → CameWithin marks least reach
+pub placed_marks : (marks : List Bool) (least reach : ℕ) → length marks ≡ longest_joined → least ≤ reach → reach ≤ longest_joined → ReceivedWithin marks least reach
     → marks ≡ placed_among false least (take (reach - least) (drop least marks))
 placed_marks marks least reach long order within stretch =
     let some = take (reach - least) (drop least marks) in

@@ -8,7 +8,7 @@ abbrev pub with_marks : List Bool → ℕ → ℕ → List Bool
 with_marks marks offset end = take offset marks ++ (replicate (end - offset) true ++ drop end marks)
 
 -- those of these marks that are set lie from a least place up to a reach
-pub record CameWithin (marks : List Bool) (least reach : ℕ) : Type 0 where
+pub record ReceivedWithin (marks : List Bool) (least reach : ℕ) : Type 0 where
   pub none_before : (i : ℕ) → i < least → slice_index_or marks i false ≡ false
   pub none_from : (i : ℕ) → reach ≤ i → slice_index_or marks i false ≡ false
 
@@ -19,7 +19,7 @@ IsRunOfMarks marks from to = (i : ℕ) → from ≤ i → i < to → slice_index
 -- these marks are set up to a gap, which isn't, and from a last place up to the reach; none is set before the least
 -- place or from the reach on
 pub record AreRuns (marks : List Bool) (runs : Runs) : Type 0 where
-  pub within : CameWithin marks runs.least runs.reach
+  pub within : ReceivedWithin marks runs.least runs.reach
   pub first : IsRunOfMarks marks 0 runs.gap
   pub gap : slice_index_or marks runs.gap false ≡ false
   pub last : IsRunOfMarks marks runs.last runs.reach

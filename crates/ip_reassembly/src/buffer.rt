@@ -56,6 +56,20 @@ impl Buffer {
         })
     }
 
+    /// A copy of this buffer and its octets.
+    pub(crate) fn copy(&self, alloc: Global) -> Result<Buffer, Memory>
+        ensures { IfOk result (λ copy. copy ≡ self.now) }
+    {
+        let octets = Vec::from_slice(alloc, &self.octets)?;
+        let marks = Vec::from_slice(alloc, &self.marks)?;
+        Ok(Buffer {
+            total: self.total,
+            octets,
+            marks,
+            runs: self.runs,
+        })
+    }
+
     /// A copy of the octets that came, without the places before and after them.
     pub(crate) fn stretch(&self, alloc: Global) -> Result<Stretch, Memory>
         ensures { IfOk result (λ stretch. stretch ≡ self.now) }

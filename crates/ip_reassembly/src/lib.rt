@@ -1,6 +1,6 @@
 //! Reassembly of IPv4 datagrams (RFC 791 3.2): the fragments of up to four datagrams at one time are joined, in buffers
 //! that are taken at the start. Nothing here knows of frames or of virtual links. Waiting pieces can be kept apart, in
-//! no more memory than they take (`Waiting`).
+//! no more memory than they take (`WaitingDatagrams`).
 //!
 //! A joined datagram is, octet by octet, that of all pieces, in whatever order they came: it ends where the latest
 //! piece with no more to follow ends, and each octet is that of the latest piece with one at its place
@@ -11,7 +11,7 @@
 //! ```
 //! fn receive(alloc: Global) -> Result<(), Memory> {
 //!     // Pieces are waited for half a second.
-//!     let mut reassembly = Reassembly::open(alloc, 500_000)?;
+//!     let mut reassembly = Reassembly::new(alloc, 500_000)?;
 //!     let end = Packet {
 //!         source: 0x0a00_0001,
 //!         destination: 0x0a00_0002,
@@ -53,4 +53,4 @@ pub use buffer::LONGEST_JOINED;
 pub use es_base::Memory;
 pub use frame_reader::Packet;
 pub use reassembly::{MOST_PARTIALS, Reassembly};
-pub use waiting::Waiting;
+pub use waiting::WaitingDatagrams;

@@ -1,7 +1,7 @@
 //! Marks, one for each octet of a datagram: whether it came. There is one for each octet and not for each block of 8,
 //! since a last piece may end within a block (own).
 ghost use Rattle.std.specs.Prelude.{◌≡◌, ◌-◌, ◌≤◌, ◌++◌, false, true, length, take, drop, replicate, IfOk};
-ghost use Rattle.ip_reassembly.specs.Runs.{CameWithin};
+ghost use Rattle.ip_reassembly.specs.Runs.{ReceivedWithin};
 
 use es_base::Memory;
 use std::alloc::Global;
@@ -23,7 +23,7 @@ pub(crate) fn set_all(marks: &mut [bool], to: bool)
 /// Unsets all marks, of which those that are set lie from `least` up to `reach`.
 pub(crate) fn unset_all(marks: &mut Vec<bool>, least: usize, reach: usize)
     requires within { reach ≤ length marks.old.items }
-    requires stretch { CameWithin marks.old.items least reach }
+    requires stretch { ReceivedWithin marks.old.items least reach }
     ensures { marks.new.items ≡ replicate (length marks.old.items) false }
 {
     if least < reach {

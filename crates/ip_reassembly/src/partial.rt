@@ -42,6 +42,18 @@ impl Partial {
         })
     }
 
+    /// A copy of this one.
+    pub(crate) fn copy(&self, alloc: Global) -> Result<Partial, Memory>
+        ensures { IfOk result (λ copy. copy ≡ self.now) }
+    {
+        let buffer = self.buffer.copy(alloc)?;
+        Ok(Partial {
+            key: self.key,
+            begin: self.begin,
+            buffer,
+        })
+    }
+
     /// Begins anew with one piece, which comes now.
     pub(crate) fn begin(&mut self, key: DatagramKey, packet: &Packet<'_>, now: u64)
         requires { packet.now.offset + length packet.now.octets.now ≤ longest_joined }

@@ -64,7 +64,7 @@ impl Reassembly {
     ///
     /// All memory is taken here, and none after it: buffers for four datagrams of 8200 octets. The only error is that
     /// memory ran out.
-    pub fn open(alloc: Global, limit: u64) -> Result<Reassembly, Memory>
+    pub fn new(alloc: Global, limit: u64) -> Result<Reassembly, Memory>
         ensures pieces { IfOk result (λ reassembly. StandsFor reassembly limit []) }
         ensures given_up { IfOk result (λ reassembly. reassembly.given_up ≡ 0) }
     {
@@ -76,6 +76,22 @@ impl Reassembly {
             limit,
             given_up: 0,
             standing: 0,
+            partials: ArrayVec::from([first, second, third, fourth]),
+        })
+    }
+
+    /// A copy, with the same pieces and as much memory. The only error is that memory ran out.
+    pub fn copy(&self, alloc: Global) -> Result<Reassembly, Memory>
+        ensures { IfOk result (λ copy. copy ≡ self.now) }
+    {
+        let first = self.partials[0].copy(alloc)?;
+        let second = self.partials[1].copy(alloc)?;
+        let third = self.partials[2].copy(alloc)?;
+        let fourth = self.partials[3].copy(alloc)?;
+        Ok(Reassembly {
+            limit: self.limit,
+            given_up: self.given_up,
+            standing: self.standing,
             partials: ArrayVec::from([first, second, third, fourth]),
         })
     }

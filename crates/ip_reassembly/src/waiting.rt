@@ -49,7 +49,7 @@ impl WaitingDatagram {
 /// The partial datagrams of a `Reassembly`, kept without spare buffers: a reassembly can begin with them, and no packet
 /// is offered to them.
 #[derive(Drop)]
-pub struct Waiting {
+pub struct WaitingDatagrams {
     /// Time limit, in microseconds.
     limit: u64,
     /// Number of partial datagrams given up before. It saturates at 2^64 - 1.
@@ -60,7 +60,7 @@ pub struct Waiting {
     partials: ArrayVec<WaitingDatagram, MOST_PARTIALS>,
 }
 
-impl Model for Waiting {
+impl Model for WaitingDatagrams {
     ghost use Rattle.std.specs.Prelude.{◌≡◌, ◌≤◌, take};
     ghost use Rattle.arrayvec.specs.ArrayVec.{array_vec_len};
     ghost use Rattle.es_base.specs.Limits.{most_partials};
@@ -76,7 +76,7 @@ impl Model for Waiting {
 impl Reassembly {
     /// A copy of the waiting pieces. It takes memory for the octets of each partial datagram that stands, from its
     /// first piece up to its last, and for their marks. The only error is that memory ran out.
-    pub fn waiting(&self, alloc: Global) -> Result<Waiting, Memory>
+    pub fn waiting(&self, alloc: Global) -> Result<WaitingDatagrams, Memory>
         ensures { IfOk result (λ waiting. waiting ≡ self.now) }
     {
         let partials = self.standing();
@@ -84,7 +84,7 @@ impl Reassembly {
         let second = copy_or_empty(alloc, partials, 1)?;
         let third = copy_or_empty(alloc, partials, 2)?;
         let fourth = copy_or_empty(alloc, partials, 3)?;
-        Ok(Waiting {
+        Ok(WaitingDatagrams {
             limit: self.limit(),
             given_up: self.given_up(),
             standing: partials.len(),
@@ -93,7 +93,7 @@ impl Reassembly {
     }
 }
 
-impl Waiting {
+impl WaitingDatagrams {
     /// A reassembly that goes on from these pieces. It takes the memory of a new one. The only error is that memory ran
     /// out.
     pub fn begin(&self, alloc: Global) -> Result<Reassembly, Memory>

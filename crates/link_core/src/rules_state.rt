@@ -34,11 +34,11 @@ impl RulesState {
         ensures keeps { IfOk result (λ kept. Keeps kept settings.now []) }
         ensures tells { IfOk result (λ kept. Tells kept settings.now []) }
     {
-        let reassembly = Reassembly::open(alloc, settings.reassembly())?;
+        let reassembly = Reassembly::new(alloc, settings.reassembly())?;
         Ok(RulesState {
             checks: Checks::new(settings.window(), settings.skew_max()),
             reassembly,
-            tally: VerdictTally::new(),
+            tally: VerdictTally::opening(),
             delivered: [0; MOST_PORTS],
         })
     }

@@ -17,7 +17,7 @@ ghost use Rattle.es_base.specs.Settings.{Settings};
 use crate::offer::{offer, packet_of};
 use block_list::BlockList;
 use es_base::{Event, LinkSettings, Memory, Message, PortNo};
-use ip_reassembly::{Reassembly, Waiting};
+use ip_reassembly::{Reassembly, WaitingDatagrams};
 use link_core::tells_delivered;
 use std::alloc::Global;
 
@@ -27,7 +27,7 @@ use std::alloc::Global;
 pub fn deliveries_after(
     alloc: Global,
     settings: &LinkSettings,
-    before: Option<&Waiting>,
+    before: Option<&WaitingDatagrams>,
     history: &BlockList<Event>,
     port: PortNo,
 ) -> Result<Vec<Message>, Memory>
@@ -97,14 +97,14 @@ fn deliveries_before(
 fn reassembly_after(
     alloc: Global,
     settings: &LinkSettings,
-    before: Option<&Waiting>,
+    before: Option<&WaitingDatagrams>,
 ) -> Result<Reassembly, Memory>
     ensures { IfOk result (λ reassembly. (earlier : List Event) →
         KeepsPieces (option_copied before.entry) settings.now earlier →
         StandsFor reassembly settings.now.reassembly (groups_in settings.now earlier)) }
 {
     match before {
-        None => Reassembly::open(alloc, settings.reassembly()),
+        None => Reassembly::new(alloc, settings.reassembly()),
         Some(before) => before.begin(alloc),
     }
 }

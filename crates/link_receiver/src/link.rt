@@ -32,7 +32,7 @@ use es_base::{
     Verdict, VerdictTally,
 };
 use frame_reader::{Frame, frame_in};
-use ip_reassembly::Waiting;
+use ip_reassembly::WaitingDatagrams;
 use link_core::{Place, RulesState, settled};
 use link_deliveries::deliveries_after;
 use past_log::Past;
@@ -55,7 +55,7 @@ pub struct LinkState {
     /// Number of events before the history.
     taken: u64,
     /// The partial datagrams before the history.
-    pieces: Waiting,
+    pieces: WaitingDatagrams,
     history: BlockList<Event>,
     /// State after all events.
     kept: RulesState,
@@ -84,7 +84,7 @@ impl Model for LinkState {
 impl LinkState {
     /// Opens a link with these settings and no history, and returns the ends of its ports, in the order of the
     /// settings. All memory of the ports is taken here.
-    pub fn open(alloc: Global, settings: &LinkSettings) -> Result<(LinkState, Vec<PortEnd>), Memory>
+    pub fn new(alloc: Global, settings: &LinkSettings) -> Result<(LinkState, Vec<PortEnd>), Memory>
         ensures link { IfOk result (λ opened. IsNewLink settings.now opened.0) }
         ensures ends { IfOk result (λ opened. AreEndsOf 0 settings.now.ports opened.0.channels opened.1.items) }
         ensures ports { IfOk result (λ opened. All (IsOfItsPort opened.0.channels) opened.1.items) }
@@ -181,7 +181,7 @@ impl LinkState {
     }
 
     /// The partial datagrams before the history.
-    fn pieces_before(&self) -> &Waiting
+    fn pieces_before(&self) -> &WaitingDatagrams
         ensures { StandsFor result.now self.now.settings.reassembly (groups_in self.now.settings self.now.before) }
     {
         &self.pieces

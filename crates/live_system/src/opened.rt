@@ -144,14 +144,14 @@ impl LiveSystem {
             a: NetPass {
                 net: Net::A,
                 links: a,
-                filtered: FilterTally::new(),
+                filtered: FilterTally::opening(),
                 settled,
                 counts: counts_a,
             },
             b: NetPass {
                 net: Net::B,
                 links: b,
-                filtered: FilterTally::new(),
+                filtered: FilterTally::opening(),
                 settled: Vec::new(alloc),
                 counts: counts_b,
             },

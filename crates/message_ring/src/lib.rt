@@ -15,15 +15,16 @@ mod ends;
 mod head;
 mod wait;
 
-ghost use Rattle.std.specs.Prelude.{◌≡◌, ◌+◌, ◌*◌, ◌<◌, ◌≤◌, length, take, drop, slice_get, Some, IfOk, OnOk, OnErr, IfSome, IfNone, IsOk, IsSome, IsTrue, IsFalse};
-ghost use Rattle.message_ring.specs.Ends.{width};
+ghost use Rattle.std.specs.Prelude.{◌≡◌, ◌+◌, ◌*◌, ◌<◌, ◌≤◌, ℕ, length, take, drop, slice_get, Some, IfOk, OnOk, OnErr, IfSome, IfNone, IsOk, IsSome, IsTrue, IsFalse};
+ghost use Rattle.message_ring.specs.Ends.{octets_of_last, width};
 ghost use Rattle.es_base.specs.Queue.{BeginsWith, Holds, opened, with_put, with_taken};
 ghost use Rattle.message_ring.specs.Queue.{SeemsEmpty, SeemsFull, message};
 
 use crate::ends::{has_room, next_head, pop_octets, push_message};
-use crate::head::{HEAD, Head, most_at_once};
-use crate::wait::last_with;
+use crate::head::{Head, most_at_once};
+use crate::wait::{last_with, size_at};
 use circular_buffer::HeapCircularBuffer;
+pub use head::HEAD;
 use rtrb::{Consumer, Producer, RingBuffer};
 use std::alloc::{AllocError, Global};
 use std::marker::Model;
@@ -168,6 +169,31 @@ impl RingPutter {
     {
         let free = self.ring.slots();
         last_with(&self.latest, self.ring.capacity() - free)
+    }
+
+    /// Octets of the message that was put so many messages before the last one, its head included; 0 if there is none.
+    pub fn size_before_last(&self, before: usize) -> usize
+        requires { before + 1 < self.now.depth }
+        ensures { octets_of_last (before + 1) self.now.put ≡ octets_of_last before self.now.put + result }
+    {
+        if before < self.latest.len() {
+            size_at(&self.latest, before)
+        } else {
+            0
+        }
+    }
+
+    /// Whether more octets wait than these, heads included, after this end looked what the other end took, if it had to.
+    /// By the octets of the last so many messages it tells whether more than so many wait.
+    pub fn has_more_waiting(&mut self, octets: usize) -> bool
+        ensures end { self.new ≡ record self.old { taken = self.new.taken } }
+        ensures told { BeginsWith self.new.taken self.old.taken }
+        ensures more { IsTrue result → (count : ℕ) → octets ≡ octets_of_last count self.old.put → length self.new.taken + count < length self.new.put }
+        ensures no_more { IsFalse result → (count : ℕ) → octets ≡ octets_of_last count self.old.put → length self.new.put ≤ length self.new.taken + count }
+    {
+        let free = self.ring.capacity().saturating_sub(octets);
+        let is_room = has_room(&mut self.ring, free);
+        !is_room
     }
 
     /// Puts a message at the end of the queue. `Err`: as many messages as the queue holds were put that this end

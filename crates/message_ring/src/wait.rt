@@ -26,7 +26,7 @@ pub(crate) fn last_with(sizes: &HeapCircularBuffer<u16>, octets: usize) -> usize
 }
 
 /// Size at this place, counted from the last one.
-fn size_at(sizes: &HeapCircularBuffer<u16>, place: usize) -> usize
+pub(crate) fn size_at(sizes: &HeapCircularBuffer<u16>, place: usize) -> usize
     requires { place < length sizes.now.items }
     ensures { slice_get sizes.now.items (length sizes.now.items - place - 1) ≡ Some result }
 {

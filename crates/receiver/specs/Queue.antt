@@ -1,8 +1,9 @@
 -- The queue of a port, as its outlet knows it.
-use Rattle.std.specs.Prelude.{◌≡◌, ◌≤◌, ℕ, ◌+◌, List, length}
-use Rattle.es_base.specs.declared.event.Message.{Message}
-use Rattle.es_base.specs.Queue.{BeginsWith, opened}
+use Rattle.std.specs.Prelude.{◌≡◌, ◌≤◌, ◌<◌, ℕ, ◌+◌, ◌-◌, List, [], ◌∷◌, length, map, max}
+use Rattle.es_base.specs.Queue.{opened}
+use Rattle.message_ring.specs.Ends.{AreShort, octets_of_last}
 use Rattle.message_ring.specs.Queue.{Known, QueueId}
+use Rattle.message_ring.specs.Stream.{size}
 
 -- what the end that puts knows, and the greatest number of messages that waited
 pub record CountedQueue : Type 0 where
@@ -13,18 +14,47 @@ pub record CountedQueue : Type 0 where
 abbrev pub new_queue : QueueId → ℕ → CountedQueue
 new_queue queue depth = record { known = opened queue depth; greatest = 0 }
 
--- So many more messages were put by one moment than were known to be taken by one. The two may differ: that they were one
--- is said of each message, by `CountingPutter::put`.
-pub record HaveWaited (now : Known) (count : ℕ) : Type 0 where
-  pub put : List Message
-  pub taken : List Message
-  pub put_since : BeginsWith now.put put
-  pub taken_since : BeginsWith now.taken taken
-  pub waited : length put ≡ count + length taken
-
--- What holds of the greatest number of messages that waited: no more wait now, no more were put, and the queue holds as many.
+-- What always holds of the greatest number: no more wait, no more were put, and the queue holds as many.
 -- rule: EMB-7
 pub record IsGreatest (now : Known) (count : ℕ) : Type 0 where
-  pub once : HaveWaited now count
   pub no_more : length now.put ≤ length now.taken + count
+  pub put : count ≤ length now.put
   pub few : count ≤ now.depth
+
+-- ---- the greatest number, counted after each message
+
+-- After each message so many were known to be taken, the earliest first: the greatest number that waited then, where it
+-- was this before, and so many were put.
+-- rule: EMB-7
+abbrev pub greatest_after : ℕ → ℕ → List ℕ → ℕ
+greatest_after greatest put [] = greatest
+greatest_after greatest put (taken ∷ later) = greatest_after (max greatest (put + 1 - taken)) (put + 1) later
+
+-- the numbers rise, from the first of these two to the second
+abbrev pub RiseFrom : ℕ → ℕ → List ℕ → Type 0
+RiseFrom low high [] = low ≤ high
+RiseFrom low high (number ∷ numbers) = (low ≤ number) × RiseFrom number high numbers
+
+-- so many messages were put in between, and what waited was counted after each of them
+-- rule: EMB-7
+pub record CountsWaiting (old new : CountedQueue) (messages : ℕ) : Type 0 where
+  pub taken : List ℕ
+  pub each : length taken ≡ messages
+  pub rising : RiseFrom (length old.known.taken) (length new.known.taken) taken
+  pub greatest : new.greatest ≡ greatest_after old.greatest (length old.known.put) taken
+
+-- ---- what is kept for it
+
+-- octets of a message at most, head included
+abbrev pub most_octets : ℕ
+most_octets = 8202
+
+-- While the queue was never as full as it may be but for one, the octets of the last messages are kept: of as many as
+-- waited at most.
+pub record KeepsGreatest (now : Known) (depth octets greatest : ℕ) : Type 0 where
+  pub depth_is : depth ≡ now.depth
+  pub most : depth ≤ 64
+  pub long : now.queue.max ≤ 8192
+  pub short : AreShort most_octets (map size now.put)
+  pub is : IsGreatest now greatest
+  pub octets_are : greatest + 1 < depth → octets ≡ octets_of_last greatest now.put

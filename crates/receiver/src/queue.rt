@@ -5,7 +5,7 @@ ghost use Rattle.message_ring.specs.Queue.{SeemsFull, message};
 ghost use Rattle.receiver.specs.Queue.{IsGreatest, new_queue};
 
 use es_base::Memory;
-use message_ring::{RingPutter, RingTaker, meet, open_ring};
+use message_ring::{HEAD, RingPutter, RingTaker, meet, open_ring};
 use std::alloc::Global;
 use std::marker::Model;
 
@@ -23,20 +23,20 @@ pub struct Fill {
 pub struct CountingPutter {
     putter: RingPutter,
     depth: usize,
-    // At most so many messages wait.
-    bound: usize,
     greatest: usize,
+    // Octets of the last `greatest` messages, heads included, while `greatest` is at least two below the depth: more
+    // messages wait if more octets do.
+    octets: usize,
 }
 
 impl Model for CountingPutter {
-    ghost use Rattle.std.specs.Prelude.{◌≡◌, ◌≤◌, ◌+◌, length};
-    ghost use Rattle.receiver.specs.Queue.{CountedQueue, IsGreatest};
+    ghost use Rattle.receiver.specs.Queue.{CountedQueue, KeepsGreatest};
 
     ghost Value = { CountedQueue };
 
     ghost view = { λ q. record { known = q.putter; greatest = q.greatest } };
 
-    ghost invariant = { λ q. (q.depth ≡ q.putter.depth) × (length q.putter.put ≤ length q.putter.taken + q.bound) × (q.bound ≤ q.greatest) × IsGreatest q.putter q.greatest };
+    ghost invariant = { λ q. KeepsGreatest q.putter q.depth q.octets q.greatest };
 }
 
 impl CountingPutter {
@@ -55,8 +55,8 @@ impl CountingPutter {
         let counting = CountingPutter {
             putter,
             depth,
-            bound: 0,
             greatest: 0,
+            octets: 0,
         };
         Ok((counting, taker))
     }
@@ -75,8 +75,8 @@ impl CountingPutter {
         self.putter.has_room()
     }
 
-    /// Puts a message at the end of the queue. It looks what was taken only if more may wait than ever: a step for each
-    /// message that waits.
+    /// Puts a message at the end of the queue, and counts what waits then. It looks what was taken only if more may wait
+    /// than ever.
     pub(crate) fn put(&mut self, time: u64, octets: &[u8])
         requires short { length octets.now ≤ self.old.known.queue.max }
         requires room { length self.old.known.put < length self.old.known.taken + self.old.known.depth }
@@ -85,11 +85,15 @@ impl CountingPutter {
         ensures greatest { self.new.greatest ≡ max self.old.greatest (length self.new.known.put - length self.new.known.taken) }
     {
         let _ = self.putter.put(time, octets);
-        if self.bound < self.greatest {
-            self.bound += 1;
-        } else if self.greatest < self.depth {
-            self.bound = self.putter.waiting();
-            self.greatest = self.greatest.max(self.bound);
+        if self.greatest + 1 < self.depth {
+            let with_one_more = self.octets + HEAD + octets.len();
+            self.octets = with_one_more - self.putter.size_before_last(self.greatest);
+            if self.putter.has_more_waiting(self.octets) {
+                self.greatest += 1;
+                self.octets = with_one_more;
+            }
+        } else if self.greatest < self.depth && !self.putter.has_room() {
+            self.greatest = self.depth;
         }
     }
 

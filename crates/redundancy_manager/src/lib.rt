@@ -38,7 +38,7 @@ impl Model for Redundancy {
 
 impl Redundancy {
     /// The state before the first forwarded frame. `skew_max` is SkewMax, in microseconds.
-    pub fn new(skew_max: u64) -> Redundancy
+    pub fn opening(skew_max: u64) -> Redundancy
         ensures { StandsFor result skew_max [] }
     {
         Redundancy {
@@ -76,6 +76,16 @@ impl Redundancy {
             latest_number: sequence_number,
             greatest_time,
         });
+    }
+
+    /// A copy, of the same frames.
+    pub fn copy(&self) -> Redundancy
+        ensures { result ≡ self.now }
+    {
+        Redundancy {
+            skew_max: self.skew_max,
+            summary: self.summary,
+        }
     }
 }
 

@@ -42,7 +42,7 @@ impl Model for Core {
 
 impl Core {
     /// A port without publications, whose writer scans and whose readers are idle. It takes no memory.
-    pub fn new(alloc: Global) -> Core
+    pub fn opening(alloc: Global) -> Core
         ensures { result ≡ opening port_readers port_slots }
     {
         Core {
@@ -60,7 +60,7 @@ impl Core {
     /// memory. After a refusal the core is as before.
     ///
     /// ```text
-    /// let mut core = Core::new(alloc);
+    /// let mut core = Core::opening(alloc);
     /// core.step(alloc, &CoreEvent::Scan { reader: 1 }) // Err(NotItsTurn): reader 0 is scanned first
     /// core.step(alloc, &CoreEvent::Scan { reader: 0 }) // Ok(())
     /// ```

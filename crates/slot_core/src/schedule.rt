@@ -16,7 +16,7 @@ pub fn run(alloc: Global, events: &[CoreEvent]) -> Result<Core, (usize, StepRefu
     ensures core { IfOk result (λ core. LeadTo port_readers port_slots events.now core) }
     ensures refused { IfErr result (λ refused. IsFirstRefused port_readers port_slots events.now refused.0 refused.1) }
 {
-    let mut core = Core::new(alloc);
+    let mut core = Core::opening(alloc);
     for (place, event) in events.iter().enumerate() {
         if let Err(refusal) = core.step(alloc, event) {
             return Err((place, refusal));

@@ -88,7 +88,7 @@ pub(crate) fn check_link(
     a: &Calls,
     b: &Calls,
 ) {
-    let (state, _) = LinkState::open(alloc, link.settings()).expect(rt, "memory");
+    let (state, _) = LinkState::new(alloc, link.settings()).expect(rt, "memory");
     let mut replay = Replay {
         state,
         place: 0,

@@ -19,7 +19,7 @@ const MOST: usize = 2_000;
 /// A link in which a datagram waits of which only this piece came.
 fn link_with(rt: &(impl Abort + Wait), alloc: Global, name: PacketName) -> LinkState {
     let settings = LINK.settings(alloc).expect(rt, OWN);
-    let (mut state, _ends) = LinkState::open(alloc, &settings).expect(rt, OWN);
+    let (mut state, _ends) = LinkState::new(alloc, &settings).expect(rt, OWN);
     let (ip, octets) = name.texts();
     let texts = [ETHERNET, ip, octets, padding_after(octets)];
     let octets = frame_of(alloc, &texts, 0).expect(rt, OWN);

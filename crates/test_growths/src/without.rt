@@ -143,7 +143,7 @@ fn is_whole(offered: &Offered<'_>) -> bool {
 }
 
 fn check_reassembly(rt: &impl Abort, alloc: Global, case: &Case) {
-    let mut reassembly = Reassembly::open(alloc, 50_000).expect(rt, OWN);
+    let mut reassembly = Reassembly::new(alloc, 50_000).expect(rt, OWN);
     mark(rt, alloc);
     let last = case.rows.len().wrapping_sub(1);
     for (place, row) in case.rows.iter().enumerate() {

@@ -1,6 +1,6 @@
 //! Which datagram some pieces make.
 use crate::steps::Fate::{Alone, Completed, Held, Joined};
-use crate::steps::{Step, check, check_gone_on};
+use crate::steps::{Step, check, check_copied};
 use test_inputs::fragments::PacketName::{
     EndAt16, EndAt40, First, First3, First4, First5, First6, FirstAnew, FirstForPos, FirstOf21,
     Last, LastFrom24, LastTo19, LastTo20, LongerLast, NoOctets, SevenOctets,
@@ -140,8 +140,8 @@ fn a_complete_datagram_ends_its_group(rt: HostRuntime) {
 
 // rule: HIST-4
 #[test]
-fn what_goes_on_and_the_first_each_complete_a_datagram(rt: HostRuntime) {
-    check_gone_on(
+fn a_copy_and_the_first_each_complete_a_datagram(rt: HostRuntime) {
+    check_copied(
         &rt,
         rt.alloc(),
         &[(First, 1000, Held)],
@@ -170,15 +170,15 @@ fn after_four() -> [Step; 3] {
 
 // rule: HIST-4
 #[test]
-fn the_pieces_that_wait_stand_in_their_order(rt: HostRuntime) {
-    check_gone_on(&rt, rt.alloc(), &four_that_stand(), &after_four());
+fn a_copy_and_the_pieces_that_wait_stand_in_their_order(rt: HostRuntime) {
+    check_copied(&rt, rt.alloc(), &four_that_stand(), &after_four());
 }
 
 // rule: HIST-4
 #[test]
 fn what_goes_on_from_nothing_is_as_new(rt: HostRuntime) {
     let completed = [(First, 1000, Held), (Last, 1100, Completed)];
-    check_gone_on(&rt, rt.alloc(), &[], &completed);
+    check_copied(&rt, rt.alloc(), &[], &completed);
 }
 
 // rule: REAS-2

@@ -59,7 +59,7 @@ fn check_whole(rt: &impl Abort, offered: Offered<'_>) {
 /// The end comes first, at octet 8197, and moves to 8200 in between. Before the piece of blocks 1022 and 1023
 /// a block is missing.
 fn check_longest(rt: &impl Abort, alloc: Global) {
-    let mut reassembly = Reassembly::open(alloc, 50_000).expect(rt, "memory");
+    let mut reassembly = Reassembly::new(alloc, 50_000).expect(rt, "memory");
     check_held(rt, &mut reassembly, &piece(1024, false, &LAST[..5]));
     check_all_held(rt, &mut reassembly, 0, 512);
     check_held(rt, &mut reassembly, &piece(1024, false, &LAST));

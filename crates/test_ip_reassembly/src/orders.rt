@@ -36,7 +36,7 @@ fn check_joined(rt: &impl Abort, offered: Offered<'_>, datagram: &[u8]) {
 
 /// These pieces are held, and then the piece `filling` completes the datagram.
 fn check_order(rt: &impl Abort, alloc: Global, held: &[u16], filling: u16, datagram: &[u8]) {
-    let mut reassembly = Reassembly::open(alloc, 50_000).expect(rt, "memory");
+    let mut reassembly = Reassembly::new(alloc, 50_000).expect(rt, "memory");
     for block in held {
         check_held(
             rt,
@@ -71,7 +71,7 @@ fn pieces_may_overlap_what_came_from_both_sides(rt: HostRuntime) {
 
 /// Octets 16 to 31 come, and then 8 to 23, with which the datagram ends: as many came as it has, but not the first 8.
 fn check_end_below(rt: &impl Abort, alloc: Global) {
-    let mut reassembly = Reassembly::open(alloc, 50_000).expect(rt, "memory");
+    let mut reassembly = Reassembly::new(alloc, 50_000).expect(rt, "memory");
     check_held(rt, &mut reassembly, &piece(2, true, &octets_from(2)));
     check_held(rt, &mut reassembly, &piece(1, false, &octets_from(1)));
     let octets = octets_from(0);
@@ -103,7 +103,7 @@ const HEADER_ANEW: [u8; 32] = [
 /// A header comes alone, then the last piece, and then another header with the octets between both, which completes the
 /// datagram.
 fn check_header_anew(rt: &impl Abort, alloc: Global) {
-    let mut reassembly = Reassembly::open(alloc, 50_000).expect(rt, "memory");
+    let mut reassembly = Reassembly::new(alloc, 50_000).expect(rt, "memory");
     check_held(rt, &mut reassembly, &piece(0, true, &FOR_5000));
     check_held(rt, &mut reassembly, &piece(2, false, &octets_from(2)));
     let filling = piece(0, true, &FOR_5002);

@@ -37,7 +37,7 @@ fn check_joined(rt: &impl Abort, offered: Offered<'_>) {
 // rule: REAS-9
 #[test]
 fn a_datagram_of_plain_ipv4_is_joined(rt: HostRuntime) {
-    let mut reassembly = Reassembly::open(rt.alloc(), 500_000).expect(&rt, "memory");
+    let mut reassembly = Reassembly::new(rt.alloc(), 500_000).expect(&rt, "memory");
     let held = matches!(reassembly.offer(&end(), 1_000), Offered::Held);
     assert!(rt; held);
     check_joined(&rt, reassembly.offer(&beginning(), 1_200));

@@ -39,26 +39,30 @@ pub(crate) type Step = (PacketName, u64, Fate);
 
 /// A new Reassembly does this with these packets.
 pub(crate) fn check(rt: &impl Abort, alloc: Global, steps: &[Step]) {
-    let mut reassembly = Reassembly::open(alloc, LIMIT).expect(rt, "memory");
+    let mut reassembly = Reassembly::new(alloc, LIMIT).expect(rt, "memory");
     assert!(rt; reassembly.limit() == LIMIT);
     check_steps(rt, alloc, &mut reassembly, steps);
 }
 
 /// A new Reassembly does this with these packets, and has given up so many partial datagrams then.
 pub(crate) fn check_given_up(rt: &impl Abort, alloc: Global, steps: &[Step], given_up: u64) {
-    let mut reassembly = Reassembly::open(alloc, LIMIT).expect(rt, "memory");
+    let mut reassembly = Reassembly::new(alloc, LIMIT).expect(rt, "memory");
     check_steps(rt, alloc, &mut reassembly, steps);
     assert!(rt; reassembly.given_up() == given_up);
 }
 
-/// After the steps of `before` another Reassembly goes on from the pieces that wait then. Both do the steps of `after`.
-pub(crate) fn check_gone_on(rt: &impl Abort, alloc: Global, before: &[Step], after: &[Step]) {
-    let mut first = Reassembly::open(alloc, LIMIT).expect(rt, "memory");
+/// A Reassembly is copied after the steps of `before`, and another goes on from the pieces that wait then. It, its copy
+/// and that other each do the steps of `after`.
+pub(crate) fn check_copied(rt: &impl Abort, alloc: Global, before: &[Step], after: &[Step]) {
+    let mut first = Reassembly::new(alloc, LIMIT).expect(rt, "memory");
     check_steps(rt, alloc, &mut first, before);
+    let mut copy = first.copy(alloc).expect(rt, "memory");
     let waiting = first.waiting(alloc).expect(rt, "memory");
     let mut other = waiting.begin(alloc).expect(rt, "memory");
+    check_steps(rt, alloc, &mut copy, after);
     check_steps(rt, alloc, &mut other, after);
     check_steps(rt, alloc, &mut first, after);
+    assert!(rt; copy.given_up() == first.given_up());
     assert!(rt; other.given_up() == first.given_up());
 }
 

@@ -20,7 +20,7 @@ pub(crate) fn opened_with(
 ) -> (LinkState, Vec<PortEnd>)
     ensures { All (IsOfItsPort result.0.channels) result.1.items }
 {
-    LinkState::open(alloc, settings).expect(rt, "memory")
+    LinkState::new(alloc, settings).expect(rt, "memory")
 }
 
 /// A new receiver of this link, and the ends of its ports.

@@ -70,8 +70,8 @@ fn a_queuing_port_shows_all_its_messages_in_order(rt: HostRuntime) {
 fn check_zeros(rt: &impl Abort, alloc: Global) {
     let link = LINK.settings(alloc).expect(rt, "settings");
     let mut text = Vec::new(alloc);
-    let counts = write_counts(&mut text, &link, &VerdictTally::new());
-    let filtered = write_filtered(&mut text, &FilterTally::new());
+    let counts = write_counts(&mut text, &link, &VerdictTally::opening());
+    let filtered = write_filtered(&mut text, &FilterTally::opening());
     assert!(rt; counts.is_ok() && filtered.is_ok());
     assert!(rt; text.as_slice() == ZEROS.as_bytes());
 }

@@ -23,7 +23,7 @@ fn check_counts(rt: &impl Abort, tally: &VerdictTally, net: Net, wanted: [u64; V
 }
 
 fn check_events(rt: &impl Abort) {
-    let mut tally = VerdictTally::new();
+    let mut tally = VerdictTally::opening();
     for (net, kind) in events() {
         add(rt, &mut tally, net, kind);
     }
@@ -56,7 +56,7 @@ fn check_filtered(rt: &impl Abort, tally: &FilterTally, net: Net, wanted: [u64; 
 }
 
 fn check_causes(rt: &impl Abort) {
-    let mut tally = FilterTally::new();
+    let mut tally = FilterTally::opening();
     for (net, cause) in filtered() {
         tally.add(net, cause.kind());
     }

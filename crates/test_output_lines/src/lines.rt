@@ -170,7 +170,7 @@ fn messages_of_each_length_to_70_octets_are_printed_whole(rt: HostRuntime) {
 }
 
 fn check_no_counts(rt: &impl Abort, alloc: Global) {
-    let tally = VerdictTally::new();
+    let tally = VerdictTally::opening();
     let line = CountLine {
         vl: LinkNo(17),
         net: A,

@@ -134,7 +134,7 @@ fn check_beside_core(
     requires writer { writer.knows ≡ first_writer }
     requires reader { reader.old.knows ≡ first_reader }
 {
-    let mut core = Core::new(alloc);
+    let mut core = Core::opening(alloc);
     publish_in(rt, alloc, &mut core, &mut writer, 1, 0);
     take(rt, alloc, &mut core, LoadFirst { reader: 0 });
     assert!(rt; core.latest() == 16);

@@ -163,7 +163,7 @@ pub(crate) fn play(rt: &impl Abort, alloc: Global, core: &mut Core, moves: &[Mov
 
 /// The core after these moves, from the opening on.
 pub(crate) fn core_after(rt: &impl Abort, alloc: Global, moves: &[Move]) -> Core {
-    let mut core = Core::new(alloc);
+    let mut core = Core::opening(alloc);
     play(rt, alloc, &mut core, moves);
     core
 }

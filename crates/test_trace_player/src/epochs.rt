@@ -60,7 +60,7 @@ fn take(rt: &(impl Abort + Wait), alloc: Global, state: &mut LinkState, step: St
 /// The epochs of link 17, one after every third of these frames, and one more at the end.
 fn epochs(rt: &(impl Abort + Wait), alloc: Global, config: &Config) -> Vec<Epoch> {
     let settings = config.links().first().expect(rt, "a link");
-    let (mut state, _) = LinkState::open(alloc, settings).expect(rt, "memory");
+    let (mut state, _) = LinkState::new(alloc, settings).expect(rt, "memory");
     let mut epochs = Vec::new(alloc);
     for step in steps() {
         take(rt, alloc, &mut state, step);

@@ -75,9 +75,7 @@ fn refused_at(alloc: Global, octets: &[u8]) -> Result<usize, Memory> {
     };
     match toml::table_from_str(alloc, text) {
         Ok(_) => Ok(0),
-        Err(error) => match error.span() {
-            Some(span) => Ok(span.start),
-            None => Err(AllocError),
-        },
+        Err(error) if error.is_memory() => Err(AllocError),
+        Err(error) => Ok(error.span().map_or(0, |span| span.start)),
     }
 }

@@ -48,7 +48,7 @@ struct Link {
 fn open(alloc: Global, config: &Config) -> io::Result<Vec<Link>> {
     let mut links = Vec::new(alloc);
     for settings in config.links() {
-        let (state, ends) = LinkState::open(alloc, settings)?;
+        let (state, ends) = LinkState::new(alloc, settings)?;
         links.push(Link { state, ends })?;
     }
     Ok(links)

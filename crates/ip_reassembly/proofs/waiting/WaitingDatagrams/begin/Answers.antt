@@ -3,7 +3,7 @@ use Rattle.std.proofs.lemmas.Grind.{common_steps}
 use Rattle.ip_reassembly.specs.Kept.{Kept}
 use Rattle.ip_reassembly.specs.declared.partial.Partial.{Partial}
 use Rattle.ip_reassembly.proofs.Four.{first_some}
-use Rattle.ip_reassembly.proofs.waiting.Waiting.begin.Goals as goal
+use Rattle.ip_reassembly.proofs.waiting.WaitingDatagrams.begin.Goals as goal
 
 pub returns : goal.returns
 returns c =
