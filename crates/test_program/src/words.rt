@@ -32,8 +32,8 @@ Usage: afdx_play --config <FILE> --a <FILE> --b <FILE>
 For more information, try '--help'.
 ";
 
-/// Words, the standard input, and what a run with no files comes to: the status, the output and what is on
-/// the standard error.
+/// Words, the standard input, and the results of a run with no files: the status, the output and the text
+/// on the standard error.
 type Row = (&'static str, &'static str, u8, &'static str, &'static str);
 
 fn runs_without_files() -> [Row; 5] {
