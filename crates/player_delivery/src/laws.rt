@@ -11,8 +11,8 @@ ghost use Rattle.datagram_delivery.specs.Bringing.{BringDatagrams};
 ghost use Rattle.datagram_delivery.specs.Interleaved.{Carried};
 ghost use Rattle.player_delivery.specs.Reported.{AreWritten, lines_sent};
 
-/// The report's lines on a link's ports are those of the messages sent to them, each once and whole, if copies of it came
-/// and its queue had room; and of no other. They stand in the order in which their sending ended. This asks of the
+/// The report's lines on a link's ports are those of the messages sent to them, each once and whole, if copies of it
+/// came and its queue had room; and of no other. They stand in the order in which their sending ended. This asks of the
 /// link's frames in both traces that they are copies of a sender's, of all fragments of a datagram or of none, on
 /// networks that keep what is asked of them. At most four of its datagrams may be in parts at a time. Nobody takes a
 /// message from a queue of the player. These lines are in the output of the traces, which `trace_player::play` writes.

@@ -1,5 +1,5 @@
-//! What the tests of links and end systems are given of a sampling port: a check of a message that a reader reads. There
-//! are no tests here, and nothing is promised.
+//! What the tests of links and end systems are given of a sampling port: a check of a message that a reader reads.
+//! There are no tests here, and nothing is promised.
 #![tactic(auto)]
 
 use sampling_port::{MOST_TRIES, Read, Reader};
