@@ -29,7 +29,7 @@ PLANTED = [
      "    size_t len;\n    const uint8_t *at;\n", "struct HeldOctets"),
     (RUST, "struct Held {\n    at: *const u8,\n    len: usize,\n", "struct Held {\n    len: usize,\n    at: *const u8,\n", "struct HeldOctets"),
     (ADA, "Where : access constant Unsigned_8; Length : size_t;", "Length : size_t; Where : access constant Unsigned_8;", "struct HeldOctets"),
-    (faces.REPLIES, "    pub number: u64,\n    /// When it came, in microseconds.\n    pub time: u64,",
+    (faces.REPLIES, "    pub number: u64,\n    /// Arrival time, in microseconds.\n    pub time: u64,",
      "    pub time: u64,\n    pub number: u64,", "struct ReadReply"),
     # wrong widths, of a field, of a parameter and of a result
     (C, "uint32_t level;", "uint64_t level;", "struct FaultReply"),

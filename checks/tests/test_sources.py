@@ -14,6 +14,7 @@ def tree(tmp_path_factory):
     shutil.copytree(ROOT / "checks", top / "checks", ignore=shutil.ignore_patterns("__pycache__"))
     shutil.copytree(ROOT / "crates", top / "crates", ignore=shutil.ignore_patterns("out", "proofs"))
     (top / "tools").symlink_to(ROOT / "tools")
+    shutil.copy(ROOT / "crates.txt", top)
     return top
 
 
@@ -27,14 +28,19 @@ def test_the_tree_has_no_slip(tree):
 
 
 CODE, KEPT, REASONS = "crates/integrity_check/src/lib.rt", "crates/integrity_check/specs/Kept.antt", "checks/names.txt"
+CRATES, OFFER = "crates.txt", "crates/link_core/specs/Offer.antt"
 # A file, what stands there, what is put in its place, and what is told.
 SLIPS = [
+    (CRATES, "\nlink_lock: atomic_table\n", "\n", "crates/link_lock: no line of crates.txt names it"),
+    (CRATES, "\nlink_lock: ", "\nlink_latch:\nlink_lock: ", "link_latch is no folder of crates/"),
     (CODE, "        match self.last {", 41 * "        let _ = 0;\n" + "        match self.last {", "lines, 40 at most"),
     (CODE, "\nimpl Sequence {", "\n#[test]\nfn a_test() {}\n\nimpl Sequence {", "its place is a crate of tests"),
     (KEPT, "-- what is kept is", "abbrev pub latest : ℕ\nlatest = 0\n\n-- what is kept is", "latest stands in "),
     (KEPT, "abbrev pub StandsFor", "abbrev pub IsRun", "IsRun stands in "),
+    # Crates that share other names, of a link with its history and without.
+    (OFFER, "abbrev pub IsPlaceAt", "abbrev pub HasOutletAt : ℕ\nHasOutletAt = 0\n\nabbrev pub IsPlaceAt", "HasOutletAt stands in "),
     (REASONS, "ShowsAs: kept_messages", "ShowsAs: hex_trace", "ShowsAs stands in "),
-    (REASONS, "\nAreWithin: ", "\nis_none: es_base: of nothing\nAreWithin: ", "no name needs it"),
+    (REASONS, "\nAreWithin: ", "\nis_none: es_base: of nothing\nAreWithin: ", "is_none stands in one file"),
 ]
 
 

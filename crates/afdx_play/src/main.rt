@@ -1,6 +1,6 @@
-//! Plays the hex traces of two networks through the receiver, and prints what each frame came to.
+//! Plays the hex traces of two networks through the receiver, and prints a line for each frame.
 //!
-//! What the program does is `program::run`, and what it does it with is in `program::run_on`.
+//! What the program does is `program::run`; over a system's streams, `program::run_on`.
 #![tactic(auto)]
 
 use program::{Ended, run_on};

@@ -42,7 +42,7 @@ abbrev pub HaveParts : ℕ → (Event → List ℕ) → List Event → Type 0
 HaveParts limit datagram [] = Unit {0}
 HaveParts limit datagram (e ∷ past) = IsPart datagram e × AreOfOneWith limit datagram e past × HaveParts limit datagram past
 
--- a message is that which a datagram has for a port of the link, where this frame has the datagram or a part of it
+-- a message is the message of a datagram for a port of the link, where this frame has the datagram or a part of it
 -- rule: DELIV-2
 pub record IsMessageOfDatagram (settings : Settings) (frame datagram : List ℕ) (payload : Payload) : Type 0 where
   pub packet : PacketParts

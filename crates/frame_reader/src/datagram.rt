@@ -62,7 +62,7 @@ pub fn read_udp_head(head: &[u8; UDP_HEADER], len: usize) -> Result<UdpHead, Udp
     udp_head_in(head, len)
 }
 
-/// The header in these octets, the first of `came`.
+/// The header in these octets, the first of `received`.
 fn udp_head_in(octets: &[u8; UDP_HEADER], received: usize) -> Result<UdpHead, UdpFault>
     ensures { Gives udp_head_parts result (udp_head_of received octets.now) }
 {

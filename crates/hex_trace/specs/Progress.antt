@@ -1,4 +1,4 @@
--- What reading a piece more of a trace comes to.
+-- Result of reading one more piece of a trace.
 use Rattle.std.specs.Prelude.{◌≡◌, ℕ, Bool, true, false, List, [], ◌++◌, Option, Result, Ok, Err}
 use Rattle.std.specs.Io.KnownBytes.{Consumes, IsAtEnd}
 use Rattle.hex_trace.specs.declared.fault.TraceFault.{TraceFault}

@@ -16,8 +16,8 @@ one_at (Some place) = 1
 abbrev pub one_for_room : List Group → ℕ
 one_for_room groups = if length groups == most_partials then 1 else 0
 
--- number of groups that a piece gives up: none if it joins one; if it begins one, that of its key, which began too long
--- ago, and that which makes room
+-- number of groups that a piece gives up: none if it joins one; if it begins one, the one of its key, which began too
+-- long ago, and the oldest, for room
 abbrev pub given_up_for : List Group → DatagramKey → Found → ℕ
 given_up_for groups key (joins place group) = 0
 given_up_for groups key (begins others) = one_at (place_of key groups) + one_for_room others

@@ -16,7 +16,7 @@ ghost use Rattle.slot_core.specs.State.{StartsWithSeen};
 ghost use Rattle.sampling_port.specs.Ends.{is_told};
 ghost use Rattle.es_base.specs.Queue.{BeginsWith, Holds};
 ghost use Rattle.es_base.specs.Verdict.{verdict_kinds};
-ghost use Rattle.link_receiver.specs.Ends.{AreEndsOf, IsNewLink, IsOfItsPort, IsWithinDepth};
+ghost use Rattle.link_receiver.specs.Ends.{AreEndsOfPorts, IsNewLink, IsOfItsPort, IsWithinDepth};
 ghost use Rattle.link_receiver.specs.Link.{Takes, decision_after, all_deliveries_of, deliveries_since, past_of, published_at, queues, samples};
 ghost use Rattle.link_receiver.specs.Epoch.{Hands};
 ghost use Rattle.link_receiver.specs.Outlet.{HasRoomFor};
@@ -86,7 +86,7 @@ impl LinkState {
     /// settings. All memory of the ports is taken here.
     pub fn new(alloc: Global, settings: &LinkSettings) -> Result<(LinkState, Vec<PortEnd>), Memory>
         ensures link { IfOk result (λ opened. IsNewLink settings.now opened.0) }
-        ensures ends { IfOk result (λ opened. AreEndsOf 0 settings.now.ports opened.0.channels opened.1.items) }
+        ensures ends { IfOk result (λ opened. AreEndsOfPorts 0 settings.now.ports opened.0.channels opened.1.items) }
         ensures ports { IfOk result (λ opened. All (IsOfItsPort opened.0.channels) opened.1.items) }
     {
         let (outlets, ends) = open_outlets(alloc, settings.ports())?;

@@ -83,8 +83,8 @@ pub record IsNewPass (settings : Settings) (link : LiveLink) (lock : LockId) (ne
 
 -- ---- the end
 
--- What a link is once both networks have let go of it, which made these calls: it is the one that was opened; its past
--- is a run, its ports were given what that delivers, and its events are the calls of both; and all are counted as the
+-- State of a link after both networks have let go of it, with the calls of each. It is the link that was opened. Its
+-- past is a run, and its ports were given what that delivers. Its events are the calls of both, and are counted as the
 -- calls are.
 pub record IsSettled (link : Option LiveLink) (a b : List Call) (settled : LiveLink) : Type 0 where
   pub opened : Some (as_opened settled) ≡ link

@@ -74,7 +74,7 @@ pub record HasSettled (system : System) (passes : Passes) (settled : List LiveLi
   pub counted_a : IsCounted passes.a a
   pub counted_b : IsCounted passes.b b
 
--- ---- what they came to
+-- ---- their replies
 
 abbrev pub call_in : LinkNo → Step → List Call
 call_in vl (received time octets reply) = call_replied vl time octets reply
@@ -99,8 +99,8 @@ shown_call c = call (shown c.place) c.time c.frame c.verdict
 -- ---- one record
 
 -- A link with these settings after these calls. Its past is one run, and each of its ports was given what that
--- delivers; what each network's frames came to, as it was replied, are the events of that network in this run, each at
--- its place; each kind of verdict is counted; and the ends that were handed out at the opening are those of its ports.
+-- delivers. Each network's replies are its events in this run, each at its place. Each kind of verdict is counted. The
+-- ends that were handed out at the opening are those of its ports.
 -- rule: CONC-9
 pub record EndsInOneRun (readers : Port → ℕ) (steps : List (Net × Step)) (settings : Settings) (ends : List (LinkEnds PartitionEnd)) (place : ℕ) (link : LiveLink) : Type 0 where
   pub with_settings : link.core.settings ≡ settings

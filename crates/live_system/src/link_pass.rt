@@ -151,8 +151,7 @@ impl LinkPass {
         tell(&mut self.counts, net, &answers, replies);
     }
 
-    /// Synchronizes a sampling port of the link with a reader of it, under the link's lock, for which this waits: the
-    /// reader then knows all messages delivered to the port. Nothing else changes.
+    /// Synchronizes a sampling port of the link with a reader of it. Waits for the link's lock.
     pub(crate) fn meet_reader<R: Wait>(
         &mut self,
         rt: &R,
@@ -175,8 +174,7 @@ impl LinkPass {
         )
     }
 
-    /// Synchronizes a queuing port of the link with its taker, under the link's lock, for which this waits: the taker
-    /// then knows all messages delivered to the port, and the queue all that the taker took. Nothing else changes.
+    /// Synchronizes a queuing port of the link with its taker. Waits for the link's lock.
     pub(crate) fn meet_taker<R: Wait>(
         &mut self,
         rt: &R,

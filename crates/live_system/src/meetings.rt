@@ -13,10 +13,9 @@ use receiver::{MailboxReader, RingTaker};
 use std::sync::Wait;
 
 impl LiveSystem {
-    /// Synchronizes a sampling port of the link at this place of the configuration with a reader of it, under the
-    /// link's lock, for which this waits: the reader then knows all messages delivered to the port. Nothing else
-    /// changes. The reader is given and given back, since the lock's contract doesn't say what a visit changes behind a
-    /// `&mut` that it is lent.
+    /// Synchronizes a sampling port of the link at this place with a reader of it. Waits for the link's lock. The
+    /// reader is given and given back, since the lock's contract doesn't say what a visit changes behind a `&mut` that
+    /// it is lent.
     pub fn meet_reader<R: Wait>(
         &self,
         rt: &R,
@@ -34,9 +33,8 @@ impl LiveSystem {
         pass.links[place].meet_reader(rt, lock, port, reader)
     }
 
-    /// Synchronizes a queuing port of the link at this place of the configuration with its taker, under the link's
-    /// lock, for which this waits: the taker then knows all messages delivered to the port, and the queue all that the
-    /// taker took, for which it then has room. Nothing else changes. The taker is given and given back, as a reader is.
+    /// Synchronizes a queuing port of the link at this place with its taker. Waits for the link's lock. The taker is
+    /// given and given back, as a reader is.
     pub fn meet_taker<R: Wait>(
         &self,
         rt: &R,
@@ -55,7 +53,7 @@ impl LiveSystem {
     }
 }
 
-/// Synchronizes a reader with its port, of a locked link.
+/// Synchronizes a reader with its port of a locked link.
 pub(crate) fn meet_reader(
     locked: &mut Locked,
     port: PortNo,
@@ -68,7 +66,7 @@ pub(crate) fn meet_reader(
     reader
 }
 
-/// Synchronizes a taker with its queue, of a locked link.
+/// Synchronizes a taker with its queue of a locked link.
 pub(crate) fn meet_taker(locked: &mut Locked, port: PortNo, mut taker: RingTaker) -> RingTaker
     requires { HasOutletAt locked.old port (λ outlet. IsQueueOf outlet taker) }
     ensures { MeetsTaker port taker result locked.old locked.new }

@@ -1,4 +1,4 @@
--- What a system ends in to which network A gave a frame and network B a burst.
+-- End of a system after a frame of network A and a burst of network B.
 use Rattle.std.specs.Prelude.{◌≡◌, ℕ, List, [], ◌∷◌, ◌++◌, map}
 use Rattle.es_base.specs.declared.place.Net.{Net}
 use Rattle.es_base.specs.declared.place.Net.TheVariants.{A, B}

@@ -46,9 +46,9 @@ module _ {P S : Type 0} (net_in : P → Net) (IsOwn : P → Type 0) (Does : S �
   RanAloneBy first [] last = last ≡ first
   RanAloneBy first (step ∷ earlier) last = (before : P) × RanAloneBy first earlier before × IsOwn last × (net_in last ≡ net_in before) × Does step before last
 
--- ---- what they came to
+-- ---- their replies
 
--- what each call of this network came to, that of the first call first
+-- the replies to this network's calls, the first first
 abbrev pub all_in : {S X : Type 0} → (S → List X) → Net → List (Net × S) → List X
 all_in each_in net [] = []
 all_in each_in net (one ∷ earlier) = if is_same_net one.0 net then all_in each_in net earlier ++ each_in one.1 else all_in each_in net earlier

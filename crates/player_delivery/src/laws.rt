@@ -11,12 +11,11 @@ ghost use Rattle.datagram_delivery.specs.Bringing.{BringDatagrams};
 ghost use Rattle.datagram_delivery.specs.Interleaved.{Carried};
 ghost use Rattle.player_delivery.specs.Reported.{AreWritten, lines_sent};
 
-/// If the frames of both traces that come to a link are copies of a sender's frames, of all fragments of a datagram or
-/// of none, on networks that keep what is asked of them, and at most four of its datagrams are in parts at a time, the
-/// report's lines on the ports of this link are those of the messages that were sent to them, of which copies came and
-/// for which their queues had room: each once, whole, in the order in which they were sent to their end, and no other.
-/// Nobody takes a message from a queue of the player. These lines are in the output of the traces, which
-/// `trace_player::play` writes.
+/// The report's lines on a link's ports are those of the messages sent to them, each once and whole, if copies of it
+/// came and its queue had room; and of no other. They stand in the order in which their sending ended. This asks of the
+/// link's frames in both traces that they are copies of a sender's, of all fragments of a datagram or of none, on
+/// networks that keep what is asked of them. At most four of its datagrams may be in parts at a time. Nobody takes a
+/// message from a queue of the player. These lines are in the output of the traces, which `trace_player::play` writes.
 pub fn each_message_is_reported_once()
     ensures lines { (constant : List ℕ) (link : Settings) (frames : List Arrival) (carried : List Carried) (at : ℕ) → BringDatagrams link (past_after constant link frames) carried
         → link_lines at link (past_after constant link frames) ≡ lines_sent link carried at }

@@ -12,9 +12,9 @@ use crate::receiver::Receiver;
 use es_base::PortNo;
 
 impl LinkWithPorts<PortOutlet> {
-    /// How full a port's queue is: the messages that were delivered and not taken, as far as its end of the queue knows
-    /// after it looked, and the greatest number that waited. None if the port samples, or the link has no such port.
-    /// Takes no memory, and waits for nobody; it costs a step for each message that waits.
+    /// Fill level of a port's queue: the messages delivered and not taken, as far as its end of the queue knows after
+    /// it looked, and the greatest number that waited. None if the port samples, or the link has no such port. Takes no
+    /// memory, and waits for nobody; it costs a step for each message that waits.
     pub fn fill(&mut self, port: PortNo) -> Option<Fill>
         ensures core { self.new.core ≡ self.old.core }
         ensures received { self.new.received ≡ self.old.received }
@@ -27,7 +27,7 @@ impl LinkWithPorts<PortOutlet> {
 }
 
 impl Receiver<PortOutlet> {
-    /// How full the queue of a port of the link at this place is. None if the port samples, or there is no such port.
+    /// Fill level of the queue of a port of the link at this place. None if the port samples, or there is no such port.
     /// Takes no memory, and waits for nobody; it costs a step for each message that waits.
     pub fn fill(&mut self, place: usize, port: PortNo) -> Option<Fill>
         ensures stays { LinksStay GivesPort self.old self.new }

@@ -9,7 +9,7 @@ use std::io;
 #[derive(Drop)]
 pub(crate) struct GivenFrame {
     pub net: Net,
-    /// When it came, in microseconds.
+    /// Arrival time, in microseconds.
     pub time: u64,
     pub octets: Vec<u8>,
 }

@@ -47,7 +47,7 @@ fn configuration(alloc: Global) -> io::Result<Config> {
     }
 }
 
-/// A line for each frame: its time and network, and what it came to.
+/// A line for each frame: its time and network, and its verdict or cause.
 fn show_reply(rt: &HostRuntime, frame: &GivenFrame, reply: Reply) -> io::Result<()> {
     let (time, net) = (frame.time, frame.net);
     match reply {

@@ -34,7 +34,7 @@ abbrev pub health_code : Option Receiving → ℕ → ℕ
 health_code None place = not_open
 health_code (Some now) place = if nat_lt place (length now.receiver.links) then done else no_place
 
--- so is the link at this place
+-- the health of the link at this place
 -- rule: EMB-21
 abbrev pub TellsHealth : Option Receiving → ℕ → HealthReply → Type 0
 TellsHealth None place reply = ⊥
@@ -58,7 +58,7 @@ fill_code (Some now) place port = link_queue_code (slice_get now.receiver.links 
 abbrev pub fill_reply_of : Fill → FillReply
 fill_reply_of fill = record { waiting = fill.waiting; greatest = fill.greatest }
 
--- so full is the queue of this port, after its end of the queue looked
+-- the fill level of this port's queue, after its end of the queue looked
 abbrev pub TellsFillOn : Receiving → Receiving → ℕ → ℕ → FillReply → Type 0
 TellsFillOn old new place port reply =
     LinksStay GivesPort old.receiver new.receiver × (new.ends ≡ old.ends)

@@ -19,7 +19,7 @@ use Rattle.sampling_port.specs.declared.reader.Read.TheVariants.{Message, Empty,
 use Rattle.sampling_port.specs.declared.rule.ReaderLog.{ReaderLog}
 use Rattle.sampling_port.specs.declared.rule.WriterLog.{WriterLog}
 use Rattle.sampling_port.specs.declared.rule.SeatView.TheVariants.{Reads, Writes}
-use Rattle.sampling_port.specs.Ends.{IsCopy, IsLastOf, ReadAnswer, ReaderEnd}
+use Rattle.sampling_port.specs.Ends.{IsCopy, ReadAnswer, ReaderEnd, ReadsLast}
 use Rattle.sampling_port.specs.Moments.{IsFoundIn, IsLook, PortState, SeatKnows, SeatStep}
 use Rattle.sampling_port.specs.Plays.{At, first, second}
 use Rattle.sampling_port.specs.Rule.{KeptTable}
@@ -67,10 +67,10 @@ alike xs ys a b =
     sym (a.1 ∙ ap (λ (l : List (List ℕ)). ys ++ l) none ∙ append-nil ys)
 
 pub last_is_read : (published : List (List ℕ)) (v w : ReaderEnd) (tries : ℕ) (before out : List ℕ) (answer : Read) → v.seen ≡ published → 0 < tries → ReadAnswer v w tries before out answer → StartsWithSeen published w.seen
-    → IsLastOf published before out answer
+    → ReadsLast published before out answer
 last_is_read published v w tries before out (Message number time len) told some read begins =
     let same : w.seen ≡ published = alike published w.seen begins (subst (λ (l : List (List ℕ)). StartsWithSeen w.seen l) told read.2.seen) in
-    subst (λ (l : List (List ℕ)). IsLastOf l before out (Message number time len)) same (read.2.some, read.0, read.1)
+    subst (λ (l : List (List ℕ)). ReadsLast l before out (Message number time len)) same (read.2.some, read.0, read.1)
 last_is_read published v w tries before out Empty told some read begins = (sym told ∙ read.0.before, read.1)
 last_is_read published v w tries before out (Busy number) told some read begins =
     let size = length-seen published w.seen begins in let more = read.0.newer in let same = ap (λ (l : List (List ℕ)). length l) told in

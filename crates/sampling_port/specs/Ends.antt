@@ -133,11 +133,10 @@ IsNotHeld v w tries (Overtaken number) = IsReadOvertaken v w tries number
 abbrev pub is_told : ReaderEnd → List (List ℕ) → ReaderEnd
 is_told v published = record v { seen = published }
 
--- what a reader gets that is told before and after: the last of the messages that are published, or none if there
--- is none
+-- what a reader gets that meets its port before and after the read: the last published message, or none
 -- rule: PORT-18
-abbrev pub IsLastOf : List (List ℕ) → List ℕ → List ℕ → Read → Type 0
-IsLastOf published before out (Message number time len) =
+abbrev pub ReadsLast : List (List ℕ) → List ℕ → List ℕ → Read → Type 0
+ReadsLast published before out (Message number time len) =
     (0 < length published) × IsHeadOf published number time len × IsCopy (last_of published) before out len
-IsLastOf published before out Empty = (published ≡ []) × (out ≡ before)
-IsLastOf published before out (Busy number) = ⊥
+ReadsLast published before out Empty = (published ≡ []) × (out ≡ before)
+ReadsLast published before out (Busy number) = ⊥

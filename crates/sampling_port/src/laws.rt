@@ -12,7 +12,7 @@ ghost use Rattle.sampling_port.specs.declared.reader.Read.{Read};
 ghost use Rattle.sampling_port.specs.declared.rule.ReaderLog.{ReaderLog};
 ghost use Rattle.sampling_port.specs.declared.rule.WriterLog.{WriterLog};
 ghost use Rattle.sampling_port.specs.declared.rule.SeatView.TheVariants.{Reads, Writes};
-ghost use Rattle.sampling_port.specs.Ends.{IsCopy, IsLastOf, ReadAnswer, ReaderEnd};
+ghost use Rattle.sampling_port.specs.Ends.{IsCopy, ReadAnswer, ReaderEnd, ReadsLast};
 ghost use Rattle.sampling_port.specs.Moments.{IsFoundIn, IsLook, PortState, SeatKnows, SeatStep};
 ghost use Rattle.sampling_port.specs.Plays.{At};
 ghost use Rattle.sampling_port.specs.Rule.{KeptTable, slots_for};
@@ -52,7 +52,7 @@ pub fn a_look_that_finds_0_finds_nothing_published()
 pub fn what_is_read_between_two_meetings_is_the_last()
     ensures { (published : List (List ℕ)) (v w : ReaderEnd) (tries : ℕ) (before out : List ℕ) (answer : Read) →
         v.seen ≡ published → 0 < tries → ReadAnswer v w tries before out answer → StartsWithSeen published w.seen →
-        IsLastOf published before out answer }
+        ReadsLast published before out answer }
 {}
 
 /// A copy of a message's words has the octets of which these words were made.

@@ -2,7 +2,7 @@
 ghost use Rattle.std.specs.Prelude.{◌≡◌, ℕ, ◌<◌};
 ghost use Rattle.slot_core.specs.declared.view.Phase.TheVariants.{Idle};
 ghost use Rattle.slot_core.specs.State.{StartsWithSeen};
-ghost use Rattle.sampling_port.specs.Ends.{IsLastOf, IsSameEnd, is_told};
+ghost use Rattle.sampling_port.specs.Ends.{IsSameEnd, ReadsLast, is_told};
 ghost use Rattle.sampling_port.specs.Plays.{learns, met, parted, place_at, reader_of, tells_published, writer_again, writer_of};
 ghost use Rattle.sampling_port.specs.Seats.{reader_with};
 ghost use Rattle.sampling_port.specs.declared.rule.SeatView.TheVariants.{Reads, Spent, Writes};
@@ -124,7 +124,7 @@ pub fn read_last<const READERS: usize>(
     ensures end { IsSameEnd reader.old reader.new }
     ensures writer { writer.new ≡ writer.old }
     ensures seen { reader.new.seen ≡ writer.old.published }
-    ensures last { IsLastOf writer.old.published out.old out.new result }
+    ensures last { ReadsLast writer.old.published out.old out.new result }
 {
     meet(writer, reader);
     let answer = reader.read(MOST_TRIES, out);

@@ -1,4 +1,4 @@
-//! What C holds of a receiver: where its room is.
+//! Handle of a receiver: the address of its room.
 ghost use Rattle.std.specs.Prelude.{◌≡◌};
 ghost use Rattle.slot_handles.specs.declared.marked.MarkedReceiver.{MarkedReceiver};
 

@@ -1,4 +1,4 @@
-//! What C holds of a taker, the end of a queue: where its room is.
+//! Handle of a taker, the end of a queue: the address of its room.
 ghost use Rattle.std.specs.Prelude.{◌≡◌};
 ghost use Rattle.slot_handles.specs.declared.marked.MarkedTaker.{MarkedTaker};
 

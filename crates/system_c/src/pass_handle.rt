@@ -1,4 +1,4 @@
-//! What C holds of a network's pass: where its room is.
+//! Handle of a network's pass: the address of its room.
 ghost use Rattle.std.specs.Prelude.{◌≡◌};
 ghost use Rattle.system_c.specs.declared.marked.MarkedPass.{MarkedPass};
 

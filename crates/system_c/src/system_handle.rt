@@ -1,4 +1,4 @@
-//! What C holds of a system: where its room is.
+//! Handle of a system: the address of its room.
 ghost use Rattle.std.specs.Prelude.{◌≡◌};
 ghost use Rattle.system_c.specs.declared.marked.MarkedSystem.{MarkedSystem};
 

@@ -47,12 +47,12 @@ abbrev pub OpensConfig : (Port → ℕ) → Configuration → Option Running →
 OpensConfig readers config None = ⊥
 OpensConfig readers config (Some new) = IsNewSystem readers config new
 
--- so it is of the configuration in these octets
+-- a new system of the configuration in these octets
 -- rule: EMB-25
 abbrev pub Opens : ℕ → List ℕ → Option Running → Type 0
 Opens readers octets new = (config : Configuration) × (config_of octets ≡ Ok config) × OpensConfig (λ _. readers) config new
 
--- so it is of the configuration of a table
+-- a new system of the configuration of a table
 abbrev pub OpensTable : ℕ → List ℕ → List LinkRow → List PortRow → Option Running → Type 0
 OpensTable readers constant links ports new = (config : Configuration) × (table_of constant links ports ≡ Ok config) × OpensConfig (readers_in readers ports) config new
 

@@ -4,7 +4,7 @@
 //! system's; the memory goes back with the last of the three. Each call answers one of the [`codes`], and gives its
 //! results by numbers, in a reply. Of the calls only the two openings take memory, and none waits: while the other
 //! network's thread has a frame's link, [`PassSlot::receive`] answers [`BUSY`](codes::BUSY), and nothing has happened;
-//! `receiver_c` exports them.
+//! `system_c` exports them.
 //!
 //! ```text
 //! let mut system = SystemSlot::new();

@@ -2,9 +2,7 @@
 //! link.
 use es_base::Net;
 use std::alloc::Global;
-use test_inputs::fragments::{PacketName, padding_after};
-use test_inputs::rows::NAV_UDP;
-use test_inputs::{ETHERNET, IP, PAYLOAD, frame_of};
+use test_inputs::rows::frame_of_17;
 use test_inputs_end_system::smallest_for;
 
 /// The numbers of the links that are configured.
@@ -116,20 +114,4 @@ impl Source {
         }
         Some(Burst { net, frames })
     }
-}
-
-/// A frame of link 17 with a fragment, or for `nav`. None if memory runs out.
-fn frame_of_17(alloc: Global, draw: usize, sequence_number: u8) -> Option<Vec<u8>> {
-    let (ip, octets) = match draw {
-        0 => PacketName::First.texts(),
-        1 => PacketName::Last.texts(),
-        2 => PacketName::First3.texts(),
-        _ => (IP, NAV_UDP),
-    };
-    let padding = if draw > 2 {
-        PAYLOAD
-    } else {
-        padding_after(octets)
-    };
-    frame_of(alloc, &[ETHERNET, ip, octets, padding], sequence_number).ok()
 }

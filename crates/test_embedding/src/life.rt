@@ -88,7 +88,7 @@ fn ends_of(rt: &impl Abort, opened: &mut Opened<NoGate>) -> Ends
 
 // ---- the threads
 
-/// What both networks and all partitions came to.
+/// Results of both networks' and all partitions' threads.
 #[derive(Drop)]
 struct Ran {
     a: Ended,
@@ -186,7 +186,7 @@ fn run<R: Abort + Threads + Wait + Sync>(
     }
 }
 
-// ---- what they came to
+// ---- counts
 
 /// The kind of a verdict that the counts tell apart.
 const REDUNDANT: usize = 2;

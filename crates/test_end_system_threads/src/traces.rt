@@ -12,9 +12,8 @@ use std::alloc::Global;
 use std::process::Abort;
 use std::sync::Wait;
 use std::thread::{Threads, join};
-use test_inputs::fragments::{PacketName, padding_after};
-use test_inputs::rows::NAV_UDP;
-use test_inputs::{ETHERNET, IP, PAYLOAD, SECOND_LINK, frame_of};
+use test_inputs::SECOND_LINK;
+use test_inputs::rows::frame_of_17;
 use test_inputs_end_system::{BUILT_IN, Running, config_of, sampling_links, smallest_for};
 
 /// Number of frames that each network gives.
@@ -89,22 +88,6 @@ impl<'a> Source<'a> {
             _ => smallest_for(alloc, 40_000, number),
         }
     }
-}
-
-/// A frame of link 17 with a fragment, or for `nav`. None if memory runs out.
-fn frame_of_17(alloc: Global, draw: usize, sequence_number: u8) -> Option<Vec<u8>> {
-    let (ip, octets) = match draw {
-        0 => PacketName::First.texts(),
-        1 => PacketName::Last.texts(),
-        2 => PacketName::First3.texts(),
-        _ => (IP, NAV_UDP),
-    };
-    let padding = if draw > 2 {
-        PAYLOAD
-    } else {
-        padding_after(octets)
-    };
-    frame_of(alloc, &[ETHERNET, ip, octets, padding], sequence_number).ok()
 }
 
 /// One frame comes, and now and then an epoch of a link is taken out.

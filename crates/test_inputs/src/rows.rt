@@ -4,13 +4,14 @@ use crate::fragments::PacketName::{
     First, First3, First4, First5, First6, FirstAnew, FirstForPos, Last,
 };
 use crate::fragments::{PacketName, padding_after};
-use crate::frames::{IP, PAYLOAD, UDP};
+use crate::frames::{ETHERNET, IP, PAYLOAD, UDP, frame_of};
 use es_base::Net::{A, B};
 use es_base::PacketFault::Checksum;
 use es_base::Verdict::{
     BadHeader, FragmentHeld, FragmentedSample, OutOfSequence, Redundant, Sampled,
 };
 use es_base::{Net, PortNo, Verdict};
+use std::alloc::Global;
 
 /// The sampling port `pos` of the built-in configuration.
 pub const POS: PortNo = PortNo(0);
@@ -43,6 +44,41 @@ pub fn packet_row(row: PacketRow) -> FrameRow<'static> {
     let (ip, octets) = packet.texts();
     let padding = padding_after(octets);
     (net, now, sequence_number, ip, octets, padding, verdict)
+}
+
+/// A frame of link 17, drawn by this number: with a fragment for 0 to 2, and else for `nav`. None if memory runs out.
+pub fn frame_of_17(alloc: Global, draw: usize, sequence_number: u8) -> Option<Vec<u8>> {
+    let (ip, octets) = match draw {
+        0 => PacketName::First.texts(),
+        1 => PacketName::Last.texts(),
+        2 => PacketName::First3.texts(),
+        _ => (IP, NAV_UDP),
+    };
+    let padding = if draw > 2 {
+        PAYLOAD
+    } else {
+        padding_after(octets)
+    };
+    frame_of(alloc, &[ETHERNET, ip, octets, padding], sequence_number).ok()
+}
+
+/// Gives each table of this file to `check`, which opens a new receiver for it.
+pub fn check_worked<F: Fn(&[FrameRow<'_>])>(check: F)
+    requires { F.IsAlwaysCallable check }
+{
+    check(&window().map(smallest_row));
+    check(&turn().map(smallest_row));
+    check(&copy_at_skew_max().map(smallest_row));
+    check(&copy_after_skew_max().map(smallest_row));
+    check(&two_frames_late().map(smallest_row));
+    check(&reset_after_255().map(smallest_row));
+    check(&copy_before_its_first().map(smallest_row));
+    check(&bad_and_good());
+    check(&in_order().map(packet_row));
+    check(&last_first().map(packet_row));
+    check(&first_twice().map(packet_row));
+    check(&five_begin().map(packet_row));
+    check(&joined_for_a_sampling_port().map(packet_row));
 }
 
 // ---- integrity checking

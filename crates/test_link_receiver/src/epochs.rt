@@ -5,7 +5,7 @@ ghost use Rattle.std.specs.Prelude.{◌≡◌};
 use crate::frames::{check_frame, opened};
 use crate::histories::{JOINED_PAYLOAD, Wanted, check_messages};
 use crate::meetings::{check_count, check_meeting, opened_with_taker, take};
-use crate::partitions::{OCTETS, check_read, opened_with_readers};
+use crate::partitions::{OCTETS, opened_with_readers};
 use crate::queued::check_taken;
 use crate::queues::taker_of;
 use es_base::Net::{A, B};
@@ -17,6 +17,7 @@ use std::process::Abort;
 use std::sync::Wait;
 use test_inputs::fragments::PacketName::{First, Last};
 use test_inputs::{IP, LINK, Link, PAYLOAD, UDP};
+use test_inputs_sampling_port::check_read;
 
 /// What happens at a link, in order.
 #[derive(Clone, Copy)]

@@ -64,7 +64,7 @@ fn gone_on(
     state
 }
 
-/// A walk through the history from what waits comes to these messages for `nav`.
+/// A walk through the history, from the pieces that wait, gives these messages for `nav`.
 fn check_walk(
     rt: &impl Abort,
     alloc: Global,
@@ -81,8 +81,7 @@ fn check_walk(
     check_messages(rt, alloc, &messages, wanted);
 }
 
-/// After these packets, each of which is held, and this frame, a walk from what waits of the packets comes to these
-/// messages.
+/// After these packets, each held, and this frame, a walk from the packets' pieces that wait gives these messages.
 fn check_after(
     rt: &(impl Abort + Wait),
     alloc: Global,

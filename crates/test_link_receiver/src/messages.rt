@@ -1,6 +1,6 @@
 //! Messages at the ports: which are taken, and the newest of each port.
 use crate::frames::{check_frames, check_rows, opened_with};
-use crate::partitions::{check_read, opened_with_readers};
+use crate::partitions::opened_with_readers;
 use es_base::Net::A;
 use es_base::Verdict::{Sampled, TooLong};
 use es_base::{LinkSettings, Message, PortNo, Verdict};
@@ -10,6 +10,7 @@ use std::process::Abort;
 use std::sync::Wait;
 use test_inputs::rows::{FrameRow, POS};
 use test_inputs::{IP, LINK, LONGEST_IP, LONGEST_UDP, Link, PAYLOAD, UDP, fives, sampling_port};
+use test_inputs_sampling_port::check_read;
 
 /// The message has this time in microseconds and this payload.
 pub(crate) fn check_message(

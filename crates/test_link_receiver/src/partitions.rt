@@ -16,6 +16,7 @@ use std::process::Abort;
 use std::sync::Wait;
 use test_inputs::rows::POS;
 use test_inputs::{IP, LINK, PAYLOAD, UDP};
+use test_inputs_sampling_port::check_read;
 
 /// The readers of the sampling port at place 0, which is called `pos`.
 pub(crate) fn readers_in(rt: &impl Abort, end: PortEnd) -> [Reader<READERS>; READERS]
@@ -51,20 +52,6 @@ pub(crate) fn opened_with_readers(
     let end = ends.pop().expect(rt, "an end");
     let readers = readers_in(rt, end);
     (state, readers)
-}
-
-/// A reader reads this message: its number, its time in microseconds, and its octets.
-pub(crate) fn check_read(
-    rt: &impl Abort,
-    reader: &mut Reader<READERS>,
-    (number, time): (u64, u64),
-    octets: &[u8],
-) {
-    let mut out = [0; 1471];
-    let len = octets.len();
-    let wanted = Read::Message { number, time, len };
-    assert_eq!(rt; reader.read(MOST_TRIES, &mut out), wanted);
-    assert!(rt; out.starts_with(octets));
 }
 
 /// A reader finds that nothing was published.

@@ -156,7 +156,7 @@ fn give<R: Abort + Wait>(
     }
 }
 
-/// What a run came to.
+/// Result of a run.
 #[derive(Drop)]
 struct Ended {
     settled: Settled,

@@ -9,8 +9,8 @@ use std::thread::Threads;
 use test_inputs::{ReadCall, ScriptedReader};
 use vl_config::BUILT_IN;
 
-/// The kind of the error of the files `c`, `x` and `y`, if any, and what the run comes to: the status,
-/// the line on the standard error, and how many files are asked for.
+/// The kind of the error of the files `c`, `x` and `y`, if any, and the run's results: the status, the
+/// line on the standard error, and the number of files asked for.
 type Unread = ([Option<ErrorKind>; 3], u8, &'static str, u8);
 
 fn unread_files() -> [Unread; 6] {

@@ -40,7 +40,7 @@ fn refused(status: u8, errors: &str) -> Wanted<'_> {
     }
 }
 
-/// A run without words, whose standard input is this trace of network A, comes to this.
+/// A run without words, whose standard input is this trace of network A, ends with these results.
 fn check_input(
     rt: &(impl Abort + Threads + Wait + Sync),
     alloc: Global,
@@ -237,7 +237,7 @@ fn a_fault_of_trace_a_comes_before_a_failed_read_of_b(rt: HostRuntime) {
     check_second(&rt, alloc, "1000 0", 1, "afdx_play: trace A line 1: hex\n");
 }
 
-/// The run of the smallest frame over such streams comes to this.
+/// The run of the smallest frame over such streams ends with these results.
 fn check_streams(
     rt: &(impl Abort + Threads + Wait + Sync),
     alloc: Global,

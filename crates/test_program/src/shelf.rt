@@ -118,7 +118,7 @@ pub(crate) struct Given<'a> {
     pub errors: &'a [WriteCall],
 }
 
-/// What a run has to come to.
+/// Results that a run has to give.
 #[derive(Clone, Copy)]
 pub(crate) struct Wanted<'a> {
     pub status: u8,
@@ -144,8 +144,8 @@ fn writer_of<'a>(alloc: Global, calls: &'a [WriteCall]) -> ScriptedWriter<'a> {
     }
 }
 
-/// A run with these words and with what is given comes to this. If the standard error fails it is not
-/// told.
+/// A run with these words and with what is given ends with these results. If the standard error fails it
+/// is not told.
 pub(crate) fn check_given(
     rt: &(impl Abort + Threads + Wait + Sync),
     alloc: Global,
@@ -172,7 +172,7 @@ pub(crate) fn check_given(
     assert!(rt; shelf.asked == wanted.asked, "{}", shelf.asked);
 }
 
-/// A run with these words, this standard input and these files comes to this.
+/// A run with these words, this standard input and these files ends with these results.
 pub(crate) fn check_run(
     rt: &(impl Abort + Threads + Wait + Sync),
     alloc: Global,
@@ -190,8 +190,8 @@ pub(crate) fn check_run(
     check_given(rt, alloc, words, given, wanted);
 }
 
-/// A run with the words of a whole command line over the files `c`, `x` and `y` comes to this. The
-/// standard input has a frame, which is not read.
+/// A run with the words of a whole command line over the files `c`, `x` and `y` ends with these results.
+/// The standard input has a frame, which is not read.
 pub(crate) fn check_files(
     rt: &(impl Abort + Threads + Wait + Sync),
     alloc: Global,

@@ -7,7 +7,7 @@ use std::thread::Threads;
 use test_inputs::{ReadCall, ScriptedReader, WriteCall};
 
 /// Words, what reading the standard input does after a frame, what writing the standard output does, and
-/// what the run comes to: the status, the output and the line on the standard error.
+/// the run's results: the status, the output and the line on the standard error.
 type Row = (
     &'static str,
     ReadCall<'static>,

@@ -9,7 +9,7 @@ use test_inputs::ScriptedReader;
 use test_inputs::outputs::{FRESH, LINE, NO_FRAMES};
 use vl_config::BUILT_IN;
 
-const HELP: &str = "Plays the hex traces of two redundant networks through a receiver
+pub(crate) const HELP: &str = "Plays the hex traces of two redundant networks through a receiver
 
 Usage: afdx_play [OPTIONS] --config <FILE> --a <FILE> --b <FILE>
 
@@ -24,7 +24,7 @@ Options:
   -V, --version            Print version
 ";
 
-const REFUSAL: &str = "error: the following required arguments were not provided:
+pub(crate) const REFUSAL: &str = "error: the following required arguments were not provided:
   --b <FILE>
 
 Usage: afdx_play --config <FILE> --a <FILE> --b <FILE>
@@ -32,8 +32,8 @@ Usage: afdx_play --config <FILE> --a <FILE> --b <FILE>
 For more information, try '--help'.
 ";
 
-/// Words, the standard input, and what a run with no files comes to: the status, the output and what is on
-/// the standard error.
+/// Words, the standard input, and the results of a run with no files: the status, the output and the text
+/// on the standard error.
 type Row = (&'static str, &'static str, u8, &'static str, &'static str);
 
 fn runs_without_files() -> [Row; 5] {

@@ -33,7 +33,7 @@ fn steps() -> [Step; 10] {
     ]
 }
 
-/// What they come to.
+/// Lines of the output that they give.
 const LINES: &str = "100 A vl 17 0 sampled pos 1\n\
     200 B vl 17 1 redundant\n\
     1000 A vl 17 2 fragment-held\n\

@@ -1,4 +1,4 @@
-//! Tests of configurations: documents, each with the settings or the fault that it has to come to. They show
+//! Tests of configurations: documents, each with the settings or the fault that it has to give. They show
 //! that the definitions say what the formats mean, key by key, and which of two faults is the first.
 #![tactic(auto)]
 

@@ -16,7 +16,7 @@ pub record WriterEnd : Type 0 where
   pub longest : ℕ
   pub published : List Message
 
--- a reader: the messages up to that which it has, and those of which it knows that they were published
+-- a reader: the messages up to its own, and all known to be published
 pub record ReaderEnd : Type 0 where
   pub buffer : TableId
   pub longest : ℕ

@@ -36,7 +36,7 @@ pub struct LinkRow {
     pub reassembly: u64,
     /// The window of integrity checking.
     pub window: u32,
-    /// How many ports it has.
+    /// Number of its ports.
     pub ports: usize,
 }
 
@@ -54,11 +54,11 @@ pub struct PortRow {
     pub max: u32,
     /// The refresh period in microseconds, or the depth of the queue.
     pub limit: u64,
-    /// How many octets its name has.
+    /// Length of its name, in octets.
     pub name_len: usize,
     /// Its name, at the beginning.
     pub name: [u8; 16],
-    /// How many readers it has if it samples, 1 to 8; 0: as many as the opening is told. The configuration doesn't have
+    /// Number of its readers if it samples, 1 to 8; 0: as many as the opening is told. The configuration doesn't have
     /// it.
     pub readers: u32,
 }
