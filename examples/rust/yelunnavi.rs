@@ -128,7 +128,8 @@ replies! {
     /// How a link is: whether a frame came on each network, 1 or 0, when the latest did, in microseconds, and how many
     /// datagrams of which fragments came were given up.
     Health { came_a: u32, came_b: u32, latest_a: u64, latest_b: u64, given_up: u64 }
-    /// How full the queue of a port is: how many messages wait, and the greatest number that waited.
+    /// How full the queue of a port is: how many messages wait, and the greatest number that waited, counted after each
+    /// message that was delivered.
     Fill { waiting: usize, greatest: usize }
     /// A port.
     Port { service: Service, address: u32, udp: u32, max: u32, limit: u64, name_len: usize }

@@ -68,7 +68,7 @@ class Health(NamedTuple):
 
 
 class Fill(NamedTuple):
-    """How many messages wait in a queue, and the greatest number that waited."""
+    """How many messages wait in a queue, and the greatest number that waited, counted after each message that was delivered."""
     waiting: int
     greatest: int
 
