@@ -292,6 +292,12 @@ def allowed_of_c(tree):
     return texts(r"case YELUNNAVI_KEY_(\w+): return", body)
 
 
+def allowed_of_rust(tree):
+    """The same of the Rust wrapper."""
+    body = found(r"fn allowed\(self\).*?^    \}", (tree / RUST).read_text(encoding="utf-8"), f"{RUST}: allowed")[0]
+    return texts(r"Key::(\w+) =>", body)
+
+
 def allowed_of_source(tree):
     """The same by the program."""
     return {"NONE": "", **texts(r"Key::(\w+) =>", function((tree / EXPLANATION).read_text(encoding="utf-8"), "allowed_of"))}

@@ -113,6 +113,8 @@ PLANTED = [
     (WORDS, 'return " out of range"', 'return " is out of range"', "word of ConfigFault::RANGE"),
     (WORDS, 'return "1 to 64 tables"', 'return "1 to 65 tables"', "what is allowed of LINK"),
     (faces.EXPLANATION, 'Key::Depth => "an integer from 1 to 64"', 'Key::Depth => "an integer from 1 to 63"', "what is allowed of DEPTH"),
+    (RUST, 'Key::MAX => "an integer from 0 to 1471 of', 'Key::MAX => "an integer from 1 to 1471 of', f"{RUST}: what is allowed of MAX"),
+    (RUST, '            Key::KIND => "\\"sampling\\" or \\"queuing\\"",\n', "", "no what is allowed of KIND"),
     (WORDS, 'return "refresh_us"', 'return "refresh-us"', "word of Key::REFRESH_US"),
     (RUST, '"fragment-held"', '"held"', "word of Verdict::FRAGMENT_HELD: 'held'; in the source: 'fragment-held'"),
     (RUST, '"{} out of range"', '"out of range"', "word of ConfigFault::RANGE"),
