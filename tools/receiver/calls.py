@@ -8,8 +8,9 @@ from verdict_words import PORT_KINDS
 
 A, B = range(2)
 NETWORKS = "AB"
-# The fields of struct yelunnavi_frame, yelunnavi_taken and yelunnavi_read, which are read at each call.
-FRAME, TAKEN, READ = (struct.Struct(fields).unpack_from for fields in ("IIQIIQQ", "IxxxxQQ", "IIQQQ"))
+# The fields of struct yelunnavi_frame, yelunnavi_taken and yelunnavi_read, which are read at each call, laid as in C: I is a
+# uint32_t, Q a uint64_t, N a size_t. checks/interface compares them.
+FRAME, TAKEN, READ = (struct.Struct(fields).unpack_from for fields in ("IINIIQQ", "IQN", "IIQQN"))
 
 
 class Refused(Exception):
