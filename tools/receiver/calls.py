@@ -22,13 +22,14 @@ class Refused(Exception):
 
 
 class ConfigFault(Exception):
-    """The first fault of a configuration: the player's words for it, its key and, in brackets, what that may have, and the places
-    of its link and port."""
+    """The first fault of a configuration: the player's words for it, its key and, in brackets, what that may have, the places of
+    its link and port, and the line of the text, from 1: None if the library finds none."""
 
     def __init__(self, found):
         self.key = words("key_word")[found.key] or None
         self.link = found.link if found.level > 0 else None
         self.port = found.port if found.level > 1 else None
+        self.line = found.line or None
         before, after = (words(f"fault_{part}").get(found.fault, "") for part in ("before", "after"))
         self.allowed = f" (allowed: {words('key_allowed')[found.key]})" if self.key else ""
         super().__init__(f"{before}{self.key or ''}{after}")
