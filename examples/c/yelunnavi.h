@@ -436,8 +436,8 @@ uint32_t yelunnavi_receiver_hand_reader(struct yelunnavi_receiver *h, struct yel
 uint32_t yelunnavi_receiver_hand_taker(struct yelunnavi_receiver *h, struct yelunnavi_taker *to, const uint8_t *name, size_t len);
 
 /* ---- a system: a receiver for two threads, one a network. It keeps no frame either, and its links, ports, verdicts and limits
-   are those of a receiver: the same frames in the same order come to the same. It tells neither health nor fill: a pass could look
-   at a link that the thread of the other network has only by waiting for it. See BUSY above */
+   are those of a receiver: the same frames in the same order come to the same. It tells neither health nor fill: both
+   need a look at the link, which the thread of the other network may have just then. See BUSY above */
 
 /* Opens the system of a configuration: as yelunnavi_receiver_open, and with its answers. */
 uint32_t yelunnavi_system_open(struct yelunnavi_system *h, const uint8_t *text, size_t len, size_t readers, struct yelunnavi_fault *fault);
