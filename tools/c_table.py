@@ -14,6 +14,8 @@ import tomllib
 CONSTANT, WINDOW = "03000000", 2
 LARGEST = {"sampling": 1471, "queuing": 8192}
 LIMITS = {"sampling": "refresh_us", "queuing": "depth"}
+# What stands in a table of no rows, and isn't read: C before C23 has no empty one.
+NO_LINK, NO_PORT = "    {0, 0, 0, 0, 0, 0},", "    {0, 0, 0, 0, 0, 0, {0}, 0},"
 
 
 def number(value, bits=32):
@@ -47,9 +49,9 @@ def table(config):
         "/* The table of a configuration, for yelunnavi_receiver_open_table (tools/c_table.py). */",
         f"static const uint8_t table_constant[4] = {{{constant}}};",
         "/* vl, redundancy, skew_max, reassembly, window, ports */",
-        "static const struct yelunnavi_link_row table_links[] = {", *map(link_row, config["link"]), "};",
+        "static const struct yelunnavi_link_row table_links[] = {", *(list(map(link_row, config["link"])) or [NO_LINK]), "};",
         "/* service, address, udp, max, limit, name_len, name, readers */",
-        f"static const struct yelunnavi_port_row table_ports[{len(ports) or 1}] = {{", *map(port_row, ports), "};",
+        "static const struct yelunnavi_port_row table_ports[] = {", *(list(map(port_row, ports)) or [NO_PORT]), "};",
         f"enum {{ TABLE_LINKS = {len(config['link'])}, TABLE_PORTS = {len(ports)} }};",
     ]
 

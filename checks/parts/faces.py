@@ -5,6 +5,7 @@ their names, and a word for each. Each is in the source's words, whatever the fa
 name and a type; `octets` are pointed to and read, `FrameReply out` is pointed to and written, `room` is an address.
 """
 import re
+from itertools import zip_longest
 from typing import NamedTuple
 
 import parts.options  # noqa: F401  (the tools are on the path then)
@@ -21,6 +22,11 @@ BOUNDS = ("crates/es_base/src/config.rt", "crates/es_base/src/settings.rt", "cra
           "crates/es_base/src/name.rt", "crates/mailbox_port/src/count.rt")
 C, RUST, ADA = "examples/c/yelunnavi.h", "examples/rust/yelunnavi.rs", "examples/ada/yelunnavi.ads"
 WORDS = "examples/c/yelunnavi_words.h"
+PYTHON, BODY_OF_ADA = "tools/receiver/calls.py", "examples/ada/yelunnavi.adb"
+# Where the functions for memory are defined, in C and in Rust.
+MEMORY_OF_C = ("tools/heap.c", "examples/c/pool.c", "bench/peer/pass_pool.c",
+               *(f"checks/parts/{name}" for name in ("memory.h", "drive.c", "closing.c")))
+MEMORY_OF_RUST = "examples/rust/play.rs"
 KINDS_OF_HANDLES = ("Receiver", "System", "Pass", "Reader", "Taker")
 HANDLES = {kind: f"crates/{'system_c' if kind in ('System', 'Pass') else 'slot_handles'}/src/{kind.lower()}_handle.rt"
            for kind in KINDS_OF_HANDLES}
@@ -44,6 +50,10 @@ STRUCTS_OF_RUST = {
     "HealthReply": "Health", "FillReply": "Fill",
     "PortReply": "Port", "PlaceReply": "Place", "LimitReply": "Limits", "LinkRow": "LinkRow", "PortRow": "PortRow", "HeldOctets": "Held",
 }
+# The structs that the Python binding takes apart itself, by their names there; all else it reads from the header. And the types of
+# their fields, by their letters.
+STRUCTS_OF_PYTHON = {"FRAME": "FrameReply", "TAKEN": "TakeReply", "READ": "ReadReply"}
+LETTERS = {"I": "u32", "Q": "u64", "N": "usize"}
 # What a number's name begins with in C, after YELUNNAVI_, and in Ada. In Rust it is a constant of a type of its group.
 PREFIXES = {
     "Code": ("", ""),
@@ -292,6 +302,12 @@ def allowed_of_c(tree):
     return texts(r"case YELUNNAVI_KEY_(\w+): return", body)
 
 
+def allowed_of_rust(tree):
+    """The same of the Rust wrapper."""
+    body = found(r"fn allowed\(self\).*?^    \}", (tree / RUST).read_text(encoding="utf-8"), f"{RUST}: allowed")[0]
+    return texts(r"Key::(\w+) =>", body)
+
+
 def allowed_of_source(tree):
     """The same by the program."""
     return {"NONE": "", **texts(r"Key::(\w+) =>", function((tree / EXPLANATION).read_text(encoding="utf-8"), "allowed_of"))}
@@ -443,6 +459,66 @@ def face_of_ada(tree):
 
 def name_in_ada(group, name):
     return PREFIXES[group][1] + name.title()
+
+
+# ---- Python
+
+
+def structs_of_python(tree):
+    """The structs that are taken apart at each call: their fields by the names to which they are given, and the letters."""
+    text = (tree / PYTHON).read_text(encoding="utf-8")
+    names, letters = found(r"^([A-Z, ]+) = \(struct\.Struct\(fields\)\.unpack_from for fields in \(([^)]*)\)\)$", text,
+                           f"{PYTHON}: layouts").groups()
+    made = {}
+    for name, layout in zip_longest(split_at(",", names), re.findall(r'"(\w+)"', letters), fillvalue=""):
+        fields = split_at(",", found(rf"^ +([\w, ]+) = {name}\(", text, f"{PYTHON}: the fields of {name}")[1])
+        made[STRUCTS_OF_PYTHON.get(name, name)] = [(name_of_ada(field), LETTERS.get(letter, letter))
+                                                   for field, letter in zip_longest(fields, layout, fillvalue="nothing")]
+    return made
+
+
+# ---- what the header has beside the library's calls
+
+
+def memory_of_c(tree, path=C):
+    """The functions for memory that a file in C declares or defines."""
+    text = re.sub(r"/\*.*?\*/", "", (tree / path).read_text(encoding="utf-8"), flags=re.S)
+    declared = re.findall(r"^(struct rattle_tried|void) (rattle_\w+)\(([^)]*)\)\s*[;{]", text, re.M)
+    return {name: (result.removesuffix("void") or None, [declared_in_c(part) for part in split_at(",", words)])
+            for result, name, words in declared}
+
+
+def tried_of_c(tree):
+    """What they answer, by the header."""
+    text = re.sub(r"/\*.*?\*/", "", (tree / C).read_text(encoding="utf-8"), flags=re.S)
+    fields = found(r"^struct rattle_tried \{(.*?)\}", text, f"{C}: rattle_tried")[1]
+    return {"rattle_tried": [declared_in_c(part) for part in split_at(";", fields)]}
+
+
+def memory_of_rust(tree):
+    """The same functions in Rust, and what they answer there."""
+    text, results = (tree / MEMORY_OF_RUST).read_text(encoding="utf-8"), {"": None, "Tried": "struct rattle_tried"}
+    types = {"*mut c_void": ROOM}
+
+    def pairs(words):
+        return [(name.removeprefix("_"), types.get(kind, kind)) for name, kind in (part.split(": ") for part in split_at(",", words))]
+
+    defined = re.findall(r'^pub (?:unsafe )?extern "C" fn (rattle_\w+)\(([^)]*)\)(?: -> (\w+))? \{', text, re.M)
+    tried = found(r"^#\[repr\(C\)\]\npub struct Tried \{(.*?)\}", text, f"{MEMORY_OF_RUST}: Tried")[1]
+    return {name: (results.get(result, result), pairs(words)) for name, words, result in defined}, {"rattle_tried": pairs(tried)}
+
+
+# The functions that make a handle, by the kind and what follows it.
+INITS = {C: r"^static inline uint32_t yelunnavi_(\w+)_init(\(.*?^\})", BODY_OF_ADA: r"^   function Init \(H : out (\w+)(; .*?)^   end Init;"}
+
+
+def inits(tree, path):
+    """The bodies of the functions that make a handle, by its kind, whose name is KIND in all of them."""
+    bodies = re.findall(INITS[path], (tree / path).read_text(encoding="utf-8"), re.M | re.S)
+    return {HANDLES_OF_ADA.get(kind, kind).capitalize(): " ".join(re.sub(rf"(?<![A-Za-z]){kind}(?![a-z])", "KIND", body).split())
+            for kind, body in bodies}
+
+
 
 
 # ---- the faces: the file, how it is read, how a number is called there, and what the source is there

@@ -17,9 +17,9 @@ struct rattle_tried rattle_alloc(size_t octets, size_t align) {
     return answered(at, (void *)&blocks);
 }
 
-struct rattle_tried rattle_realloc(void *old, size_t kept, size_t octets, size_t align) {
+struct rattle_tried rattle_realloc(void *at, size_t kept, size_t octets, size_t align) {
     (void)kept, (void)align;
-    return answered(++requests == refused ? NULL : realloc(old, octets ? octets : 1), old);
+    return answered(++requests == refused ? NULL : realloc(at, octets ? octets : 1), at);
 }
 
 void rattle_dealloc(void *at) {

@@ -1,7 +1,7 @@
 /* stack CONFIG A B: how many octets of stack each call of the library takes, the most that was seen, as lines of a name and a
    number: of openings, of this configuration, of the largest one, of those with a fault at their end, and of texts that are
    nested as deep as they may be; of each frame of two traces, by the kind of its verdict; of all other calls, after the frames.
-   With SYSTEM the calls are those of a system and of both its passes.
+   With SYSTEM the calls are those of a system and of both its passes, which tell neither health nor fill.
    A call runs on a stack that was painted before, and what it has written to is counted, less what a call that does nothing
    writes to. */
 #define _XOPEN_SOURCE 700
@@ -77,6 +77,12 @@ static void close_it(void) { yelunnavi_receiver_close(&receiver); }
 static void receive(void) { code = yelunnavi_receiver_receive(&receiver, net, given->time, given->octets, given->len, &frame); }
 static void tell_count(void) { code = yelunnavi_receiver_count(&receiver, 0, net, YELUNNAVI_VERDICT_SAMPLED, &count); }
 static void tell_filtered(void) { code = yelunnavi_receiver_filtered(&receiver, net, YELUNNAVI_FILTER_NOT_IP, &count); }
+#ifndef SYSTEM
+static struct yelunnavi_health health_reply;
+static struct yelunnavi_fill fill_reply;
+static void tell_health(void) { code = yelunnavi_receiver_health(&receiver, at_link, &health_reply); }
+static void tell_fill(void) { code = yelunnavi_receiver_fill(&receiver, at_link, at_port, &fill_reply); }
+#endif
 static void tell_links(void) { code = yelunnavi_receiver_links(&receiver, &links); }
 static void tell_link(void) { code = yelunnavi_receiver_link(&receiver, at_link, &link_reply); }
 static void tell_port(void) { code = yelunnavi_receiver_port(&receiver, at_link, at_port, &port_reply, &name); }
@@ -206,10 +212,20 @@ static void of_a_taker(void) {
     call("close", close_taker);
 }
 
+/* How a link is, and how full each of its queues: before the messages in it are taken. */
+static void of_health(void) {
+#ifndef SYSTEM
+    call("health", tell_health);
+    if (code != YELUNNAVI_DONE) exit(4);
+    for (at_port = 0; at_port < link_reply.ports; at_port++) call("fill", tell_fill);
+#endif
+}
+
 static void of_ends(void) {
     call("links, link, port, place", tell_links), call("count", tell_count), call("count", tell_filtered);
     for (at_link = 0; at_link < links; at_link++) {
         call("links, link, port, place", tell_link);
+        of_health();
         for (at_port = 0; at_port < link_reply.ports; at_port++) {
             call("links, link, port, place", tell_port), call("links, link, port, place", tell_place);
             if (port_reply.service == YELUNNAVI_SERVICE_SAMPLING) of_a_reader(); else of_a_taker();

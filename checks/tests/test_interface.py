@@ -11,7 +11,7 @@ C, WORDS, RUST, ADA = faces.C, faces.WORDS, faces.RUST, faces.ADA
 HANDLES, CALLS = [*faces.HANDLES.values()], faces.CALLS[0]
 SOURCES = [*faces.CALLS, *HANDLES, faces.HELD, faces.REPLIES, faces.CODES, faces.NUMBERS, faces.VERDICTS, faces.FAULTS, faces.EXPLANATION, faces.ROWS,
            *faces.BOUNDS]
-READ = [*SOURCES, C, WORDS, RUST, ADA]
+READ = [*SOURCES, C, WORDS, RUST, ADA, faces.PYTHON, faces.BODY_OF_ADA, *faces.MEMORY_OF_C, faces.MEMORY_OF_RUST]
 
 # A file, what stands there, what is planted in its place where it stands first, and what is told of it.
 PLANTED = [
@@ -31,6 +31,26 @@ PLANTED = [
     (ADA, "Where : access constant Unsigned_8; Length : size_t;", "Length : size_t; Where : access constant Unsigned_8;", "struct HeldOctets"),
     (faces.REPLIES, "    pub number: u64,\n    /// Arrival time, in microseconds.\n    pub time: u64,",
      "    pub time: u64,\n    pub number: u64,", "struct ReadReply"),
+    # what the Python binding takes apart itself
+    (faces.PYTHON, '"IINIIQQ"', '"IINIIQ"', "struct FrameReply"),
+    (faces.PYTHON, '"IQN"', '"QIN"', "struct TakeReply"),
+    (faces.PYTHON, "kind, cause, link, vl, port, place, number = FRAME(", "kind, cause, link, port, vl, place, number = FRAME(", "struct FrameReply"),
+    (faces.PYTHON, "found, valid, number, time, length = READ(", "found, valid, time, number, length = READ(", "struct ReadReply"),
+    (faces.REPLIES, "to take. 1: a message.\n    pub found: u32,", "to take. 1: a message.\n    pub found: u64,", f"{faces.PYTHON}: struct TakeReply"),
+    # the functions for memory
+    (C, "bool ok;  /* false if there is no memory */\n    void *at; /* never null, with false too */", "void *at; bool ok;", "struct rattle_tried"),
+    (C, "rattle_realloc(void *at, size_t kept, size_t octets,", "rattle_realloc(void *at, size_t octets, size_t kept,", "tools/heap.c: function rattle_realloc"),
+    (C, "void rattle_dealloc(void *at);\n", "", "function rattle_dealloc: the header has none"),
+    (faces.MEMORY_OF_C[0], "rattle_alloc(size_t octets, size_t align)", "rattle_alloc(size_t align, size_t octets)", "function rattle_alloc"),
+    (faces.MEMORY_OF_C[1], "rattle_realloc(void *at, size_t kept, size_t octets,", "rattle_realloc(void *at, size_t octets, size_t kept,",
+     "examples/c/pool.c: function rattle_realloc"),
+    (faces.MEMORY_OF_RUST, "_kept: usize, octets: usize", "octets: usize, _kept: usize", "function rattle_realloc"),
+    (faces.MEMORY_OF_RUST, "    ok: bool,\n    at: *mut c_void,", "    at: *mut c_void,\n    ok: bool,", "struct rattle_tried"),
+    # the functions that make handles
+    (C, "yelunnavi_room_code(room, octets, yelunnavi_pass_room())", "yelunnavi_room_code(room, octets, yelunnavi_reader_room())", "init of a Pass"),
+    (C, "if (code == YELUNNAVI_DONE) yelunnavi_taker_make(room);", "yelunnavi_taker_make(room);", "init of a Taker"),
+    (C, "if (code == YELUNNAVI_DONE) yelunnavi_receiver_make(room);", "yelunnavi_receiver_make(room);", "init of a Reader"),
+    (faces.BODY_OF_ADA, "Room_Code (Room, Length, End_System_Room)", "Room_Code (Room, Length, Pass_Room)", "init of a System"),
     # wrong widths, of a field, of a parameter and of a result
     (C, "uint32_t level;", "uint64_t level;", "struct FaultReply"),
     (C, "uint32_t net, uint64_t now, const uint8_t *frame", "uint32_t net, uint32_t now, const uint8_t *frame",
@@ -113,6 +133,8 @@ PLANTED = [
     (WORDS, 'return " out of range"', 'return " is out of range"', "word of ConfigFault::RANGE"),
     (WORDS, 'return "1 to 64 tables"', 'return "1 to 65 tables"', "what is allowed of LINK"),
     (faces.EXPLANATION, 'Key::Depth => "an integer from 1 to 64"', 'Key::Depth => "an integer from 1 to 63"', "what is allowed of DEPTH"),
+    (RUST, 'Key::MAX => "an integer from 0 to 1471 of', 'Key::MAX => "an integer from 1 to 1471 of', f"{RUST}: what is allowed of MAX"),
+    (RUST, '            Key::KIND => "\\"sampling\\" or \\"queuing\\"",\n', "", "no what is allowed of KIND"),
     (WORDS, 'return "refresh_us"', 'return "refresh-us"', "word of Key::REFRESH_US"),
     (RUST, '"fragment-held"', '"held"', "word of Verdict::FRAGMENT_HELD: 'held'; in the source: 'fragment-held'"),
     (RUST, '"{} out of range"', '"out of range"', "word of ConfigFault::RANGE"),

@@ -12,6 +12,7 @@ from receiver import A, B, ConfigFault, Receiver, Refused, System
 from workbench import hex_traces, playing
 from workbench.faults import Fault
 
+GOOD = CONFIG.read_text()
 FRAMES = [packet.octets for packet in test_captures.read(CAPTURES / "a.pcap")]
 
 
@@ -102,11 +103,13 @@ def test_what_is_refused():
 
 
 @pytest.mark.parametrize("old, new, told", [
-    ("vl = 18", "vl = 17", ("link given twice", None, 1, None)),
-    ("depth = 4", "depth = 65", ("depth out of range", "depth", 0, 1)),
-    ("[[link]]\nvl = 17", "constant = 3\n[[link]]\nvl = 17", ("wrong kind of constant", "constant", None, None)),
-    ("vl = 17", "vl =", ("not TOML", None, None, None))])
+    ("vl = 18", "vl = 17", ("link given twice", None, 1, None, 23)),
+    ("depth = 4", "depth = 65", ("depth out of range", "depth", 0, 1, 20)),
+    ("[[link]]\nvl = 17", "constant = 3\n[[link]]\nvl = 17", ("wrong kind of constant", "constant", None, None, 3)),
+    ("vl = 17", "vl =", ("not TOML", None, None, None, 4)),
+    (GOOD, "link = [{vl = 65536}]", ("vl out of range", "vl", 0, None, None))])
 def test_faults_have_their_place(old, new, told):
     with pytest.raises(ConfigFault) as found:
-        Receiver(CONFIG.read_text().replace(old, new, 1))
-    assert (str(found.value), found.value.key, found.value.link, found.value.port) == told
+        Receiver(GOOD.replace(old, new, 1))
+    fault = found.value
+    assert (str(fault), fault.key, fault.link, fault.port, fault.line) == told

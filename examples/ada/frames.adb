@@ -36,6 +36,16 @@ procedure Frames is
       if Answer /= Done then raise Program_Error with "code" & Answer'Image; end if;
    end Check;
 
+   --  The fault of a configuration is a line on the standard error: its numbers, its place, and the line of the text.
+   procedure Check_Opened (Answer : Code) is
+   begin
+      if Answer = Faulty then
+         Put_Line (Standard_Error, "fault" & Fault.Fault'Image & ", key" & Fault.Key'Image & ", level" & Fault.Level'Image
+                   & ", link" & Fault.Link'Image & ", port" & Fault.Port'Image & ", line" & Fault.Line'Image);
+      end if;
+      Check (Answer);
+   end Check_Opened;
+
    procedure Show (Net : Unsigned_32; Now : Unsigned_64) is
    begin
       Check (Receive (Link_17, Net, Now, Frame, Frame'Length, Told));
@@ -46,7 +56,7 @@ begin
    Check (Init (Link_17, Receiver_Space'Address, Receiver_Space'Length));
    Check (Init (Pos, Reader_Space'Address, Reader_Space'Length));
    Check (Init (Nav, Taker_Space'Address, Taker_Space'Length));
-   Check (Open (Link_17, As_Octets (Text), Text'Length, 1, Fault));
+   Check_Opened (Open (Link_17, As_Octets (Text), Text'Length, 1, Fault));
    Check (Hand_Reader (Link_17, Pos, As_Octets ("pos"), 3));
    Check (Hand_Taker (Link_17, Nav, As_Octets ("nav"), 3));
    Frame (0 .. 41) := Start;

@@ -1,5 +1,5 @@
 /* The receiver for C on a machine with nothing on it: no operating system and no C library. It takes the frames of a table and
-   writes a line for each to the machine's serial port, as afdx_play prints it. */
+   writes a line for each to the machine's serial port, as afdx_play prints it; or a line for the fault of the configuration. */
 #include "../c/yelunnavi_words.h"
 #include "frames.h"
 
@@ -63,9 +63,22 @@ static void show(const struct frame *frame) {
     put("\n");
 }
 
+/* The fault of the configuration as afdx_play words it, where it stands, and what is allowed. */
+static void show_fault(const struct yelunnavi_fault *fault) {
+    const char *key = yelunnavi_key_word(fault->key);
+    put("bare: "), put(yelunnavi_fault_before(fault->fault)), put(key), put(yelunnavi_fault_after(fault->fault));
+    if (fault->level >= YELUNNAVI_LEVEL_LINK) put(", link "), put_number(fault->link);
+    if (fault->level == YELUNNAVI_LEVEL_PORT) put(", port "), put_number(fault->port);
+    if (fault->line) put(", line "), put_number(fault->line);
+    if (fault->key) put(" ("), put(key), put(": "), put(yelunnavi_key_allowed(fault->key)), put(")");
+    put("\n");
+}
+
 void main(void) {
     struct yelunnavi_fault fault;
     if (yelunnavi_abi() != YELUNNAVI_ABI || yelunnavi_receiver_init(&receiver, room, sizeof room) != YELUNNAVI_DONE) return;
-    if (yelunnavi_receiver_open(&receiver, (const uint8_t *)CONFIG, sizeof CONFIG - 1, READERS, &fault) != YELUNNAVI_DONE) return;
+    uint32_t code = yelunnavi_receiver_open(&receiver, (const uint8_t *)CONFIG, sizeof CONFIG - 1, READERS, &fault);
+    if (code == YELUNNAVI_FAULTY) show_fault(&fault);
+    if (code != YELUNNAVI_DONE) return;
     for (size_t k = 0; k < sizeof FRAMES / sizeof FRAMES[0]; k++) show(&FRAMES[k]);
 }

@@ -7,8 +7,7 @@
    (SO_TIMESTAMPNS), of CLOCK_REALTIME, and so is the `now` of the partition that reads: both are of one clock, and a step of that
    clock is a step of both. */
 #define _GNU_SOURCE
-#include "yelunnavi.h"
-#include "yelunnavi_words.h"
+#include "fault.h"
 
 #include <arpa/inet.h>
 #include <errno.h>
@@ -78,9 +77,7 @@ static void open_text(const char *name) {
     size_t len = fread(text, 1, sizeof text, file);
     fclose(file);
     uint32_t code = yelunnavi_receiver_open(&receiver, text, len, READERS, &fault);
-    if (code == YELUNNAVI_FAULTY)
-        fprintf(stderr, "live: %s:%" PRIu64 ": %s%s%s\n", name, fault.line, yelunnavi_fault_before(fault.fault),
-                yelunnavi_key_word(fault.key), yelunnavi_fault_after(fault.fault));
+    if (code == YELUNNAVI_FAULTY) show_fault("live", &fault);
     errno = 0;
     check(code == YELUNNAVI_DONE, yelunnavi_code_word(code));
 }

@@ -2,7 +2,7 @@
    and `nav`, or have names of the command line. */
 #ifndef PARTITIONS_H
 #define PARTITIONS_H
-#include "yelunnavi.h"
+#include "fault.h"
 
 #include <inttypes.h>
 #include <pthread.h>
@@ -47,6 +47,12 @@ static void *take_nav(void *unused) {
         } while (message.found);
     }
     return unused;
+}
+
+/* Whether an opening was done. The fault of a configuration is printed. */
+static bool is_opened(const char *program, uint32_t code, const struct yelunnavi_fault *fault) {
+    if (code == YELUNNAVI_FAULTY) show_fault(program, fault);
+    return code == YELUNNAVI_DONE;
 }
 
 static bool make_partitions(void) {

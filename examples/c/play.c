@@ -1,5 +1,5 @@
 /* play CONFIG A B [AT]: plays two traces as afdx_play does, and prints the same lines, the report's too. */
-#include "yelunnavi_words.h"
+#include "fault.h"
 #include "trace.h"
 
 #include <inttypes.h>
@@ -44,17 +44,6 @@ static void hand_out(size_t link, uint32_t port) {
     }
 }
 
-/* The fault of the configuration, as afdx_play words it, where it stands, and what is allowed. */
-static void show_fault(const struct yelunnavi_fault *fault) {
-    const char *key = yelunnavi_key_word(fault->key);
-    fprintf(stderr, "play: %s%s%s", yelunnavi_fault_before(fault->fault), key, yelunnavi_fault_after(fault->fault));
-    if (fault->level >= YELUNNAVI_LEVEL_LINK) fprintf(stderr, ", link %zu", fault->link);
-    if (fault->level == YELUNNAVI_LEVEL_PORT) fprintf(stderr, ", port %zu", fault->port);
-    if (fault->line) fprintf(stderr, ", line %" PRIu64, fault->line);
-    if (fault->key) fprintf(stderr, " (%s: %s)", key, yelunnavi_key_allowed(fault->key));
-    fputc('\n', stderr);
-}
-
 static size_t open_all(const char *config, struct yelunnavi_link *of_links) {
     static uint8_t text[1 << 20];
     struct yelunnavi_fault fault = {0};
@@ -63,7 +52,7 @@ static size_t open_all(const char *config, struct yelunnavi_link *of_links) {
     check(yelunnavi_receiver_init(&receiver, receiver_room, sizeof receiver_room) == YELUNNAVI_DONE, "room for the receiver");
     size_t len = read_file(config, text, sizeof text);
     uint32_t code = yelunnavi_receiver_open(&receiver, text, len, YELUNNAVI_MOST_READERS, &fault);
-    if (code == YELUNNAVI_FAULTY) show_fault(&fault);
+    if (code == YELUNNAVI_FAULTY) show_fault("play", &fault);
     check(code == YELUNNAVI_DONE, yelunnavi_code_word(code));
     check(yelunnavi_receiver_links(&receiver, &links) == YELUNNAVI_DONE, "links");
     for (size_t link = 0; link < links; link++) {

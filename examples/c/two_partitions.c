@@ -14,8 +14,9 @@ static bool open_all(const char *config) {
     struct yelunnavi_fault fault;
     const uint8_t *of_pos = (const uint8_t *)pos_name, *of_nav = (const uint8_t *)nav_name;
     if (yelunnavi_abi() != YELUNNAVI_ABI) return false;
+    size_t len = read_file(config, text, sizeof text);
     return yelunnavi_receiver_init(&receiver, receiver_room, sizeof receiver_room) == YELUNNAVI_DONE && make_partitions()
-        && yelunnavi_receiver_open(&receiver, text, read_file(config, text, sizeof text), READERS, &fault) == YELUNNAVI_DONE
+        && is_opened("two_partitions", yelunnavi_receiver_open(&receiver, text, len, READERS, &fault), &fault)
         && yelunnavi_receiver_place(&receiver, of_pos, strlen(pos_name), &pos_place) == YELUNNAVI_DONE
         && yelunnavi_receiver_place(&receiver, of_nav, strlen(nav_name), &nav_place) == YELUNNAVI_DONE
         && yelunnavi_receiver_hand_reader(&receiver, &pos, of_pos, strlen(pos_name)) == YELUNNAVI_DONE

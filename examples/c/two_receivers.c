@@ -5,7 +5,6 @@
 #define _POSIX_C_SOURCE 200809L
 #include "partitions.h"
 #include "trace.h"
-#include "yelunnavi_words.h"
 
 #include <sched.h>
 #include <string.h>
@@ -34,10 +33,11 @@ static bool open_all(const char *config) {
     struct yelunnavi_fault fault;
     const uint8_t *of_pos = (const uint8_t *)pos_name, *of_nav = (const uint8_t *)nav_name;
     if (yelunnavi_abi() != YELUNNAVI_ABI) return false;
+    size_t len = read_file(config, text, sizeof text);
     return yelunnavi_system_init(&end_system, system_room, sizeof system_room) == YELUNNAVI_DONE && make_partitions()
         && yelunnavi_pass_init(&drivers[0].pass, pass_rooms[0], sizeof pass_rooms[0]) == YELUNNAVI_DONE
         && yelunnavi_pass_init(&drivers[1].pass, pass_rooms[1], sizeof pass_rooms[1]) == YELUNNAVI_DONE
-        && yelunnavi_system_open(&end_system, text, read_file(config, text, sizeof text), READERS, &fault) == YELUNNAVI_DONE
+        && is_opened("two_receivers", yelunnavi_system_open(&end_system, text, len, READERS, &fault), &fault)
         && yelunnavi_system_hand_pass(&end_system, YELUNNAVI_A, &drivers[0].pass) == YELUNNAVI_DONE
         && yelunnavi_system_hand_pass(&end_system, YELUNNAVI_B, &drivers[1].pass) == YELUNNAVI_DONE
         && yelunnavi_system_place(&end_system, of_pos, strlen(pos_name), &pos_place) == YELUNNAVI_DONE

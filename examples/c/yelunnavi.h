@@ -55,8 +55,8 @@
    STACK. An opening takes up to 20 KiB if the text is a configuration with no keys but its own, or is none for a fault that
    stands in one of its ports. Other keys whose values are nested take more: 2.6 MB for 80 levels of tables, each by a key of
    80 parts, the most that is read. So a task with a short stack opens no text of a stranger's. An opening of a table takes up to
-   20 KiB, a close up to 4 KiB, and every other call up to 1 KiB. What the program's own functions take comes on top (docs/EMBEDDING.md has each
-   call).
+   20 KiB, a close up to 4 KiB, and every other call up to 1 KiB. What the program's own functions take comes on top. docs/MEASURED.md has
+   the stack of each call, and the sizes of the library's code and data.
 
    REGISTERS. The library uses the vector registers of its processor (SSE2, Advanced SIMD), in a receive and in nearly every
    other call: a task or an interrupt handler that may not use them may not call it.
@@ -116,7 +116,7 @@ enum yelunnavi_code {
     YELUNNAVI_NO_KIND = 6,      /* there is no such kind of verdict, or no such cause */
     YELUNNAVI_NO_PLACE = 7,     /* the configuration has no such link, or the link no such port */
     YELUNNAVI_NO_NAME = 8,      /* no port has this name */
-    YELUNNAVI_NONE_LEFT = 9,    /* the port has no such end, or all of them were handed out */
+    YELUNNAVI_NONE_LEFT = 9,    /* the port has no such end, or no queue; or its ends, or the pass, were handed out already */
     YELUNNAVI_HOLDS_ONE = 10,   /* the reader holds a message */
     YELUNNAVI_HOLDS_NONE = 11,  /* it holds none */
     YELUNNAVI_OUT_OF_RANGE = 12, /* the message has no such octets, or a sampling port can't have so many readers */
@@ -229,7 +229,8 @@ size_t yelunnavi_pass_room(void);
 size_t yelunnavi_reader_room(void);
 size_t yelunnavi_taker_room(void);
 
-/* Makes a slot in a room as large as .._room() says, aligned to 8: for .._init. */
+/* Makes a slot in a room as large as .._room() says, aligned to 8: for .._init, and what does its work in another language. A
+   program in C calls .._init, never .._make, which takes any pointer for a room, a handle's address too. */
 void yelunnavi_receiver_make(void *room);
 void yelunnavi_system_make(void *room);
 void yelunnavi_pass_make(void *room);
@@ -380,7 +381,8 @@ uint32_t yelunnavi_receiver_health(struct yelunnavi_receiver *h, size_t link, st
 
 struct yelunnavi_fill {
     size_t waiting;  /* how many messages wait: those that were delivered and that weren't taken when it was looked */
-    size_t greatest; /* the greatest number that waited since the opening */
+    size_t greatest; /* the greatest number that waited since the opening, counted after each message that was delivered: what
+                        a partition has taken by then isn't in it */
 };
 
 /* Tells how full the queue of this port of a link is. Its time grows with the messages that wait. NOT_OPEN, NO_PLACE;
@@ -434,7 +436,8 @@ uint32_t yelunnavi_receiver_hand_reader(struct yelunnavi_receiver *h, struct yel
 uint32_t yelunnavi_receiver_hand_taker(struct yelunnavi_receiver *h, struct yelunnavi_taker *to, const uint8_t *name, size_t len);
 
 /* ---- a system: a receiver for two threads, one a network. It keeps no frame either, and its links, ports, verdicts and limits
-   are those of a receiver: the same frames in the same order come to the same. See BUSY above */
+   are those of a receiver: the same frames in the same order come to the same. It tells neither health nor fill: both
+   need a look at the link, which the thread of the other network may have just then. See BUSY above */
 
 /* Opens the system of a configuration: as yelunnavi_receiver_open, and with its answers. */
 uint32_t yelunnavi_system_open(struct yelunnavi_system *h, const uint8_t *text, size_t len, size_t readers, struct yelunnavi_fault *fault);

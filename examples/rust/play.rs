@@ -3,7 +3,8 @@
 use std::alloc::{Layout, alloc, dealloc, realloc};
 use std::ffi::c_void;
 use yelunnavi::{
-    Frame, LONGEST_SAMPLE, Network, Reader, ReaderRoom, Receiver, ReceiverRoom, Service, Taker, TakerRoom, Verdict,
+    Code, Fault, Frame, Key, LONGEST_SAMPLE, Level, Network, Reader, ReaderRoom, Receiver, ReceiverRoom, Service, Taker, TakerRoom,
+    Verdict,
 };
 
 #[repr(C)]
@@ -117,12 +118,34 @@ fn ports(receiver: &mut Receiver, link: usize) -> Vec<(String, Service)> {
     (0..count).map(port).map(named).collect()
 }
 
+/// The fault of the configuration, as afdx_play words it, where it stands, and what is allowed.
+fn show_fault(fault: &Fault) {
+    eprint!("play: {fault}");
+    if fault.level != Level::DOCUMENT {
+        eprint!(", link {}", fault.link);
+    }
+    if fault.level == Level::PORT {
+        eprint!(", port {}", fault.port);
+    }
+    if fault.line > 0 {
+        eprint!(", line {}", fault.line);
+    }
+    if fault.key != Key::NONE {
+        eprint!(" ({}: {})", fault.key.word(), fault.key.allowed());
+    }
+    eprintln!();
+}
+
 fn main() {
     let words: Vec<String> = std::env::args().collect();
     let mut room = ReceiverRoom::new();
     let mut receiver = Receiver::new(&mut room).expect("room");
     if let Err((code, fault)) = receiver.open(&std::fs::read(&words[1]).unwrap(), READERS) {
-        panic!("{}: {fault}, link {}, port {}", code.word(), fault.link, fault.port);
+        if code == Code::FAULTY {
+            show_fault(&fault);
+        }
+        eprintln!("play: {}", code.word());
+        std::process::exit(1);
     }
     let links: Vec<_> = (0..receiver.links().unwrap()).map(|link| ports(&mut receiver, link)).collect();
     let mut all = [frames(Network::A, &words[2]), frames(Network::B, &words[3])].concat();

@@ -87,6 +87,31 @@ impl Verdict {
     }
 }
 
+impl Key {
+    /// What a configuration may have at the key: the words of `yelunnavi_key_allowed` in examples/c/yelunnavi_words.h.
+    pub const fn allowed(self) -> &'static str {
+        match self {
+            Key::NONE => "",
+            Key::CONSTANT => "a string of 8 hexadecimal digits",
+            Key::LINK => "1 to 64 tables",
+            Key::VL => "an integer from 0 to 65535",
+            Key::SKEW_MAX_US => "an integer from 0 to 1000000",
+            Key::REDUNDANCY => "true or false",
+            Key::REASSEMBLY_US => "an integer from 0 to 10000000",
+            Key::WINDOW => "an integer from 1 to 4",
+            Key::PORT => "0 to 32 tables",
+            Key::NAME => "a string of 1 to 16 of a-z 0-9 _ -",
+            Key::KIND => "\"sampling\" or \"queuing\"",
+            Key::ADDRESS => "a string of four numbers from 0 to 255 with dots between them",
+            Key::UDP => "an integer from 0 to 65535",
+            Key::MAX => "an integer from 0 to 1471 of a sampling port, 8192 of a queuing port",
+            Key::REFRESH_US => "an integer from 0 to 1000000000",
+            Key::DEPTH => "an integer from 1 to 64",
+            _ => "?",
+        }
+    }
+}
+
 /// The number of this interface: raised with each change of a struct, a call or a number.
 pub const ABI: u32 = 5;
 pub const MOST_LINKS: usize = 64;
@@ -128,7 +153,8 @@ replies! {
     /// How a link is: whether a frame came on each network, 1 or 0, when the latest did, in microseconds, and how many
     /// datagrams of which fragments came were given up.
     Health { came_a: u32, came_b: u32, latest_a: u64, latest_b: u64, given_up: u64 }
-    /// How full the queue of a port is: how many messages wait, and the greatest number that waited.
+    /// How full the queue of a port is: how many messages wait, and the greatest number that waited, counted after each
+    /// message that was delivered.
     Fill { waiting: usize, greatest: usize }
     /// A port.
     Port { service: Service, address: u32, udp: u32, max: u32, limit: u64, name_len: usize }

@@ -8,8 +8,9 @@ from verdict_words import PORT_KINDS
 
 A, B = range(2)
 NETWORKS = "AB"
-# The fields of struct yelunnavi_frame, yelunnavi_taken and yelunnavi_read, which are read at each call.
-FRAME, TAKEN, READ = (struct.Struct(fields).unpack_from for fields in ("IIQIIQQ", "IxxxxQQ", "IIQQQ"))
+# The fields of struct yelunnavi_frame, yelunnavi_taken and yelunnavi_read, which are read at each call, laid as in C: I is a
+# uint32_t, Q a uint64_t, N a size_t. checks/interface compares them.
+FRAME, TAKEN, READ = (struct.Struct(fields).unpack_from for fields in ("IINIIQQ", "IQN", "IIQQN"))
 
 
 class Refused(Exception):
@@ -21,13 +22,14 @@ class Refused(Exception):
 
 
 class ConfigFault(Exception):
-    """The first fault of a configuration: the player's words for it, its key and, in brackets, what that may have, and the places
-    of its link and port."""
+    """The first fault of a configuration: the player's words for it, its key and, in brackets, what that may have, the places of
+    its link and port, and the line of the text, from 1: None if the library finds none."""
 
     def __init__(self, found):
         self.key = words("key_word")[found.key] or None
         self.link = found.link if found.level > 0 else None
         self.port = found.port if found.level > 1 else None
+        self.line = found.line or None
         before, after = (words(f"fault_{part}").get(found.fault, "") for part in ("before", "after"))
         self.allowed = f" (allowed: {words('key_allowed')[found.key]})" if self.key else ""
         super().__init__(f"{before}{self.key or ''}{after}")
@@ -68,7 +70,7 @@ class Health(NamedTuple):
 
 
 class Fill(NamedTuple):
-    """How many messages wait in a queue, and the greatest number that waited."""
+    """How many messages wait in a queue, and the greatest number that waited, counted after each message that was delivered."""
     waiting: int
     greatest: int
 
