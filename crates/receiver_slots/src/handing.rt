@@ -1,4 +1,5 @@
-//! Ends of ports that are left to hand out, by the names of the ports.
+//! Ends of ports that are left to hand out, by the names of the ports. A reader and a taker have a function each: their
+//! contracts speak of other lists and other codes, and a trait over both would say each of them once more.
 ghost use Rattle.std.specs.Prelude.{◌≡◌, ◌≢◌, ◌<◌, IfErr, IfOk, None, Some, option_map};
 ghost use Rattle.receiver.specs.Named.{port_named};
 ghost use Rattle.receiver.specs.Taking.{HandsNamed, HandsReader, HandsTaker};

@@ -1,4 +1,5 @@
-//! A slot for a system.
+//! A slot for a system. What it hands out and tells it does as the slot of a receiver, whose state is another: exports
+//! have to be written for each (no macro makes items), and the work of both stands in `receiver_slots`.
 ghost use Rattle.std.specs.Prelude.{◌≡◌, ◌≢◌, ◌<◌, ◌≤◌, ◌↔◌, ◌⊎◌, IsSome, None, Some, false};
 ghost use Rattle.mailbox_port.specs.Port.{is_reader_count};
 ghost use Rattle.mailbox_reader.specs.Reads.{PortReader};

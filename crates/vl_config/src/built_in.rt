@@ -1,4 +1,5 @@
-//! The configuration that the program uses when it is called with no words.
+//! The configuration that the program uses when it is called with no words. Examples that read as a whole have its text
+//! once more.
 
 /// Link 17 with the sampling port `pos`, fresh for 20 milliseconds, and the queuing port `nav`.
 pub const BUILT_IN: &str = r#"[[link]]
