@@ -135,10 +135,11 @@ def test_packets_that_were_lost_while_capturing_are_told(written):
 def test_losses_are_counted_by_the_interfaces_that_there_are(written):
     """The latest count of a section's interface stands, those of sections are added, and no other interface has any."""
     def lost(interface, count):
-        return captures.written_block(captures.STATISTICS, struct.pack("<III", interface, 0, 0), (5, struct.pack("<Q", count)))
-    one = of_nanoseconds((0, 5_000_000))
-    told = run("play", "--config", CONFIG, written("lost.pcapng", one + lost(1, 3) + lost(1, 7) + one + lost(1, 4) + b"".join(
-        lost(interface, 1) for interface in range(2, 2000)))).stderr
+        head = struct.pack("<III", interface, 0, 0)
+        return captures.written_block(captures.STATISTICS, head, (5, struct.pack("<Q", count)))
+    one, others = of_nanoseconds((0, 5_000_000)), b"".join(lost(interface, 1) for interface in range(2, 2000))
+    path = written("lost.pcapng", one + lost(1, 3) + lost(1, 7) + one + lost(1, 4) + others)
+    told = run("play", "--config", CONFIG, path).stderr
     assert told.count(b"lost while it was captured") == 1
     assert b"11 packets were lost while it was captured, on interface 1" in told
 

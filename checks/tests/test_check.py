@@ -189,8 +189,8 @@ def test_a_skew_of_128_gaps(written):
     trace = written("t", steady(200, 10))
     for skew in (1280, 1281, 2551):
         assert skews(written, skew, trace, trace) == [
-            f"3: link 17: skew_max_us {skew} and the 0 us that delays differ by aren't below the 1280 us in which 128 more of "
-            "its frames came (docs/DELIVERY.md)"]
+            f"3: link 17: skew_max_us {skew} and the 0 us that delays differ by aren't below the 1280 us in which 128 more "
+            "of its frames came (docs/DELIVERY.md)"]
     assert skews(written, 1279, trace, trace) == skews(written, 1000000, trace, trace, more="\nredundancy = false") == []
 
 

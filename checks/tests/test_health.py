@@ -167,7 +167,7 @@ def test_a_shift_is_seen_beyond_the_spread():
 
 
 def test_a_shift_of_frames_whose_octets_come_again():
-    """1,000 frames of one payload, whose numbers alone differ: B's come 5 ms later, or begin half a turn after A's or more."""
+    """1,000 frames of one payload, whose numbers alone differ: B's come 5 ms later, or begin half a turn later or more."""
     def found(delay, missing):
         shift = Shift()
         for place in range(1000):

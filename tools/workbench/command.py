@@ -100,7 +100,7 @@ COMMANDS = {
         "--workers": {"type": number_from(1, 1024), "metavar": "N", "help": "many captures, by so many processes"},
         "--scheduler": {"metavar": "ADDRESS", "help": "or by the workers of a scheduler of dask.distributed, which see the "
                         "captures, and these tools, under the same names"},
-        **to("OUT", help="the table of many captures: OUT.csv, or OUT.parquet (by pandas with pyarrow)"),
+        **to("OUT", help="the table of many captures (default: -): OUT.csv, or OUT.parquet (by pandas with pyarrow)"),
     }, (INPUTS, PARTITIONS, AMISS, MANY)),
     "watch": ("workbench.watching:watch", "shows the health of two networks live", {
         **CONFIG,
@@ -123,7 +123,7 @@ COMMANDS = {
     "check": ("workbench.checking:check", "looks for slips in a configuration, and in what captures show of it", {
         "config": {"metavar": "C.toml", "help": "the receiver's configuration"},
         **CAPTURES, **SHIFT, "files": {**CAPTURES["files"], "nargs": "*"},
-    }, ("A slip is a line FILE:LINE: TEXT. The status is 1 if there is any.",)),
+    }, ("A slip is a line FILE:LINE: TEXT. The status is 1 if there is any,\n5 if a file isn't of its form.",)),
     "traces": ("workbench.tracing:write", "writes captures as hex traces, which the proved player takes: FOLDER/a.trace and "
                "FOLDER/b.trace", {**CAPTURES, **SHIFT, **to("FOLDER", required=True)}, (INPUTS,)),
 }
