@@ -1,5 +1,6 @@
 """Captures of the kernel's own stack, read as tshark reads them, and captures that are torn or forged."""
 import argparse
+import io
 import os
 import random
 import struct
@@ -131,6 +132,18 @@ def test_packets_that_were_lost_while_capturing_are_told(written):
     assert b"7 packets were lost while it was captured, on interface 1" in found.stderr
 
 
+def test_losses_are_counted_by_the_interfaces_that_there_are(written):
+    """The latest count of a section's interface stands, those of sections are added, and no other interface has any."""
+    def lost(interface, count):
+        head = struct.pack("<III", interface, 0, 0)
+        return captures.written_block(captures.STATISTICS, head, (5, struct.pack("<Q", count)))
+    one, others = of_nanoseconds((0, 5_000_000)), b"".join(lost(interface, 1) for interface in range(2, 2000))
+    path = written("lost.pcapng", one + lost(1, 3) + lost(1, 7) + one + lost(1, 4) + others)
+    told = run("play", "--config", CONFIG, path).stderr
+    assert told.count(b"lost while it was captured") == 1
+    assert b"11 packets were lost while it was captured, on interface 1" in told
+
+
 def test_the_captures_with_faults_are_what_their_script_makes(tmp_path):
     subprocess.run([CAPTURES / "make_faults.py", tmp_path], check=True)
     made = sorted(path.name for path in tmp_path.iterdir())
@@ -220,6 +233,12 @@ def test_forged_pcap(written):
     data[20] = 113
     assert fault(1, "play", "--config", CONFIG, written("x.pcap", data)) == \
         "yelunnavi: x.pcap: packet 1 isn't Ethernet, but of link type 113"
+
+
+def test_a_broken_file_has_its_status_wherever_it_is_told():
+    with pytest.raises(Fault) as told:
+        list(captures.packets(io.BytesIO(section()[8:] + bytes(20)), section()[:4]))
+    assert told.value.status == 5
 
 
 def test_what_came_before_a_bad_block_is_played(written):

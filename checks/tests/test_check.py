@@ -6,7 +6,7 @@ import subprocess
 import tempfile
 
 import pytest
-from conftest import CAPTURES, CONFIG, PROGRAM, ROOT, run
+from conftest import CAPTURES, CONFIG, PROGRAM, ROOT, fault, run
 from workbench import places
 
 GOOD = CONFIG.read_text()
@@ -39,11 +39,14 @@ def test_nothing_is_found_where_nothing_is_wrong(written, tmp_path):
 @pytest.mark.parametrize("old, new, told", [
     ("vl = 17", "vl = 70000", "4: link 70000: refused: vl out of range (allowed: an integer from 0 to 65535)"),
     ("vl = 17", "vl = true", "4: link at place 1: refused: wrong kind of vl (allowed: an integer from 0 to 65535)"),
-    ("vl = 18", "vl = 17", "23: link 17: refused: link given twice"),
+    ("vl = 18", "vl = 17", "23: link 17: refused: link given twice (allowed: a number that no other link has)"),
     ('kind = "queuing"', 'kind = "queueing"', "17: link 17 port nav: refused: kind out of range (allowed: \"sampling\" or \"queuing\")"),
-    ('name = "nav"', 'name = "pos"', "16: link 17 port pos: refused: name given twice"),
-    ('name = "alt"', 'name = "pos"', "28: link 18 port pos: refused: name given twice"),
-    ("udp = 5002", "udp = 5000", "19: link 17 port nav: refused: port given twice"),
+    ('name = "nav"', 'name = "pos"',
+     "16: link 17 port pos: refused: name given twice (allowed: a name that no other port has)"),
+    ('name = "alt"', 'name = "pos"',
+     "28: link 18 port pos: refused: name given twice (allowed: a name that no other port has)"),
+    ("udp = 5002", "udp = 5000", "19: link 17 port nav: refused: port given twice (allowed: an address and UDP port that "
+     "no other port of the link has)"),
     ("depth = 4", "depth = 4.0", "20: link 17 port nav: refused: wrong kind of depth (allowed: an integer from 1 to 64)"),
     ("depth = 4\n", "", "15: link 17 port nav: refused: missing depth (allowed: an integer from 1 to 64)"),
     ("skew_max_us = 1000\n", "", "3: link 17: refused: missing skew_max_us (allowed: an integer from 0 to 1000000)"),
@@ -82,11 +85,19 @@ def test_many_links_and_ports(written):
     link = "[[link]]\nvl = {}\nskew_max_us = 1\nreassembly_us = 1\n"
     port = '[[link.port]]\nname = "p{}"\nkind = "queuing"\naddress = "1.2.3.4"\nudp = {}\ndepth = 1\n'
     links = "".join(link.format(number) for number in range(70))
-    assert slips_of(written, links) == ["257: link 64: refused: too many links or ports"]
+    allowed = "(allowed: 64 links, 32 ports of a link)"
+    assert slips_of(written, links) == [f"257: link 64: refused: too many links or ports {allowed}"]
     ports = "".join(port.format(number, number) for number in range(40))
-    assert slips_of(written, link.format(5) + ports) == ["197: link 5 port p32: refused: too many links or ports"]
+    assert slips_of(written, link.format(5) + ports) == [f"197: link 5 port p32: refused: too many links or ports {allowed}"]
     assert slips_of(written, link.format(5) + ports.replace("udp = 31", "udp = 70000").split("[[link.port]]\nname = \"p32")[0]) \
         == ["195: link 5 port p31: refused: udp out of range (allowed: an integer from 0 to 65535)"]
+
+
+def test_mended_addresses_are_no_fault(written):
+    """Two wrong addresses of one link with one UDP port: each is told, and no third fault."""
+    text = GOOD.replace("224.224.0.17", "224.224.0.017").replace("udp = 5002", "udp = 5000")
+    assert [line.split(" (")[0] for line in slips_of(written, text) if "refused" in line] == [
+        "11: link 17 port pos: refused: address out of range", "18: link 17 port nav: refused: address out of range"]
 
 
 def test_what_captures_show(written):
@@ -134,6 +145,21 @@ def test_networks_that_are_absent_or_joined(written, tmp_path):
     assert slips(written("c.toml", FITS), joined, "--networks", "source") == []
 
 
+def test_two_captures_of_one_network(written):
+    assert slips_of(written, FITS, A, A) == ["a.pcap: most source addresses of B say interface 1, which is A"]
+    assert slips_of(written, FITS, B, B)[0] == "b.pcap: most source addresses of A say interface 2, which is B"
+
+
+def test_a_file_that_breaks_off_is_told_by_the_status(written):
+    """Whether there is a slip or none; and as health does."""
+    broken = written("zeros.pcapng", (CAPTURES / "both.pcapng").read_bytes() + bytes(4096))
+    for text in (FITS, changed("depth = 4", "depth = 4\nmax = 1500")):
+        config = written("c.toml", text)
+        found = run("check", config, broken)
+        assert found.returncode == run("health", "--config", config, broken).returncode == 5
+        assert bool(found.stdout) == (text != FITS) and b"32 packets before were played" in found.stderr
+
+
 def test_a_clock_that_is_ahead_is_a_slip(written):
     found = slips_of(written, GOOD, CAPTURES / "ahead_a.pcap", CAPTURES / "ahead_b.pcap")
     assert "ahead_b.pcap: B's clock seems 3200 us ahead of the other's, if it isn't its frames' delay: --shift-b -3200" in found
@@ -147,10 +173,10 @@ def test_frames_that_come_too_often_for_the_bag(written):
         "5: link 17: bag_us isn't a whole number of microseconds, 1 to 1000000000"]
 
 
-def steady(count, gap):
+def steady(count, gap, since=0):
     """A trace of link 17 with a frame each `gap` microseconds."""
     frame = next(line.split()[1] for line in (ROOT / "examples" / "network_a.trace").read_text().splitlines() if line[0] == "1")
-    return "".join(f"{place * gap} {frame[:-2]}{place % 255 + 1:02x}\n" for place in range(count))
+    return "".join(f"{since + place * gap} {frame[:-2]}{place % 255 + 1:02x}\n" for place in range(count))
 
 
 def skews(written, skew, *traces, more=""):
@@ -163,8 +189,8 @@ def test_a_skew_of_128_gaps(written):
     trace = written("t", steady(200, 10))
     for skew in (1280, 1281, 2551):
         assert skews(written, skew, trace, trace) == [
-            f"3: link 17: skew_max_us {skew} isn't below the 1280 us in which 128 more of its frames came; what the delays "
-            "differ by counts, too (docs/DELIVERY.md)"]
+            f"3: link 17: skew_max_us {skew} and the 0 us that delays differ by aren't below the 1280 us in which 128 more "
+            "of its frames came (docs/DELIVERY.md)"]
     assert skews(written, 1279, trace, trace) == skews(written, 1000000, trace, trace, more="\nredundancy = false") == []
 
 
@@ -172,9 +198,40 @@ def test_the_gaps_are_those_of_128_frames_at_their_closest(written):
     """128 frames and a gap of 127 show nothing; of both networks the one counts whose frames are closest."""
     few, many, closer = (written(name, steady(*given)) for name, given in
                          [("few", (128, 10)), ("many", (129, 10)), ("closer", (129, 9))])
-    assert skews(written, 1280, few, few) == skews(written, 1151, many, closer) == []
+    assert skews(written, 1280, few, few) == skews(written, 1023, many, closer) == []
     assert "the 1280 us in which" in skews(written, 1280, many, many)[0]
     assert "the 1152 us in which" in skews(written, 1152, many, closer)[0]
+
+
+def test_what_delays_differ_by_counts_beside_skew_max(written):
+    """Below 128 gaps alone it isn't enough."""
+    a, b = written("a", steady(200, 10)), written("b", steady(200, 10, since=9))
+    assert skews(written, 1270, a, b) == []
+    assert "skew_max_us 1271 and the 9 us that delays differ by aren't below the 1280 us" in skews(written, 1271, a, b)[0]
+
+
+def test_a_restart_within_skew_max(written):
+    """A sender that begins anew with 0, 1,000 us after its last frame: SkewMax and the delays have to be below that."""
+    frame = steady(1, 8000).split()[1]
+    again = "".join(f"{{}} {frame[:-2]}{number:02x}\n" for number in range(3))
+    a, b = (written(net, steady(3, 8000, since) + again.format(*(17_000 + since + 8000 * n for n in range(3))))
+            for net, since in (("a", 0), ("b", 100)))
+    assert skews(written, 899, a, b) == []
+    assert skews(written, 900, a, b) == [
+        "3: link 17: skew_max_us 900 and the 100 us that delays differ by aren't below the 1000 us after which its sender "
+        "restarted (docs/DELIVERY.md)"]
+
+
+@pytest.mark.parametrize("read_us", ["", "\nread_us = 1000", "\nread_us = 100000"])
+def test_staleness_is_counted_by_messages_whoever_reads(read_us, written):
+    """A refresh below the usual gap is a slip; an outage of a link that is fine is none, however often a reader found it."""
+    trace = written("t", steady(200, 8000))
+    outage = written("o", steady(100, 8000) + steady(200, 8000, 3_000_000).split("\n", 100)[100])
+    for refresh, came, told in ((2400, trace, ["the message was stale 199 times, before most of 200 messages"]),
+                                (20_000, outage, [])):
+        text = ONE.replace("refresh_us = 20000", f"refresh_us = {refresh}{read_us}")
+        found = [line for line in slips_of(written, text, came, came) if "refresh_us" in line]
+        assert [line.partition(f"refresh_us {refresh}: ")[2].partition(";")[0] for line in found] == told
 
 
 def test_a_foreign_constant_that_most_frames_have(written):
@@ -187,7 +244,7 @@ def test_a_foreign_constant_that_most_frames_have(written):
 def test_traces_that_are_none(written):
     for text, told in [("1 0g\n", "trace A line 1: hex"), ("1 00\n" + "0" * 10_000, "trace A line 2: long line")]:
         found = run("check", CONFIG, written("t", text))
-        assert (found.returncode, found.stderr.decode()) == (1, f"yelunnavi: {told}\n")
+        assert (found.returncode, found.stderr.decode()) == (5, f"yelunnavi: {told}\n") and found.stdout
 
 
 def test_files_that_are_no_configuration(written, tmp_path):
@@ -195,6 +252,7 @@ def test_files_that_are_no_configuration(written, tmp_path):
     assert slips_of(written, "a = " + "[" * 5000)[0].startswith("1: refused: not TOML: ")
     assert slips_of(written, "") == ["1: refused: missing link (allowed: 1 to 64 tables)"]
     assert run("check", tmp_path).returncode == run("check", "/nowhere").returncode == 3
+    assert "/proc/self/mem: not read: " in fault(3, "check", "/proc/self/mem")
     assert "control?character" in slips_of(written, GOOD + '"control\\u001bcharacter" = 1\n')[0]
 
 

@@ -293,3 +293,14 @@ def test_many_frames_make_a_bounded_page(written):
     _, status, taken = os.wait4(process.pid, 0)
     assert status == 0 and taken.ru_maxrss * 1024 < MOST_MEMORY
     assert len(text) < LARGEST_PAGE and Page(text).links["3"][0][KINDS.index("sampled")] == 3750
+
+
+def test_the_axis_has_the_time_of_day():
+    """Of a capture's frames beside the time since the first; a trace's have none."""
+    def axis(*names):
+        text = done("draw", "--config", CONFIG, *names).decode()
+        return re.findall(r">([^<>]+)</text>", text.partition('<g id="times"')[2].partition("</g>")[0])
+    assert axis(CAPTURES / "faults.pcapng") == [
+        *map(str, range(0, 160, 20)), *(f"22:13:20.{value:03}" for value in range(0, 160, 20)),
+        "ms after the first frame, which came at 0 µs, 2023-11-14 22:13:20 UTC"]
+    assert not [one for one in axis(*PAIRS[0]) if ":" in one]

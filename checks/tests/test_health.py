@@ -2,9 +2,11 @@
 import csv
 import io
 import json
+import subprocess
+import sys
 
 import pytest
-from conftest import CAPTURES, CONFIG, done, fault, run
+from conftest import CAPTURES, CONFIG, ROOT, done, fault, run
 from test_draw import TWO, frame
 from workbench import copies
 from workbench.copies import Copies
@@ -164,6 +166,19 @@ def test_a_shift_is_seen_beyond_the_spread():
     assert found([0.1, 0.2, 0.3] * 10) == found([1, 5, 9, 2] * 10) == found([5] * 5) == 0
 
 
+def test_a_shift_of_frames_whose_octets_come_again():
+    """1,000 frames of one payload, whose numbers alone differ: B's come 5 ms later, or begin half a turn later or more."""
+    def found(delay, missing):
+        shift = Shift()
+        for place in range(1000):
+            for net, time in ((A, 8 * MS * place), (B, 8 * MS * place + delay)):
+                if net == A or place >= missing:
+                    shift.see(Arrival(time, net, place, bytes(20) + bytes([place % 255 + 1]), None, 21))
+        return shift.found()
+    assert found(5 * MS, 0) == found(5 * MS, 100) == 5 * MS
+    assert found(0, 0) == found(0, 128) == found(0, 255) == found(0, 300) == 0
+
+
 # ---- captures
 
 
@@ -194,6 +209,38 @@ def test_a_capture_without_a_fault_keeps_each_condition(written):
     assert run("health", "--config", config, CAPTURES / "ahead_a.pcap", CAPTURES / "ahead_b.pcap").returncode == 0
 
 
+def of_frames(written, frames, sender="00"):
+    """Traces of both networks, B's 100 us later: microseconds, number, and the sender's last octet if it is another."""
+    return [written(f"{net}.trace", "".join(
+        f"{time + 100 * net} {octets[:20] + (of or [sender])[0] + octets[22:]}\n"
+        for time, number, *of in frames for octets in [frame(7, number, "", 1, 8)])) for net in (A, B)]
+
+
+def test_a_law_that_is_broken_fails_by_itself(written):
+    """A restart within SkewMax, whose frame 0 is redundant on both networks, and so is never delivered."""
+    config = written("two.toml", TWO.replace("refresh_us = 900", "refresh_us = 9000"))
+    restart = of_frames(written, [(8000, 1), (16_000, 2), (16_400, 0), (24_400, 1), (32_400, 2)])
+    _, links = health(*restart, config=config)
+    assert list(links[7]["broken"]) == ["skew-max"] and links[7]["networks"]["A"]["verdicts"]["redundant"] == 1
+    assert run("health", "--config", config, *restart, "--fail-on", "lost-a,lost-b,twice").returncode == 0
+    assert b"link 7: law 1" in run("health", "--config", config, *restart, "--fail-on", "law").stderr
+
+
+def test_another_sender_breaks_a_law(written):
+    config = written("two.toml", TWO.replace("refresh_us = 900", "refresh_us = 9000"))
+    fine, other = [(8000 * n, n) for n in range(1, 6)], [(8000 * n, n, "05") for n in range(6, 11)]
+    assert health(*of_frames(written, fine), config=config)[1][7]["law"] == "all"
+    _, links = health(*of_frames(written, fine + other), config=config)
+    assert list(links[7]["broken"]) == ["sender"] and not links[7]["networks"]["A"]["lost"]
+
+
+def test_the_least_time_of_128_gaps(written):
+    found = made(written, [(1000 * place, A, frame(7, place % 255 + 1, "", 1, 8)) for place in range(128)])
+    assert found["networks"]["A"]["least_128_gaps_us"] is None
+    found = made(written, [(1000 * place, A, frame(7, place % 255 + 1, "", 1, 8)) for place in range(140)])
+    assert found["networks"]["A"]["least_128_gaps_us"] == 128_000
+
+
 def test_sums_of_udp_at_which_no_receiver_looks(written):
     """A sum of 0 says none; the right one is taken, and a wrong one is told of each copy, with --each."""
     plain = bytes.fromhex(frame(7, 1, "", 1, 8))
@@ -218,7 +265,7 @@ def test_what_fails_can_be_chosen(words, status):
 
 
 def test_words_of_fail_on_that_are_none():
-    for words in ("x", "lost-a=x", "lost-a=-1"):
+    for words in ("x", "lost-a=x", "lost-a=-1", "lost-a=²", "lost-a=" + "9" * 5000):
         assert "--fail-on takes lost-a lost-b" in fault(2, "health", "--config", CONFIG, FAULTS, "--fail-on", words)
 
 
@@ -299,6 +346,37 @@ def test_many_captures_are_a_table(tmp_path):
 def test_a_capture_that_is_none_is_told_and_the_others_are_there():
     found = run("health", "--config", CONFIG, "--workers", "1", "/nowhere", FAULTS)
     assert found.returncode == 3 and b"/nowhere: not read" in found.stderr and found.stdout.count(b"faults.pcapng") == 2
+
+
+def test_a_configuration_that_is_refused_is_told_once(written):
+    bad = written("bad.toml", CONFIG.read_text().replace("vl = 17", "vl = 70000"))
+    found = run("health", "--config", bad, "--workers", "1", FAULTS, FAULTS)
+    assert (found.returncode, found.stdout) == (1, b"") and found.stderr.count(b"\n") == 1
+
+
+@pytest.mark.parametrize("words", [["--workers", "1", "--json"], ["--workers", "1", "--link", "17"], ["--to", "t.csv"]])
+def test_words_that_do_not_go_together(words):
+    found = run("health", "--config", CONFIG, FAULTS, *words)
+    assert found.returncode == 2 and b"yelunnavi: error: " in found.stderr and not found.stdout
+
+
+def test_a_table_as_parquet(tmp_path):
+    """What it has is what the table with commas has."""
+    pandas = pytest.importorskip("pandas")
+    pytest.importorskip("pyarrow")
+    words = ["health", "--config", CONFIG, "--workers", "1", FAULTS, FAULTS, "--fail-on", "", "--to"]
+    for name in ("t.csv", "t.parquet"):
+        done(*words, tmp_path / name)
+    made, wanted = pandas.read_parquet(tmp_path / "t.parquet"), pandas.read_csv(tmp_path / "t.csv")
+    pandas.testing.assert_frame_equal(made, wanted, check_dtype=False)
+
+
+def test_a_table_as_parquet_without_its_libraries(tmp_path):
+    with_none = "import sys; sys.modules['pandas'] = None; sys.path.insert(0, sys.argv[1]); " \
+        "from workbench import sharing; sharing.write(sys.argv[2], [])"
+    found = subprocess.run([sys.executable, "-c", with_none, ROOT / "tools", tmp_path / "t.parquet"], capture_output=True)
+    assert b"no pandas with pyarrow" in found.stderr and not list(tmp_path.iterdir())
+    assert b"by pandas with pyarrow" in run("health", "--help").stdout
 
 
 def test_a_scheduler_of_dask(tmp_path):

@@ -86,17 +86,19 @@ def test_own_keys_that_can_not_be(key, told, written):
 
 
 def test_lines_come_as_packets_come():
-    """A line of a pipe comes before the pipe ends, once its packet has waited for earlier ones."""
-    whole = (CAPTURES / "both.pcapng").read_bytes()
+    """All that came by a pipe is played once nothing comes, though it doesn't end, and no later packet tells the time."""
+    wanted = done("play", "--config", CONFIG, A)
     with subprocess.Popen([TOOL, "play", "--config", CONFIG, "-"], stdin=subprocess.PIPE, stdout=subprocess.PIPE,
                           stderr=subprocess.DEVNULL) as process:
-        process.stdin.write(whole)
+        process.stdin.write(A.read_bytes())
         process.stdin.flush()
-        assert select.select([process.stdout], [], [], 30)[0]
-        early = os.read(process.stdout.fileno(), 10)
+        early = b""
+        while early.count(b" vl ") < wanted.count(b" vl ") and select.select([process.stdout], [], [], 30)[0]:
+            early += os.read(process.stdout.fileno(), 1 << 16)
+        assert early.count(b" vl ") == wanted.count(b" vl ") == 17
         process.stdin.close()
         rest = process.stdout.read()
-    assert early + rest == done("play", "--config", CONFIG, CAPTURES / "both.pcapng")
+    assert early + rest == wanted
 
 
 def test_each_line_leads_back_to_its_packet():
@@ -259,6 +261,14 @@ def test_words_that_are_refused():
                   ["watch", "--config", "c", "eth1"], ["traces", "x"]):
         found = run(*words)
         assert found.returncode == 2 and found.stderr.startswith(b"usage: yelunnavi") and not found.stdout
+
+
+def test_help_takes_no_version():
+    """The version is looked up where it is asked for: where there is none the help is."""
+    without = "import sys; sys.path.insert(0, sys.argv.pop(1)); from workbench import command; command.version = None; " \
+        "sys.exit(command.main(sys.argv[1:]))"
+    found = subprocess.run([sys.executable, "-c", without, ROOT / "tools", "--help"], capture_output=True)
+    assert (found.returncode, found.stderr) == (0, b"") and b"usage: " in found.stdout
 
 
 @pytest.mark.parametrize("words", [[], ["play"], ["annotate"], ["check"], ["export"], ["draw"], ["health"], ["watch"],

@@ -74,6 +74,20 @@ def test_the_metrics_are_served():
     assert 'yelunnavi_amiss_total{vl="17",what="twice"} 1.0' in text and 'yelunnavi_tap_lost_total{network="A"} 3.0' in text
 
 
+def test_a_scrape_finds_the_picture_before_while_one_is_made():
+    """Another thread reads what is shown at any moment: it is never empty once there was a picture."""
+    found, shown = [], {}
+
+    def picture(lost):
+        found.append(dict(shown))
+        return {"links": [len(found)]}
+    watched = argparse.Namespace(take=None, pass_time=lambda moment: None, notes=[], picture=picture)
+    tapped_one = argparse.Namespace(has_ended=False, is_ended=False, steps=0, until=lambda deadline: (), time=lambda: 0,
+                                    tap=argparse.Namespace(count_lost=lambda: None))
+    watching.go_on(argparse.Namespace(seconds=60), watched, tapped_one, shown, lambda shown: len(found) == 3)
+    assert found == [{}, {"links": [1]}, {"links": [2]}]
+
+
 def test_what_can_not_be_listened_to():
     for way in ("socket", "dumpcap"):
         found = run("watch", "--config", CONFIG, "nowhere-a", "nowhere-b", "--by", way, "--json", "--seconds", "5")

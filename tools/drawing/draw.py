@@ -5,6 +5,7 @@ from drawing.gather import Gathered
 from drawing.page import page
 from verdict_words import NETWORKS
 from workbench import files, frames, station, stream
+from workbench.health import Alone
 
 NO_FAULTS = ("sampled", "queued", "redundant", "fragment-held")
 
@@ -12,7 +13,7 @@ NO_FAULTS = ("sampled", "queued", "redundant", "fragment-held")
 def draw(given):
     played = station.Station(given.config, tell=lambda *found: gathered.served(*found))
     gathered, faults = Gathered(played), Faults()
-    alone = station.Alone(played.octets) if given.each else None
+    alone = Alone(played.octets) if given.each else None
     with stream.opened(given) as packets:
         for one, now, reply in played.seen(packets):
             gathered.see(one, now, reply)
@@ -33,7 +34,7 @@ class Faults:
         self.counts, self.first, self.interfaces = {}, {}, {net: Counter() for net in NETWORKS}
 
     def are_crossed(self):
-        return frames.are_crossed(self.interfaces.values())
+        return len(frames.swapped(self.interfaces.values())) == len(NETWORKS)
 
     def see(self, one, reply, alone):
         if reply and reply.vl is not None:
@@ -48,4 +49,4 @@ class Faults:
         self.counts[kind] = self.counts.get(kind, 0) + 1
         if self.counts[kind] <= self.SHOWN:
             link = f" (link {reply.vl})" if reply and reply.vl is not None else ""
-            self.first.setdefault(kind, []).append(f"{one.number} of {NETWORKS[one.net]}{link}")
+            self.first.setdefault(kind, []).append(f"{one.where}{link}")

@@ -2,12 +2,15 @@
 from verdict_words import NETWORKS
 from workbench import captures, copies, files, station, stream
 from workbench.faults import Fault
-from workbench.health import Health
+from workbench.health import Alone, Health
+
+SAID = {copies.RESET: "the sender began anew", copies.ANEW: "the sender began anew without a 0",
+        copies.LATE: "far behind the newest"}
 
 
 def annotate(given):
     played = station.Station(given.config)
-    found, alone = Health(played), station.Alone(played.octets) if given.each else None
+    found, alone = Health(played), Alone(played.octets) if given.each else None
     with files.writing(given.to) as out, stream.opened(given) as packets:
         out.writelines(blocks(played.seen(packets), packets, found, alone))
     return packets.status
@@ -48,7 +51,5 @@ def reason(one, note, link, reply):
         yield f"{note.missing} before it missing"
     if note.is_overtaken:
         yield "after a later frame"
-    if note.what in (copies.RESET, copies.ANEW):
-        yield f"the sender began anew{'' if note.what == copies.RESET else ' without a 0'}"
-    elif note.what == copies.LATE:
-        yield "far behind the newest"
+    if note.what in SAID:
+        yield SAID[note.what]

@@ -5,13 +5,14 @@ a torn file, or a block of an absurd length, for the end of the capture. What is
 (draft-ietf-opsawg-pcap and -pcapng), and the tests compare it with tshark, packet by packet.
 """
 import struct
+from collections import Counter
 from typing import NamedTuple, Optional
 
 from workbench.faults import Broken
 
 ETHERNET = 1
 MOST_OCTETS, MOST_BLOCK = 262_144, 1 << 24  # of a packet and of a block, as Wireshark takes them
-MOST_INTERFACES = 1 << 16
+LEAST_BLOCK, LEAST_SECTION, MOST_INTERFACES = 12, 28, 1 << 16
 SECOND = 10**9
 
 # Each magic number of pcap: its byte order, and the nanoseconds of the smaller part of its times.
@@ -52,9 +53,9 @@ class Packet(NamedTuple):
 
 def packets(file, magic, lost=None):
     """The packets of a capture whose first four octets were read. Ends with `EOFError` where the file is cut short,
-    and with `Broken` where it isn't of its form. Into `lost` goes, by section and interface, how many packets whoever
-    captured says were lost."""
-    return pcap(file, *PCAP[magic]) if magic in PCAP else pcapng(file, magic, {} if lost is None else lost)
+    and with `Broken` where it isn't of its form. In `lost` the packets are counted, by interface, of which whoever captured
+    says that they were lost."""
+    return pcap(file, *PCAP[magic]) if magic in PCAP else pcapng(file, magic, Counter() if lost is None else lost)
 
 
 def exactly(file, count):
@@ -80,15 +81,17 @@ def pcap(file, order, unit):
 
 def pcapng(file, magic, lost):
     """Each section of a file numbers its interfaces anew, and packets are numbered on, as tshark does."""
-    interfaces, number, sections = [], 0, 0
+    interfaces, number, lost_here = [], 0, Counter()
     for order, kind, body in blocks(file, magic):
         if kind == SECTION:
-            interfaces, sections = [], sections + 1
+            interfaces, lost_here = [], Counter()
         elif kind == INTERFACE:
             interfaces.append(interface(order, body, len(interfaces)))
         elif kind == STATISTICS:
-            of_interface, count = statistics(order, body)
-            lost[sections, of_interface] = count
+            own, count = statistics(order, body)
+            if own < len(interfaces):
+                lost[own] += count - lost_here[own]
+                lost_here[own] = count
         elif kind in (PACKET, SIMPLE_PACKET, OBSOLETE_PACKET):
             number += 1
             yield packet(order, kind, body, number, interfaces)
@@ -100,18 +103,18 @@ def blocks(file, magic):
     while magic:
         if len(magic) < 4:
             raise EOFError
-        length, begun, least, what = exactly(file, 4), b"", 12, "a block"
+        length, order_magic = exactly(file, 4), b""
         if magic == SECTION_MAGIC:
-            begun, least, what = exactly(file, 4), 28, "a section header"
-            if begun not in ORDERS:
+            order_magic = exactly(file, 4)
+            if order_magic not in ORDERS:
                 raise Broken("a section without its byte-order magic")
-            order = ORDERS[begun]
+            order = ORDERS[order_magic]
         size, = LENGTHS[order].unpack(length)
-        if size < least or size % 4 or size > MOST_BLOCK:
+        if size < (LEAST_SECTION if order_magic else LEAST_BLOCK) or size % 4 or size > MOST_BLOCK:
             raise Broken(f"a block of an absurd length, {size} octets")
-        body = exactly(file, size - 8 - len(begun))
+        body = exactly(file, size - 8 - len(order_magic))
         if body[-4:] != length:
-            raise Broken(f"{what} that doesn't end with its length")
+            raise Broken("a block that doesn't end with its length")
         yield order, LENGTHS[order].unpack(magic)[0], body[:-4]
         magic = file.read(4)
 

@@ -4,12 +4,14 @@ The rules are the receiver's alone: it is asked again with each fault mended, un
 """
 import contextlib
 import difflib
+import functools
 import ipaddress
 import json
+import operator
 
 from receiver import ConfigFault
 from workbench import files, settings
-from workbench.faults import Fault, plain
+from workbench.faults import REFUSED, Fault, plain
 from workbench.places import Document, members
 
 LEVELS = {
@@ -22,18 +24,20 @@ OF_OTHER_KIND = {"sampling": ("depth", "take_us"), "queuing": ("refresh_us", "re
 MOST_FAULTS = 100
 # A value that is right, for each key whose value needn't differ from others.
 MENDED = {"constant": "03000000", "skew_max_us": 0, "redundancy": True, "reassembly_us": 0, "window": 2, "port": [],
-          "address": "224.0.0.0", "max": 0, "refresh_us": 0, "depth": 1}
+          "max": 0, "refresh_us": 0, "depth": 1}
+# For each other key a value by its number.
+UNUSED = {"vl": int, "udp": int, "name": "name-{}".format, "address": lambda number: str(ipaddress.IPv4Address(number))}
 
 
 def check(given):
-    slips = list(slips_of(given))
+    slips, status = slips_of(given)
     with files.output() as out:
         out.writelines(f"{plain(line)}\n".encode() for line in slips)
-    return 1 if slips else 0
+    return status or (REFUSED if slips else 0)
 
 
 def slips_of(given):
-    """Each slip as a line."""
+    """Each slip as a line, and the status of the captures."""
     octets = settings.read(given.config)
     fault = fault_of(octets)
     try:
@@ -41,19 +45,18 @@ def slips_of(given):
     except Fault as told:
         if not fault:
             raise
-        yield str(told)
-        return
+        return [str(told)], 0
     wrong = list(settings.wrong_keys(document.tables))
-    for path, told in (*refused(document.tables, fault), *wrong, *silences(document.tables)):
-        yield document.slip(path, told)
-    if given.files and (fault or wrong):
-        yield f"{given.config}: the captures weren't compared with it, since it is refused"
-    elif given.files:
-        from workbench import showing
-        yield from showing.slips(given, document)
+    found = [document.slip(path, told)
+             for path, told in (*refused(document.tables, fault), *wrong, *silences(document.tables))]
+    if not given.files:
+        return found, 0
+    if fault or wrong:
+        return [*found, f"{given.config}: the captures weren't compared with it, since it is refused"], 0
+    from workbench import showing
+    shown = showing.Shown(given)
+    return [*found, *showing.slips(shown, document)], shown.packets.status
 
-
-# ---- what the receiver refuses
 
 def fault_of(octets):
     try:
@@ -71,24 +74,22 @@ def refused(config, fault):
         if not fault:
             return
         path = settings.path_of(fault)
-        yield path, f"refused: {fault}{fault.allowed}"
+        yield path, settings.refusal(fault)
         fault = fault_of(written(config).encode()) if mend(config, path) else None
 
 
 def mend(config, path):
     """Makes what is refused right, or takes away what is too many. Returns whether it can."""
     *around, key = path or (None,)
-    table = config
-    for step in around:
-        table = table[step]
-    if isinstance(key, int):
+    table = functools.reduce(operator.getitem, around, config)
+    if isinstance(key, int):  # the place of the first that is too many
         del table[key:]
     elif key == "kind":
         table["kind"] = "queuing" if "depth" in table else "sampling"
         table.setdefault("refresh_us", 0)
     elif key in MENDED:
         table[key] = MENDED[key]
-    elif key in ("vl", "udp", "name"):
+    elif key in UNUSED:
         table[key] = unused(config, key)
     else:
         return False
@@ -98,17 +99,15 @@ def mend(config, path):
 def unused(config, key):
     """A value of a key that no link or port has."""
     found = [table.get(key) for _, table, _ in members(config)]
-    values = (f"name-{number}" if key == "name" else number for number in range(65536))
-    return next(value for value in values if value not in found)
+    return next(value for value in map(UNUSED[key], range(65536)) if value not in found)
 
 
 def written(config):
     """A document as TOML, whose values are those of JSON but for what stands after a key."""
-    pairs = (json.dumps({key: value}, ensure_ascii=False, separators=(", ", " = "))[1:-1] for key, value in config.items())
-    return "\n".join(pairs).replace("\x7f", "\\u007f")
+    tables = (json.dumps({key: value}, ensure_ascii=False, separators=(", ", " = ")) for key, value in config.items())
+    lines = "\n".join(table.removeprefix("{").removesuffix("}") for table in tables)
+    return lines.replace("\x7f", "\\u007f")
 
-
-# ---- what the receiver passes over
 
 def silences(config):
     """The path of each, and words."""

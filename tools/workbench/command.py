@@ -3,7 +3,6 @@ import argparse
 import contextlib
 import os
 import pkgutil
-import re
 import signal
 import sys
 
@@ -17,11 +16,9 @@ standard input, and lines come as packets come:
   dumpcap -q -B 64 -N 1000000 -C 268435456 -i eth1 -i eth2 -w - \\
       | yelunnavi play --config C.toml -
 With dumpcap's own sizes of its queues packets are lost from some thousands a
-second on. Times are in microseconds, rounded down, since the first packet. Frame
-check sequences are found and cut off. What isn't played is left out and told on
-the standard error: cut by the snapshot length, with a VLAN tag, torn, or too
-late; and what the capture says was lost. Where a file isn't of its form what
-came before is played, and the status is 5."""
+second on. Times are in microseconds since the first packet. What isn't played,
+and what the capture says was lost, is told on the standard error. Where a file
+isn't of its form what came before is played, and the status is 5."""
 PARTITIONS = """
 By default each queue is emptied at once. take_us at a queuing port and read_us at
 a sampling port of the configuration are the periods of a partition that takes and
@@ -38,7 +35,6 @@ AMISS = """
 WORDS are words of the report with commas between, each perhaps with the most that
 is taken: lost-a=5,twice. The status is 1 if one of them has more; by default any
 fault that the screen marks counts."""
-KEYS = "Keys: s sorts, a link's number and Enter shows it, Escape all, q ends.\n"
 MANY = """
 With --workers or --scheduler each FILE is a capture of both networks, and
 A.pcap,B.pcap one of each; a line is written for each capture and link."""
@@ -53,10 +49,10 @@ def number_from(least, most):
 
 
 def two_interfaces(word):
-    found = re.fullmatch(r"(\d+),(\d+)", word)
-    if not found or int(found[1]) == int(found[2]):
+    a, _, b = word.partition(",")
+    if not (a.isdecimal() and b.isdecimal() and int(a) != int(b)):
         raise argparse.ArgumentTypeError("not two numbers with a comma between them")
-    return int(found[1]), int(found[2])
+    return int(a), int(b)
 
 
 def flag(text):
@@ -95,16 +91,16 @@ COMMANDS = {
                  "help": "time of the report (default: the latest packet's)"},
         "--never-taken": flag("nobody takes or reads: what the proved player writes"),
     }, (INPUTS, PARTITIONS)),
-    "health": ("workbench.summing:health", "says of each link whether its networks are healthy: losses, delays, ages, and which "
-               "conditions of docs/DELIVERY.md were kept", {
+    "health": ("workbench.summing:health", "says of each link whether its networks are healthy: losses, delays, ages, and "
+               "which conditions of docs/DELIVERY.md were kept", {
         **PLAYED,
         "--link": {"type": number_from(0, 65535), "metavar": "VL", "help": "the screen of one link"},
         "--json": flag("all of it, for programs"),
         **EACH, **FAILING,
-        "--workers": {"type": number_from(1, 1024), "metavar": "N", "help": "many captures, by so many processes of this machine"},
+        "--workers": {"type": number_from(1, 1024), "metavar": "N", "help": "many captures, by so many processes"},
         "--scheduler": {"metavar": "ADDRESS", "help": "or by the workers of a scheduler of dask.distributed, which see the "
                         "captures, and these tools, under the same names"},
-        **to("OUT", default="-", help="the table of many captures: OUT.csv, or OUT.parquet (python3-pandas)"),
+        **to("OUT", help="the table of many captures (default: -): OUT.csv, or OUT.parquet (by pandas with pyarrow)"),
     }, (INPUTS, PARTITIONS, AMISS, MANY)),
     "watch": ("workbench.watching:watch", "shows the health of two networks live", {
         **CONFIG,
@@ -115,7 +111,7 @@ COMMANDS = {
         "--json": flag("a line each second in place of the screen"),
         "--prometheus": {"type": number_from(1, 65535), "metavar": "PORT", "help": "counts at this port of 127.0.0.1"},
         **SHIFT, **FAILING,
-    }, (KEYS, PARTITIONS, AMISS)),
+    }, ("Keys: s sorts, a link's number and Enter shows it, Escape all, q ends.\n", PARTITIONS, AMISS)),
     "annotate": ("workbench.annotating:annotate", "writes one capture of both networks, each packet with its verdict as a "
                  "comment, and why", {**PLAYED, **to("OUT.pcapng", required=True), **EACH}, (INPUTS, FILTERS)),
     "export": ("workbench.exporting:export", "writes one record a frame, for spreadsheets and pandas", {
@@ -127,17 +123,17 @@ COMMANDS = {
     "check": ("workbench.checking:check", "looks for slips in a configuration, and in what captures show of it", {
         "config": {"metavar": "C.toml", "help": "the receiver's configuration"},
         **CAPTURES, **SHIFT, "files": {**CAPTURES["files"], "nargs": "*"},
-    }, ("A slip is a line FILE:LINE: TEXT. The status is 1 if there is any.",)),
+    }, ("A slip is a line FILE:LINE: TEXT. The status is 1 if there is any,\n5 if a file isn't of its form.",)),
     "traces": ("workbench.tracing:write", "writes captures as hex traces, which the proved player takes: FOLDER/a.trace and "
                "FOLDER/b.trace", {**CAPTURES, **SHIFT, **to("FOLDER", required=True)}, (INPUTS,)),
 }
 
 
-def words():
+def words(told_version):
     parser = argparse.ArgumentParser(prog="yelunnavi", allow_abbrev=False, description="Plays captures of two AFDX networks "
                                      "with the proved receiver: what became of each frame, and whether the networks are "
                                      "healthy.")
-    parser.add_argument("--version", action="version", version=f"%(prog)s {version()}", help="tell the version, and end")
+    parser.add_argument("--version", action="version", version=f"%(prog)s {told_version}", help="tell the version, and end")
     commands = parser.add_subparsers(metavar="COMMAND", required=True)
     for name, (function, text, own, rest) in COMMANDS.items():
         command = commands.add_parser(name, help=text, description=f"{text[0].upper()}{text[1:]}.", epilog="\n".join(rest),
@@ -154,20 +150,22 @@ def look_at(parser, given):
     is_many = getattr(given, "workers", None) or getattr(given, "scheduler", None)
     if not is_many and (len(names) > 2 or names.count("-") > 1):
         parser.error("one capture or trace, or two")
-    if is_many and "-" in names:
-        parser.error("many captures are files")
+    if is_many and ("-" in names or given.json or given.link is not None):
+        parser.error("many captures are files, and make a table: without --json and --link")
+    if not is_many and getattr(given, "workers", 0) is None and given.to:
+        parser.error("--to is for --workers or --scheduler")
     if hasattr(given, "csv") and (given.csv + given.json + given.c_table != 1 or given.c_table == bool(names)):
         parser.error("export takes --csv or --json with captures, or --c-table with none")
     given.fcs = {"auto": None, "yes": True, "no": False}[getattr(given, "fcs", "auto")]
 
 
 def main(arguments):
-    parser = words()
-    given = parser.parse_args(arguments)
-    look_at(parser, given)
     for number in (signal.SIGINT, signal.SIGTERM, signal.SIGHUP):  # the run ends as a shell shows it; what has to go goes
         signal.signal(number, lambda number, _: sys.exit(128 + number))
     try:
+        parser = words(version() if "--version" in arguments else "")
+        given = parser.parse_args(arguments)
+        look_at(parser, given)
         return pkgutil.resolve_name(given.function)(given) or 0
     except Fault as fault:
         status, line = fault.status, str(fault)

@@ -1,4 +1,4 @@
-"""The conditions of docs/DELIVERY.md that a capture can refute: under all of them each message comes once, whole, in order."""
+"""The conditions of docs/DELIVERY.md that a capture can refute: under all of them each message comes once and whole."""
 from workbench import copies
 
 # Each condition by the word of the report, as the page says it.

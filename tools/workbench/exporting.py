@@ -24,8 +24,8 @@ def export(given):
 
 
 def records(seen):
-    """A packet that was left out has the verdict `left-out`, and no time of the receiver's. What isn't a frame of the networks
-    has no link and no sequence number; a frame of an unknown link has the networks' constant field."""
+    """A packet that was left out has the verdict `left-out`, and no time of the receiver's. What isn't a frame of the
+    networks has no link and no sequence number; a frame of an unknown link has the networks' constant field."""
     for one, now, reply in seen:
         octets, become = one.octets, reply or Reply("left-out", one.left_out)
         is_frame = become.vl is not None or become.cause == "unknown-link"

@@ -6,14 +6,16 @@ REFUSED, WRONG_WORDS, NOT_READ, NO_MEMORY, BROKEN = range(1, 6)
 
 class Fault(Exception):
     """Why the run ends."""
+    status = REFUSED
 
-    def __init__(self, text, status=REFUSED):
+    def __init__(self, text, status=None):
         super().__init__(plain(text))
-        self.status = status
+        self.status = status or self.status
 
 
 class Broken(Fault):
     """From here on a file isn't of its form; what came before was played."""
+    status = BROKEN
 
 
 def plain(text):

@@ -3,12 +3,13 @@ import contextlib
 import io
 import os
 import secrets
+import select
 import sys
 import time
 
 from workbench.faults import NOT_READ, Fault, plain
 
-BLOCK = 1 << 20
+BLOCK, BLOCK_OF_A_PIPE = 1 << 20, 1 << 13
 QUIET_SECONDS, REDRAW_SECONDS = 1.0, 0.2
 
 
@@ -22,7 +23,8 @@ def bar(what, total):
         done += amount
         if time.monotonic() >= due:
             due, shown = time.monotonic() + REDRAW_SECONDS, True
-            print(f"\r\x1b[K{what} {f'{min(done / total, 1):.0%}' if total else f'{done:,}'}", end="", file=sys.stderr, flush=True)
+            how_far = f"{min(done / total, 1):.0%}" if total else f"{done:,}"
+            print(f"\r\x1b[K{what} {how_far}", end="", file=sys.stderr, flush=True)
 
     try:
         yield add
@@ -32,7 +34,10 @@ def bar(what, total):
 
 
 class Watched(io.FileIO):
-    """A file whose reading is shown, and whose faults are lines. The standard input is `-`."""
+    """A file whose reading is shown, and whose faults are lines. The standard input is `-`. If it has patience, a read ends
+    after so many seconds in which nothing comes."""
+    read, readall = io.RawIOBase.read, io.RawIOBase.readall  # by readinto, which those of FileIO pass by
+    patience = None
 
     def __init__(self, name):
         super().__init__(0 if name == "-" else name, closefd=name != "-")
@@ -40,6 +45,8 @@ class Watched(io.FileIO):
 
     def readinto(self, buffer):
         with telling(self.name, "read"):
+            if self.patience and not select.select([self], [], [], self.patience)[0]:
+                return None
             count = super().readinto(buffer)
         if count is None:
             raise Fault(f"{self.name}: not read: it gives nothing without a wait (O_NONBLOCK)", NOT_READ)
@@ -52,8 +59,17 @@ def reading(name):
     """The octets of a file, or of the standard input if its name is `-`."""
     with telling(name, "read"):
         raw = Watched(name)
-    with raw, bar(f"reading {plain(name)}", os.fstat(raw.fileno()).st_size) as raw.add:
-        yield io.BufferedReader(raw, BLOCK)
+    with raw, bar(f"reading {plain(name)}", os.fstat(raw.fileno()).st_size) as add:
+        raw.add = add
+        yield io.BufferedReader(raw, BLOCK_OF_A_PIPE if name == "-" else BLOCK)
+
+
+def is_quiet(file, seconds):
+    """Whether all of a file that came was taken, and nothing comes for so long."""
+    file.raw.patience = seconds
+    came = file.peek(1)
+    file.raw.patience = None
+    return not came
 
 
 @contextlib.contextmanager
@@ -68,9 +84,15 @@ def telling(name, what):
 @contextlib.contextmanager
 def writing(name):
     """A file that has its name once it is whole; `-` is the standard output. A device or a pipe is written as it is."""
-    is_whole = os.path.isfile(name) or not os.path.exists(name)
-    with telling(name, "written"), output() if name == "-" else beside(name) if is_whole else open(name, "wb", BLOCK) as file:
-        yield file
+    with telling(name, "written"):
+        if name == "-":
+            chosen = output()
+        elif os.path.isfile(name) or not os.path.exists(name):
+            chosen = beside(name)
+        else:
+            chosen = open(name, "wb", BLOCK)
+        with chosen as file:
+            yield file
 
 
 @contextlib.contextmanager

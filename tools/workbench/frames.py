@@ -1,5 +1,4 @@
-"""What is read of a frame beside the receiver: its check sequence, its interface, and the sum of a UDP datagram."""
-import struct
+"""What is read of a frame beside the receiver: its check sequence, and its interface."""
 from zlib import crc32
 
 SHORTEST = 60
@@ -25,21 +24,11 @@ def refusal(octets):
     return TAGGED if octets[12:14] in TAGS else TOO_LONG if len(octets) > MOST_OCTETS else None
 
 
-def has_wrong_udp_sum(octets):
-    """Whether the checksum of a whole UDP datagram is another than the one that it says; 0 says none (RFC 768)."""
-    length, told = struct.unpack_from("!HH", octets, 38)
-    datagram = octets[34:34 + length]
-    if int.from_bytes(octets[20:22], "big") & 0x3FFF or not told or len(datagram) < length:
-        return False
-    text = octets[26:34] + bytes((0, 17)) + octets[38:40] + datagram + bytes(length % 2)
-    return sum(struct.unpack(f"!{len(text) // 2}H", text)) % 0xFFFF != 0
-
-
 def interface_of(octets):
     """What the source address says of its network: 1 for A, 2 for B."""
     return octets[11] >> 5 if len(octets) > 11 else None
 
 
-def are_crossed(counts):
-    """Whether most frames of each network say the other's interface. `counts` are those of the interfaces by network."""
-    return all(2 * found[other] > found.total() for found, other in zip(counts, (2, 1)))
+def swapped(counts):
+    """The networks most of whose frames say the other's interface. `counts` are those of the interfaces by network."""
+    return [net for net, found in enumerate(counts) if 2 * found[2 - net] > found.total()]

@@ -2,10 +2,11 @@
 
 What is kept grows with the links and the ports, not with the frames.
 """
-from collections import Counter
+import struct
+from collections import Counter, deque
 
 from verdict_words import FIRST_FORWARDED, KINDS, NETWORKS, OUT_OF_SEQUENCE
-from workbench import copies, frames
+from workbench import copies, frames, settings
 from workbench.conditions import Conditions
 from workbench.copies import Copies
 from workbench.delays import Delays
@@ -15,18 +16,27 @@ SHOWN = 5  # places of each kind
 CODES = {kind: code for code, kind in enumerate(KINDS)}
 FIRST_PIECE = CODES["bad-fragment"]  # frames of this kind and those after it have a good header
 SENDER = slice(6, 11)  # octets of a source address that both networks share
+AHEAD = 128  # gaps after which a sequence number isn't ahead any more
+# The verdicts that say that a frame itself is at fault; and one that no receiver gives.
+FAULTS = ("bad-header", "bad-fragment", "bad-udp", "no-port", "too-long", "fragmented-sample", "exhausted")
+WRONG_SUM = "wrong-udp-checksum"
 
 
 class Network:
-    """When frames of a link came on a network."""
+    """When frames of a link came on a network. `closest` is the least time in which 128 more came."""
 
     def __init__(self, bag):
         self.bag, self.frames, self.early = bag, 0, 0
         self.first = self.last = self.least = self.most = None
-        self.bags = Counter()
+        self.bags, self.times, self.closest = Counter(), deque(maxlen=AHEAD), None
 
     def see(self, time):
         self.frames += 1
+        if len(self.times) == AHEAD:
+            span = time - self.times[0]
+            if self.closest is None or span < self.closest:
+                self.closest = span
+        self.times.append(time)
         if self.last is None:
             self.first = time
         else:
@@ -83,7 +93,7 @@ class Link(copies.Listener):
         self.kinds[net][reply.kind] += 1
         before, newest = self.copies.latest, self.copies.newest
         note = self.copies.see(net, time, number, packet, is_forwarded, code == OUT_OF_SEQUENCE)
-        where = f"{packet} of {NETWORKS[net]}"
+        where = one.where
         if octets[SENDER] != self.sender:
             self.look_at_sender(octets[SENDER], where)
         if note.what == copies.COPY:
@@ -192,3 +202,32 @@ class Health:
     def finish(self, now):
         for link in self.links.values():
             link.finish(self.latest, now)
+
+
+# ---- each network alone
+
+class Alone:
+    """A receiver of its own for each network: what of a network's frames the other one's copies hide. And the checksums of
+    UDP, at which no receiver looks."""
+
+    def __init__(self, octets):
+        self.receivers = [settings.opened(octets) for _ in NETWORKS]
+
+    def fault(self, one, now, reply):
+        """The verdict of a frame on its network alone, if it is a fault that `reply` doesn't tell."""
+        found = self.receivers[one.net].receive(one.net, now, one.octets)
+        if found.kind in FAULTS:
+            return found if found.kind != reply.kind else None
+        if found.port and has_wrong_udp_sum(one.octets):
+            return found._replace(kind=WRONG_SUM, port="", number=0)
+        return None
+
+
+def has_wrong_udp_sum(octets):
+    """Whether the checksum of a whole UDP datagram is another than the one that it says; 0 says none (RFC 768)."""
+    length, told = struct.unpack_from("!HH", octets, 38)
+    datagram = octets[34:34 + length]
+    if int.from_bytes(octets[20:22], "big") & 0x3FFF or not told or len(datagram) < length:
+        return False
+    text = octets[26:34] + bytes((0, 17)) + octets[38:40] + datagram + bytes(length % 2)
+    return sum(struct.unpack(f"!{len(text) // 2}H", text)) % 0xFFFF != 0

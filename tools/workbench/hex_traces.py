@@ -1,5 +1,4 @@
 """The lines of hex traces, the player's input, and their faults (docs/FORMATS.md)."""
-import itertools
 import re
 
 from verdict_words import NETWORKS
@@ -11,9 +10,7 @@ LINE = re.compile(rb"(0|[1-9][0-9]*)?( )?((?:[0-9A-Fa-f]{2})*)(.*)", re.DOTALL)
 
 def lines(file, first, net, latest=0):
     """Line number, time in microseconds and octets of each frame of a trace whose first bytes were read."""
-    *short, begun = first.split(b"\n")
-    begun += file.readline(LONGEST + 2 - len(begun))
-    for number, line in enumerate(itertools.chain(short, [begun], iter(lambda: file.readline(LONGEST + 2), b"")), 1):
+    for number, line in enumerate(lines_from(file, first), 1):
         text = line.removesuffix(b"\n")
         if len(text) > LONGEST:
             raise fault(net, number, "long line")
@@ -23,6 +20,13 @@ def lines(file, first, net, latest=0):
                 raise fault(net, number, "time falls")
             yield number, time, octets
             latest = time
+
+
+def lines_from(file, first):
+    """All lines, each up to where it is too long. Of the first bytes the last line may go on in the file."""
+    *short, last = first.split(b"\n")
+    yield from (*short, last + file.readline(LONGEST + 2 - len(last)))
+    yield from iter(lambda: file.readline(LONGEST + 2), b"")
 
 
 def fault(net, number, cause):

@@ -1,4 +1,4 @@
-"""A partition beside the receiver: it takes from queuing ports and reads sampling ports, by the periods of the configuration.
+"""A partition beside the receiver: it takes from queuing ports and reads sampling ports, by the configuration's periods.
 
 A queue without a period is emptied at once. Of a sampling port without one the age of its newest message is known at any
 moment, without a read.
@@ -9,29 +9,29 @@ FEW = 1000  # reads of a stretch in which nothing comes that are told one by one
 
 
 class SamplingEnd:
-    """A sampling port: the ages of its newest message, at its reads or at any moment; what was stale, and what nobody read."""
+    """A sampling port: the ages of its newest message, at its reads and at any moment; what was stale, what nobody read."""
 
     def __init__(self, receiver, port, period):
         self.port, self.period, self.reader = port, period, receiver.reader(port.name)
         self.messages = self.reads = self.stale = self.missed = self.newest = self.oldest = 0
-        self.latest = None
+        self.latest, self.worst_before = None, (0, 0)
 
     def came(self, now, number):
         """A message was delivered."""
-        self.oldest, self.stale = self.worst(now)
+        self.worst_before = self.worst(now)
         self.messages, self.latest = number, now
 
     def worst(self, now):
-        """The oldest that a message was, and how often one was stale, with the newest up to now if no reads tell."""
-        if self.period is not None or self.latest is None:
-            return self.oldest, self.stale
-        age = max(0, now - self.latest)
-        return max(self.oldest, age), self.stale + (age > self.port.limit)
+        """The oldest that a message was at any moment up to now, and how many were stale."""
+        oldest, stale = self.worst_before
+        age = 0 if self.latest is None else max(0, now - self.latest)
+        return max(oldest, age), stale + (age > self.port.limit)
 
     def serve(self, first, count):
         """So many reads, from the first on, while nothing comes. Returns what a single one found."""
-        last, self.reads = first + (count - 1) * self.period, self.reads + count
+        last = first + (count - 1) * self.period
         found = self.reader.read(last)
+        self.reads += count
         if found:
             self.missed += max(0, found.number - self.newest - 1)
             self.newest = found.number
@@ -45,7 +45,7 @@ class SamplingEnd:
     def told(self, now):
         age = None if self.latest is None else max(0, now - self.latest)
         state = "empty" if age is None else "stale" if age > self.port.limit else "fresh"
-        oldest, stale = self.worst(now)
+        oldest, stale = (self.oldest, self.stale) if self.period else self.worst(now)
         return {"port": self.port.name, "vl": self.port.vl, "kind": "sampling", "state": state, "messages": self.messages,
                 "age_us": age, "oldest_us": oldest, "refresh_us": self.port.limit, "stale": stale,
                 "read_us": self.period, "reads": self.reads, "missed": self.missed}
@@ -84,18 +84,17 @@ class Partition:
         self.tell = tell
         self.ends = {port.name: (SamplingEnd if port.is_sampling else QueueEnd)(receiver, port, periods.get(port.name))
                      for port in receiver.ports}
-        self.due = sorted((end.period, place, end) for place, end in enumerate(self.ends.values()) if end.period)  # a heap
-        self.next = self.due[0][0] if self.due else float("inf")
+        due = sorted((end.period, place, end) for place, end in enumerate(self.ends.values()) if end.period)
+        self.due = [*due, (float("inf"), len(self.ends), None)]  # a heap
 
     def wake(self, now):
         """Serves what was due up to now, each at its time."""
-        while self.due and self.due[0][0] <= now:
+        while self.due[0][0] <= now:
             moment, place, end = self.due[0]
             count = (now - moment) // end.period + 1
             count = count if count > FEW else 1
             self.serve(moment, end, count)
             heapq.heapreplace(self.due, (moment + count * end.period, place, end))
-        self.next = self.due[0][0] if self.due else float("inf")
 
     def serve(self, moment, end, count=1):
         if (found := end.serve(moment, count)) and self.tell:

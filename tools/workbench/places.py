@@ -1,4 +1,7 @@
 """Where a link, a port or a key stands in a configuration: its line, and what people call it."""
+import contextlib
+import functools
+import operator
 import re
 import tomllib
 
@@ -11,8 +14,8 @@ CALLED = {"link": ("vl", int), "port": ("name", str)}
 
 
 class Document:
-    """A configuration's tables, and the line of each table and key by its path, as ("link", 0, "port", 1, "udp"), if each has
-    a line of its own. What stands inside of a value isn't taken apart: the key or table around it has the line."""
+    """A configuration's tables, and the line of each table and key by its path, as ("link", 0, "port", 1, "udp"), if each
+    has a line of its own. What stands inside of a value isn't taken apart: the key or table around it has the line."""
 
     def __init__(self, name, octets, fault=None):
         """The receiver may have told a fault of it; what Python doesn't read is refused."""
@@ -57,16 +60,11 @@ def lines_of(text, config):
             tables.append(path)
         elif key:
             lines.setdefault((*path, key[1]), number)
-    return lines if all(has(config, path) for path in tables) else {(): 1}
-
-
-def has(config, path):
-    try:
-        for step in path:
-            config = config[step]
-    except (LookupError, TypeError):
-        return False
-    return True
+    with contextlib.suppress(LookupError, TypeError):
+        for path in tables:
+            functools.reduce(operator.getitem, path, config)
+        return lines
+    return {(): 1}  # a text looks like a header
 
 
 def where(config, path):

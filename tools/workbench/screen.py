@@ -36,7 +36,8 @@ class Screen:
         try:
             from rich import console, live, text
         except ImportError:
-            raise Fault("no python3-rich: apt-get install --no-install-recommends python3-rich, or --json", NOT_READ) from None
+            raise Fault("no python3-rich: apt-get install --no-install-recommends python3-rich, or --json",
+                        NOT_READ) from None
         self.text, self.group = text.Text, console.Group
         self.names, self.keys, self.sort, self.link, self.digits = names, Keys(), 0, None, ""
         self.live = live.Live(auto_refresh=False, screen=True)
@@ -75,8 +76,9 @@ class Screen:
     def head(self, shown):
         lost = shown["lost_by_tap"]
         told_lost = f"lost by the tap {lost[0]} {lost[1]}" if lost is not None else "losses of the tap are told at the end"
-        return self.text(f"A {self.names[0]}  B {self.names[1]}  {shown['microseconds'] // 1_000_000} s  {told_lost}  sorted by "
-                         f"{SORTS[self.sort]} {self.digits}", style="bold red" if lost and any(lost) else "bold", no_wrap=True)
+        return self.text(f"A {self.names[0]}  B {self.names[1]}  {shown['microseconds'] // 1_000_000} s  {told_lost}  "
+                         f"sorted by {SORTS[self.sort]} {self.digits}",
+                         style="bold red" if lost and any(lost) else "bold", no_wrap=True)
 
     def notes(self, shown):
         found = [f"{name} on {net}: " + ", ".join(f"{cause} {count}" for cause, count in counts.items())

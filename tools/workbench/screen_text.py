@@ -68,7 +68,8 @@ def lines(found, room=None):
     for name in ("filtered", "left_out"):
         for net, counts in found[name].items():
             if counts:
-                yield f"{name.replace('_', ' ')} on {net}: " + ", ".join(f"{cause} {count}" for cause, count in counts.items())
+                causes = ", ".join(f"{cause} {count}" for cause, count in counts.items())
+                yield f"{name.replace('_', ' ')} on {net}: {causes}"
     if found["lost_by_tap"]:
         yield f"lost by the tap: {' '.join(map(str, found['lost_by_tap']))}"
 
@@ -83,8 +84,10 @@ def lines_of_link(link):
         yield from table(("network", *(key.removesuffix("_us").replace("_", " ") for key in keys)), [
             (net, *(number(about[key]) for key in keys)) for net, about in link["networks"].items()])
     for net, about in link["networks"].items():
-        hidden = "".join(f"; hidden by the other network's copies: {kind} {count}" for kind, count in about["hidden"].items())
-        yield f"verdicts on {net}: {', '.join(f'{kind} {count}' for kind, count in about['verdicts'].items()) or 'none'}{hidden}"
+        hidden = "".join(f"; hidden by the other network's copies: {kind} {count}"
+                         for kind, count in about["hidden"].items())
+        verdicts = ", ".join(f"{kind} {count}" for kind, count in about["verdicts"].items())
+        yield f"verdicts on {net}: {verdicts or 'none'}{hidden}"
     found = link["delays_us"]
     yield f"lost on both networks: {link['lost_both']}"
     yield (f"B's copy came later by, in us, least/median/99 %/greatest: {delays(link)}; {found['pairs']} pairs, "

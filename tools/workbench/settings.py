@@ -1,12 +1,15 @@
-"""A configuration: the receiver that it opens, and the keys that the receiver passes over: what people call a link, how
-often it sends, and when partitions read and take."""
+"""A configuration: the receiver that it opens, and the keys that it passes over, of names, BAGs and partitions."""
 from receiver import ConfigFault, NoLibrary, Receiver
 from workbench import files, places
 from workbench.faults import NOT_READ, Fault, plain
 
-GIVEN_TWICE = {"link given twice": "vl", "port given twice": "udp", "name given twice": "name"}
 MOST_PERIOD, LONGEST_NAME = 10**9, 40  # microseconds, letters
 MOST_LINKS, MOST_PORTS = 64, 32
+# Of faults that name no key: which one is at fault, and what is allowed.
+UNNAMED = {"link given twice": ("vl", "a number that no other link has"),
+           "port given twice": ("udp", "an address and UDP port that no other port of the link has"),
+           "name given twice": ("name", "a name that no other port has"),
+           "too many links or ports": (None, f"{MOST_LINKS} links, {MOST_PORTS} ports of a link")}
 # What a value of an own key has to be.
 PERIOD = f"a whole number of microseconds, 1 to {MOST_PERIOD}"
 OWN_KEYS = {
@@ -17,7 +20,7 @@ OWN_KEYS = {
 
 def read(path):
     with files.reading(path) as file:
-        return b"".join(file)
+        return file.read()
 
 
 def opened(octets):
@@ -34,8 +37,14 @@ def path_of(fault):
     ports = ("port", fault.port) if fault.port is not None else ()
     if str(fault).startswith("too many"):
         return (*links, "port", MOST_PORTS) if links else ("link", MOST_LINKS)
-    key = GIVEN_TWICE.get(str(fault), fault.key)
+    key, _ = UNNAMED.get(str(fault), (fault.key, ""))
     return (*links, *ports, key) if key else links + ports
+
+
+def refusal(fault):
+    """A fault in the receiver's words, with what is allowed."""
+    _, allowed = UNNAMED.get(str(fault), (None, ""))
+    return f"refused: {fault}" + (f" (allowed: {allowed})" if allowed else fault.allowed)
 
 
 def is_right(key, value):
@@ -58,14 +67,14 @@ def receiver_of(path, octets):
         return opened(octets)
     except ConfigFault as fault:
         found = places.Document(path, octets, fault)
-        raise Fault(found.slip(path_of(fault), f"refused: {fault}{fault.allowed}")) from None
+        raise Fault(found.slip(path_of(fault), refusal(fault))) from None
 
 
 def own_keys(path, octets):
     """The tables of links, by their numbers, and the periods of ports, by their names; each own key is right."""
     found = places.Document(path, octets)
-    for wrong, told in wrong_keys(found.tables):
-        raise Fault(found.slip(wrong, told))
+    for wrong, why in wrong_keys(found.tables):
+        raise Fault(found.slip(wrong, why))
     links = {link["vl"]: link for link in found.tables["link"]}
     return links, {port["name"]: port.get("read_us" if port["kind"] == "sampling" else "take_us")
                    for link in links.values() for port in link.get("port", [])}

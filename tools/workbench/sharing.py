@@ -8,11 +8,12 @@ import os
 import sys
 
 from verdict_words import NETWORKS
-from workbench import files, told
+from workbench import files, station, told
 from workbench.faults import NOT_READ, REFUSED, Fault, plain
 
-COLUMNS = ("capture", "vl", "name", "frames_a", "frames_b", "rate_a", "rate_b", *(word.replace("-", "_") for word in told.AMISS),
-           "delay_least_us", "delay_median_us", "delay_most_of_99_us", "delay_greatest_us", "oldest_us", "most_waiting", "broken")
+COLUMNS = ("capture", "vl", "name", "frames_a", "frames_b", "rate_a", "rate_b",
+           *(word.replace("-", "_") for word in told.AMISS), "delay_least_us", "delay_median_us", "delay_most_of_99_us",
+           "delay_greatest_us", "oldest_us", "most_waiting", "broken")
 
 
 def task(words, names, tools=None):
@@ -59,7 +60,9 @@ def executor_of(given):
 
 
 def health(given, most):
-    words = {name: value for name, value in vars(given).items() if name not in ("files", "workers", "scheduler", "to", "json")}
+    station.Station(given.config)  # what is wrong with it is told once
+    own = ("files", "workers", "scheduler", "to", "json")
+    words = {name: value for name, value in vars(given).items() if name not in own}
     words["config"] = os.path.abspath(given.config)
     tools = os.path.dirname(os.path.dirname(os.path.abspath(__file__)))
     pairs = [[os.path.abspath(name) for name in names.split(",")] for names in given.files]
@@ -76,7 +79,7 @@ def health(given, most):
             for line in failed if given.fail_on is not None or not found else ():
                 print(f"yelunnavi: {plain(' '.join(names))}: {line}", file=sys.stderr)
             add(1)
-    write(given.to, table)
+    write(given.to or "-", table)
     return worst
 
 

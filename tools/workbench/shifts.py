@@ -9,21 +9,25 @@ class Shift:
     """The times of the first frames of each network, by what both copies share: all but the source address."""
 
     def __init__(self):
-        self.times, self.seen, self.looks = ({}, {}), [0, 0], True
+        self.times, self.again = ({}, {}), {}
+        self.seen, self.looks = [0, 0], True
 
     def see(self, arrival):
         net, octets = arrival.net, arrival.octets
         if self.seen[net] < LOOKED_AT and not arrival.left_out:
             self.seen[net] += 1
             key = hash(octets[:6] + octets[12:])
-            # What comes twice tells nothing.
-            self.times[net][key] = None if key in self.times[net] else arrival.time
+            first = self.times[net].setdefault(key, arrival.time)
+            if first != arrival.time:
+                self.again.setdefault(key, abs(arrival.time - first))
         self.looks = min(self.seen) < LOOKED_AT
 
     def found(self):
         """By how many nanoseconds B's clock seems ahead, 0 if delays alone explain what was seen."""
         a, b = self.times
-        delays = [b[key] - time for key, time in a.items() if time is not None and b.get(key) is not None]
+        # Octets that come again after less than twice their delay may be those of another frame.
+        delays = [b[key] - time for key, time in a.items()
+                  if key in b and 2 * abs(b[key] - time) < self.again.get(key, float("inf"))]
         if len(delays) < FEWEST:
             return 0
         tenths = statistics.quantiles(delays, n=10)

@@ -1,10 +1,6 @@
 """A receiver and the partition that reads and takes its ports, fed by a stream."""
-from workbench import frames, settings, stream
+from workbench import settings, stream
 from workbench.partitions import Partition
-
-# The verdicts that say that a frame itself is at fault.
-WRONG_SUM = "wrong-udp-checksum"
-FAULTS = ("bad-header", "bad-fragment", "bad-udp", "no-port", "too-long", "fragmented-sample", "exhausted")
 
 
 class Station:
@@ -27,7 +23,7 @@ class Station:
         if now > self.latest:
             self.latest = now
         partition = self.partition
-        if partition and now > partition.next:
+        if partition and now > partition.due[0][0]:
             partition.wake(now - 1)
         reply = self.receiver.receive(one.net, now, one.octets)
         if partition and reply.port:
@@ -39,18 +35,3 @@ class Station:
         self.clock = stream.Clock(found.is_of_captures)
         for one in found:
             yield one, *self.take(one)
-
-
-class Alone:
-    """A receiver of its own for each network: what of a network's frames the other one's copies hide. And the checksums of
-    UDP, at which no receiver looks."""
-
-    def __init__(self, octets):
-        self.receivers = [settings.opened(octets) for _ in range(2)]
-
-    def fault(self, one, now, reply):
-        """The verdict of a frame on its network alone, if it is a fault that `reply` doesn't tell."""
-        found = self.receivers[one.net].receive(one.net, now, one.octets)
-        if found.kind in FAULTS:
-            return found if found.kind != reply.kind else None
-        return found._replace(kind=WRONG_SUM, port="", number=0) if found.port and frames.has_wrong_udp_sum(one.octets) else None

@@ -1,5 +1,4 @@
-"""The packets of both networks in the order of their times, out of captures, a pipe or traces: nothing is kept of them but
-those that may stand out of order."""
+"""The packets of both networks in the order of their times, out of captures, a pipe or traces, in bounded memory."""
 import collections
 import contextlib
 import datetime
@@ -9,6 +8,7 @@ import os
 import sys
 from typing import NamedTuple, Optional
 
+from verdict_words import NETWORKS
 from workbench import captures, files, frames, hex_traces
 from workbench.faults import BROKEN, Broken, Fault, plain
 from workbench.shifts import Shift
@@ -17,7 +17,7 @@ MOST_TIME = 2**64  # nanoseconds
 LATE, NO_TIME = "too late for its place", "no time that a trace can have"
 OTHER, TORN = "of another interface", "cut by the end of the capture"
 SHOWN = 8
-# Nanoseconds of the capture's clock that a packet of a pipe waits for earlier ones: dumpcap reads each quarter of a second.
+# Nanoseconds that a packet of a pipe waits for earlier ones: dumpcap reads each quarter of a second.
 HOLD_OF_A_PIPE = 300_000_000
 HINTS = {b"\x1f\x8b": "compressed: gunzip it, or `zcat FILE | yelunnavi .. -`", b"\xfd7zX": "compressed: unxz it",
          b"\x28\xb5\x2f\xfd": "compressed: unzstd it", b"\xef\xbb\xbf": "a byte order mark: sed '1s/^\\xef\\xbb\\xbf//'",
@@ -34,16 +34,19 @@ class Arrival(NamedTuple):
     left_out: Optional[str]
     length: int
 
+    @property
+    def where(self):
+        return f"{self.number} of {NETWORKS[self.net]}"
+
 
 class Account:
     """What was met in a capture, for people."""
-    broken = ""
 
     def __init__(self, name):
-        self.name, self.lost = "standard input" if name == "-" else plain(os.path.basename(name)), {}
+        self.name = "standard input" if name == "-" else plain(os.path.basename(name))
+        self.broken, self.lost = "", collections.Counter()
         self.packets = self.whole = self.checked = self.moved = self.newest = 0
-        self.left_out = collections.defaultdict(list)
-        self.counts = collections.Counter()
+        self.left_out, self.counts = collections.defaultdict(list), collections.Counter()
 
     def leave_out(self, number, reason):
         self.counts[reason] += 1
@@ -58,7 +61,7 @@ class Account:
         met = (self.checked, "check sequences cut off"), (self.moved, "put in order")
         if more := "".join(f", {count} {what}" for count, what in met if count):
             yield f"{self.name}: {self.packets} packets{more}"
-        for (_, interface), count in self.lost.items():
+        for interface, count in self.lost.items():
             if count:
                 yield (f"{self.name}: {count} packets were lost while it was captured, on interface {interface}: what "
                        "they were is unknown, and looks like a fault of the network")
@@ -70,8 +73,8 @@ class Account:
 
 
 class Clock:
-    """The times that the receiver is given, in microseconds since the first packet. The player takes A's frame first if both
-    networks have one at a time; so if a frame of A came after one of B, but in the same microsecond, it gets the next one."""
+    """The times that the receiver is given, in microseconds since the first packet. The player takes A's frame first if
+    both networks have one at a time: so a frame of A that came after one of B in the same microsecond gets the next one."""
 
     def __init__(self, from_first=True):
         self.base, self.latest = (None if from_first else 0), [(-1, -1), (-1, -1)]
@@ -90,8 +93,6 @@ class Clock:
         self.latest[net] = time, found
         return found
 
-
-# ---- from a file to arrivals
 
 def arrivals(packets, net_of, given, account):
     """What comes of a capture's packets; `net_of` tells the network of an interface and octets."""
@@ -141,7 +142,8 @@ class Order:
 
     def next(self):
         """The earliest; it is left out if it comes too late for its network."""
-        time, net, number, _, left_out, _ = one = heapq.heappop(self.heap)
+        one = heapq.heappop(self.heap)
+        time, net, number, _, left_out, _ = one
         if not left_out and time < self.latest[net]:
             one, left_out = one._replace(left_out=LATE), LATE
         if left_out:
@@ -158,21 +160,20 @@ class Order:
             yield self.next()
 
 
-def in_order(found, window, hold, account):
-    """Each waits for so many packets or, where `hold` isn't None, so many nanoseconds of the capture's clock."""
+def in_order(found, window, pipe, account):
+    """Each waits for so many packets or, of a pipe, for some time by the packets' clock, and for none once it is quiet."""
     order = Order(account)
     for one in found:
         heapq.heappush(order.heap, one)
         if len(order.heap) > window:
             yield order.next()
-        if hold is not None:
-            yield from order.until(one.time - hold)
+        if pipe:
+            is_quiet = files.is_quiet(pipe, HOLD_OF_A_PIPE / captures.SECOND)
+            yield from order.until(float("inf") if is_quiet else one.time - HOLD_OF_A_PIPE)
     yield from order.until(float("inf"))
 
 
-# ---- the files of a command line
-
-def begun(name, stack):
+def opened_file(name, stack):
     """A file, and its first four octets: of a capture or of a trace."""
     file = stack.enter_context(files.reading(name))
     magic = file.read(4)
@@ -195,12 +196,13 @@ class Stream:
     """The arrivals of one capture with both networks, or of two; or of one or two traces. `status` is that at their end."""
 
     def __init__(self, given, stack):
-        inputs = [begun(name, stack) for name in given.files]
+        inputs = [opened_file(name, stack) for name in given.files]
         kinds = {magic in captures.MAGICS for _, magic in inputs if magic}
         if len(kinds) > 1:
             raise Fault("one capture and one trace: their times have nothing in common")
         self.is_of_captures = True in kinds
-        self.unit, self.first, self.status, self.shift = "packet" if self.is_of_captures else "line", None, 0, Shift()
+        self.unit = "packet" if self.is_of_captures else "line"
+        self.first, self.status, self.shift = None, 0, Shift()
         self.accounts = [Account(name) for name in given.files]
         self.feeds = [self.feed(place, *one, given) for place, one in enumerate(inputs)]
 
@@ -210,7 +212,7 @@ class Stream:
             return of_trace(hex_traces.lines(file, magic, place), place, account)
         packets = captures.packets(file, magic, account.lost) if magic else ()
         found = arrivals(packets, networks_of(place, len(self.accounts), given), given, account)
-        return in_order(found, given.reorder, HOLD_OF_A_PIPE if given.files[place] == "-" else None, account)
+        return in_order(found, given.reorder, file if given.files[place] == "-" else None, account)
 
     def source(self, net):
         """The name of the file that a network's packets are of."""

@@ -5,7 +5,7 @@ import sys
 
 from workbench import files, screen_text, station, stream, told
 from workbench.faults import REFUSED, WRONG_WORDS, Fault
-from workbench.health import Health
+from workbench.health import Alone, Health
 
 
 def health(given):
@@ -25,7 +25,7 @@ def health(given):
 def summed(given):
     """The health of a capture or a pair of them, as plain data, and the status of their files."""
     played = station.Station(given.config)
-    found, alone = Health(played), station.Alone(played.octets) if given.each else None
+    found, alone = Health(played), Alone(played.octets) if given.each else None
     with stream.opened(given) as packets:
         for one, now, reply in played.seen(packets):
             found.see(one, now, reply)

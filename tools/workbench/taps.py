@@ -35,7 +35,8 @@ class Sockets:
             found.setsockopt(socket.SOL_SOCKET, TIMESTAMPS, 1)
             found.setsockopt(socket.SOL_SOCKET, FORCED_BUFFER, BUFFER)
             found.bind((name, ALL_PROTOCOLS))
-            found.setsockopt(PACKET_LEVEL, ADD_MEMBERSHIP, struct.pack("iHH8s", socket.if_nametoindex(name), PROMISCUOUS, 0, b""))
+            member = struct.pack("iHH8s", socket.if_nametoindex(name), PROMISCUOUS, 0, b"")
+            found.setsockopt(PACKET_LEVEL, ADD_MEMBERSHIP, member)
         except OSError as error:
             raise Fault(f"{name}: not listened to: {error.strerror}", NOT_READ) from None
         found.setblocking(False)

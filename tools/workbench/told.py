@@ -1,8 +1,10 @@
 """The health of links as plain data: for JSON and tables, screens and the words of `--fail-on`."""
+import re
+
 from verdict_words import NETWORKS
 from workbench.conditions import CONDITIONS
 from workbench.faults import WRONG_WORDS, Fault
-from workbench.station import FAULTS
+from workbench.health import FAULTS
 
 
 def micro(nanoseconds):
@@ -13,8 +15,9 @@ def of_network(link, number, latest):
     net, side = link.nets[number], link.copies.sides[number]
     bag = link.own.get("bag_us")
     return {"frames": net.frames, "rate": round(net.rate, 1),
-            "least_gap_us": micro(net.least), "greatest_gap_us": micro(net.most),
-            "usual_gap_ms": net.usual, "jitter_us": max(0, bag - micro(net.least)) if bag and net.least is not None else None,
+            "least_gap_us": micro(net.least), "greatest_gap_us": micro(net.most), "least_128_gaps_us": micro(net.closest),
+            "usual_gap_ms": net.usual,
+            "jitter_us": max(0, bag - micro(net.least)) if bag and net.least is not None else None,
             "early": net.early, "lost": side.lost, "longest_run": side.longest, "overtaken": side.overtaken,
             "repeated": side.repeated, "late": side.late, "astray": side.astray,
             "silent_us": None if net.last is None else micro(latest - net.last),
@@ -24,8 +27,9 @@ def of_network(link, number, latest):
 def of_delays(link):
     """How much later B's copy came, negative if it came first."""
     found = link.delays
-    share = {"median": found.median(), "most_of_99": found.below(0.99)} if found.number else {"median": None, "most_of_99": None}
-    return {"pairs": found.number, "least": found.least, **share, "greatest": found.greatest, "beyond": link.beyond}
+    median, most_of_99 = (found.median(), found.below(0.99)) if found.number else (None, None)
+    return {"pairs": found.number, "least": found.least, "median": median, "most_of_99": most_of_99,
+            "greatest": found.greatest, "beyond": link.beyond}
 
 
 def of_events(events):
@@ -87,8 +91,8 @@ AMISS = {
     "law": lambda link: link["law"] == "-" and link["redundancy"],
 }
 OF_ALL = ("filtered", "left-out", "tap")
-# A sender may restart, and a law says only that something else is amiss.
-NOT_BY_DEFAULT = ("reset", "law")
+# A sender may restart without a fault.
+NOT_BY_DEFAULT = ("reset",)
 # A network is silent if it brought nothing, or nothing for so many of its longest gaps before.
 SILENT_GAPS = 3
 HARMLESS = ("not-ip",)
@@ -116,7 +120,8 @@ def amiss_in_all(told):
 def failures(told, most):
     """A line for each word that has more than its most; `most` is by word."""
     for link in told["links"]:
-        yield from (f"link {link['vl']}: {word} {count}" for word, count in amiss(link).items() if count > most.get(word, count))
+        found = ((word, count) for word, count in amiss(link).items() if count > most.get(word, count))
+        yield from (f"link {link['vl']}: {word} {count}" for word, count in found)
     yield from (f"{word} {count}" for word, count in amiss_in_all(told).items() if count > most.get(word, count))
 
 
@@ -127,7 +132,7 @@ def wanted(words):
     found = {}
     for one in filter(None, words.split(",")):
         word, _, most = one.partition("=")
-        if word not in AMISS and word not in OF_ALL or most and not most.isdigit():
+        if word not in AMISS and word not in OF_ALL or not re.fullmatch("[0-9]{0,18}", most):
             raise Fault(f"--fail-on takes {' '.join((*AMISS, *OF_ALL))}, each perhaps with =MOST", WRONG_WORDS)
         found[word] = int(most or 0)
     return found

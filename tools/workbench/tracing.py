@@ -1,11 +1,10 @@
-"""Writes the hex traces that the player takes for captures."""
+"""Writes the hex traces that the player takes for captures: FOLDER/a.trace and FOLDER/b.trace."""
 import os
 
 from workbench import files, stream
 
 
 def write(given):
-    """The traces that the player takes for these captures: FOLDER/a.trace and FOLDER/b.trace."""
     with files.telling(given.to, "written"):
         os.makedirs(given.to, exist_ok=True)
     a, b = (files.writing(os.path.join(given.to, f"{net}.trace")) for net in "ab")

@@ -34,8 +34,8 @@ class Tapped:
 
     def read(self):
         try:
-            nets = {0: 0, 1: 1}
-            for one in stream.arrivals(self.tap.packets(), lambda interface, _: nets.get(interface), self.given, self.account):
+            nets, packets = {0: 0, 1: 1}, self.tap.packets()
+            for one in stream.arrivals(packets, lambda interface, _: nets.get(interface), self.given, self.account):
                 if self.is_over:
                     self.behind += 1
                     continue
@@ -67,8 +67,8 @@ class Tapped:
                 yield from self.order.until(one.time - self.tap.patience)
 
     def close(self, take):
-        """Ends the tap, and takes what it still has, for some seconds. Returns how many packets were lost; in `behind` stands
-        how many came and weren't looked at."""
+        """Ends the tap, and takes what it still has, for some seconds. Returns how many packets were lost; in `behind`
+        stands how many came and weren't looked at."""
         self.tap.stop()
         self.is_ended = False
         for one in self.until(time.monotonic() + LAST_SECONDS):
@@ -172,7 +172,6 @@ def go_on(given, watched, tapped, shown, show):
         watched.pass_time(tapped.time())
         if tapped.steps > len(watched.notes):
             watched.notes.append(f"at {int(time.time())} the clock was set; times go on as if it hadn't been")
-        shown.clear()
         shown.update(watched.picture(tapped.tap.count_lost()))
         if show(shown):
             return
