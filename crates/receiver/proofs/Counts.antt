@@ -1,47 +1,15 @@
--- What waited in a queue, counted after each message.
-use Rattle.std.proofs.Common.{◌≡◌, ◌∙◌, ap, sym, refl, ℕ, ◌+◌, ◌-◌, ◌≤◌, ◌<◌, max, List, [], ◌∷◌, ◌++◌, length, map, arith}
+-- What waited in a queue, counted after a message, and the octets that are kept for it.
+use Rattle.std.proofs.Common.{◌≡◌, ◌∙◌, ap, sym, refl, ℕ, ◌+◌, ◌-◌, ◌*◌, ◌<◌, ◌≤◌, max, List, [], ◌∷◌, ◌++◌, length, map, arith}
 use Rattle.std.proofs.lemmas.List.{length-append, map-append}
+use Rattle.std.proofs.Math.Nat.{max-eq_left, max-eq_right}
 use Rattle.es_base.specs.declared.event.Message.{Message}
-use Rattle.es_base.specs.Queue.{BeginsWith}
-use Rattle.message_ring.specs.Ends.{AreShort, octets_of_last, total}
+use Rattle.es_base.specs.Queue.{BeginsWith, with_put}
+use Rattle.message_ring.specs.Ends.{AreShort, octets_of_last}
 use Rattle.message_ring.specs.Queue.{Known}
 use Rattle.message_ring.specs.Stream.{size}
+use Rattle.message_ring.proofs.Reading.{begins_trans}
 use Rattle.message_ring.proofs.Latest.{last_few, last_with_one, short_drop, total_short}
-use Rattle.receiver.specs.Queue.{CountedQueue, CountsWaiting, RiseFrom, greatest_after, most_octets}
-
--- ---- over several messages
-
-rise_lower : (lower low high : ℕ) (numbers : List ℕ) → lower ≤ low → RiseFrom low high numbers → RiseFrom lower high numbers
-rise_lower lower low high [] less rise = omega (arith, less, rise)
-rise_lower lower low high (number ∷ numbers) less rise = (omega (arith, less, rise.0), rise.1)
-
-rise_join : (low mid high : ℕ) (first then : List ℕ) → RiseFrom low mid first → RiseFrom mid high then → RiseFrom low high (first ++ then)
-rise_join low mid high [] then one two = rise_lower low mid high then one two
-rise_join low mid high (number ∷ numbers) then one two = (one.0, rise_join number mid high numbers then one.1 two)
-
-greatest_join : (greatest put : ℕ) (first then : List ℕ) → greatest_after greatest put (first ++ then) ≡ greatest_after (greatest_after greatest put first) (put + length first) then
-greatest_join greatest put [] then = let same : put ≡ put + 0 = omega arith in ap (λ (n : ℕ). greatest_after greatest n then) same
-greatest_join greatest put (taken ∷ later) then =
-    let same : put + 1 + length later ≡ put + (1 + length later) = omega arith in
-    greatest_join (max greatest (put + 1 - taken)) (put + 1) later then
-    ∙ ap (λ (n : ℕ). greatest_after (greatest_after (max greatest (put + 1 - taken)) (put + 1) later) n then) same
-
-pub counts_none : (queue : CountedQueue) → CountsWaiting queue queue 0
-counts_none queue = record { taken = []; each = refl; rising = omega arith; greatest = refl }
-
-pub counts_join : (x y z : CountedQueue) (first then : List Message) → y.known.put ≡ x.known.put ++ first → CountsWaiting x y (length first) → CountsWaiting y z (length then) → CountsWaiting x z (length (first ++ then))
-counts_join x y z first then put xy yz =
-    let both = length-append xy.taken yz.taken in
-    let all = length-append first then in
-    let each_first = xy.each in
-    let each_then = yz.each in
-    let now : length y.known.put ≡ length x.known.put + length xy.taken = ap (λ (l : List Message). length l) put ∙ length-append x.known.put first ∙ ap (λ (n : ℕ). length x.known.put + n) (sym xy.each) in
-    record {
-      taken = xy.taken ++ yz.taken;
-      each = omega (arith, both, all, each_first, each_then);
-      rising = rise_join _ _ _ xy.taken yz.taken xy.rising yz.rising;
-      greatest = yz.greatest ∙ (λ i. greatest_after (xy.greatest i) (now i) yz.taken) ∙ sym (greatest_join x.greatest (length x.known.put) xy.taken yz.taken);
-    }
+use Rattle.receiver.specs.Queue.{CountedQueue, CountsWaiting, IsGreatest, KeepsGreatest, most_octets}
 
 -- ---- over none, and over one
 
@@ -85,3 +53,93 @@ octets_few count messages short few =
     let all = total_short most_octets _ (short_drop most_octets (length sizes - count) sizes short) in
     let these = last_few count sizes in
     omega (arith, all, these, few)
+
+-- ---- a message is put, and what waits is counted
+
+-- before, and after one message more was put and a look
+pub record HasPut (old new : Known) (message : Message) : Type 0 where
+  pub queue : new.queue ≡ old.queue
+  pub depth : new.depth ≡ old.depth
+  pub put : new.put ≡ old.put ++ message ∷ []
+  pub told : BeginsWith new.taken old.taken
+
+one_longer : (old new : Known) (message : Message) → HasPut old new message → length new.put ≡ length old.put + 1
+one_longer old new message has = ap (λ (l : List Message). length l) has.put ∙ length-append old.put (message ∷ [])
+
+-- what is kept, but for the number and its octets
+kept_with : (old new : Known) (message : Message) (depth octets greatest octets' greatest' : ℕ) → KeepsGreatest old depth octets greatest → HasPut old new message
+    → size message ≤ most_octets → IsGreatest new greatest' → (greatest' + 1 < depth → octets' ≡ octets_of_last greatest' new.put) → KeepsGreatest new depth octets' greatest'
+kept_with old new message depth octets greatest octets' greatest' keeps has short is octets_are = record {
+  depth_is = keeps.depth_is ∙ sym has.depth;
+  most = keeps.most;
+  long = rw has.queue keeps.long;
+  short = rw has.put (short_with old.put message keeps.short short);
+  is = is;
+  octets_are = octets_are;
+}
+
+-- one more waits than ever
+pub kept_more : (old new : Known) (message : Message) (depth octets greatest octets' : ℕ) → KeepsGreatest old depth octets greatest → HasPut old new message → size message ≤ most_octets
+    → greatest + 1 < depth → length new.taken + greatest < length new.put → octets' ≡ octets_of_last (greatest + 1) new.put → KeepsGreatest new depth octets' (greatest + 1)
+kept_more old new message depth octets greatest octets' keeps has short few more octets_are =
+    let long = one_longer old new message has in
+    let told = begins_shorter _ _ has.told in
+    let was = keeps.is.no_more in
+    let depth_is = keeps.depth_is ∙ sym has.depth in
+    kept_with old new message depth octets greatest octets' (greatest + 1) keeps has short
+    (record { no_more = omega (arith, long, told, was); put = omega (arith, more); few = omega (arith, few, depth_is) }) (λ _. octets_are)
+
+-- no more wait
+pub kept_same : (old new : Known) (message : Message) (depth octets greatest octets' : ℕ) → KeepsGreatest old depth octets greatest → HasPut old new message → size message ≤ most_octets
+    → length new.put ≤ length new.taken + greatest → (greatest + 1 < depth → octets' ≡ octets_of_last greatest new.put) → KeepsGreatest new depth octets' greatest
+kept_same old new message depth octets greatest octets' keeps has short no_more octets_are =
+    let long = one_longer old new message has in
+    let put = keeps.is.put in
+    let few = keeps.is.few in
+    let depth_is = has.depth in
+    kept_with old new message depth octets greatest octets' greatest keeps has short
+    (record { no_more = no_more; put = omega (arith, long, put); few = omega (arith, few, depth_is) }) octets_are
+
+-- the queue is full
+pub kept_full : (old new : Known) (message : Message) (depth octets greatest : ℕ) → KeepsGreatest old depth octets greatest → HasPut old new message → size message ≤ most_octets
+    → length new.put ≡ length new.taken + new.depth → KeepsGreatest new depth octets depth
+kept_full old new message depth octets greatest keeps has short full =
+    let depth_is = keeps.depth_is ∙ sym has.depth in
+    kept_with old new message depth octets greatest octets depth keeps has short
+    (record { no_more = omega (arith, full, depth_is); put = omega (arith, full, depth_is); few = omega (arith, depth_is) }) (λ few. absurd (omega (arith, few)))
+
+-- ---- the greatest number then
+
+pub greatest_more : (greatest taken put : ℕ) → taken + greatest < put → put ≤ taken + greatest + 1 → greatest + 1 ≡ max greatest (put - taken)
+greatest_more greatest taken put more few =
+    let is : put - taken ≡ greatest + 1 = omega (arith, more, few) in
+    sym is ∙ sym (max-eq_right (omega (arith, is)))
+
+pub greatest_same : (greatest taken put : ℕ) → put ≤ taken + greatest → greatest ≡ max greatest (put - taken)
+greatest_same greatest taken put few = sym (max-eq_left (omega (arith, few)))
+
+-- ---- by a put and a look
+
+pub put_has : (old put : Known) (message : Message) → put ≡ with_put old message put.taken → BeginsWith put.taken old.taken → HasPut old put message
+put_has old put message is told = record {
+  queue = ap (λ (k : Known). k.queue) is;
+  depth = ap (λ (k : Known). k.depth) is;
+  put = ap (λ (k : Known). k.put) is;
+  told = told;
+}
+
+pub looked_has : (old put new : Known) (message : Message) → HasPut old put message → new ≡ record put { taken = new.taken } → BeginsWith new.taken put.taken → HasPut old new message
+looked_has old put new message has looked told = record {
+  queue = ap (λ (k : Known). k.queue) looked ∙ has.queue;
+  depth = ap (λ (k : Known). k.depth) looked ∙ has.depth;
+  put = ap (λ (k : Known). k.put) looked ∙ has.put;
+  told = begins_trans old.taken put.taken new.taken has.told told;
+}
+
+-- octets of the last messages, with the one that was put
+pub with_one_more : (old new : Known) (message : Message) (octets greatest : ℕ) → HasPut old new message → octets ≡ octets_of_last greatest old.put
+    → octets + 10 + length message.octets ≡ octets_of_last (greatest + 1) new.put
+with_one_more old new message octets greatest has are =
+    let more = octets_with greatest old.put message in
+    let put = ap (octets_of_last (greatest + 1)) has.put in
+    omega (arith, more, put, are)

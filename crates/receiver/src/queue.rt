@@ -9,7 +9,7 @@ use message_ring::{HEAD, RingPutter, RingTaker, meet, open_ring};
 use std::alloc::Global;
 use std::marker::Model;
 
-/// How full a queue is, as far as the end that puts knows.
+/// Fill level of a queue, as far as the end that puts knows.
 #[derive(Clone, Copy, Debug, PartialEq, Eq)]
 pub struct Fill {
     /// Messages that wait: put and not taken.
@@ -77,6 +77,7 @@ impl CountingPutter {
 
     /// Puts a message at the end of the queue, and counts what waits then. It looks what was taken only if more may wait
     /// than ever.
+    // rule: EMB-7
     pub(crate) fn put(&mut self, time: u64, octets: &[u8])
         requires short { length octets.now ≤ self.old.known.queue.max }
         requires room { length self.old.known.put < length self.old.known.taken + self.old.known.depth }
@@ -111,7 +112,7 @@ impl CountingPutter {
         meet(&mut self.putter, taker);
     }
 
-    /// How full the queue is, after this end looked what the other end took. It costs a step for each message that
+    /// Fill level of the queue, after this end looked what the other end took. It costs a step for each message that
     /// waits.
     pub(crate) fn fill(&mut self) -> Fill
         ensures end { self.new ≡ record self.old { known = record self.old.known { taken = self.new.known.taken } } }
