@@ -2,6 +2,7 @@
 
 They have the form of all wrong bodies, and a line `law: LAWCRATE::laws::NAME`, the law that isn't proved then. What
 stands below the law's crate has to be proved all the same: where its own proofs refuse the definition, no law was asked.
+So one whose contracts the crate's code keeps changes that code, too.
 """
 import re
 import subprocess

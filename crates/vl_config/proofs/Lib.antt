@@ -5,4 +5,5 @@ pub mod Ports
 pub mod Links
 pub mod PortNames
 pub mod Places
+pub mod FaultPlaces
 pub mod RowByRow

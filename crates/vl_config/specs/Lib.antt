@@ -6,6 +6,7 @@ pub mod Names
 pub mod Link
 pub mod Document
 pub mod Place
+pub mod PlaceLaws
 pub mod Line
 pub mod Octets
 pub mod Rows

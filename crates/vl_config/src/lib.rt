@@ -6,6 +6,7 @@
 mod built_in;
 mod document;
 mod fault;
+pub mod laws;
 mod line;
 mod link;
 mod names;
