@@ -57,14 +57,14 @@ Side side_of(const char *word)
 static void init_rooms(void)
 {
     struct yelunnavi_reader sampled;
-    struct yelunnavi_taker queued;
+    struct yelunnavi_queue queued;
     check(yelunnavi_receiver_init(&library, room, sizeof room) == YELUNNAVI_DONE, "room for the receiver");
     for (size_t i = 0; i < ports_n; i++)
         for (unsigned reader = 0; reader < MOST_READERS; reader++)
             if (ports[i].sampling)
                 check(yelunnavi_reader_init(&sampled, ports[i].rooms[reader], END_ROOM) == YELUNNAVI_DONE, "room for a reader");
             else
-                check(yelunnavi_taker_init(&queued, ports[i].rooms[reader], END_ROOM) == YELUNNAVI_DONE, "room for a taker");
+                check(yelunnavi_queue_init(&queued, ports[i].rooms[reader], END_ROOM) == YELUNNAVI_DONE, "room for a queue");
 }
 
 void read_config(const char *name)
@@ -92,11 +92,11 @@ static void close_library(void)
     for (size_t i = 0; i < ports_n; i++)
         for (unsigned reader = 0; reader < MOST_READERS; reader++) {
             struct yelunnavi_reader sampled = {ports[i].rooms[reader]};
-            struct yelunnavi_taker queued = {ports[i].rooms[reader]};
+            struct yelunnavi_queue queued = {ports[i].rooms[reader]};
             if (ports[i].sampling)
                 yelunnavi_reader_close(&sampled);
             else
-                yelunnavi_taker_close(&queued);
+                yelunnavi_queue_close(&queued);
         }
     yelunnavi_receiver_close(&library);
 }
@@ -109,11 +109,11 @@ static void open_library(unsigned readers)
     for (size_t i = 0; i < ports_n; i++)
         for (unsigned reader = 0; reader < (ports[i].sampling ? readers : 1); reader++) {
             struct yelunnavi_reader sampled = {ports[i].rooms[reader]};
-            struct yelunnavi_taker queued = {ports[i].rooms[reader]};
+            struct yelunnavi_queue queued = {ports[i].rooms[reader]};
             const u8 *name = ports[i].name;
             size_t len = ports[i].name_len;
             code = ports[i].sampling ? yelunnavi_receiver_hand_reader(&library, &sampled, name, len)
-                                     : yelunnavi_receiver_hand_taker(&library, &queued, name, len);
+                                     : yelunnavi_receiver_hand_queue(&library, &queued, name, len);
             check(code == YELUNNAVI_DONE, "an end isn't handed out");
         }
 }
@@ -163,9 +163,9 @@ Found take_at(const Side *side, size_t port, u8 *out)
 {
     if (!side->is_library)
         return take_message(port_of_peer(port), out);
-    struct yelunnavi_taker end = {ports[port].rooms[0]};
+    struct yelunnavi_queue end = {ports[port].rooms[0]};
     struct yelunnavi_taken taken;
-    check(yelunnavi_taker_take(&end, out, MOST_MESSAGE, &taken) == YELUNNAVI_DONE, "a take");
+    check(yelunnavi_queue_take(&end, out, MOST_MESSAGE, &taken) == YELUNNAVI_DONE, "a take");
     return (Found){.found = taken.found == 1, .len = (u32)taken.len, .time = taken.time};
 }
 

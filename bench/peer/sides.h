@@ -38,7 +38,7 @@ extern Receiver peer;
 /* Takes a frame that comes so much later than it did. Returns the kind of its verdict. */
 static inline u8 by_library(const Arrived *arrived, u64 later)
 {
-    struct yelunnavi_frame reply;
+    struct yelunnavi_verdict reply;
     const Frame *frame = &arrived->frame;
     yelunnavi_receiver_receive(&library, arrived->net, frame->time + later, frame->octets, frame->len, &reply);
     return (u8)reply.kind;

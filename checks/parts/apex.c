@@ -67,7 +67,7 @@ static void of_empty_ports(void) {
 }
 
 static void receive(uint8_t number) {
-    struct yelunnavi_frame reply;
+    struct yelunnavi_verdict reply;
     frame[59] = number;
     if (yelunnavi_receiver_receive(&receiver, YELUNNAVI_A, now, frame, sizeof frame, &reply) != YELUNNAVI_DONE) exit(6);
     if (reply.kind != YELUNNAVI_VERDICT_SAMPLED && reply.kind != YELUNNAVI_VERDICT_QUEUED) exit(7);

@@ -51,7 +51,7 @@ static uint32_t of_no_network(struct both *h) {
     return yelunnavi_system_links(&h->system, &links) == YELUNNAVI_DONE ? YELUNNAVI_NO_NETWORK : YELUNNAVI_NOT_OPEN;
 }
 
-static uint32_t both_receive(struct both *h, uint32_t net, uint64_t now, const uint8_t *frame, size_t len, struct yelunnavi_frame *told) {
+static uint32_t both_receive(struct both *h, uint32_t net, uint64_t now, const uint8_t *frame, size_t len, struct yelunnavi_verdict *told) {
     return net < 2 ? yelunnavi_pass_receive(&h->passes[net], now, frame, len, told) : of_no_network(h);
 }
 
@@ -76,4 +76,4 @@ static uint32_t both_filtered(struct both *h, uint32_t net, uint32_t cause, uint
 #define yelunnavi_receiver_port(h, ...) yelunnavi_system_port(&(h)->system, __VA_ARGS__)
 #define yelunnavi_receiver_place(h, ...) yelunnavi_system_place(&(h)->system, __VA_ARGS__)
 #define yelunnavi_receiver_hand_reader(h, ...) yelunnavi_system_hand_reader(&(h)->system, __VA_ARGS__)
-#define yelunnavi_receiver_hand_taker(h, ...) yelunnavi_system_hand_taker(&(h)->system, __VA_ARGS__)
+#define yelunnavi_receiver_hand_queue(h, ...) yelunnavi_system_hand_queue(&(h)->system, __VA_ARGS__)

@@ -54,16 +54,16 @@ struct rattle_tried rattle_realloc(void *at, size_t kept, size_t octets, size_t 
 
 /* ---- two partitions, and the task that opens */
 
-static uint64_t receiver_room[64], reader_rooms[2][READERS][64], taker_rooms[2][64];
+static uint64_t receiver_room[64], reader_rooms[2][READERS][64], queue_rooms[2][64];
 static struct yelunnavi_receiver receiver;
 static struct yelunnavi_reader readers[2][READERS];
-static struct yelunnavi_taker takers[2];
+static struct yelunnavi_queue queues[2];
 
 static void want(bool is_so, int status) {
     if (!is_so) exit(status);
 }
 
-/* A turn's reader ends of one thread, or its taker. */
+/* A turn's reader ends of one thread, or its queue. */
 static void *close_readers(void *of_turn) {
     struct yelunnavi_reader *mine = of_turn;
     struct yelunnavi_read read;
@@ -76,22 +76,22 @@ static void *close_readers(void *of_turn) {
     return NULL;
 }
 
-static void *close_taker(void *of_turn) {
+static void *close_queue(void *of_turn) {
     struct yelunnavi_taken taken;
     uint8_t out[64];
-    want(yelunnavi_taker_take(of_turn, out, sizeof out, &taken) == YELUNNAVI_DONE && !taken.found, 12);
-    yelunnavi_taker_close(of_turn);
+    want(yelunnavi_queue_take(of_turn, out, sizeof out, &taken) == YELUNNAVI_DONE && !taken.found, 12);
+    yelunnavi_queue_close(of_turn);
     return NULL;
 }
 
 static void open_turn(int turn) {
     struct yelunnavi_fault fault;
-    struct yelunnavi_frame frame;
+    struct yelunnavi_verdict verdict;
     want(yelunnavi_receiver_open(&receiver, (const uint8_t *)CONFIG, sizeof CONFIG - 1, READERS, &fault) == YELUNNAVI_DONE, 13);
     for (int k = 0; k < READERS; k++)
         want(yelunnavi_receiver_hand_reader(&receiver, &readers[turn][k], (const uint8_t *)"pos", 3) == YELUNNAVI_DONE, 14);
-    want(yelunnavi_receiver_hand_taker(&receiver, &takers[turn], (const uint8_t *)"nav", 3) == YELUNNAVI_DONE, 15);
-    want(yelunnavi_receiver_receive(&receiver, YELUNNAVI_A, 0, FRAME, sizeof FRAME, &frame) == YELUNNAVI_DONE, 16);
+    want(yelunnavi_receiver_hand_queue(&receiver, &queues[turn], (const uint8_t *)"nav", 3) == YELUNNAVI_DONE, 15);
+    want(yelunnavi_receiver_receive(&receiver, YELUNNAVI_A, 0, FRAME, sizeof FRAME, &verdict) == YELUNNAVI_DONE, 16);
 }
 
 int main(void) {
@@ -99,7 +99,7 @@ int main(void) {
     want(yelunnavi_abi() == YELUNNAVI_ABI, 2);
     want(yelunnavi_receiver_init(&receiver, receiver_room, sizeof receiver_room) == YELUNNAVI_DONE, 3);
     for (int turn = 0; turn < 2; turn++) {
-        want(yelunnavi_taker_init(&takers[turn], taker_rooms[turn], sizeof taker_rooms[turn]) == YELUNNAVI_DONE, 4);
+        want(yelunnavi_queue_init(&queues[turn], queue_rooms[turn], sizeof queue_rooms[turn]) == YELUNNAVI_DONE, 4);
         for (int k = 0; k < READERS; k++)
             want(yelunnavi_reader_init(&readers[turn][k], reader_rooms[turn][k], sizeof reader_rooms[turn][k]) == YELUNNAVI_DONE, 5);
     }
@@ -108,7 +108,7 @@ int main(void) {
         if (turn > 1) for (int k = 0; k < 2; k++) pthread_join(threads[of][k], NULL);
         open_turn(of);
         want(!pthread_create(&threads[of][0], NULL, close_readers, readers[of])
-             && !pthread_create(&threads[of][1], NULL, close_taker, &takers[of]), 6);
+             && !pthread_create(&threads[of][1], NULL, close_queue, &queues[of]), 6);
         yelunnavi_receiver_close(&receiver);
     }
     for (int k = 0; k < 4; k++) pthread_join(threads[k / 2][k % 2], NULL);

@@ -16,7 +16,7 @@ static const uint8_t NO_OCTETS[60] = {3, 0, 0, 0, 0, 17, 2, 0, 0, 0, 1, 32, 8, 0
 static uint64_t rooms[4][64];
 static struct yelunnavi_receiver receiver;
 static struct yelunnavi_reader reader, other;
-static struct yelunnavi_taker taker;
+static struct yelunnavi_queue queue;
 
 /* ---- memory */
 
@@ -67,24 +67,24 @@ static void of_readers(size_t readers) {
 /* What calls of the receiver do that are passed no octets. */
 static void of_no_octets_in(const uint8_t *in) {
     struct yelunnavi_fault fault = {0};
-    struct yelunnavi_frame frame;
+    struct yelunnavi_verdict verdict;
     struct yelunnavi_place place;
     WANT(FAULTY, yelunnavi_receiver_open(&receiver, in, 0, 1, &fault));
     if (fault.fault != YELUNNAVI_FAULT_MISSING || fault.key != YELUNNAVI_KEY_LINK || fault.level != YELUNNAVI_LEVEL_DOCUMENT) exit(22);
-    WANT(NOT_OPEN, yelunnavi_receiver_receive(&receiver, YELUNNAVI_A, 0, in, 0, &frame));
+    WANT(NOT_OPEN, yelunnavi_receiver_receive(&receiver, YELUNNAVI_A, 0, in, 0, &verdict));
     WANT(DONE, yelunnavi_receiver_open(&receiver, TEXT(WITH_ACK), 1, &fault));
     WANT(ALREADY_OPEN, yelunnavi_receiver_open(&receiver, in, 0, 1, &fault));
-    WANT(DONE, yelunnavi_receiver_receive(&receiver, YELUNNAVI_A, 0, in, 0, &frame));
-    if (frame.kind != YELUNNAVI_VERDICT_FILTERED || frame.cause != YELUNNAVI_FILTER_TOO_SHORT) exit(23);
+    WANT(DONE, yelunnavi_receiver_receive(&receiver, YELUNNAVI_A, 0, in, 0, &verdict));
+    if (verdict.kind != YELUNNAVI_VERDICT_FILTERED || verdict.cause != YELUNNAVI_FILTER_TOO_SHORT) exit(23);
     WANT(NO_NAME, yelunnavi_receiver_place(&receiver, in, 0, &place));
     WANT(NO_NAME, yelunnavi_receiver_hand_reader(&receiver, &reader, in, 0));
-    WANT(NO_NAME, yelunnavi_receiver_hand_taker(&receiver, &taker, in, 0));
+    WANT(NO_NAME, yelunnavi_receiver_hand_queue(&receiver, &queue, in, 0));
 }
 
 /* What calls of a reader do that have no room for octets: of a message of 17 of them. */
 static void of_no_room_to_read(uint8_t *out) {
     struct yelunnavi_octets held;
-    struct yelunnavi_frame frame;
+    struct yelunnavi_verdict verdict;
     struct yelunnavi_read read;
     WANT(NOT_OPEN, yelunnavi_reader_read(&reader, 0, out, 0, &read));
     WANT(HOLDS_NONE, yelunnavi_reader_copy(&reader, 0, out, 0));
@@ -92,7 +92,7 @@ static void of_no_room_to_read(uint8_t *out) {
     WANT(DONE, yelunnavi_receiver_hand_reader(&receiver, &reader, TEXT("pos")));
     WANT(DONE, yelunnavi_reader_read(&reader, 0, out, 0, &read));
     if (read.found != 0) exit(24);
-    WANT(DONE, yelunnavi_receiver_receive(&receiver, YELUNNAVI_A, 1000, FRAME, sizeof FRAME, &frame));
+    WANT(DONE, yelunnavi_receiver_receive(&receiver, YELUNNAVI_A, 1000, FRAME, sizeof FRAME, &verdict));
     WANT(DONE, yelunnavi_reader_read(&reader, 1000, out, 0, &read));
     if (read.found != 1 || read.valid != 1 || read.number != 1 || read.time != 1000 || read.len != 17) exit(25);
     WANT(HOLDS_NONE, yelunnavi_reader_copy(&reader, 0, out, 0));
@@ -108,20 +108,20 @@ static void of_no_room_to_read(uint8_t *out) {
 
 /* What a take does that has no room for octets: at a port whose messages have none, and at one whose messages have. */
 static void of_no_room_to_take(uint8_t *out) {
-    struct yelunnavi_frame frame;
+    struct yelunnavi_verdict verdict;
     struct yelunnavi_taken taken;
-    WANT(NOT_OPEN, yelunnavi_taker_take(&taker, out, 0, &taken));
-    WANT(DONE, yelunnavi_receiver_hand_taker(&receiver, &taker, TEXT("ack")));
-    WANT(DONE, yelunnavi_taker_take(&taker, out, 0, &taken));
+    WANT(NOT_OPEN, yelunnavi_queue_take(&queue, out, 0, &taken));
+    WANT(DONE, yelunnavi_receiver_hand_queue(&receiver, &queue, TEXT("ack")));
+    WANT(DONE, yelunnavi_queue_take(&queue, out, 0, &taken));
     if (taken.found != 0) exit(26);
-    WANT(DONE, yelunnavi_receiver_receive(&receiver, YELUNNAVI_A, 2000, NO_OCTETS, sizeof NO_OCTETS, &frame));
-    if (frame.kind != YELUNNAVI_VERDICT_QUEUED || frame.port != 2) exit(27);
-    WANT(DONE, yelunnavi_taker_take(&taker, out, 0, &taken));
+    WANT(DONE, yelunnavi_receiver_receive(&receiver, YELUNNAVI_A, 2000, NO_OCTETS, sizeof NO_OCTETS, &verdict));
+    if (verdict.kind != YELUNNAVI_VERDICT_QUEUED || verdict.port != 2) exit(27);
+    WANT(DONE, yelunnavi_queue_take(&queue, out, 0, &taken));
     if (taken.found != 1 || taken.time != 2000 || taken.len != 0) exit(28);
-    yelunnavi_taker_close(&taker);
-    WANT(DONE, yelunnavi_receiver_hand_taker(&receiver, &taker, TEXT("nav")));
-    WANT(TOO_SHORT, yelunnavi_taker_take(&taker, out, 0, &taken));
-    yelunnavi_taker_close(&taker);
+    yelunnavi_queue_close(&queue);
+    WANT(DONE, yelunnavi_receiver_hand_queue(&receiver, &queue, TEXT("nav")));
+    WANT(TOO_SHORT, yelunnavi_queue_take(&queue, out, 0, &taken));
+    yelunnavi_queue_close(&queue);
 }
 
 /* With a length of 0 a null pointer does what another one does. */
@@ -135,21 +135,21 @@ static void of_no_octets(const uint8_t *in, uint8_t *out) {
 
 static void of_the_receiver(void) {
     struct yelunnavi_fault fault = {0};
-    struct yelunnavi_frame frame;
+    struct yelunnavi_verdict verdict;
     struct yelunnavi_link link;
     struct yelunnavi_place place;
     uint64_t count;
-    WANT(NOT_OPEN, yelunnavi_receiver_receive(&receiver, YELUNNAVI_A, 0, FRAME, sizeof FRAME, &frame));
+    WANT(NOT_OPEN, yelunnavi_receiver_receive(&receiver, YELUNNAVI_A, 0, FRAME, sizeof FRAME, &verdict));
     WANT(FAULTY, yelunnavi_receiver_open(&receiver, TEXT("[[link]]\nvl = 1\nskew_max_us = -1"), 2, &fault));
     if (fault.fault != YELUNNAVI_FAULT_RANGE || fault.key != YELUNNAVI_KEY_SKEW_MAX_US || fault.level != YELUNNAVI_LEVEL_LINK
         || fault.link != 0) exit(2);
     WANT(DONE, yelunnavi_receiver_open(&receiver, TEXT(CONFIG), 2, &fault));
     WANT(ALREADY_OPEN, yelunnavi_receiver_open(&receiver, TEXT(CONFIG), 2, &fault));
-    WANT(NO_NETWORK, yelunnavi_receiver_receive(&receiver, 2, 0, FRAME, sizeof FRAME, &frame));
-    WANT(DONE, yelunnavi_receiver_receive(&receiver, YELUNNAVI_A, 1000, FRAME, sizeof FRAME, &frame));
-    if (frame.kind != YELUNNAVI_VERDICT_SAMPLED || frame.vl != 17 || frame.number != 1) exit(3);
-    WANT(DONE, yelunnavi_receiver_receive(&receiver, YELUNNAVI_B, 1000, FRAME, sizeof FRAME, &frame));
-    if (frame.kind != YELUNNAVI_VERDICT_REDUNDANT || frame.place != 1) exit(4);
+    WANT(NO_NETWORK, yelunnavi_receiver_receive(&receiver, 2, 0, FRAME, sizeof FRAME, &verdict));
+    WANT(DONE, yelunnavi_receiver_receive(&receiver, YELUNNAVI_A, 1000, FRAME, sizeof FRAME, &verdict));
+    if (verdict.kind != YELUNNAVI_VERDICT_SAMPLED || verdict.vl != 17 || verdict.number != 1) exit(3);
+    WANT(DONE, yelunnavi_receiver_receive(&receiver, YELUNNAVI_B, 1000, FRAME, sizeof FRAME, &verdict));
+    if (verdict.kind != YELUNNAVI_VERDICT_REDUNDANT || verdict.place != 1) exit(4);
     WANT(DONE, yelunnavi_receiver_count(&receiver, 0, YELUNNAVI_B, YELUNNAVI_VERDICT_REDUNDANT, &count));
     if (count != 1) exit(5);
     WANT(NO_KIND, yelunnavi_receiver_count(&receiver, 0, YELUNNAVI_A, YELUNNAVI_VERDICT_EXHAUSTED + 1, &count));
@@ -175,9 +175,9 @@ static void of_the_ends(void) {
     if (out[0] != 2 || out[1] != 3) exit(7);
     WANT(DONE, yelunnavi_reader_release(&reader));
     WANT(NOT_OPEN, yelunnavi_reader_hold(&other, 0, &read));
-    WANT(DONE, yelunnavi_receiver_hand_taker(&receiver, &taker, TEXT("nav")));
-    WANT(TOO_SHORT, yelunnavi_taker_take(&taker, out, 63, &taken));
-    WANT(DONE, yelunnavi_taker_take(&taker, out, 64, &taken));
+    WANT(DONE, yelunnavi_receiver_hand_queue(&receiver, &queue, TEXT("nav")));
+    WANT(TOO_SHORT, yelunnavi_queue_take(&queue, out, 63, &taken));
+    WANT(DONE, yelunnavi_queue_take(&queue, out, 64, &taken));
     if (taken.found) exit(8);
 }
 
@@ -185,7 +185,7 @@ static void of_the_ends(void) {
    octets of the first stay where they stand. */
 static void of_a_hold(void) {
     struct yelunnavi_octets held;
-    struct yelunnavi_frame frame;
+    struct yelunnavi_verdict verdict;
     struct yelunnavi_read read;
     uint8_t next[sizeof FRAME], out[64];
     memcpy(next, FRAME, sizeof next);
@@ -194,8 +194,8 @@ static void of_a_hold(void) {
     WANT(DONE, yelunnavi_receiver_hand_reader(&receiver, &other, TEXT("pos")));
     for (uint8_t number = 1; number < 10; number++) {
         next[59] = next[42] = number;
-        WANT(DONE, yelunnavi_receiver_receive(&receiver, YELUNNAVI_A, 1000u * number, next, sizeof next, &frame));
-        if (frame.kind != YELUNNAVI_VERDICT_SAMPLED || frame.number != number + 1u) exit(18);
+        WANT(DONE, yelunnavi_receiver_receive(&receiver, YELUNNAVI_A, 1000u * number, next, sizeof next, &verdict));
+        if (verdict.kind != YELUNNAVI_VERDICT_SAMPLED || verdict.number != number + 1u) exit(18);
         WANT(DONE, yelunnavi_reader_read(&other, 1000u * number, out, sizeof out, &read));
         if (read.found != 1 || read.number != number + 1u || out[0] != number) exit(19);
         WANT(DONE, yelunnavi_reader_copy(&reader, 0, out, 17));
@@ -205,7 +205,7 @@ static void of_a_hold(void) {
     WANT(NONE_LEFT, yelunnavi_receiver_hand_reader(&receiver, &reader, TEXT("pos")));
 }
 
-/* A reader and a taker outlive their receiver. */
+/* A reader and a queue outlive their receiver. */
 static void of_a_closed_receiver(void) {
     struct yelunnavi_read read;
     struct yelunnavi_taken taken;
@@ -213,9 +213,9 @@ static void of_a_closed_receiver(void) {
     yelunnavi_receiver_close(&receiver);
     WANT(DONE, yelunnavi_reader_read(&other, 29001, out, sizeof out, &read));
     if (read.found != 1 || read.valid != 0 || read.number != 10 || out[2] != 3) exit(13);
-    WANT(DONE, yelunnavi_taker_take(&taker, out, sizeof out, &taken));
+    WANT(DONE, yelunnavi_queue_take(&queue, out, sizeof out, &taken));
     yelunnavi_reader_close(&other);
-    yelunnavi_taker_close(&taker);
+    yelunnavi_queue_close(&queue);
 }
 
 /* ---- rooms */
@@ -223,7 +223,7 @@ static void of_a_closed_receiver(void) {
 /* Each call on a receiver's handle answers NOT_MADE. */
 static void want_no_receiver(struct yelunnavi_receiver *h) {
     struct yelunnavi_fault fault;
-    struct yelunnavi_frame frame;
+    struct yelunnavi_verdict verdict;
     struct yelunnavi_link link;
     struct yelunnavi_port port;
     struct yelunnavi_place place;
@@ -234,7 +234,7 @@ static void want_no_receiver(struct yelunnavi_receiver *h) {
     size_t links;
     WANT(NOT_MADE, yelunnavi_receiver_open(h, TEXT(CONFIG), 1, &fault));
     WANT(NOT_MADE, yelunnavi_receiver_open_table(h, FRAME, NULL, 0, NULL, 0, 1, &fault));
-    WANT(NOT_MADE, yelunnavi_receiver_receive(h, YELUNNAVI_A, 0, FRAME, sizeof FRAME, &frame));
+    WANT(NOT_MADE, yelunnavi_receiver_receive(h, YELUNNAVI_A, 0, FRAME, sizeof FRAME, &verdict));
     WANT(NOT_MADE, yelunnavi_receiver_count(h, 0, YELUNNAVI_A, YELUNNAVI_VERDICT_SAMPLED, &count));
     WANT(NOT_MADE, yelunnavi_receiver_filtered(h, YELUNNAVI_A, YELUNNAVI_FILTER_TOO_SHORT, &count));
     WANT(NOT_MADE, yelunnavi_receiver_health(h, 0, &health));
@@ -244,7 +244,7 @@ static void want_no_receiver(struct yelunnavi_receiver *h) {
     WANT(NOT_MADE, yelunnavi_receiver_port(h, 0, 0, &port, &name));
     WANT(NOT_MADE, yelunnavi_receiver_place(h, TEXT("pos"), &place));
     WANT(NOT_MADE, yelunnavi_receiver_hand_reader(h, &reader, TEXT("pos")));
-    WANT(NOT_MADE, yelunnavi_receiver_hand_taker(h, &taker, TEXT("nav")));
+    WANT(NOT_MADE, yelunnavi_receiver_hand_queue(h, &queue, TEXT("nav")));
     yelunnavi_receiver_close(h);
 }
 
@@ -262,18 +262,18 @@ static void want_no_reader(struct yelunnavi_reader *h) {
     yelunnavi_reader_close(h);
 }
 
-static void want_no_taker(struct yelunnavi_taker *h) {
+static void want_no_queue(struct yelunnavi_queue *h) {
     struct yelunnavi_taken taken;
     size_t max;
     uint8_t out[8];
-    WANT(NOT_MADE, yelunnavi_taker_take(h, out, sizeof out, &taken));
-    WANT(NOT_MADE, yelunnavi_taker_longest(h, &max));
-    yelunnavi_taker_close(h);
+    WANT(NOT_MADE, yelunnavi_queue_take(h, out, sizeof out, &taken));
+    WANT(NOT_MADE, yelunnavi_queue_longest(h, &max));
+    yelunnavi_queue_close(h);
 }
 
 /* A room that is none, or isn't aligned, or is too short: no slot is made there, and each further call says so. */
 static void of_rooms(void) {
-    size_t sizes[3] = {yelunnavi_receiver_room(), yelunnavi_reader_room(), yelunnavi_taker_room()};
+    size_t sizes[3] = {yelunnavi_receiver_room(), yelunnavi_reader_room(), yelunnavi_queue_room()};
     unsigned char *odd = (unsigned char *)rooms[0] + 4;
     for (int k = 0; k < 3; k++) if (sizes[k] > sizeof rooms[0]) exit(9);
     WANT(NO_ROOM, yelunnavi_receiver_init(&receiver, NULL, 512)); want_no_receiver(&receiver);
@@ -282,9 +282,9 @@ static void of_rooms(void) {
     WANT(NO_ROOM, yelunnavi_reader_init(&reader, NULL, 512)); want_no_reader(&reader);
     WANT(NO_ROOM, yelunnavi_reader_init(&reader, odd, 400)); want_no_reader(&reader);
     WANT(TOO_SHORT, yelunnavi_reader_init(&reader, rooms[0], sizes[1] - 1)); want_no_reader(&reader);
-    WANT(NO_ROOM, yelunnavi_taker_init(&taker, NULL, 512)); want_no_taker(&taker);
-    WANT(NO_ROOM, yelunnavi_taker_init(&taker, odd, 400)); want_no_taker(&taker);
-    WANT(TOO_SHORT, yelunnavi_taker_init(&taker, rooms[0], sizes[2] - 1)); want_no_taker(&taker);
+    WANT(NO_ROOM, yelunnavi_queue_init(&queue, NULL, 512)); want_no_queue(&queue);
+    WANT(NO_ROOM, yelunnavi_queue_init(&queue, odd, 400)); want_no_queue(&queue);
+    WANT(TOO_SHORT, yelunnavi_queue_init(&queue, rooms[0], sizes[2] - 1)); want_no_queue(&queue);
     for (size_t k = 0; k < 64; k++) if (rooms[0][k]) exit(22);
 }
 
@@ -292,18 +292,18 @@ static void of_rooms(void) {
 static void of_other_rooms(void) {
     static const unsigned char fills[] = {0, 1, 0x7f, 0x80, 0xff};
     uint64_t room[64], before[64];
-    struct yelunnavi_receiver of_reader = {reader.room}, of_taker = {taker.room}, receiver_of_none = {room};
-    struct yelunnavi_reader of_receiver = {receiver.room}, from_taker = {taker.room}, reader_of_none = {room};
-    struct yelunnavi_taker from_receiver = {receiver.room}, from_reader = {reader.room}, taker_of_none = {room};
+    struct yelunnavi_receiver of_reader = {reader.room}, of_queue = {queue.room}, receiver_of_none = {room};
+    struct yelunnavi_reader of_receiver = {receiver.room}, from_queue = {queue.room}, reader_of_none = {room};
+    struct yelunnavi_queue from_receiver = {receiver.room}, from_reader = {reader.room}, queue_of_none = {room};
     memcpy(before, rooms[0], sizeof before);
-    want_no_receiver(&of_reader), want_no_receiver(&of_taker), want_no_reader(&of_receiver), want_no_reader(&from_taker);
-    want_no_taker(&from_receiver), want_no_taker(&from_reader);
+    want_no_receiver(&of_reader), want_no_receiver(&of_queue), want_no_reader(&of_receiver), want_no_reader(&from_queue);
+    want_no_queue(&from_receiver), want_no_queue(&from_reader);
     if (memcmp(before, rooms[0], sizeof before)) exit(23);
     for (size_t k = 0; k < sizeof fills; k++) {
         memset(room, fills[k], sizeof room), memset(before, fills[k], sizeof before);
-        want_no_receiver(&receiver_of_none), want_no_reader(&reader_of_none), want_no_taker(&taker_of_none);
+        want_no_receiver(&receiver_of_none), want_no_reader(&reader_of_none), want_no_queue(&queue_of_none);
         WANT(NOT_MADE, yelunnavi_receiver_hand_reader(&receiver, &reader_of_none, TEXT("pos")));
-        WANT(NOT_MADE, yelunnavi_receiver_hand_taker(&receiver, &taker_of_none, TEXT("nav")));
+        WANT(NOT_MADE, yelunnavi_receiver_hand_queue(&receiver, &queue_of_none, TEXT("nav")));
         if (memcmp(before, room, sizeof room)) exit(24);
     }
 }
@@ -435,7 +435,7 @@ int main(void) {
     WANT(DONE, yelunnavi_receiver_init(&receiver, rooms[0], sizeof rooms[0]));
     WANT(DONE, yelunnavi_reader_init(&reader, rooms[1], sizeof rooms[1]));
     WANT(DONE, yelunnavi_reader_init(&other, rooms[2], sizeof rooms[2]));
-    WANT(DONE, yelunnavi_taker_init(&taker, rooms[3], sizeof rooms[3]));
+    WANT(DONE, yelunnavi_queue_init(&queue, rooms[3], sizeof rooms[3]));
     of_other_rooms();
     of_lines();
     of_table_faults();

@@ -13,10 +13,10 @@
 
 enum { SLOTS = 64, FILL = 0xa5 };
 
-static uint64_t receiver_room[128], reader_rooms[SLOTS][64], taker_rooms[SLOTS][64];
+static uint64_t receiver_room[128], reader_rooms[SLOTS][64], queue_rooms[SLOTS][64];
 static struct yelunnavi_receiver receiver;
 static struct yelunnavi_reader readers[SLOTS];
-static struct yelunnavi_taker takers[SLOTS];
+static struct yelunnavi_queue queues[SLOTS];
 static long blocks;
 static bool may_ask;
 
@@ -124,7 +124,7 @@ static void open_table(void) {
 }
 
 static void receive(void) {
-    struct yelunnavi_frame told;
+    struct yelunnavi_verdict told;
     uint32_t net = (uint32_t)number();
     uint64_t now = number();
     size_t len;
@@ -139,7 +139,7 @@ static void hand(bool samples) {
     size_t slot = number(), len;
     uint8_t *name = octets(&len);
     code(samples ? yelunnavi_receiver_hand_reader(&receiver, &readers[slot], name, len)
-                 : yelunnavi_receiver_hand_taker(&receiver, &takers[slot], name, len));
+                 : yelunnavi_receiver_hand_queue(&receiver, &queues[slot], name, len));
     free(name);
 }
 
@@ -186,7 +186,7 @@ static void take(void) {
     struct yelunnavi_taken told;
     size_t slot = number(), len = number();
     uint8_t *out = buffer(len);
-    if (code(yelunnavi_taker_take(&takers[slot], out, len, &told)))
+    if (code(yelunnavi_queue_take(&queues[slot], out, len, &told)))
         printf(" %" PRIu32 " %" PRIu64 " %zu", told.found, told.time, told.len);
     show(out, len);
     free(out);
@@ -194,7 +194,7 @@ static void take(void) {
 
 static void longest(void) {
     size_t max;
-    if (code(yelunnavi_taker_longest(&takers[number()], &max))) printf(" %zu", max);
+    if (code(yelunnavi_queue_longest(&queues[number()], &max))) printf(" %zu", max);
 }
 
 static void count(void) {
@@ -238,7 +238,7 @@ static void call(const char *name) {
     else if (!strcmp(name, "open_table")) open_table();
     else if (!strcmp(name, "receive")) receive();
     else if (!strcmp(name, "hand_reader")) hand(true);
-    else if (!strcmp(name, "hand_taker")) hand(false);
+    else if (!strcmp(name, "hand_queue")) hand(false);
     else if (!strcmp(name, "read")) read_it();
     else if (!strcmp(name, "hold")) hold();
     else if (!strcmp(name, "copy")) copy();
@@ -256,7 +256,7 @@ static void call(const char *name) {
     else if (!strcmp(name, "place")) place();
     else if (!strcmp(name, "close")) yelunnavi_receiver_close(&receiver);
     else if (!strcmp(name, "close_reader")) yelunnavi_reader_close(&readers[number()]);
-    else if (!strcmp(name, "close_taker")) yelunnavi_taker_close(&takers[number()]);
+    else if (!strcmp(name, "close_queue")) yelunnavi_queue_close(&queues[number()]);
     else exit(3);
     putchar('\n');
 }
@@ -265,10 +265,10 @@ int main(void) {
     bool are_made = yelunnavi_receiver_init(&receiver, receiver_room, sizeof receiver_room) == YELUNNAVI_DONE;
     for (int k = 0; k < SLOTS && are_made; k++)
         are_made = yelunnavi_reader_init(&readers[k], reader_rooms[k], sizeof reader_rooms[k]) == YELUNNAVI_DONE
-            && yelunnavi_taker_init(&takers[k], taker_rooms[k], sizeof taker_rooms[k]) == YELUNNAVI_DONE;
+            && yelunnavi_queue_init(&queues[k], queue_rooms[k], sizeof queue_rooms[k]) == YELUNNAVI_DONE;
     if (!are_made || yelunnavi_abi() != YELUNNAVI_ABI) return 2;
     while (scanf("%31s", word) == 1) call(word);
-    for (int k = 0; k < SLOTS; k++) yelunnavi_reader_close(&readers[k]), yelunnavi_taker_close(&takers[k]);
+    for (int k = 0; k < SLOTS; k++) yelunnavi_reader_close(&readers[k]), yelunnavi_queue_close(&queues[k]);
     yelunnavi_receiver_close(&receiver);
     printf("%ld blocks kept\n", blocks);
     return 0;

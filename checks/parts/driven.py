@@ -41,7 +41,7 @@ class Script:
         self.r, self.links = r, [Link(r, place) for place in range(r.choice([1, 1, 2, 3]))]
         self.receiver = model.Receiver()
         self.readers = [model.Reader() for _ in range(SLOTS)]
-        self.takers = [model.Taker() for _ in range(SLOTS)]
+        self.queues = [model.Queue() for _ in range(SLOTS)]
         self.calls, self.answers, self.now, self.kinds = [], [], 0, collections.Counter()
         a, b = sent(r, self.links, frames)
         self.frames = sorted([(time, 0, frame) for time, frame in a] + [(time, 1, frame) for time, frame in b],
@@ -78,7 +78,7 @@ class Script:
 
     def between(self):
         ends = [self.read] * 4 + [self.hold, self.hold, self.copy, self.octets, self.release, self.take, self.take, self.take]
-        return [*ends, self.hand_reader, self.hand_taker, self.count, self.filtered, self.health, self.fill, self.limits,
+        return [*ends, self.hand_reader, self.hand_queue, self.count, self.filtered, self.health, self.fill, self.limits,
                 self.longest, self.place, self.chance_of_closing]
 
     # ---- the receiver
@@ -95,7 +95,7 @@ class Script:
             answer = self.receiver.open(self.links, readers, each)
             self.call(answer, "open_table", readers, *rows_of(self.links, each))
         for _ in range(self.r.choice([0, 2, 6, 10]) if answer == (model.DONE,) else 0):
-            self.chosen(self.hand_reader, self.hand_taker)
+            self.chosen(self.hand_reader, self.hand_queue)
 
     def close(self):
         self.receiver.close()
@@ -122,9 +122,9 @@ class Script:
         slot, name = self.slot(), self.name(True)
         self.call(self.receiver.hand(self.readers[slot], name, True), "hand_reader", slot, hexed(name))
 
-    def hand_taker(self):
+    def hand_queue(self):
         slot, name = self.slot(), self.name(False)
-        self.call(self.receiver.hand(self.takers[slot], name, False), "hand_taker", slot, hexed(name))
+        self.call(self.receiver.hand(self.queues[slot], name, False), "hand_queue", slot, hexed(name))
 
     def count(self):
         r = self.r
@@ -192,28 +192,28 @@ class Script:
         self.call(self.readers[slot].limits(), "limits", slot)
 
     def take(self):
-        slot = self.open_slot(self.takers)
-        port = self.takers[slot].port
+        slot = self.open_slot(self.queues)
+        port = self.queues[slot].port
         length = self.r.choice([ENOUGH, port.max if port else 0, self.length()])
-        self.call(self.takers[slot].take(length), "take", slot, length)
+        self.call(self.queues[slot].take(length), "take", slot, length)
 
     def longest(self):
-        slot = self.open_slot(self.takers)
-        self.call(self.takers[slot].longest(), "longest", slot)
+        slot = self.open_slot(self.queues)
+        self.call(self.queues[slot].longest(), "longest", slot)
 
     def chance_of_closing(self):
         if self.r.random() < 0.1:
-            self.chosen(self.close_reader, self.close_taker)
+            self.chosen(self.close_reader, self.close_queue)
 
     def close_reader(self):
         slot = self.open_slot(self.readers)
         self.readers[slot] = model.Reader()
         self.call((), "close_reader", slot)
 
-    def close_taker(self):
-        slot = self.open_slot(self.takers)
-        self.takers[slot] = model.Taker()
-        self.call((), "close_taker", slot)
+    def close_queue(self):
+        slot = self.open_slot(self.queues)
+        self.queues[slot] = model.Queue()
+        self.call((), "close_queue", slot)
 
 
 def differences(script, output):

@@ -30,35 +30,36 @@ MEMORY_OF_RUST = "examples/rust/play.rs"
 KINDS_OF_HANDLES = ("Receiver", "System", "Pass", "Reader", "Taker")
 HANDLES = {kind: f"crates/{'system_c' if kind in ('System', 'Pass') else 'slot_handles'}/src/{kind.lower()}_handle.rt"
            for kind in KINDS_OF_HANDLES}
-# The handles that Ada calls otherwise: System is a package of its own there.
-HANDLES_OF_ADA = {"End_System": "System"}
+# The handles that faces call otherwise: the end of a queue is a queue in all of them; System is a package of its own in Ada.
+HANDLES_OF_FACES = {"Queue": "Taker", "End_System": "System"}
 
 # What the faces call otherwise: the period of a sampling port, and where the room of a handle is.
 FIELDS = {("LimitReply", "limit"): "refresh"}
 ROOM = "room"
-# The structs of C and of Rust, by those of the source. Ada's have the same names.
+# The structs of C and of Rust, by those of the source. Ada's have the same names, but for a frame's reply.
 STRUCTS_OF_C = {
-    "FaultReply": "yelunnavi_fault", "FrameReply": "yelunnavi_frame", "ReadReply": "yelunnavi_read",
+    "FaultReply": "yelunnavi_fault", "FrameReply": "yelunnavi_verdict", "ReadReply": "yelunnavi_read",
     "TakeReply": "yelunnavi_taken", "LinkReply": "yelunnavi_link", "PortReply": "yelunnavi_port",
     "PlaceReply": "yelunnavi_place", "LimitReply": "yelunnavi_limits", "HeldOctets": "yelunnavi_octets",
     "HealthReply": "yelunnavi_health", "FillReply": "yelunnavi_fill",
     "LinkRow": "yelunnavi_link_row", "PortRow": "yelunnavi_port_row",
-    **{f"{kind}Handle": f"yelunnavi_{kind.lower()}" for kind in KINDS_OF_HANDLES},
+    **{f"{kind}Handle": f"yelunnavi_{kind.lower()}" for kind in KINDS_OF_HANDLES}, "TakerHandle": "yelunnavi_queue",
 }
 STRUCTS_OF_RUST = {
-    "FaultReply": "Fault", "FrameReply": "Frame", "ReadReply": "Read", "TakeReply": "Taken", "LinkReply": "Link",
+    "FaultReply": "Fault", "FrameReply": "Verdict", "ReadReply": "Read", "TakeReply": "Taken", "LinkReply": "Link",
     "HealthReply": "Health", "FillReply": "Fill",
     "PortReply": "Port", "PlaceReply": "Place", "LimitReply": "Limits", "LinkRow": "LinkRow", "PortRow": "PortRow", "HeldOctets": "Held",
 }
+STRUCTS_OF_ADA = {"Verdict_Reply": "FrameReply"}
 # The structs that the Python binding takes apart itself, by their names there; all else it reads from the header. And the types of
 # their fields, by their letters.
-STRUCTS_OF_PYTHON = {"FRAME": "FrameReply", "TAKEN": "TakeReply", "READ": "ReadReply"}
+STRUCTS_OF_PYTHON = {"VERDICT": "FrameReply", "TAKEN": "TakeReply", "READ": "ReadReply"}
 LETTERS = {"I": "u32", "Q": "u64", "N": "usize"}
 # What a number's name begins with in C, after YELUNNAVI_, and in Ada. In Rust it is a constant of a type of its group.
 PREFIXES = {
     "Code": ("", ""),
     "Network": ("", "Network_"),
-    "Verdict": ("VERDICT_", "Verdict_"),
+    "VerdictKind": ("VERDICT_", "Verdict_"),
     "FilterCause": ("FILTER_", "Filter_"),
     "HeaderFault": ("BAD_", "Bad_"),
     "ConfigFault": ("FAULT_", "Fault_"),
@@ -71,7 +72,7 @@ PREFIXES = {
 # The groups whose numbers are plain constants in Rust, and have no words.
 PLAIN = ("Bound", "Interface")
 # The group of each function of C that returns words, yelunnavi_code_word and so on.
-WORDS_OF_C = {"code": "Code", "network": "Network", "verdict": "Verdict", "filter": "FilterCause", "header": "HeaderFault",
+WORDS_OF_C = {"code": "Code", "network": "Network", "verdict": "VerdictKind", "filter": "FilterCause", "header": "HeaderFault",
               "fault": "ConfigFault", "key": "Key", "level": "Level", "service": "Service"}
 # A fault of a configuration that no call tells: it is the code NO_MEMORY.
 UNTOLD = "MEMORY"
@@ -197,7 +198,7 @@ def numbers_of_source(tree):
     return {
         "Code": {name: int(number) for name, number in re.findall(r"^pub const (\w+): u32 = (\d+);", codes, re.M)},
         "Network": of_number(function(numbers, "net_of")),
-        "Verdict": {"FILTERED": int(filtered[1]), **of_number(function(verdicts, "from_number"))},
+        "VerdictKind": {"FILTERED": int(filtered[1]), **of_number(function(verdicts, "from_number"))},
         "FilterCause": of_number(function(numbers, "cause_of")),
         "HeaderFault": numbered(function(numbers, "header_number")),
         "ConfigFault": {name: number for name, number in faults.items() if name != UNTOLD},
@@ -217,7 +218,7 @@ def words_of_source(tree, numbers):
               for word, name in re.findall(r"#\[error\(\"(.*?)\"\)\]\n    (\w+)", text) if upper(name) != UNTOLD}
     words = {group: {name: name.lower().replace("_", "-") for name in names}
              for group, names in numbers.items() if group not in PLAIN}
-    printed = {"Network": NETWORKS, "Verdict": ("filtered", *KINDS), "FilterCause": FILTER_CAUSES,
+    printed = {"Network": NETWORKS, "VerdictKind": ("filtered", *KINDS), "FilterCause": FILTER_CAUSES,
                "HeaderFault": HEADER_CAUSES}
     for group, in_order in printed.items():
         words[group] = dict(zip(sorted(numbers[group], key=numbers[group].get), in_order))
@@ -409,18 +410,22 @@ def name_of_ada(name):
     return NAMES_OF_ADA.get(name.lower(), name.lower())
 
 
+def struct_of_ada(name):
+    return STRUCTS_OF_ADA.get(name, name.replace("_", ""))
+
+
 def type_of_ada(words, subtypes):
     """A type of the package in the source's words."""
     mode, name = ("in out ", words[7:]) if words.startswith("in out ") else ("", words)
     name = subtypes.get(name, name)
     plain = {"Unsigned_32": "u32", "Unsigned_64": "u64", "size_t": "usize", "System.Address": ROOM,
              "access constant Unsigned_8": "octets"}
-    name = HANDLES_OF_ADA.get(name, name)
+    name = HANDLES_OF_FACES.get(name, name)
     if name in KINDS_OF_HANDLES:
         return f"{name}Handle" if mode else name
     if name.endswith(" octets"):
         return f"{name} out" if mode else name
-    return plain.get(name, name.replace("_", "")) + (" out" if mode else "")
+    return plain.get(name, struct_of_ada(name)) + (" out" if mode else "")
 
 
 def subtypes_of_ada(text):
@@ -446,8 +451,8 @@ def face_of_ada(tree):
     subtypes = subtypes_of_ada(text)
     structs = {}
     for name, body in re.findall(r"type (\w+) is (?:limited )?record(.*?)end record with Convention => C;", text, re.S):
-        name = HANDLES_OF_ADA.get(name, name)
-        name = f"{name}Handle" if name in KINDS_OF_HANDLES else name.replace("_", "")
+        name = HANDLES_OF_FACES.get(name, name)
+        name = f"{name}Handle" if name in KINDS_OF_HANDLES else struct_of_ada(name)
         structs[name] = pairs_of_ada(body, subtypes)
     pattern = (r"(?:function|procedure) \w+\s*(?:\(([^)]*)\))?\s*(?:return (\w+))?\s*"
                r'with Import, Convention => C, External_Name => "(\w+)";')
@@ -515,7 +520,7 @@ INITS = {C: r"^static inline uint32_t yelunnavi_(\w+)_init(\(.*?^\})", BODY_OF_A
 def inits(tree, path):
     """The bodies of the functions that make a handle, by its kind, whose name is KIND in all of them."""
     bodies = re.findall(INITS[path], (tree / path).read_text(encoding="utf-8"), re.M | re.S)
-    return {HANDLES_OF_ADA.get(kind, kind).capitalize(): " ".join(re.sub(rf"(?<![A-Za-z]){kind}(?![a-z])", "KIND", body).split())
+    return {HANDLES_OF_FACES.get(kind.title(), kind.title()): " ".join(re.sub(rf"(?<![A-Za-z]){kind}(?![a-z])", "KIND", body).split())
             for kind, body in bodies}
 
 

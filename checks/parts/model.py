@@ -215,7 +215,7 @@ class Reader:
         return DONE, self.port.max, self.port.refresh
 
 
-class Taker:
+class Queue:
     def __init__(self):
         self.port = None
 

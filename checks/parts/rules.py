@@ -25,7 +25,7 @@ CALLS = {
     "each call of a partition": (
         "mailbox_reader::MailboxReader::read", "partition_reader::PartitionReader::read", "message_ring::RingTaker::take",
         "queuing_port::Taker::take"),
-    "each call of a partition from C": ("receiver_c::yelunnavi_reader_read", "receiver_c::yelunnavi_taker_take"),
+    "each call of a partition from C": ("receiver_c::yelunnavi_reader_read", "receiver_c::yelunnavi_queue_take"),
     "each call that takes a history out": ("link_receiver::LinkState::take_epoch", "end_system::EndSystem::settle"),
 }
 ENTRIES = tuple(name for names in CALLS.values() for name in names)

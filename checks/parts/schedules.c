@@ -27,7 +27,7 @@ enum { MOST_LINKS = 32, READERS = 8, DEPTH = 8, HEADERS = 14 + 20, MOST = 1514, 
 /* A message as the schedule says it: the first octet says the others. */
 struct message { uint64_t number, time; size_t len; uint8_t first; };
 /* A frame as one network brought it, and what was replied. */
-struct call { uint64_t time; uint32_t k; uint16_t link; uint8_t net; struct yelunnavi_frame reply; };
+struct call { uint64_t time; uint32_t k; uint16_t link; uint8_t net; struct yelunnavi_verdict reply; };
 struct seen { struct message *list; size_t len; uint64_t looks, holds; };
 
 static uint64_t seed, rounds, busy, looks, holds, taken_in_all;
@@ -41,7 +41,7 @@ static atomic_uint_fast64_t told;
 static struct yelunnavi_system both;
 static struct yelunnavi_pass passes[2];
 static struct yelunnavi_reader readers[READERS];
-static struct yelunnavi_taker taker;
+static struct yelunnavi_queue queue;
 static struct seen seen[READERS + 1];
 static uint64_t rooms[3 + READERS + 4][128];
 
@@ -200,7 +200,7 @@ static void *take_all(void *unused) {
     for (bool is_last = false; !is_last;) {
         is_last = atomic_load(&is_over);
         do {
-            must(yelunnavi_taker_take(&taker, out, sizeof out, &taken) == YELUNNAVI_DONE, "a take is refused");
+            must(yelunnavi_queue_take(&queue, out, sizeof out, &taken) == YELUNNAVI_DONE, "a take is refused");
             if (taken.found) keep(&seen[READERS], (struct message){0, taken.time, taken.len, 0}, out, taken.len);
         } while (taken.found);
         rest();
@@ -218,19 +218,19 @@ static bool is_message(const struct message *found, const struct call *call) {
 /* Gives a link's frames in the order of their places to a receiver for one task, whose queue is emptied by one where there was room. */
 static void replay(struct yelunnavi_receiver *one, size_t link, struct call **by_place, size_t len) {
     static uint8_t frame[MOST], out[YELUNNAVI_LONGEST_QUEUED];
-    struct yelunnavi_taker queue;
+    struct yelunnavi_queue of_one;
     struct yelunnavi_taken taken;
     char name[16];
     size_t waiting = 0, queued = 0, next[READERS] = {0};
-    must(yelunnavi_taker_init(&queue, rooms[READERS + 5], sizeof rooms[0]) == YELUNNAVI_DONE, "no room");
+    must(yelunnavi_queue_init(&of_one, rooms[READERS + 5], sizeof rooms[0]) == YELUNNAVI_DONE, "no room");
     int name_len = snprintf(name, sizeof name, "q%zu", link);
-    must(yelunnavi_receiver_hand_taker(one, &queue, (uint8_t *)name, (size_t)name_len) == YELUNNAVI_DONE, "no taker");
+    must(yelunnavi_receiver_hand_queue(one, &of_one, (uint8_t *)name, (size_t)name_len) == YELUNNAVI_DONE, "no queue");
     for (size_t place = 0; place < len; place++) {
         const struct call *call = by_place[place];
-        struct yelunnavi_frame reply;
+        struct yelunnavi_verdict reply;
         if (!call) { differ("no frame at a place", place); continue; }
         if (call->reply.kind == YELUNNAVI_VERDICT_QUEUED && waiting == DEPTH) {
-            must(yelunnavi_taker_take(&queue, out, sizeof out, &taken) == YELUNNAVI_DONE && taken.found, "nothing to take");
+            must(yelunnavi_queue_take(&of_one, out, sizeof out, &taken) == YELUNNAVI_DONE && taken.found, "nothing to take");
             waiting--;
         }
         size_t octets = make_frame(frame, link, call->k, call->net);
@@ -251,7 +251,7 @@ static void replay(struct yelunnavi_receiver *one, size_t link, struct call **by
     if (link == 0 && queued != seen[READERS].len) differ("more messages were taken", queued);
     for (int r = 0; link == 0 && r < READERS; r++)
         if (next[r] != seen[r].len || (seen[r].len ? seen[r].list[seen[r].len - 1].number : 0) != atomic_load(&told)) differ("not all was read", (uint64_t)r);
-    yelunnavi_taker_close(&queue);
+    yelunnavi_queue_close(&of_one);
 }
 
 static void compare_counts(size_t net) {
@@ -314,7 +314,7 @@ static void play_round(void) {
     must(yelunnavi_system_open(&both, (uint8_t *)text, len, READERS, &fault) == YELUNNAVI_DONE, "no system");
     for (uint32_t net = 0; net < 2; net++) must(yelunnavi_system_hand_pass(&both, net, &passes[net]) == YELUNNAVI_DONE, "no pass");
     for (int r = 0; r < READERS; r++) must(yelunnavi_system_hand_reader(&both, &readers[r], (uint8_t *)"s0", 2) == YELUNNAVI_DONE, "no reader");
-    must(yelunnavi_system_hand_taker(&both, &taker, (uint8_t *)"q0", 2) == YELUNNAVI_DONE, "no taker");
+    must(yelunnavi_system_hand_queue(&both, &queue, (uint8_t *)"q0", 2) == YELUNNAVI_DONE, "no queue");
     atomic_store(&is_over, false), atomic_store(&told, 0);
     unsigned long before = atomic_load(&requests);
     for (int r = 0; r <= READERS; r++) seen[r].len = 0;
@@ -329,7 +329,7 @@ static void play_round(void) {
     compare((uint8_t *)text, len);
     for (int r = 0; r < READERS; r++) yelunnavi_reader_close(&readers[r]), looks += seen[r].looks, holds += seen[r].holds, seen[r].looks = seen[r].holds = 0;
     taken_in_all += seen[READERS].len;
-    yelunnavi_taker_close(&taker), yelunnavi_system_close(&both);
+    yelunnavi_queue_close(&queue), yelunnavi_system_close(&both);
     for (int net = 0; net < 2; net++) yelunnavi_pass_close(&passes[net]);
     if (atomic_load(&blocks)) differ("memory isn't given back", atomic_load(&blocks));
 }
@@ -341,7 +341,7 @@ int main(int argc, char **argv) {
     for (size_t net = 0; net < 2; net++) must((calls[net] = malloc(2 * FRAMES * sizeof *calls[net])) != NULL, "no memory");
     for (int r = 0; r <= READERS; r++) must((seen[r].list = malloc(4 * FRAMES * sizeof *seen[r].list)) != NULL, "no memory");
     must(yelunnavi_abi() == YELUNNAVI_ABI && yelunnavi_system_init(&both, rooms[0], sizeof rooms[0]) == YELUNNAVI_DONE
-        && yelunnavi_taker_init(&taker, rooms[3], sizeof rooms[0]) == YELUNNAVI_DONE, "no room");
+        && yelunnavi_queue_init(&queue, rooms[3], sizeof rooms[0]) == YELUNNAVI_DONE, "no room");
     for (int net = 0; net < 2; net++) must(yelunnavi_pass_init(&passes[net], rooms[1 + net], sizeof rooms[0]) == YELUNNAVI_DONE, "no room");
     for (int r = 0; r < READERS; r++) must(yelunnavi_reader_init(&readers[r], rooms[4 + r], sizeof rooms[0]) == YELUNNAVI_DONE, "no room");
     do {

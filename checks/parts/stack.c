@@ -55,10 +55,10 @@ static void call(const char *name, void (*it)(void)) { note(name, written_by(it,
 static uint64_t room[128], end_rooms[YELUNNAVI_MOST_PORTS][64];
 static struct yelunnavi_receiver receiver;
 static struct yelunnavi_reader reader;
-static struct yelunnavi_taker taker;
+static struct yelunnavi_queue queue;
 static uint8_t text[TEXT], out[YELUNNAVI_LONGEST_QUEUED], name[YELUNNAVI_LONGEST_NAME];
 static struct yelunnavi_fault fault;
-static struct yelunnavi_frame frame;
+static struct yelunnavi_verdict verdict;
 static struct yelunnavi_read found;
 static struct yelunnavi_limits limits;
 static struct yelunnavi_octets held;
@@ -74,7 +74,7 @@ static uint64_t count;
 static void nothing(void) {}
 static void open_it(void) { code = yelunnavi_receiver_open(&receiver, text, text_len, YELUNNAVI_MOST_READERS, &fault); }
 static void close_it(void) { yelunnavi_receiver_close(&receiver); }
-static void receive(void) { code = yelunnavi_receiver_receive(&receiver, net, given->time, given->octets, given->len, &frame); }
+static void receive(void) { code = yelunnavi_receiver_receive(&receiver, net, given->time, given->octets, given->len, &verdict); }
 static void tell_count(void) { code = yelunnavi_receiver_count(&receiver, 0, net, YELUNNAVI_VERDICT_SAMPLED, &count); }
 static void tell_filtered(void) { code = yelunnavi_receiver_filtered(&receiver, net, YELUNNAVI_FILTER_NOT_IP, &count); }
 #ifndef SYSTEM
@@ -88,7 +88,7 @@ static void tell_link(void) { code = yelunnavi_receiver_link(&receiver, at_link,
 static void tell_port(void) { code = yelunnavi_receiver_port(&receiver, at_link, at_port, &port_reply, &name); }
 static void tell_place(void) { code = yelunnavi_receiver_place(&receiver, name, port_reply.name_len, &place); }
 static void hand_reader(void) { code = yelunnavi_receiver_hand_reader(&receiver, &reader, name, port_reply.name_len); }
-static void hand_taker(void) { code = yelunnavi_receiver_hand_taker(&receiver, &taker, name, port_reply.name_len); }
+static void hand_queue(void) { code = yelunnavi_receiver_hand_queue(&receiver, &queue, name, port_reply.name_len); }
 static void read_it(void) { code = yelunnavi_reader_read(&reader, 0, out, sizeof out, &found); }
 static void hold(void) { code = yelunnavi_reader_hold(&reader, 0, &found); }
 static void tell_octets(void) { code = yelunnavi_reader_octets(&reader, &held); }
@@ -96,9 +96,9 @@ static void copy(void) { code = yelunnavi_reader_copy(&reader, 0, out, found.len
 static void release(void) { code = yelunnavi_reader_release(&reader); }
 static void tell_limits(void) { code = yelunnavi_reader_limits(&reader, &limits); }
 static void close_reader(void) { yelunnavi_reader_close(&reader); }
-static void take(void) { code = yelunnavi_taker_take(&taker, out, sizeof out, &taken); }
-static void tell_longest(void) { code = yelunnavi_taker_longest(&taker, &longest); }
-static void close_taker(void) { yelunnavi_taker_close(&taker); }
+static void take(void) { code = yelunnavi_queue_take(&queue, out, sizeof out, &taken); }
+static void tell_longest(void) { code = yelunnavi_queue_longest(&queue, &longest); }
+static void close_queue(void) { yelunnavi_queue_close(&queue); }
 
 static void add(const char *words) {
     size_t len = strlen(words);
@@ -194,7 +194,7 @@ static void of_frames(char **files) {
     for (int next; (next = next_network(&traces)) >= 0; read_frame(traces.files[next], &traces.next[next])) {
         given = &traces.next[next], net = (uint32_t)next;
         size_t octets = written_by(receive, SHORT);
-        note(yelunnavi_verdict_word(frame.kind), octets);
+        note(yelunnavi_verdict_word(verdict.kind), octets);
     }
 }
 
@@ -205,11 +205,11 @@ static void of_a_reader(void) {
     call("hold", hold), call("close", close_reader);
 }
 
-static void of_a_taker(void) {
-    if (yelunnavi_taker_init(&taker, end_rooms[at_port], sizeof end_rooms[0]) != YELUNNAVI_DONE) exit(9);
-    call("hand_taker", hand_taker), call("longest", tell_longest);
+static void of_a_queue(void) {
+    if (yelunnavi_queue_init(&queue, end_rooms[at_port], sizeof end_rooms[0]) != YELUNNAVI_DONE) exit(9);
+    call("hand_queue", hand_queue), call("longest", tell_longest);
     do call("take", take); while (taken.found);
-    call("close", close_taker);
+    call("close", close_queue);
 }
 
 /* How a link is, and how full each of its queues: before the messages in it are taken. */
@@ -228,7 +228,7 @@ static void of_ends(void) {
         of_health();
         for (at_port = 0; at_port < link_reply.ports; at_port++) {
             call("links, link, port, place", tell_port), call("links, link, port, place", tell_place);
-            if (port_reply.service == YELUNNAVI_SERVICE_SAMPLING) of_a_reader(); else of_a_taker();
+            if (port_reply.service == YELUNNAVI_SERVICE_SAMPLING) of_a_reader(); else of_a_queue();
         }
     }
     call("close", close_it);

@@ -14,7 +14,7 @@ static uint64_t rooms[5][128];
 static struct yelunnavi_system both;
 static struct yelunnavi_pass passes[2];
 static struct yelunnavi_reader reader;
-static struct yelunnavi_taker taker;
+static struct yelunnavi_queue queue;
 static struct yelunnavi_fault fault;
 
 /* ---- memory */
@@ -44,7 +44,7 @@ static void want_no_system(struct yelunnavi_system *h) {
     WANT(NOT_MADE, yelunnavi_system_open_table(h, FRAME, NULL, 0, NULL, 0, 1, &fault));
     WANT(NOT_MADE, yelunnavi_system_hand_pass(h, YELUNNAVI_A, &passes[0]));
     WANT(NOT_MADE, yelunnavi_system_hand_reader(h, &reader, TEXT("pos")));
-    WANT(NOT_MADE, yelunnavi_system_hand_taker(h, &taker, TEXT("nav")));
+    WANT(NOT_MADE, yelunnavi_system_hand_queue(h, &queue, TEXT("nav")));
     WANT(NOT_MADE, yelunnavi_system_links(h, &links));
     WANT(NOT_MADE, yelunnavi_system_link(h, 0, &link));
     WANT(NOT_MADE, yelunnavi_system_port(h, 0, 0, &port, &name));
@@ -53,7 +53,7 @@ static void want_no_system(struct yelunnavi_system *h) {
 }
 
 static void want_no_pass(struct yelunnavi_pass *h) {
-    struct yelunnavi_frame told;
+    struct yelunnavi_verdict told;
     uint64_t count;
     WANT(NOT_MADE, yelunnavi_pass_receive(h, 0, FRAME, sizeof FRAME, &told));
     WANT(NOT_MADE, yelunnavi_pass_count(h, 0, YELUNNAVI_VERDICT_SAMPLED, &count));
@@ -84,7 +84,7 @@ static void of_rooms(void) {
 /* ---- one thread has both passes */
 
 static void of_passes(void) {
-    struct yelunnavi_frame told;
+    struct yelunnavi_verdict told;
     uint64_t count = 77;
     WANT(NOT_OPEN, yelunnavi_system_hand_pass(&both, YELUNNAVI_A, &passes[0]));
     WANT(NOT_OPEN, yelunnavi_pass_receive(&passes[0], 0, FRAME, sizeof FRAME, &told));
@@ -114,11 +114,11 @@ static void of_passes(void) {
 
 /* Passes and ends outlive the system, and each other. */
 static void of_a_closed_system(void) {
-    struct yelunnavi_frame told;
+    struct yelunnavi_verdict told;
     struct yelunnavi_read read;
     uint8_t next[sizeof FRAME], out[64];
     WANT(DONE, yelunnavi_system_hand_reader(&both, &reader, TEXT("pos")));
-    WANT(DONE, yelunnavi_system_hand_taker(&both, &taker, TEXT("nav")));
+    WANT(DONE, yelunnavi_system_hand_queue(&both, &queue, TEXT("nav")));
     yelunnavi_system_close(&both);
     WANT(NOT_OPEN, yelunnavi_system_hand_pass(&both, YELUNNAVI_A, &passes[0]));
     memcpy(next, FRAME, sizeof next);
@@ -132,7 +132,7 @@ static void of_a_closed_system(void) {
     yelunnavi_pass_close(&passes[1]);
     WANT(DONE, yelunnavi_reader_read(&reader, 3000, out, sizeof out, &read));
     if (read.number != 3 || out[0] != 2) exit(22);
-    yelunnavi_reader_close(&reader), yelunnavi_taker_close(&taker);
+    yelunnavi_reader_close(&reader), yelunnavi_queue_close(&queue);
     if (blocks) exit(23);
 }
 
@@ -145,7 +145,7 @@ static unsigned long again[2];
 static void *give_all(void *of_pass) {
     size_t net = (size_t)((struct yelunnavi_pass *)of_pass - passes);
     static _Atomic unsigned at[2];
-    struct yelunnavi_frame told;
+    struct yelunnavi_verdict told;
     uint8_t next[sizeof FRAME];
     memcpy(next, FRAME, sizeof next);
     for (unsigned turn = 0; turn < TURNS; turn++) {
@@ -190,7 +190,7 @@ int main(void) {
     WANT(DONE, yelunnavi_system_init(&both, rooms[0], sizeof rooms[0]));
     for (int net = 0; net < 2; net++) WANT(DONE, yelunnavi_pass_init(&passes[net], rooms[1 + net], sizeof rooms[0]));
     WANT(DONE, yelunnavi_reader_init(&reader, rooms[3], sizeof rooms[3] / 2));
-    WANT(DONE, yelunnavi_taker_init(&taker, rooms[3] + 64, sizeof rooms[3] / 2));
+    WANT(DONE, yelunnavi_queue_init(&queue, rooms[3] + 64, sizeof rooms[3] / 2));
     of_rooms();
     of_memory();
     of_passes();

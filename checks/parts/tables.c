@@ -53,7 +53,7 @@ static bool is_same_port(size_t link, size_t at) {
 
 /* A frame with the table's constant field, and with another one, has the same cause from both. */
 static bool is_same_constant(void) {
-    struct yelunnavi_frame replies[2];
+    struct yelunnavi_verdict replies[2];
     uint8_t frame[60] = {[4] = 0xfe, [5] = 0xdc, [12] = 8};
     for (int bit = 0; bit < 32; bit++) {
         memcpy(frame, table_constant, 4);

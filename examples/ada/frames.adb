@@ -14,15 +14,15 @@ procedure Frames is
      & "[[link.port]]" & Newline & "name = ""nav""" & Newline & "kind = ""queuing""" & Newline
      & "address = ""224.224.0.17""" & Newline & "udp = 5002" & Newline & "max = 64" & Newline & "depth = 4" & Newline;
 
-   Receiver_Space, Reader_Space, Taker_Space : Storage_Array (1 .. 512) with Alignment => 8;
-   Link_17 : Receiver; Pos : Reader; Nav : Taker;
+   Receiver_Space, Reader_Space, Queue_Space : Storage_Array (1 .. 512) with Alignment => 8;
+   Link_17 : Receiver; Pos : Reader; Nav : Queue;
    Frame : Octets (0 .. 59) := [others => 7];
    Start : constant Octets (0 .. 41) :=
      [3, 0, 0, 0, 0, 16#11#, 2, 0, 0, 0, 1, 16#20#, 8, 0,
       16#45#, 0, 0, 16#2d#, 0, 1, 0, 0, 1, 16#11#, 16#cd#, 16#cc#, 16#0a#, 1, 1, 1, 16#e0#, 16#e0#, 0, 16#11#,
       16#13#, 16#89#, 16#13#, 16#88#, 0, 16#19#, 0, 0];
    Fault : Fault_Reply := (0, 0, 0, 0, 0, 0);
-   Told : Frame_Reply := (0, 0, 0, 0, 0, 0, 0);
+   Told : Verdict_Reply := (0, 0, 0, 0, 0, 0, 0);
    Found : Read_Reply := (0, 0, 0, 0, 0);
    Taken : Take_Reply := (0, 0, 0);
    Sample : Octets (0 .. Longest_Sample - 1) := [others => 0];
@@ -55,10 +55,10 @@ begin
    if Library_Abi /= Abi then raise Program_Error; end if;
    Check (Init (Link_17, Receiver_Space'Address, Receiver_Space'Length));
    Check (Init (Pos, Reader_Space'Address, Reader_Space'Length));
-   Check (Init (Nav, Taker_Space'Address, Taker_Space'Length));
+   Check (Init (Nav, Queue_Space'Address, Queue_Space'Length));
    Check_Opened (Open (Link_17, As_Octets (Text), Text'Length, 1, Fault));
    Check (Hand_Reader (Link_17, Pos, As_Octets ("pos"), 3));
-   Check (Hand_Taker (Link_17, Nav, As_Octets ("nav"), 3));
+   Check (Hand_Queue (Link_17, Nav, As_Octets ("nav"), 3));
    Frame (0 .. 41) := Start;
    for I in Unsigned_8 range 0 .. 3 loop
       Frame (59) := I; Frame (37) := (if I < 2 then 16#88# else 16#8a#); Frame (42) := I;

@@ -42,11 +42,11 @@ package body Yelunnavi is
       return Answer;
    end Init;
 
-   function Init (H : out Taker; Room : System.Address; Length : size_t) return Code is
-      Answer : constant Code := Room_Code (Room, Length, Taker_Room);
+   function Init (H : out Queue; Room : System.Address; Length : size_t) return Code is
+      Answer : constant Code := Room_Code (Room, Length, Queue_Room);
    begin
       H.Room := (if Answer = Done then Room else Nowhere'Address);
-      if Answer = Done then Taker_Make (Room); end if;
+      if Answer = Done then Queue_Make (Room); end if;
       return Answer;
    end Init;
 end Yelunnavi;

@@ -9,10 +9,10 @@ package Yelunnavi is
    type End_System is limited record Room : System.Address; end record with Convention => C;
    type Pass is limited record Room : System.Address; end record with Convention => C;
    type Reader is limited record Room : System.Address; end record with Convention => C;
-   type Taker is limited record Room : System.Address; end record with Convention => C;
+   type Queue is limited record Room : System.Address; end record with Convention => C;
 
    --  The number of this interface: raised with each change of a struct, a call or a number. Library_Abi has the library's.
-   Abi : constant Unsigned_32 := 5;
+   Abi : constant Unsigned_32 := 6;
 
    subtype Code is Unsigned_32;
    Done : constant Code := 0;
@@ -112,7 +112,7 @@ package Yelunnavi is
    type Fault_Reply is record
       Fault, Key, Level : Unsigned_32; Link, Port : size_t; Line : Unsigned_64;
    end record with Convention => C;
-   type Frame_Reply is record
+   type Verdict_Reply is record
       Kind, Cause : Unsigned_32; Link : size_t; Vl, Port : Unsigned_32; Place, Number : Unsigned_64;
    end record with Convention => C;
    type Read_Reply is record Found, Valid : Unsigned_32; Number, Time : Unsigned_64; Length : size_t; end record with Convention => C;
@@ -150,12 +150,12 @@ package Yelunnavi is
    function End_System_Room return size_t with Import, Convention => C, External_Name => "yelunnavi_system_room";
    function Pass_Room return size_t with Import, Convention => C, External_Name => "yelunnavi_pass_room";
    function Reader_Room return size_t with Import, Convention => C, External_Name => "yelunnavi_reader_room";
-   function Taker_Room return size_t with Import, Convention => C, External_Name => "yelunnavi_taker_room";
+   function Queue_Room return size_t with Import, Convention => C, External_Name => "yelunnavi_queue_room";
    procedure Receiver_Make (Room : System.Address) with Import, Convention => C, External_Name => "yelunnavi_receiver_make";
    procedure End_System_Make (Room : System.Address) with Import, Convention => C, External_Name => "yelunnavi_system_make";
    procedure Pass_Make (Room : System.Address) with Import, Convention => C, External_Name => "yelunnavi_pass_make";
    procedure Reader_Make (Room : System.Address) with Import, Convention => C, External_Name => "yelunnavi_reader_make";
-   procedure Taker_Make (Room : System.Address) with Import, Convention => C, External_Name => "yelunnavi_taker_make";
+   procedure Queue_Make (Room : System.Address) with Import, Convention => C, External_Name => "yelunnavi_queue_make";
 
    --  Makes a slot in which nothing is open in a room of so many octets, and the handle to it. No_Room if the room is null or
    --  isn't aligned to 8, Too_Short if a slot needs more octets; then each further call on the handle answers Not_Made.
@@ -163,7 +163,7 @@ package Yelunnavi is
    function Init (H : out End_System; Room : System.Address; Length : size_t) return Code;
    function Init (H : out Pass; Room : System.Address; Length : size_t) return Code;
    function Init (H : out Reader; Room : System.Address; Length : size_t) return Code;
-   function Init (H : out Taker; Room : System.Address; Length : size_t) return Code;
+   function Init (H : out Queue; Room : System.Address; Length : size_t) return Code;
 
    function Open
      (H : in out Receiver; Text : Octets; Length, Readers : size_t; Fault : in out Fault_Reply) return Code
@@ -174,7 +174,7 @@ package Yelunnavi is
      with Import, Convention => C, External_Name => "yelunnavi_receiver_open_table";
    procedure Close (H : in out Receiver) with Import, Convention => C, External_Name => "yelunnavi_receiver_close";
    function Receive
-     (H : in out Receiver; Net : Unsigned_32; Now : Unsigned_64; Frame : Octets; Length : size_t; Reply : in out Frame_Reply) return Code
+     (H : in out Receiver; Net : Unsigned_32; Now : Unsigned_64; Frame : Octets; Length : size_t; Reply : in out Verdict_Reply) return Code
      with Import, Convention => C, External_Name => "yelunnavi_receiver_receive";
    function Count
      (H : in out Receiver; Link : size_t; Net, Kind : Unsigned_32; Count : in out Unsigned_64) return Code
@@ -195,8 +195,8 @@ package Yelunnavi is
      with Import, Convention => C, External_Name => "yelunnavi_receiver_place";
    function Hand_Reader (H : in out Receiver; To : in out Reader; Name : Octets; Length : size_t) return Code
      with Import, Convention => C, External_Name => "yelunnavi_receiver_hand_reader";
-   function Hand_Taker (H : in out Receiver; To : in out Taker; Name : Octets; Length : size_t) return Code
-     with Import, Convention => C, External_Name => "yelunnavi_receiver_hand_taker";
+   function Hand_Queue (H : in out Receiver; To : in out Queue; Name : Octets; Length : size_t) return Code
+     with Import, Convention => C, External_Name => "yelunnavi_receiver_hand_queue";
 
    --  A receiver for two threads, and the pass of each network: see BUSY in the header.
    function Open
@@ -219,11 +219,11 @@ package Yelunnavi is
      with Import, Convention => C, External_Name => "yelunnavi_system_place";
    function Hand_Reader (H : in out End_System; To : in out Reader; Name : Octets; Length : size_t) return Code
      with Import, Convention => C, External_Name => "yelunnavi_system_hand_reader";
-   function Hand_Taker (H : in out End_System; To : in out Taker; Name : Octets; Length : size_t) return Code
-     with Import, Convention => C, External_Name => "yelunnavi_system_hand_taker";
+   function Hand_Queue (H : in out End_System; To : in out Queue; Name : Octets; Length : size_t) return Code
+     with Import, Convention => C, External_Name => "yelunnavi_system_hand_queue";
 
    function Receive
-     (H : in out Pass; Now : Unsigned_64; Frame : Octets; Length : size_t; Reply : in out Frame_Reply) return Code
+     (H : in out Pass; Now : Unsigned_64; Frame : Octets; Length : size_t; Reply : in out Verdict_Reply) return Code
      with Import, Convention => C, External_Name => "yelunnavi_pass_receive";
    function Count (H : in out Pass; Link : size_t; Kind : Unsigned_32; Count : in out Unsigned_64) return Code
      with Import, Convention => C, External_Name => "yelunnavi_pass_count";
@@ -246,9 +246,9 @@ package Yelunnavi is
      with Import, Convention => C, External_Name => "yelunnavi_reader_limits";
    procedure Close (H : in out Reader) with Import, Convention => C, External_Name => "yelunnavi_reader_close";
 
-   function Take (H : in out Taker; Into : in out Octets; Length : size_t; Reply : in out Take_Reply) return Code
-     with Import, Convention => C, External_Name => "yelunnavi_taker_take";
-   function Longest (H : in out Taker; Max : in out size_t) return Code
-     with Import, Convention => C, External_Name => "yelunnavi_taker_longest";
-   procedure Close (H : in out Taker) with Import, Convention => C, External_Name => "yelunnavi_taker_close";
+   function Take (H : in out Queue; Into : in out Octets; Length : size_t; Reply : in out Take_Reply) return Code
+     with Import, Convention => C, External_Name => "yelunnavi_queue_take";
+   function Longest (H : in out Queue; Max : in out size_t) return Code
+     with Import, Convention => C, External_Name => "yelunnavi_queue_longest";
+   procedure Close (H : in out Queue) with Import, Convention => C, External_Name => "yelunnavi_queue_close";
 end Yelunnavi;

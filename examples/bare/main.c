@@ -51,7 +51,7 @@ static void put_name(size_t link, uint32_t port) {
 }
 
 static void show(const struct frame *frame) {
-    struct yelunnavi_frame reply;
+    struct yelunnavi_verdict reply;
     if (yelunnavi_receiver_receive(&receiver, frame->net, frame->time, frame->octets, frame->len, &reply) != YELUNNAVI_DONE) return;
     put_number(frame->time), put(" "), put(yelunnavi_network_word(frame->net));
     if (reply.kind != YELUNNAVI_VERDICT_FILTERED) put(" vl "), put_number(reply.vl), put(" "), put_number(reply.place);

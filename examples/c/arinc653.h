@@ -31,7 +31,7 @@ enum { APEX_PORTS = 8 };
 static struct apex_port {
     uint64_t room[16];
     struct yelunnavi_reader reader;
-    struct yelunnavi_taker taker;
+    struct yelunnavi_queue queue;
     struct yelunnavi_port port;
     VALIDITY_TYPE validity;
 } apex_ports[APEX_PORTS];
@@ -57,8 +57,8 @@ static inline void apex_create(const char *text, uint32_t service, MESSAGE_SIZE_
         if (yelunnavi_reader_init(&to->reader, to->room, sizeof to->room) != YELUNNAVI_DONE) return;
         code = yelunnavi_receiver_hand_reader(apex_receiver, &to->reader, name, len);
     } else {
-        if (yelunnavi_taker_init(&to->taker, to->room, sizeof to->room) != YELUNNAVI_DONE) return;
-        code = yelunnavi_receiver_hand_taker(apex_receiver, &to->taker, name, len);
+        if (yelunnavi_queue_init(&to->queue, to->room, sizeof to->room) != YELUNNAVI_DONE) return;
+        code = yelunnavi_receiver_hand_queue(apex_receiver, &to->queue, name, len);
     }
     *answer = code == YELUNNAVI_DONE ? NO_ERROR : NO_ACTION;
     if (code == YELUNNAVI_DONE) *id = ++apex_created;
@@ -99,7 +99,7 @@ static inline void RECEIVE_QUEUING_MESSAGE(QUEUING_PORT_ID_TYPE id, SYSTEM_TIME_
     (void)time_out;
     *answer = INVALID_PARAM;
     if (!port) return;
-    if (yelunnavi_taker_take(&port->taker, message, port->port.max, &taken) != YELUNNAVI_DONE) return;
+    if (yelunnavi_queue_take(&port->queue, message, port->port.max, &taken) != YELUNNAVI_DONE) return;
     *answer = taken.found ? NO_ERROR : NOT_AVAILABLE;
     *len = (MESSAGE_SIZE_TYPE)taken.len;
 }

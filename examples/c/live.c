@@ -48,10 +48,10 @@ static uint64_t time_now(void) {
 
 /* ---- the receiver and its ends */
 
-static uint64_t receiver_room[64], reader_room[16], taker_room[16];
+static uint64_t receiver_room[64], reader_room[16], queue_room[16];
 static struct yelunnavi_receiver receiver;
 static struct yelunnavi_reader reader;
-static struct yelunnavi_taker taker;
+static struct yelunnavi_queue queue;
 
 /* A port that a partition has; `is_there` is false if the configuration has none of its kind. */
 struct end {
@@ -88,7 +88,7 @@ static void open_all(const char *config) {
     check(yelunnavi_abi() == YELUNNAVI_ABI, "the header is of another library");
     check(yelunnavi_receiver_init(&receiver, receiver_room, sizeof receiver_room) == YELUNNAVI_DONE
           && yelunnavi_reader_init(&reader, reader_room, sizeof reader_room) == YELUNNAVI_DONE
-          && yelunnavi_taker_init(&taker, taker_room, sizeof taker_room) == YELUNNAVI_DONE, "room");
+          && yelunnavi_queue_init(&queue, queue_room, sizeof queue_room) == YELUNNAVI_DONE, "room");
     open_text(config);
     check(yelunnavi_receiver_links(&receiver, &links) == YELUNNAVI_DONE, "links");
     for (size_t at = 0; at < links; at++) {
@@ -98,7 +98,7 @@ static void open_all(const char *config) {
     if (sampling.is_there)
         check(yelunnavi_receiver_hand_reader(&receiver, &reader, sampling.name, sampling.port.name_len) == YELUNNAVI_DONE, "a reader");
     if (queuing.is_there)
-        check(yelunnavi_receiver_hand_taker(&receiver, &taker, queuing.name, queuing.port.name_len) == YELUNNAVI_DONE, "a taker");
+        check(yelunnavi_receiver_hand_queue(&receiver, &queue, queuing.name, queuing.port.name_len) == YELUNNAVI_DONE, "a queue");
 }
 
 /* ---- partitions, each with a turn every few milliseconds */
@@ -131,7 +131,7 @@ static void *take_turns(void *unused) {
     for (bool is_last = false; !is_last; wait_for_turn(1)) {
         is_last = atomic_load(&is_over);
         do {
-            if (yelunnavi_taker_take(&taker, out, sizeof out, &message) != YELUNNAVI_DONE) abort();
+            if (yelunnavi_queue_take(&queue, out, sizeof out, &message) != YELUNNAVI_DONE) abort();
             taken += message.found;
         } while (message.found);
     }
@@ -201,7 +201,7 @@ static int first(void) {
 }
 
 static void receive_all(void) {
-    struct yelunnavi_frame reply;
+    struct yelunnavi_verdict reply;
     for (;;) {
         for (int net = 0; net < NETWORKS; net++) fill(&networks[net]);
         int net = first();
@@ -256,7 +256,7 @@ static void tell(uint32_t net) {
 }
 
 int main(int argc, char **argv) {
-    pthread_t of_reader, of_taker;
+    pthread_t of_reader, of_queue;
     struct sigaction ending = {.sa_handler = ask_to_end};
     if (argc != 4 && argc != 5) {
         fputs("live CONFIG INTERFACE_A INTERFACE_B [SECONDS]\n", stderr);
@@ -266,16 +266,16 @@ int main(int argc, char **argv) {
     for (int net = 0; net < NETWORKS; net++) open_socket(&networks[net], argv[2 + net]);
     sigaction(SIGINT, &ending, NULL), sigaction(SIGTERM, &ending, NULL);
     if (sampling.is_there) check(!pthread_create(&of_reader, NULL, read_turns, NULL), "a thread");
-    if (queuing.is_there) check(!pthread_create(&of_taker, NULL, take_turns, NULL), "a thread");
+    if (queuing.is_there) check(!pthread_create(&of_queue, NULL, take_turns, NULL), "a thread");
     run_until(argc == 5 ? time_now() + strtoull(argv[4], NULL, 10) * 1000000 : UINT64_MAX);
     receive_all();
     atomic_store(&is_over, true);
     if (sampling.is_there) pthread_join(of_reader, NULL);
-    if (queuing.is_there) pthread_join(of_taker, NULL);
+    if (queuing.is_there) pthread_join(of_queue, NULL);
     for (uint32_t net = 0; net < NETWORKS; net++) tell(net), close(networks[net].socket);
     printf("%.*s: %" PRIu64 " turns, %" PRIu64 " with a fresh message, the newest is number %" PRIu64 "\n",
            (int)sampling.port.name_len, sampling.name, turns, fresh, newest);
     printf("%.*s: %" PRIu64 " taken\n", (int)queuing.port.name_len, queuing.name, taken);
-    yelunnavi_reader_close(&reader), yelunnavi_taker_close(&taker), yelunnavi_receiver_close(&receiver);
+    yelunnavi_reader_close(&reader), yelunnavi_queue_close(&queue), yelunnavi_receiver_close(&receiver);
     return 0;
 }

@@ -15,7 +15,7 @@ enum { READERS = 1 };
 
 static uint64_t pos_room[16], nav_room[16];
 static struct yelunnavi_reader pos;
-static struct yelunnavi_taker nav;
+static struct yelunnavi_queue nav;
 static struct yelunnavi_place pos_place, nav_place;
 static pthread_t partitions[2];
 static atomic_bool is_over;
@@ -42,7 +42,7 @@ static void *take_nav(void *unused) {
     for (bool is_last = false; !is_last;) {
         is_last = atomic_load(&is_over);
         do {
-            if (yelunnavi_taker_take(&nav, out, sizeof out, &message) != YELUNNAVI_DONE) abort();
+            if (yelunnavi_queue_take(&nav, out, sizeof out, &message) != YELUNNAVI_DONE) abort();
             taken += message.found;
         } while (message.found);
     }
@@ -57,7 +57,7 @@ static bool is_opened(const char *program, uint32_t code, const struct yelunnavi
 
 static bool make_partitions(void) {
     return yelunnavi_reader_init(&pos, pos_room, sizeof pos_room) == YELUNNAVI_DONE
-        && yelunnavi_taker_init(&nav, nav_room, sizeof nav_room) == YELUNNAVI_DONE;
+        && yelunnavi_queue_init(&nav, nav_room, sizeof nav_room) == YELUNNAVI_DONE;
 }
 
 static bool start_partitions(void) {
@@ -65,7 +65,7 @@ static bool start_partitions(void) {
 }
 
 /* Whether a frame had this verdict at the port at this place. */
-static bool is_at(const struct yelunnavi_frame *reply, uint32_t kind, const struct yelunnavi_place *place) {
+static bool is_at(const struct yelunnavi_verdict *reply, uint32_t kind, const struct yelunnavi_place *place) {
     return reply->kind == kind && reply->link == place->link && reply->port == place->port;
 }
 
@@ -76,7 +76,7 @@ static bool end_partitions(uint64_t sampled, uint64_t queued) {
     printf("%s: the newest message is number %" PRIu64 " of %" PRIu64 "\n", pos_name, newest, sampled);
     printf("%s: %" PRIu64 " taken of %" PRIu64 " queued\n", nav_name, taken, queued);
     yelunnavi_reader_close(&pos);
-    yelunnavi_taker_close(&nav);
+    yelunnavi_queue_close(&nav);
     return newest == sampled && taken == queued;
 }
 #endif

@@ -15,7 +15,7 @@ static struct yelunnavi_receiver receiver;
 static struct end {
     uint64_t room[16];
     struct yelunnavi_reader reader;
-    struct yelunnavi_taker taker;
+    struct yelunnavi_queue queue;
     struct yelunnavi_port port;
     char name[YELUNNAVI_LONGEST_NAME + 1];
 } ends[YELUNNAVI_MOST_LINKS][YELUNNAVI_MOST_PORTS];
@@ -39,8 +39,8 @@ static void hand_out(size_t link, uint32_t port) {
         check(yelunnavi_reader_init(&end->reader, end->room, sizeof end->room) == YELUNNAVI_DONE, "room for a reader");
         check(yelunnavi_receiver_hand_reader(&receiver, &end->reader, name, end->port.name_len) == YELUNNAVI_DONE, "a reader");
     } else {
-        check(yelunnavi_taker_init(&end->taker, end->room, sizeof end->room) == YELUNNAVI_DONE, "room for a taker");
-        check(yelunnavi_receiver_hand_taker(&receiver, &end->taker, name, end->port.name_len) == YELUNNAVI_DONE, "a taker");
+        check(yelunnavi_queue_init(&end->queue, end->room, sizeof end->room) == YELUNNAVI_DONE, "room for a queue");
+        check(yelunnavi_receiver_hand_queue(&receiver, &end->queue, name, end->port.name_len) == YELUNNAVI_DONE, "a queue");
     }
 }
 
@@ -63,7 +63,7 @@ static size_t open_all(const char *config, struct yelunnavi_link *of_links) {
 }
 
 static void show_frame(int net, const struct frame *frame) {
-    struct yelunnavi_frame reply;
+    struct yelunnavi_verdict reply;
     uint32_t code = yelunnavi_receiver_receive(&receiver, (uint32_t)net, frame->time, frame->octets, frame->len, &reply);
     check(code == YELUNNAVI_DONE, "receive");
     printf("%" PRIu64 " %s", frame->time, yelunnavi_network_word((uint32_t)net));
@@ -106,7 +106,7 @@ static void show_queue(struct end *end) {
     struct yelunnavi_taken taken[YELUNNAVI_DEEPEST_QUEUE];
     size_t count = 0;
     while (count < YELUNNAVI_DEEPEST_QUEUE) {
-        check(yelunnavi_taker_take(&end->taker, out[count], sizeof out[count], &taken[count]) == YELUNNAVI_DONE, "take");
+        check(yelunnavi_queue_take(&end->queue, out[count], sizeof out[count], &taken[count]) == YELUNNAVI_DONE, "take");
         if (!taken[count].found) break;
         count++;
     }

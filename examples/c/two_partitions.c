@@ -20,12 +20,12 @@ static bool open_all(const char *config) {
         && yelunnavi_receiver_place(&receiver, of_pos, strlen(pos_name), &pos_place) == YELUNNAVI_DONE
         && yelunnavi_receiver_place(&receiver, of_nav, strlen(nav_name), &nav_place) == YELUNNAVI_DONE
         && yelunnavi_receiver_hand_reader(&receiver, &pos, of_pos, strlen(pos_name)) == YELUNNAVI_DONE
-        && yelunnavi_receiver_hand_taker(&receiver, &nav, of_nav, strlen(nav_name)) == YELUNNAVI_DONE;
+        && yelunnavi_receiver_hand_queue(&receiver, &nav, of_nav, strlen(nav_name)) == YELUNNAVI_DONE;
 }
 
 int main(int argc, char **argv) {
     static struct traces traces;
-    struct yelunnavi_frame reply;
+    struct yelunnavi_verdict reply;
     uint64_t sampled = 0, queued = 0;
     if (argc == 6) pos_name = argv[4], nav_name = argv[5];
     if ((argc != 4 && argc != 6) || !open_traces(&traces, argv[2], argv[3]) || !open_all(argv[1])) return 2;

@@ -43,12 +43,12 @@ static bool open_all(const char *config) {
         && yelunnavi_system_place(&end_system, of_pos, strlen(pos_name), &pos_place) == YELUNNAVI_DONE
         && yelunnavi_system_place(&end_system, of_nav, strlen(nav_name), &nav_place) == YELUNNAVI_DONE
         && yelunnavi_system_hand_reader(&end_system, &pos, of_pos, strlen(pos_name)) == YELUNNAVI_DONE
-        && yelunnavi_system_hand_taker(&end_system, &nav, of_nav, strlen(nav_name)) == YELUNNAVI_DONE;
+        && yelunnavi_system_hand_queue(&end_system, &nav, of_nav, strlen(nav_name)) == YELUNNAVI_DONE;
 }
 
 /* Gives the thread's next frame: again, after a yield, as long as the other thread has its link. */
 static void give(struct driver *driver) {
-    struct yelunnavi_frame reply;
+    struct yelunnavi_verdict reply;
     const struct frame *frame = driver->next;
     uint32_t code;
     while ((code = yelunnavi_pass_receive(&driver->pass, frame->time, frame->octets, frame->len, &reply)) == YELUNNAVI_BUSY) {

@@ -2,8 +2,8 @@
    ports for partitions.
 
    FIVE KINDS OF HANDLES, each of a slot in room of the caller's: a receiver, for one task; a system, for two threads, and a pass
-   for each of its networks; a reader of a sampling port, and a taker of a queuing port, the end of its queue from which messages
-   are taken. Readers and takers are handed out of a receiver or of a system, by the names of their ports, into slots of their
+   for each of its networks; a reader of a sampling port, and the queue of a queuing port, the end from which messages are
+   taken. Readers and queues are handed out of a receiver or of a system, by the names of their ports, into slots of their
    own, and so is each network's pass out of a system.
 
    Static room:   static uint64_t room[64];
@@ -48,9 +48,10 @@
 
    AFTER A CLOSE the room holds nothing: it may be given up, or used again for a handle of the same kind, without .._init. Ends
    live on when their receiver is closed, and a second opening doesn't reach them: an old reader finds the last message of the
-   old receiver for ever, with `valid` 0 once it is too old, and an old taker what is left in its queue. So close them too, and
-   hand out new ones. A pass lives on, too, when its system is closed: its frames go to the same links and ports still. The links'
-   memory goes back with the last of the system and its two passes that is closed, on that thread. An end that is closed doesn't come back: the queue of a closed taker fills up, and then overflows for good.
+   old receiver for ever, with `valid` 0 once it is too old, and an old queue what is left in it. So close them too, and hand
+   out new ones. A pass lives on, too, when its system is closed: its frames go to the same links and ports still. The links'
+   memory goes back with the last of the system and its two passes that is closed, on that thread. An end that is closed
+   doesn't come back: a queue fills up then, and overflows for good.
 
    STACK. An opening takes up to 20 KiB if the text is a configuration with no keys but its own, or is none for a fault that
    stands in one of its ports. Other keys whose values are nested take more: 2.6 MB for 80 levels of tables, each by a key of
@@ -97,7 +98,7 @@ extern "C" {
 typedef char yelunnavi_is_of_64_bits[sizeof(size_t) == 8 && sizeof(void *) == 8 ? 1 : -1];
 
 /* The number of this interface: raised with each change of a struct, a call or a number. */
-#define YELUNNAVI_ABI 5
+#define YELUNNAVI_ABI 6
 
 /* The number of the library's interface. A program compares both before its first opening: if they differ, the header that
    it was compiled with is of another library. */
@@ -130,7 +131,7 @@ enum yelunnavi_code {
 enum yelunnavi_network { YELUNNAVI_A = 0, YELUNNAVI_B = 1 };
 
 /* What became of a frame: the kind of its verdict, in the order in which it is tested. Those from TOO_LONG on name a port. */
-enum yelunnavi_verdict {
+enum yelunnavi_verdict_kind {
     YELUNNAVI_VERDICT_FILTERED = 0,          /* no verdict: it came to no link */
     YELUNNAVI_VERDICT_OUT_OF_SEQUENCE = 1,   /* integrity checking refuses its sequence number */
     YELUNNAVI_VERDICT_REDUNDANT = 2,         /* redundancy management doesn't forward it */
@@ -220,14 +221,14 @@ struct yelunnavi_receiver { void *room; };
 struct yelunnavi_system { void *room; };
 struct yelunnavi_pass { void *room; };
 struct yelunnavi_reader { void *room; };
-struct yelunnavi_taker { void *room; };
+struct yelunnavi_queue { void *room; };
 
 /* How many octets of room a slot takes. */
 size_t yelunnavi_receiver_room(void);
 size_t yelunnavi_system_room(void);
 size_t yelunnavi_pass_room(void);
 size_t yelunnavi_reader_room(void);
-size_t yelunnavi_taker_room(void);
+size_t yelunnavi_queue_room(void);
 
 /* Makes a slot in a room as large as .._room() says, aligned to 8: for .._init, and what does its work in another language. A
    program in C calls .._init, never .._make, which takes any pointer for a room, a handle's address too. */
@@ -235,7 +236,7 @@ void yelunnavi_receiver_make(void *room);
 void yelunnavi_system_make(void *room);
 void yelunnavi_pass_make(void *room);
 void yelunnavi_reader_make(void *room);
-void yelunnavi_taker_make(void *room);
+void yelunnavi_queue_make(void *room);
 
 /* The room of a handle that has none: no slot is made there, so each call answers NOT_MADE. */
 static inline void *yelunnavi_nowhere(void) {
@@ -279,10 +280,10 @@ static inline uint32_t yelunnavi_reader_init(struct yelunnavi_reader *h, void *r
     return code;
 }
 
-static inline uint32_t yelunnavi_taker_init(struct yelunnavi_taker *h, void *room, size_t octets) {
-    uint32_t code = yelunnavi_room_code(room, octets, yelunnavi_taker_room());
+static inline uint32_t yelunnavi_queue_init(struct yelunnavi_queue *h, void *room, size_t octets) {
+    uint32_t code = yelunnavi_room_code(room, octets, yelunnavi_queue_room());
     h->room = code == YELUNNAVI_DONE ? room : yelunnavi_nowhere();
-    if (code == YELUNNAVI_DONE) yelunnavi_taker_make(room);
+    if (code == YELUNNAVI_DONE) yelunnavi_queue_make(room);
     return code;
 }
 
@@ -344,8 +345,8 @@ void yelunnavi_receiver_close(struct yelunnavi_receiver *h);
 
 /* ---- the receiver: frames */
 
-struct yelunnavi_frame {
-    uint32_t kind;   /* enum yelunnavi_verdict */
+struct yelunnavi_verdict {
+    uint32_t kind;   /* enum yelunnavi_verdict_kind */
     uint32_t cause;  /* with VERDICT_FILTERED enum yelunnavi_filter_cause, with VERDICT_BAD_HEADER enum
                         yelunnavi_header_fault, else 0 */
     size_t link;     /* the place of its link in the configuration */
@@ -359,7 +360,7 @@ struct yelunnavi_frame {
    became of it; what it doesn't speak of is 0. The message that it delivers, if any, is in its port then. Times may fall.
    NOT_OPEN, NO_NETWORK. */
 uint32_t yelunnavi_receiver_receive(struct yelunnavi_receiver *h, uint32_t net, uint64_t now, const uint8_t *frame, size_t len,
-                                    struct yelunnavi_frame *reply);
+                                    struct yelunnavi_verdict *reply);
 
 /* Tells how many frames of the link at this place came on this network with a verdict of this kind; VERDICT_FILTERED is none.
    NOT_OPEN, NO_NETWORK, NO_KIND, NO_PLACE, tested in this order. */
@@ -429,11 +430,11 @@ uint32_t yelunnavi_receiver_place(struct yelunnavi_receiver *h, const uint8_t *n
 /* ---- the receiver: ends of ports
 
    Moves an end of the port with this name into a slot in which nothing is open. A sampling port has as many readers as the
-   opening was told, a queuing port one taker; one that was closed doesn't come back. A reader that is handed out late finds
+   opening was told, a queuing port one queue; one that was closed doesn't come back. A reader that is handed out late finds
    what was published before. NOT_OPEN (the receiver), ALREADY_OPEN (`to`), NO_NAME, NONE_LEFT, tested in this order. */
 
 uint32_t yelunnavi_receiver_hand_reader(struct yelunnavi_receiver *h, struct yelunnavi_reader *to, const uint8_t *name, size_t len);
-uint32_t yelunnavi_receiver_hand_taker(struct yelunnavi_receiver *h, struct yelunnavi_taker *to, const uint8_t *name, size_t len);
+uint32_t yelunnavi_receiver_hand_queue(struct yelunnavi_receiver *h, struct yelunnavi_queue *to, const uint8_t *name, size_t len);
 
 /* ---- a system: a receiver for two threads, one a network. It keeps no frame either, and its links, ports, verdicts and limits
    are those of a receiver: the same frames in the same order come to the same. It tells neither health nor fill: both
@@ -456,7 +457,7 @@ uint32_t yelunnavi_system_hand_pass(struct yelunnavi_system *h, uint32_t net, st
 
 /* Move an end of the port with this name: as those of a receiver, and with their answers. */
 uint32_t yelunnavi_system_hand_reader(struct yelunnavi_system *h, struct yelunnavi_reader *to, const uint8_t *name, size_t len);
-uint32_t yelunnavi_system_hand_taker(struct yelunnavi_system *h, struct yelunnavi_taker *to, const uint8_t *name, size_t len);
+uint32_t yelunnavi_system_hand_queue(struct yelunnavi_system *h, struct yelunnavi_queue *to, const uint8_t *name, size_t len);
 
 /* Tell of its links and ports: as those of a receiver, and with their answers. */
 uint32_t yelunnavi_system_links(struct yelunnavi_system *h, size_t *links);
@@ -469,7 +470,7 @@ uint32_t yelunnavi_system_place(struct yelunnavi_system *h, const uint8_t *name,
 /* Takes a frame that came on the network of the pass at `now`, as yelunnavi_receiver_receive does. The place that is told is
    among the frames of both networks on its link. NOT_OPEN; BUSY, and then the same frame is given again: see BUSY above. A frame
    that is filtered is never BUSY. */
-uint32_t yelunnavi_pass_receive(struct yelunnavi_pass *h, uint64_t now, const uint8_t *frame, size_t len, struct yelunnavi_frame *reply);
+uint32_t yelunnavi_pass_receive(struct yelunnavi_pass *h, uint64_t now, const uint8_t *frame, size_t len, struct yelunnavi_verdict *reply);
 
 /* Tells how many frames of the link at this place came on the network of the pass with a verdict of this kind; VERDICT_FILTERED is
    none. The pass of the other network tells of that one. NOT_OPEN, NO_KIND, NO_PLACE, tested in this order. */
@@ -526,7 +527,7 @@ uint32_t yelunnavi_reader_limits(struct yelunnavi_reader *h, struct yelunnavi_li
 /* Gives the reader away, if there is one, with the message that it holds. */
 void yelunnavi_reader_close(struct yelunnavi_reader *h);
 
-/* ---- a taker of a queuing port (ARINC 664 Part 7, queuing service) */
+/* ---- the queue of a queuing port (ARINC 664 Part 7, queuing service) */
 
 struct yelunnavi_taken {
     uint32_t found; /* 0: there was nothing to take. 1: a message */
@@ -536,13 +537,13 @@ struct yelunnavi_taken {
 
 /* Takes the oldest message: it stands whole at the beginning of `out`, and what follows is as it was. NOT_OPEN; TOO_SHORT if
    `len` is less than the port's longest message, and then nothing is taken. */
-uint32_t yelunnavi_taker_take(struct yelunnavi_taker *h, uint8_t *out, size_t len, struct yelunnavi_taken *reply);
+uint32_t yelunnavi_queue_take(struct yelunnavi_queue *h, uint8_t *out, size_t len, struct yelunnavi_taken *reply);
 
 /* Tells the longest message of the port. NOT_OPEN. */
-uint32_t yelunnavi_taker_longest(struct yelunnavi_taker *h, size_t *max);
+uint32_t yelunnavi_queue_longest(struct yelunnavi_queue *h, size_t *max);
 
 /* Gives the end of the queue away, if there is one. What waits in the queue is lost. */
-void yelunnavi_taker_close(struct yelunnavi_taker *h);
+void yelunnavi_queue_close(struct yelunnavi_queue *h);
 
 /* ---- what the library calls: the program has them, or links the toolchain's, which are malloc, realloc and free */
 

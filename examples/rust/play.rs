@@ -3,8 +3,8 @@
 use std::alloc::{Layout, alloc, dealloc, realloc};
 use std::ffi::c_void;
 use yelunnavi::{
-    Code, Fault, Frame, Key, LONGEST_SAMPLE, Level, Network, Reader, ReaderRoom, Receiver, ReceiverRoom, Service, Taker, TakerRoom,
-    Verdict,
+    Code, Fault, Key, LONGEST_SAMPLE, Level, Network, Queue, QueueRoom, Reader, ReaderRoom, Receiver, ReceiverRoom, Service,
+    Verdict, VerdictKind,
 };
 
 #[repr(C)]
@@ -68,9 +68,9 @@ fn show_octets(octets: &[u8]) {
     println!("{}{digits}", if octets.is_empty() { "" } else { " " });
 }
 
-fn show_frame(time: u64, net: Network, reply: &Frame, name: &str) {
+fn show_frame(time: u64, net: Network, reply: &Verdict, name: &str) {
     print!("{time} {}", net.word());
-    if reply.kind != Verdict::FILTERED {
+    if reply.kind != VerdictKind::FILTERED {
         print!(" vl {} {}", reply.vl, reply.place);
     }
     print!(" {}", reply.kind.word());
@@ -80,7 +80,7 @@ fn show_frame(time: u64, net: Network, reply: &Frame, name: &str) {
     if reply.kind.names_port() {
         print!(" {name}");
     }
-    if reply.kind == Verdict::SAMPLED {
+    if reply.kind == VerdictKind::SAMPLED {
         print!(" {}", reply.number);
     }
     println!();
@@ -97,10 +97,10 @@ fn show_sampling(reader: &mut Reader, name: &str, now: u64) {
     show_octets(&out[..read.len]);
 }
 
-fn show_queue(taker: &mut Taker, name: &str) {
+fn show_queue(queue: &mut Queue, name: &str) {
     let mut messages = Vec::new();
-    let mut out = vec![0; taker.longest().unwrap()];
-    while let Ok(taken) = taker.take(&mut out) && taken.found == 1 {
+    let mut out = vec![0; queue.longest().unwrap()];
+    while let Ok(taken) = queue.take(&mut out) && taken.found == 1 {
         messages.push((taken.time, out[..taken.len].to_vec()));
     }
     println!("port {name} queuing {}", messages.len());
@@ -163,10 +163,10 @@ fn main() {
             receiver.hand_reader(&mut reader, name.as_bytes()).unwrap();
             std::thread::scope(|scope| scope.spawn(|| show_sampling(&mut reader, name, now)).join()).unwrap();
         } else {
-            let mut room = TakerRoom::new();
-            let mut taker = Taker::new(&mut room).expect("room");
-            receiver.hand_taker(&mut taker, name.as_bytes()).unwrap();
-            std::thread::scope(|scope| scope.spawn(|| show_queue(&mut taker, name)).join()).unwrap();
+            let mut room = QueueRoom::new();
+            let mut queue = Queue::new(&mut room).expect("room");
+            receiver.hand_queue(&mut queue, name.as_bytes()).unwrap();
+            std::thread::scope(|scope| scope.spawn(|| show_queue(&mut queue, name)).join()).unwrap();
         }
     }
 }

@@ -41,7 +41,7 @@ numbers! {
         A = 0 "A", B = 1 "B",
     }
     /// What became of a frame: the kind of its verdict. Those from TOO_LONG on name a port.
-    Verdict {
+    VerdictKind {
         FILTERED = 0 "filtered", OUT_OF_SEQUENCE = 1 "out-of-sequence", REDUNDANT = 2 "redundant",
         BAD_HEADER = 3 "bad-header", BAD_FRAGMENT = 4 "bad-fragment", FRAGMENT_HELD = 5 "fragment-held",
         BAD_UDP = 6 "bad-udp", NO_PORT = 7 "no-port", TOO_LONG = 8 "too-long", FRAGMENTED_SAMPLE = 9 "fragmented-sample",
@@ -80,10 +80,10 @@ numbers! {
     }
 }
 
-impl Verdict {
+impl VerdictKind {
     /// Whether the reply has the place of a port.
     pub const fn names_port(self) -> bool {
-        self.0 >= Verdict::TOO_LONG.0
+        self.0 >= VerdictKind::TOO_LONG.0
     }
 }
 
@@ -113,7 +113,7 @@ impl Key {
 }
 
 /// The number of this interface: raised with each change of a struct, a call or a number.
-pub const ABI: u32 = 5;
+pub const ABI: u32 = 6;
 pub const MOST_LINKS: usize = 64;
 /// Of a link.
 pub const MOST_PORTS: usize = 32;
@@ -143,7 +143,7 @@ replies! {
     /// The first fault of a configuration, and the line of the text, 0 if it isn't known.
     Fault { fault: ConfigFault, key: Key, level: Level, link: usize, port: usize, line: u64 }
     /// What became of a frame. `cause` is a FilterCause of a filtered one, and a HeaderFault of one with a bad header.
-    Frame { kind: Verdict, cause: u32, link: usize, vl: u32, port: u32, place: u64, number: u64 }
+    Verdict { kind: VerdictKind, cause: u32, link: usize, vl: u32, port: u32, place: u64, number: u64 }
     /// What a read or a hold found.
     Read { found: u32, valid: u32, number: u64, time: u64, len: usize }
     /// What was taken of a queue.
@@ -168,12 +168,12 @@ replies! {
     Limits { max: usize, refresh: u64 }
 }
 
-impl Frame {
+impl Verdict {
     /// The word of its cause, if it has one.
     pub const fn cause_word(&self) -> Option<&'static str> {
         match self.kind {
-            Verdict::FILTERED => Some(FilterCause(self.cause).word()),
-            Verdict::BAD_HEADER => Some(HeaderFault(self.cause).word()),
+            VerdictKind::FILTERED => Some(FilterCause(self.cause).word()),
+            VerdictKind::BAD_HEADER => Some(HeaderFault(self.cause).word()),
             _ => None,
         }
     }
@@ -213,17 +213,17 @@ calls! {
     yelunnavi_system_room() -> usize;
     yelunnavi_pass_room() -> usize;
     yelunnavi_reader_room() -> usize;
-    yelunnavi_taker_room() -> usize;
+    yelunnavi_queue_room() -> usize;
     yelunnavi_receiver_make(room: *mut c_void);
     yelunnavi_system_make(room: *mut c_void);
     yelunnavi_pass_make(room: *mut c_void);
     yelunnavi_reader_make(room: *mut c_void);
-    yelunnavi_taker_make(room: *mut c_void);
+    yelunnavi_queue_make(room: *mut c_void);
     yelunnavi_receiver_open(h: *mut Handle, text: *const u8, len: usize, readers: usize, fault: *mut Fault) -> Code;
     yelunnavi_receiver_open_table(h: *mut Handle, constant: *const u8, links: *const LinkRow, links_len: usize, ports: *const PortRow, ports_len: usize, readers: usize, fault: *mut Fault) -> Code;
     yelunnavi_receiver_close(h: *mut Handle);
-    yelunnavi_receiver_receive(h: *mut Handle, net: Network, now: u64, frame: *const u8, len: usize, reply: *mut Frame) -> Code;
-    yelunnavi_receiver_count(h: *mut Handle, link: usize, net: Network, kind: Verdict, count: *mut u64) -> Code;
+    yelunnavi_receiver_receive(h: *mut Handle, net: Network, now: u64, frame: *const u8, len: usize, reply: *mut Verdict) -> Code;
+    yelunnavi_receiver_count(h: *mut Handle, link: usize, net: Network, kind: VerdictKind, count: *mut u64) -> Code;
     yelunnavi_receiver_filtered(h: *mut Handle, net: Network, cause: FilterCause, count: *mut u64) -> Code;
     yelunnavi_receiver_health(h: *mut Handle, link: usize, reply: *mut Health) -> Code;
     yelunnavi_receiver_fill(h: *mut Handle, link: usize, port: usize, reply: *mut Fill) -> Code;
@@ -232,19 +232,19 @@ calls! {
     yelunnavi_receiver_port(h: *mut Handle, link: usize, port: usize, reply: *mut Port, name: *mut [u8; 16]) -> Code;
     yelunnavi_receiver_place(h: *mut Handle, name: *const u8, len: usize, reply: *mut Place) -> Code;
     yelunnavi_receiver_hand_reader(h: *mut Handle, to: *mut Handle, name: *const u8, len: usize) -> Code;
-    yelunnavi_receiver_hand_taker(h: *mut Handle, to: *mut Handle, name: *const u8, len: usize) -> Code;
+    yelunnavi_receiver_hand_queue(h: *mut Handle, to: *mut Handle, name: *const u8, len: usize) -> Code;
     yelunnavi_system_open(h: *mut Handle, text: *const u8, len: usize, readers: usize, fault: *mut Fault) -> Code;
     yelunnavi_system_open_table(h: *mut Handle, constant: *const u8, links: *const LinkRow, links_len: usize, ports: *const PortRow, ports_len: usize, readers: usize, fault: *mut Fault) -> Code;
     yelunnavi_system_close(h: *mut Handle);
     yelunnavi_system_hand_pass(h: *mut Handle, net: Network, to: *mut Handle) -> Code;
     yelunnavi_system_hand_reader(h: *mut Handle, to: *mut Handle, name: *const u8, len: usize) -> Code;
-    yelunnavi_system_hand_taker(h: *mut Handle, to: *mut Handle, name: *const u8, len: usize) -> Code;
+    yelunnavi_system_hand_queue(h: *mut Handle, to: *mut Handle, name: *const u8, len: usize) -> Code;
     yelunnavi_system_links(h: *mut Handle, links: *mut usize) -> Code;
     yelunnavi_system_link(h: *mut Handle, link: usize, reply: *mut Link) -> Code;
     yelunnavi_system_port(h: *mut Handle, link: usize, port: usize, reply: *mut Port, name: *mut [u8; 16]) -> Code;
     yelunnavi_system_place(h: *mut Handle, name: *const u8, len: usize, reply: *mut Place) -> Code;
-    yelunnavi_pass_receive(h: *mut Handle, now: u64, frame: *const u8, len: usize, reply: *mut Frame) -> Code;
-    yelunnavi_pass_count(h: *mut Handle, link: usize, kind: Verdict, count: *mut u64) -> Code;
+    yelunnavi_pass_receive(h: *mut Handle, now: u64, frame: *const u8, len: usize, reply: *mut Verdict) -> Code;
+    yelunnavi_pass_count(h: *mut Handle, link: usize, kind: VerdictKind, count: *mut u64) -> Code;
     yelunnavi_pass_filtered(h: *mut Handle, cause: FilterCause, count: *mut u64) -> Code;
     yelunnavi_pass_close(h: *mut Handle);
     yelunnavi_reader_read(h: *mut Handle, now: u64, out: *mut u8, len: usize, reply: *mut Read) -> Code;
@@ -254,9 +254,9 @@ calls! {
     yelunnavi_reader_release(h: *mut Handle) -> Code;
     yelunnavi_reader_limits(h: *mut Handle, reply: *mut Limits) -> Code;
     yelunnavi_reader_close(h: *mut Handle);
-    yelunnavi_taker_take(h: *mut Handle, out: *mut u8, len: usize, reply: *mut Taken) -> Code;
-    yelunnavi_taker_longest(h: *mut Handle, max: *mut usize) -> Code;
-    yelunnavi_taker_close(h: *mut Handle);
+    yelunnavi_queue_take(h: *mut Handle, out: *mut u8, len: usize, reply: *mut Taken) -> Code;
+    yelunnavi_queue_longest(h: *mut Handle, max: *mut usize) -> Code;
+    yelunnavi_queue_close(h: *mut Handle);
 }
 
 macro_rules! slots {
@@ -317,7 +317,7 @@ slots! {
     /// A reader of a sampling port, for a partition.
     Reader, ReaderRoom, 128, yelunnavi_reader_room, yelunnavi_reader_make, yelunnavi_reader_close;
     /// The end of a queue, for a partition.
-    Taker, TakerRoom, 128, yelunnavi_taker_room, yelunnavi_taker_make, yelunnavi_taker_close;
+    Queue, QueueRoom, 128, yelunnavi_queue_room, yelunnavi_queue_make, yelunnavi_queue_close;
 }
 
 /// A reply, if the call did what was asked.
@@ -345,11 +345,11 @@ impl Receiver<'_> {
     }
 
     /// Takes a frame that came on a network at `now`, in microseconds.
-    pub fn receive(&mut self, net: Network, now: u64, frame: &[u8]) -> Result<Frame, Code> {
+    pub fn receive(&mut self, net: Network, now: u64, frame: &[u8]) -> Result<Verdict, Code> {
         told(|reply| unsafe { yelunnavi_receiver_receive(&mut self.handle, net, now, frame.as_ptr(), frame.len(), reply) })
     }
 
-    pub fn count(&mut self, link: usize, net: Network, kind: Verdict) -> Result<u64, Code> {
+    pub fn count(&mut self, link: usize, net: Network, kind: VerdictKind) -> Result<u64, Code> {
         told(|count| unsafe { yelunnavi_receiver_count(&mut self.handle, link, net, kind, count) })
     }
 
@@ -389,8 +389,8 @@ impl Receiver<'_> {
         answer(unsafe { yelunnavi_receiver_hand_reader(&mut self.handle, &mut to.handle, name.as_ptr(), name.len()) })
     }
 
-    pub fn hand_taker(&mut self, to: &mut Taker, name: &[u8]) -> Result<(), Code> {
-        answer(unsafe { yelunnavi_receiver_hand_taker(&mut self.handle, &mut to.handle, name.as_ptr(), name.len()) })
+    pub fn hand_queue(&mut self, to: &mut Queue, name: &[u8]) -> Result<(), Code> {
+        answer(unsafe { yelunnavi_receiver_hand_queue(&mut self.handle, &mut to.handle, name.as_ptr(), name.len()) })
     }
 }
 
@@ -440,19 +440,19 @@ impl System<'_> {
         answer(unsafe { yelunnavi_system_hand_reader(&mut self.handle, &mut to.handle, name.as_ptr(), name.len()) })
     }
 
-    pub fn hand_taker(&mut self, to: &mut Taker, name: &[u8]) -> Result<(), Code> {
-        answer(unsafe { yelunnavi_system_hand_taker(&mut self.handle, &mut to.handle, name.as_ptr(), name.len()) })
+    pub fn hand_queue(&mut self, to: &mut Queue, name: &[u8]) -> Result<(), Code> {
+        answer(unsafe { yelunnavi_system_hand_queue(&mut self.handle, &mut to.handle, name.as_ptr(), name.len()) })
     }
 }
 
 impl Pass<'_> {
     /// Takes a frame that came on the network of the pass at `now`, in microseconds. BUSY: the thread of the other network has its
     /// link just now, and nothing has happened. The same frame is given again, after a yield.
-    pub fn receive(&mut self, now: u64, frame: &[u8]) -> Result<Frame, Code> {
+    pub fn receive(&mut self, now: u64, frame: &[u8]) -> Result<Verdict, Code> {
         told(|reply| unsafe { yelunnavi_pass_receive(&mut self.handle, now, frame.as_ptr(), frame.len(), reply) })
     }
 
-    pub fn count(&mut self, link: usize, kind: Verdict) -> Result<u64, Code> {
+    pub fn count(&mut self, link: usize, kind: VerdictKind) -> Result<u64, Code> {
         told(|count| unsafe { yelunnavi_pass_count(&mut self.handle, link, kind, count) })
     }
 
@@ -492,13 +492,13 @@ impl Reader<'_> {
     }
 }
 
-impl Taker<'_> {
+impl Queue<'_> {
     /// Takes the oldest message; `out` has to be as long as the port's longest one.
     pub fn take(&mut self, out: &mut [u8]) -> Result<Taken, Code> {
-        told(|reply| unsafe { yelunnavi_taker_take(&mut self.handle, out.as_mut_ptr(), out.len(), reply) })
+        told(|reply| unsafe { yelunnavi_queue_take(&mut self.handle, out.as_mut_ptr(), out.len(), reply) })
     }
 
     pub fn longest(&mut self) -> Result<usize, Code> {
-        told(|max| unsafe { yelunnavi_taker_longest(&mut self.handle, max) })
+        told(|max| unsafe { yelunnavi_queue_longest(&mut self.handle, max) })
     }
 }

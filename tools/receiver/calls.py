@@ -1,4 +1,4 @@
-"""The handles of the library: a receiver; a system and the passes of its networks; readers of sampling ports, takers of queuing ports."""
+"""The handles of the library: a receiver; a system and the passes of its networks; readers of sampling ports, queues of queuing ports."""
 import struct
 import time
 from typing import NamedTuple, Optional
@@ -8,9 +8,9 @@ from verdict_words import PORT_KINDS
 
 A, B = range(2)
 NETWORKS = "AB"
-# The fields of struct yelunnavi_frame, yelunnavi_taken and yelunnavi_read, which are read at each call, laid as in C: I is a
+# The fields of struct yelunnavi_verdict, yelunnavi_taken and yelunnavi_read, which are read at each call, laid as in C: I is a
 # uint32_t, Q a uint64_t, N a size_t. checks/interface compares them.
-FRAME, TAKEN, READ = (struct.Struct(fields).unpack_from for fields in ("IINIIQQ", "IQN", "IIQQN"))
+VERDICT, TAKEN, READ = (struct.Struct(fields).unpack_from for fields in ("IINIIQQ", "IQN", "IIQQN"))
 
 
 class Refused(Exception):
@@ -102,7 +102,7 @@ class Taken(NamedTuple):
 
 
 class Slot:
-    """The room of a handle of a kind, `receiver`, `system`, `pass`, `reader` or `taker`, and its calls by their names in the header."""
+    """The room of a handle of a kind, `receiver`, `system`, `pass`, `reader` or `queue`, and its calls by their names in the header."""
 
     def __init__(self, kind):
         self.ffi, self.library = load()
@@ -174,13 +174,13 @@ class Frames(Slot):
     """A slot that takes frames for some links: what became of each, and what was counted."""
 
     def take_for(self, links):
-        self.of, self.frame = links, self.ffi.new("struct yelunnavi_frame *")
-        self.frame_octets, self.receive_call = self.ffi.buffer(self.frame), self.found("receive")
+        self.of, self.verdict = links, self.ffi.new("struct yelunnavi_verdict *")
+        self.verdict_octets, self.receive_call = self.ffi.buffer(self.verdict), self.found("receive")
         self.verdicts, self.filters, self.faults = (words(f"{name}_word") for name in ("verdict", "filter", "header"))
         self.named = {number for number, word in self.verdicts.items() if word in PORT_KINDS}
 
     def reply(self):
-        kind, cause, link, vl, port, place, number = FRAME(self.frame_octets)
+        kind, cause, link, vl, port, place, number = VERDICT(self.verdict_octets)
         if not kind:
             return Reply("filtered", self.filters[cause])
         return Reply(self.verdicts[kind], self.faults[cause] if cause else "", vl, place,
@@ -200,7 +200,7 @@ class Receiver(Links, Frames):
 
     def receive(self, net, now, octets):
         """Takes a frame without its check sequence that came on a network, A or B, at `now` in microseconds."""
-        if code := self.receive_call(self.handle, net, now, octets, len(octets), self.frame):
+        if code := self.receive_call(self.handle, net, now, octets, len(octets), self.verdict):
             raise Refused(code)
         return self.reply()
 
@@ -244,7 +244,7 @@ class Pass(Frames):
 
     def receive(self, now, octets):
         """Takes a frame that came on the pass's network. While the other thread has its link it is given again, after a yield."""
-        while code := self.receive_call(self.handle, now, octets, len(octets), self.frame):
+        while code := self.receive_call(self.handle, now, octets, len(octets), self.verdict):
             if code != self.busy:
                 raise Refused(code)
             time.sleep(0)
@@ -282,7 +282,7 @@ class Reader(End):
 
 
 class Taker(End):
-    kind = "taker"
+    kind = "queue"
 
     def __init__(self, receiver, name):
         super().__init__(receiver, name, "taken")

@@ -46,7 +46,7 @@ use slot_handles::receiver_handle::ReceiverHandle;
 use slot_handles::taker_handle::TakerHandle;
 
 /// The number of the interface: raised with each change of a struct, a call or a number.
-pub const ABI: u32 = 5;
+pub const ABI: u32 = 6;
 
 /// The number of the interface of this library. A program compares it with that of the header that it was compiled
 /// with.
@@ -197,7 +197,7 @@ pub extern "C" fn yelunnavi_receiver_hand_reader(
 /// Hands the end of the queue of the queuing port with this name to a slot that has none: once. NONE_LEFT if the port
 /// samples, or the end was handed out.
 #[unsafe(no_mangle)]
-pub extern "C" fn yelunnavi_receiver_hand_taker(
+pub extern "C" fn yelunnavi_receiver_hand_queue(
     h: &mut ReceiverHandle,
     to: &mut TakerHandle,
     name: &[u8],
@@ -530,7 +530,7 @@ pub extern "C" fn yelunnavi_reader_close(h: &mut ReaderHandle)
 
 /// Size of the slot of a taker, in octets. The room is aligned to 8.
 #[unsafe(no_mangle)]
-pub extern "C" fn yelunnavi_taker_room() -> usize
+pub extern "C" fn yelunnavi_queue_room() -> usize
     ensures { result ≡ type_size taker_row }
 {
     std::mem::size_of::<MarkedTaker>()
@@ -538,7 +538,7 @@ pub extern "C" fn yelunnavi_taker_room() -> usize
 
 /// Makes a slot in the caller's room in which nothing is open.
 #[unsafe(no_mangle)]
-pub unsafe extern "C" fn yelunnavi_taker_make(at: *mut u8)
+pub unsafe extern "C" fn yelunnavi_queue_make(at: *mut u8)
     requires* { sem 𝓛 (uninit_at taker_row at) }
     ensures* { sem 𝓛 (points_to taker_row at made_taker) }
 {
@@ -548,7 +548,7 @@ pub unsafe extern "C" fn yelunnavi_taker_make(at: *mut u8)
 /// Takes the oldest message, if this end knows of one, into the beginning of `out`, and tells its time and length.
 /// `out` has to be as long as the port's longest message, else TOO_SHORT.
 #[unsafe(no_mangle)]
-pub extern "C" fn yelunnavi_taker_take(
+pub extern "C" fn yelunnavi_queue_take(
     h: &mut TakerHandle,
     out: &mut [u8],
     reply: &mut TakeReply,
@@ -567,7 +567,7 @@ pub extern "C" fn yelunnavi_taker_take(
 
 /// Tells the longest message of the port, in octets.
 #[unsafe(no_mangle)]
-pub extern "C" fn yelunnavi_taker_longest(h: &mut TakerHandle, max: &mut usize) -> u32
+pub extern "C" fn yelunnavi_queue_longest(h: &mut TakerHandle, max: &mut usize) -> u32
     ensures place { (h.new.at ≡ h.old.at) × (h.new.room.mark ≡ h.old.room.mark) }
     ensures code { result ≡ if_made taker_mark h.old.room.mark (taker_code h.old.room.slot) }
     ensures told { result ≡ done → TellsTaker h.old.room.slot max.new }
@@ -583,7 +583,7 @@ pub extern "C" fn yelunnavi_taker_longest(h: &mut TakerHandle, max: &mut usize) 
 
 /// Gives the end away. What waits in the queue is lost.
 #[unsafe(no_mangle)]
-pub extern "C" fn yelunnavi_taker_close(h: &mut TakerHandle)
+pub extern "C" fn yelunnavi_queue_close(h: &mut TakerHandle)
     ensures place { (h.new.at ≡ h.old.at) × (h.new.room.mark ≡ h.old.room.mark) }
     ensures value { h.new.room.slot ≡ after_close taker_mark h.old.room.mark None h.old.room.slot }
 {

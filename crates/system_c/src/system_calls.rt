@@ -165,7 +165,7 @@ pub extern "C" fn yelunnavi_system_hand_reader(
 /// Hands the end of the queue of the queuing port with this name to a slot that has none: once. NONE_LEFT if the port
 /// samples, or the end was handed out.
 #[unsafe(no_mangle)]
-pub extern "C" fn yelunnavi_system_hand_taker(
+pub extern "C" fn yelunnavi_system_hand_queue(
     h: &mut SystemHandle,
     to: &mut TakerHandle,
     name: &[u8],

@@ -1,4 +1,4 @@
--- `yelunnavi_taker_make` meets its contract: what `new` gives goes into the room.
+-- `yelunnavi_queue_make` meets its contract: what `new` gives goes into the room.
 use Rattle.slot_handles.proofs.Steps.{◌≡◌, [], ◌∷◌, refl, proved, full_share, id⊢, ftrue, vunit, fact, tables, ‵, raw, ◌⊛◌, some, later, prop, ◌$◌, ◌∵◌, !, qed, done, move, keep, drop, use1, use2, split, join, feq_i, pick, await, rewrite, regoal, suffices, group, enter, of_opd, unit_lit, stop, no_more, assigns, returns, alloc_all, pass_all, free_all, look_at, get, through, sets, lands_as, yes, shows, Ptr, RawPtr, block_ptr, in_a_block, rawptr_vals, rawptr_Tells, plain, nothing, heard, peeks, calls_at, lasts, on_entry, triple_of, Stays, walk_of, stay_dropped, Goes-dropped, ends_at, framed, WpFn, part_at, uninit_at}
 use base.Fml.{froom}
 use types.Run.{init}
@@ -8,17 +8,17 @@ use Rattle.slot_handles.specs.Made.{made_taker}
 use Rattle.slot_handles.specs.declared.marked.MarkedTaker.{MarkedTaker}
 use Rattle.slot_handles.specs.contracts.marked.MarkedTaker.{the_row as R}
 use Rattle.slot_handles.proofs.marked.MarkedTaker.TheLaws as laws
-use Rattle.receiver_c.specs.contracts.yelunnavi_taker_make as f
-use Rattle.receiver_c.proofs.yelunnavi_taker_make.Statement.{statement}
-use Rattle.receiver_c.proofs.yelunnavi_taker_make.Code as code
+use Rattle.receiver_c.specs.contracts.yelunnavi_queue_make as f
+use Rattle.receiver_c.proofs.yelunnavi_queue_make.Statement.{statement}
+use Rattle.receiver_c.proofs.yelunnavi_queue_make.Code as code
 use Rattle.slot_handles.specs.contracts.marked.MarkedTaker.new as g
 use Rattle.slot_handles.proofs.marked.MarkedTaker.new.Met.{met}
 
 abbrev stayed : Stays f.ended.signature.params f.ended.kept
 stayed = (stay_dropped _ yes, tt)
 
-pub yelunnavi_taker_make_spec : {M : Type 1} → statement M
-yelunnavi_taker_make_spec 𝓤 𝓛 𝓜 𝓡 wired =
+pub yelunnavi_queue_make_spec : {M : Type 1} → statement M
+yelunnavi_queue_make_spec 𝓤 𝓛 𝓜 𝓡 wired =
     let c = f.clauses 𝓛 𝓜.mem 𝓡.returns in let W = walk_of 𝓛 f.ended stayed c in let 𝓣 = tables 𝓤 𝓛.H 𝓜 𝓡 𝓡.env in
     proved 𝓛 f.ended stayed c 𝓜 𝓡 (Goes-dropped 𝓛 0 (plain (λ _. RawPtr)) yes (λ κs x w. refl), tt)
     f.Key.name code.function (code.unfolded 𝓤 𝓛.H 𝓜 𝓡 wired)
