@@ -1,5 +1,5 @@
 -- The explanation of a configuration's fault (own).
-use Rattle.std.specs.Prelude.{ℕ, suc, List, [], ◌++◌, Option, Some, None, codes}
+use Rattle.std.specs.Prelude.{ℕ, zero, suc, List, [], ◌++◌, Option, Some, None, codes}
 use Rattle.std.specs.Fmt.{decimal}
 use Rattle.vl_config.specs.declared.fault.ConfigFault.{ConfigFault}
 use Rattle.vl_config.specs.declared.fault.ConfigFault.TheVariants.{Missing, Kind, Range}
@@ -33,7 +33,7 @@ named_key other = None
 
 -- a line, from 1, or none
 abbrev pub line_text : ℕ → List ℕ
-line_text 0 = codes "config: line not found"
+line_text zero = codes "config: line not found"
 line_text (suc line) = codes "config: line " ++ decimal (suc line)
 
 abbrev pub allowed_text : Option Key → List ℕ
