@@ -17,7 +17,7 @@ use test_inputs::{
     GREATEST_PORTS, greatest_frame, greatest_payload, greatest_samples, greatest_text,
 };
 use test_inputs_end_system::{Given, Running, config_of, sampling_links, smallest_for};
-use test_inputs_sampling_port::check_read;
+use test_inputs_sampling_port::reads;
 
 /// The first port of a link, which samples.
 const FIRST: PortNo = PortNo(0);
@@ -141,7 +141,7 @@ fn message_of(rt: &impl Abort, alloc: Global, port: u16) -> Vec<u8> {
 /// Each reader reads this message, which is the first of its port.
 fn check_readers(rt: &impl Abort, readers: &mut [Reader<READERS>], time: u64, octets: &[u8]) {
     for reader in readers.iter_mut() {
-        check_read(rt, reader, (1, time), octets);
+        assert!(rt; reads(reader, (1, time), octets));
     }
 }
 

@@ -14,7 +14,7 @@ use test_inputs::rows::{
 };
 use test_inputs::{IP, PAYLOAD};
 use test_inputs_end_system::{BUILT_IN, Running};
-use test_inputs_sampling_port::check_read;
+use test_inputs_sampling_port::reads;
 
 /// The end is that of the sampling port `pos`.
 fn is_pos(end: &PortEnd) -> bool {
@@ -30,7 +30,7 @@ pub(crate) fn check_readers_of(rt: &impl Abort, end: &mut PortEnd, octets: &[u8]
     match end {
         PortEnd::Sampling { readers, .. } => {
             for reader in readers {
-                check_read(rt, reader, (1, 1000), octets);
+                assert!(rt; reads(reader, (1, 1000), octets));
             }
         }
         PortEnd::Queuing { .. } => panic!(rt; "a sampling port"),

@@ -17,7 +17,7 @@ use std::process::Abort;
 use std::sync::Wait;
 use test_inputs::fragments::PacketName::{First, Last};
 use test_inputs::{IP, LINK, Link, PAYLOAD, UDP};
-use test_inputs_sampling_port::check_read;
+use test_inputs_sampling_port::reads;
 
 /// What happens at a link, in order.
 #[derive(Clone, Copy)]
@@ -292,9 +292,9 @@ fn check_reads(rt: &(impl Abort + Wait), alloc: Global) {
     let (mut state, mut readers) = opened_with_readers(rt, alloc);
     check_step(rt, alloc, &mut state, Pos(A, 1000, 1, Sampled(POS, 1)));
     check_epoch(rt, alloc, &mut state, 0, 1);
-    check_read(rt, &mut readers[0], (1, 1000), &OCTETS);
+    assert!(rt; reads(&mut readers[0], (1, 1000), &OCTETS));
     check_step(rt, alloc, &mut state, Pos(A, 2000, 2, Sampled(POS, 2)));
-    check_read(rt, &mut readers[0], (2, 2000), &OCTETS);
+    assert!(rt; reads(&mut readers[0], (2, 2000), &OCTETS));
 }
 
 // rule: HIST-6

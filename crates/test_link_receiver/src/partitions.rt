@@ -16,7 +16,7 @@ use std::process::Abort;
 use std::sync::Wait;
 use test_inputs::rows::POS;
 use test_inputs::{IP, LINK, PAYLOAD, UDP};
-use test_inputs_sampling_port::check_read;
+use test_inputs_sampling_port::reads;
 
 /// The readers of the sampling port at place 0, which is called `pos`.
 pub(crate) fn readers_in(rt: &impl Abort, end: PortEnd) -> [Reader<READERS>; READERS]
@@ -82,11 +82,11 @@ fn check_all_read(rt: &(impl Abort + Wait), alloc: Global) {
     }
     bring(rt, alloc, &mut state, (0, 1000, 1));
     for reader in &mut readers {
-        check_read(rt, reader, (1, 1000), &OCTETS);
+        assert!(rt; reads(reader, (1, 1000), &OCTETS));
     }
     bring(rt, alloc, &mut state, (1, 2000, 2));
     for reader in &mut readers {
-        check_read(rt, reader, (2, 2000), &OCTETS);
+        assert!(rt; reads(reader, (2, 2000), &OCTETS));
     }
 }
 
@@ -171,7 +171,7 @@ fn check_held(rt: &(impl Abort + Wait), alloc: Global) {
     let mut reader = all.pop().expect(rt, "a reader").release();
     drop(all);
     bring(rt, alloc, &mut state, (21, 3000, 22));
-    check_read(rt, &mut reader, (22, 3000), &OCTETS);
+    assert!(rt; reads(&mut reader, (22, 3000), &OCTETS));
 }
 
 // rule: PORT-8
