@@ -8,7 +8,7 @@ use es_base::Verdict::{Queued, Redundant, Sampled};
 use es_base::{LinkNo, PortNo, Verdict};
 use link_receiver::{LinkState, PortEnd};
 use queuing_port::Taker;
-use sampling_port::Reader;
+use sampling_port::{MOST_TRIES, Read, Reader};
 use slot_core::READERS;
 use std::alloc::Global;
 use std::process::Abort;
@@ -17,7 +17,6 @@ use test_inputs::{
     GREATEST_PORTS, greatest_frame, greatest_payload, greatest_samples, greatest_text,
 };
 use test_inputs_end_system::{Given, Running, config_of, sampling_links, smallest_for};
-use test_inputs_sampling_port::reads;
 
 /// The first port of a link, which samples.
 const FIRST: PortNo = PortNo(0);
@@ -141,7 +140,11 @@ fn message_of(rt: &impl Abort, alloc: Global, port: u16) -> Vec<u8> {
 /// Each reader reads this message, which is the first of its port.
 fn check_readers(rt: &impl Abort, readers: &mut [Reader<READERS>], time: u64, octets: &[u8]) {
     for reader in readers.iter_mut() {
-        assert!(rt; reads(reader, (1, time), octets));
+        let mut out = [0; 1471];
+        let (number, len) = (1, octets.len());
+        let wanted = Read::Message { number, time, len };
+        assert!(rt; reader.read(MOST_TRIES, &mut out) == wanted, "{time}");
+        assert!(rt; out.starts_with(octets), "{time}");
     }
 }
 

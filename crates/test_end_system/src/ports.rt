@@ -6,6 +6,8 @@ use es_base::Net::{A, B};
 use es_base::Verdict::{Overflow, Queued, Redundant, Sampled};
 use link_receiver::PortEnd;
 use queuing_port::Taker;
+use sampling_port::{MOST_TRIES, Read, Reader};
+use slot_core::READERS;
 use std::alloc::Global;
 use std::process::Abort;
 use std::sync::Wait;
@@ -14,7 +16,20 @@ use test_inputs::rows::{
 };
 use test_inputs::{IP, PAYLOAD};
 use test_inputs_end_system::{BUILT_IN, Running};
-use test_inputs_sampling_port::reads;
+
+/// A reader reads a message of `pos` with these octets.
+fn check_read(
+    rt: &impl Abort,
+    reader: &mut Reader<READERS>,
+    (number, time): (u64, u64),
+    octets: &[u8],
+) {
+    let mut out = [0; 1471];
+    let len = octets.len();
+    let wanted = Read::Message { number, time, len };
+    assert_eq!(rt; reader.read(MOST_TRIES, &mut out), wanted);
+    assert!(rt; out.starts_with(octets));
+}
 
 /// The end is that of the sampling port `pos`.
 fn is_pos(end: &PortEnd) -> bool {
@@ -30,7 +45,7 @@ pub(crate) fn check_readers_of(rt: &impl Abort, end: &mut PortEnd, octets: &[u8]
     match end {
         PortEnd::Sampling { readers, .. } => {
             for reader in readers {
-                assert!(rt; reads(reader, (1, 1000), octets));
+                check_read(rt, reader, (1, 1000), octets);
             }
         }
         PortEnd::Queuing { .. } => panic!(rt; "a sampling port"),

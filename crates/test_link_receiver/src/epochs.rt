@@ -5,7 +5,7 @@ ghost use Rattle.std.specs.Prelude.{◌≡◌};
 use crate::frames::{check_frame, opened};
 use crate::histories::{JOINED_PAYLOAD, Wanted, check_messages};
 use crate::meetings::{check_count, check_meeting, opened_with_taker, take};
-use crate::partitions::{OCTETS, opened_with_readers};
+use crate::partitions::{OCTETS, check_read, opened_with_readers};
 use crate::queued::check_taken;
 use crate::queues::taker_of;
 use es_base::Net::{A, B};
@@ -17,7 +17,6 @@ use std::process::Abort;
 use std::sync::Wait;
 use test_inputs::fragments::PacketName::{First, Last};
 use test_inputs::{IP, LINK, Link, PAYLOAD, UDP};
-use test_inputs_sampling_port::reads;
 
 /// What happens at a link, in order.
 #[derive(Clone, Copy)]
@@ -292,9 +291,9 @@ fn check_reads(rt: &(impl Abort + Wait), alloc: Global) {
     let (mut state, mut readers) = opened_with_readers(rt, alloc);
     check_step(rt, alloc, &mut state, Pos(A, 1000, 1, Sampled(POS, 1)));
     check_epoch(rt, alloc, &mut state, 0, 1);
-    assert!(rt; reads(&mut readers[0], (1, 1000), &OCTETS));
+    check_read(rt, &mut readers[0], (1, 1000), &OCTETS);
     check_step(rt, alloc, &mut state, Pos(A, 2000, 2, Sampled(POS, 2)));
-    assert!(rt; reads(&mut readers[0], (2, 2000), &OCTETS));
+    check_read(rt, &mut readers[0], (2, 2000), &OCTETS);
 }
 
 // rule: HIST-6

@@ -1,6 +1,6 @@
 //! Messages at the ports: which are taken, and the newest of each port.
 use crate::frames::{check_frames, check_rows, opened_with};
-use crate::partitions::opened_with_readers;
+use crate::partitions::{check_read, opened_with_readers};
 use es_base::Net::A;
 use es_base::Verdict::{Sampled, TooLong};
 use es_base::{LinkSettings, Message, PortNo, Verdict};
@@ -10,7 +10,6 @@ use std::process::Abort;
 use std::sync::Wait;
 use test_inputs::rows::{FrameRow, POS};
 use test_inputs::{IP, LINK, LONGEST_IP, LONGEST_UDP, Link, PAYLOAD, UDP, fives, sampling_port};
-use test_inputs_sampling_port::reads;
 
 /// The message has this time in microseconds and this payload.
 pub(crate) fn check_message(
@@ -38,7 +37,7 @@ fn check_delivered(
     let frame = (A, 1000, 0, ip, udp, padded, Sampled(POS, 1));
     check_frames(rt, alloc, &mut state, &[frame]);
     let octets = hex::decode(alloc, payload).expect(rt, "octets");
-    assert!(rt; reads(&mut readers[0], (1, 1000), &octets));
+    check_read(rt, &mut readers[0], (1, 1000), &octets);
 }
 
 // rule: PORT-4, PORT-6
@@ -104,7 +103,7 @@ fn check_newest(
         panic!(rt; "a sampling port")
     };
     let octets = hex::decode(alloc, payload).expect(rt, "octets");
-    assert!(rt; reads(&mut readers[0], message, &octets));
+    check_read(rt, &mut readers[0], message, &octets);
 }
 
 /// After these frames the newest message of `pos` has this message number and time, and that of `aux`

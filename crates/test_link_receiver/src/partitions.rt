@@ -16,7 +16,6 @@ use std::process::Abort;
 use std::sync::Wait;
 use test_inputs::rows::POS;
 use test_inputs::{IP, LINK, PAYLOAD, UDP};
-use test_inputs_sampling_port::reads;
 
 /// The readers of the sampling port at place 0, which is called `pos`.
 pub(crate) fn readers_in(rt: &impl Abort, end: PortEnd) -> [Reader<READERS>; READERS]
@@ -54,6 +53,20 @@ pub(crate) fn opened_with_readers(
     (state, readers)
 }
 
+/// A reader reads this message: its number, its time in microseconds, and its octets.
+pub(crate) fn check_read(
+    rt: &impl Abort,
+    reader: &mut Reader<READERS>,
+    (number, time): (u64, u64),
+    octets: &[u8],
+) {
+    let mut out = [0; 1471];
+    let len = octets.len();
+    let wanted = Read::Message { number, time, len };
+    assert_eq!(rt; reader.read(MOST_TRIES, &mut out), wanted);
+    assert!(rt; out.starts_with(octets));
+}
+
 /// A reader finds that nothing was published.
 pub(crate) fn check_empty(rt: &impl Abort, reader: &mut Reader<READERS>) {
     assert_eq!(rt; reader.read(MOST_TRIES, &mut [0; 1471]), Read::Empty);
@@ -82,11 +95,11 @@ fn check_all_read(rt: &(impl Abort + Wait), alloc: Global) {
     }
     bring(rt, alloc, &mut state, (0, 1000, 1));
     for reader in &mut readers {
-        assert!(rt; reads(reader, (1, 1000), &OCTETS));
+        check_read(rt, reader, (1, 1000), &OCTETS);
     }
     bring(rt, alloc, &mut state, (1, 2000, 2));
     for reader in &mut readers {
-        assert!(rt; reads(reader, (2, 2000), &OCTETS));
+        check_read(rt, reader, (2, 2000), &OCTETS);
     }
 }
 
@@ -171,7 +184,7 @@ fn check_held(rt: &(impl Abort + Wait), alloc: Global) {
     let mut reader = all.pop().expect(rt, "a reader").release();
     drop(all);
     bring(rt, alloc, &mut state, (21, 3000, 22));
-    assert!(rt; reads(&mut reader, (22, 3000), &OCTETS));
+    check_read(rt, &mut reader, (22, 3000), &OCTETS);
 }
 
 // rule: PORT-8
