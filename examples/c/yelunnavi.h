@@ -32,7 +32,7 @@
    its passes: frames of different links, filtered frames, counts and the ends of ports never meet.
 
    MEMORY. yelunnavi_receiver_open and .._open_table, and those of a system, ask for memory, by rattle_alloc, rattle_realloc and rattle_dealloc below; .._close
-   give some back. No other call asks for any or gives any back. For each sampling port they keep 376 octets, and for each
+   give some back. No other call asks for any or gives any back. For each sampling port they keep 400 octets, and for each
    of its readers 376 and three times the longest message of the port. Beside these three the library needs memcpy,
    memmove and memset, and nothing else: no operating system, no C library's start-up. It never prints, never ends the
    process, and has no state of its own outside of the rooms and of what it asked for.
