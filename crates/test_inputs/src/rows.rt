@@ -62,25 +62,6 @@ pub fn frame_of_17(alloc: Global, draw: usize, sequence_number: u8) -> Option<Ve
     frame_of(alloc, &[ETHERNET, ip, octets, padding], sequence_number).ok()
 }
 
-/// Gives each table of this file to `check`, which opens a new receiver for it.
-pub fn check_worked<F: Fn(&[FrameRow<'_>])>(check: F)
-    requires { F.IsAlwaysCallable check }
-{
-    check(&window().map(smallest_row));
-    check(&turn().map(smallest_row));
-    check(&copy_at_skew_max().map(smallest_row));
-    check(&copy_after_skew_max().map(smallest_row));
-    check(&two_frames_late().map(smallest_row));
-    check(&reset_after_255().map(smallest_row));
-    check(&copy_before_its_first().map(smallest_row));
-    check(&bad_and_good());
-    check(&in_order().map(packet_row));
-    check(&last_first().map(packet_row));
-    check(&first_twice().map(packet_row));
-    check(&five_begin().map(packet_row));
-    check(&joined_for_a_sampling_port().map(packet_row));
-}
-
 // ---- integrity checking
 
 /// A discarded sequence number counts as the one before: 0c follows 0b.

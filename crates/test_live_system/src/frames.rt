@@ -7,7 +7,11 @@ use live_system::Reply;
 use std::alloc::Global;
 use std::process::Abort;
 use std::sync::Wait;
-use test_inputs::rows::{FrameRow, POS, check_worked, smallest_row, two_frames_late};
+use test_inputs::rows::{
+    FrameRow, POS, bad_and_good, copy_after_skew_max, copy_at_skew_max, copy_before_its_first,
+    first_twice, five_begin, in_order, joined_for_a_sampling_port, last_first, packet_row,
+    reset_after_255, smallest_row, turn, two_frames_late, window,
+};
 
 /// A new system gives these frames these verdicts, and the places from 0 on.
 fn check_rows(rt: &(impl Abort + Wait), alloc: Global, rows: &[FrameRow<'_>]) {
@@ -24,10 +28,26 @@ fn check_rows(rt: &(impl Abort + Wait), alloc: Global, rows: &[FrameRow<'_>]) {
     }
 }
 
+fn check_worked(rt: &(impl Abort + Wait), alloc: Global) {
+    check_rows(rt, alloc, &window().map(smallest_row));
+    check_rows(rt, alloc, &turn().map(smallest_row));
+    check_rows(rt, alloc, &copy_at_skew_max().map(smallest_row));
+    check_rows(rt, alloc, &copy_after_skew_max().map(smallest_row));
+    check_rows(rt, alloc, &two_frames_late().map(smallest_row));
+    check_rows(rt, alloc, &reset_after_255().map(smallest_row));
+    check_rows(rt, alloc, &copy_before_its_first().map(smallest_row));
+    check_rows(rt, alloc, &bad_and_good());
+    check_rows(rt, alloc, &in_order().map(packet_row));
+    check_rows(rt, alloc, &last_first().map(packet_row));
+    check_rows(rt, alloc, &first_twice().map(packet_row));
+    check_rows(rt, alloc, &five_begin().map(packet_row));
+    check_rows(rt, alloc, &joined_for_a_sampling_port().map(packet_row));
+}
+
 // rule: EMB-29, EMB-30
 #[test]
 fn worked_frames_have_their_replies(rt: HostRuntime) {
-    check_worked(|rows| check_rows(&rt, rt.alloc(), rows));
+    check_worked(&rt, rt.alloc());
 }
 
 /// Two frames of A, and two copies on B that come too late: each pass counts its own, and no other link's.

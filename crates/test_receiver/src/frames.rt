@@ -5,7 +5,9 @@ use receiver::{FilterCause, Net, Reply, Verdict, VerdictKind};
 use std::alloc::Global;
 use std::process::Abort;
 use test_inputs::rows::{
-    FrameRow, NAV, POS, check_worked, five_begin, in_order, packet_row, smallest_row, window,
+    FrameRow, NAV, POS, bad_and_good, copy_after_skew_max, copy_at_skew_max, copy_before_its_first,
+    first_twice, five_begin, in_order, joined_for_a_sampling_port, last_first, packet_row,
+    reset_after_255, smallest_row, turn, two_frames_late, window,
 };
 use test_inputs::{longest, smallest};
 
@@ -15,10 +17,26 @@ fn check_rows(rt: &impl Abort, alloc: Global, rows: &[FrameRow<'_>]) {
     check_frames(rt, alloc, &mut given.receiver, rows);
 }
 
+fn check_worked(rt: &impl Abort, alloc: Global) {
+    check_rows(rt, alloc, &window().map(smallest_row));
+    check_rows(rt, alloc, &turn().map(smallest_row));
+    check_rows(rt, alloc, &copy_at_skew_max().map(smallest_row));
+    check_rows(rt, alloc, &copy_after_skew_max().map(smallest_row));
+    check_rows(rt, alloc, &two_frames_late().map(smallest_row));
+    check_rows(rt, alloc, &reset_after_255().map(smallest_row));
+    check_rows(rt, alloc, &copy_before_its_first().map(smallest_row));
+    check_rows(rt, alloc, &bad_and_good());
+    check_rows(rt, alloc, &in_order().map(packet_row));
+    check_rows(rt, alloc, &last_first().map(packet_row));
+    check_rows(rt, alloc, &first_twice().map(packet_row));
+    check_rows(rt, alloc, &five_begin().map(packet_row));
+    check_rows(rt, alloc, &joined_for_a_sampling_port().map(packet_row));
+}
+
 // rule: HIST-1, EMB-4
 #[test]
 fn worked_frames_have_their_verdicts(rt: HostRuntime) {
-    check_worked(|rows| check_rows(&rt, rt.alloc(), rows));
+    check_worked(&rt, rt.alloc());
 }
 
 /// These octets are filtered for this cause.
