@@ -17,7 +17,7 @@ BOTH = CAPTURES / "both.pcapng"
 
 def read(path):
     with open(path, "rb") as file:
-        return list(captures.packets(file, file.read(4)))
+        return [*filter(None, captures.packets(file, file.read(4)))]
 
 
 def play(*names):

@@ -11,7 +11,7 @@ import time
 import pytest
 from conftest import CAPTURES, CONFIG, PROGRAM, ROOT, TOOL, done, fault, run, tshark
 
-A, B = CAPTURES / "a_nano.pcap", CAPTURES / "b_nano.pcap"
+A, B, BOTH = CAPTURES / "a_nano.pcap", CAPTURES / "b_nano.pcap", CAPTURES / "both.pcapng"
 TRACES = [ROOT / "examples" / f"network_{net}.trace" for net in "ab"]
 SENT = [line.split() for line in (CAPTURES / "sent.txt").read_text().splitlines()]
 
@@ -85,17 +85,21 @@ def test_own_keys_that_can_not_be(key, told, written):
     assert run("play", "--never-taken", "--config", config, A).returncode == 0
 
 
-def test_lines_come_as_packets_come():
-    """All that came by a pipe is played once nothing comes, though it doesn't end, and no later packet tells the time."""
-    wanted = done("play", "--config", CONFIG, A)
-    with subprocess.Popen([TOOL, "play", "--config", CONFIG, "-"], stdin=subprocess.PIPE, stdout=subprocess.PIPE,
+@pytest.mark.parametrize("capture, words, count", [(A, (), 17), (BOTH, (), 32), (BOTH, ("--interfaces", "0,2"), 17),
+                                                   (BOTH, ("--interfaces", "2,1"), 15)],
+                         ids=["pcap", "statistics", "another-interface", "the-other"])
+def test_lines_come_as_packets_come(capture, words, count):
+    """All that came by a pipe is played once nothing comes, though it doesn't end, no later packet tells the time, and what
+    came last is no packet, or one of another interface."""
+    wanted = done("play", "--config", CONFIG, *words, capture)
+    with subprocess.Popen([TOOL, "play", "--config", CONFIG, *words, "-"], stdin=subprocess.PIPE, stdout=subprocess.PIPE,
                           stderr=subprocess.DEVNULL) as process:
-        process.stdin.write(A.read_bytes())
+        process.stdin.write(capture.read_bytes())
         process.stdin.flush()
         early = b""
         while early.count(b" vl ") < wanted.count(b" vl ") and select.select([process.stdout], [], [], 30)[0]:
             early += os.read(process.stdout.fileno(), 1 << 16)
-        assert early.count(b" vl ") == wanted.count(b" vl ") == 17
+        assert early.count(b" vl ") == wanted.count(b" vl ") == count
         process.stdin.close()
         rest = process.stdout.read()
     assert early + rest == wanted

@@ -95,14 +95,20 @@ class Clock:
 
 
 def arrivals(packets, net_of, given, account):
-    """What comes of a capture's packets; `net_of` tells the network of an interface and octets."""
+    """What comes of a capture's packets, None of what is no packet of a network; `net_of` tells the network of an interface
+    and octets."""
     latest, shifts = 0, (0, 1000 * given.shift_b)
     try:
-        for number, interface, time, octets, length, about in packets:
+        for packet in packets:
+            if packet is None:
+                yield None
+                continue
+            number, interface, time, octets, length, about = packet
             account.packets = number
             net = net_of(interface, octets)
             if net is None:
                 account.leave_out(number, OTHER)
+                yield None
                 continue
             if about.link_type != captures.ETHERNET:
                 raise Fault(f"packet {number} isn't Ethernet, but of link type {about.link_type}")
@@ -162,14 +168,16 @@ class Order:
 
 def in_order(found, window, pipe, account):
     """Each waits for so many packets or, of a pipe, for some time by the packets' clock, and for none once it is quiet."""
-    order = Order(account)
+    order, latest = Order(account), 0
     for one in found:
-        heapq.heappush(order.heap, one)
+        if one:
+            latest = one.time
+            heapq.heappush(order.heap, one)
         if len(order.heap) > window:
             yield order.next()
         if pipe:
             is_quiet = files.is_quiet(pipe, HOLD_OF_A_PIPE / captures.SECOND)
-            yield from order.until(float("inf") if is_quiet else one.time - HOLD_OF_A_PIPE)
+            yield from order.until(float("inf") if is_quiet else latest - HOLD_OF_A_PIPE)
     yield from order.until(float("inf"))
 
 

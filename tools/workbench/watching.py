@@ -35,7 +35,8 @@ class Tapped:
     def read(self):
         try:
             nets, packets = {0: 0, 1: 1}, self.tap.packets()
-            for one in stream.arrivals(packets, lambda interface, _: nets.get(interface), self.given, self.account):
+            found = stream.arrivals(packets, lambda interface, _: nets.get(interface), self.given, self.account)
+            for one in filter(None, found):
                 if self.is_over:
                     self.behind += 1
                     continue
