@@ -38,7 +38,7 @@ def compiler_of(target):
 
 
 def add_interface(product, made):
-    """Lays the headers, the files for pkg-config and CMake and, if there is a C compiler for the target, the shared object
+    """Lays the headers, the files for pkg-config and CMake and, if a C compiler for the target makes it, the shared object
     into a folder."""
     for header in HEADERS:
         shutil.copy(header, made)
@@ -49,4 +49,5 @@ def add_interface(product, made):
         say(f"no {compiler[0]} here, so there is no shared object for {product.target}")
         return
     words = ["-shared", "-O2", "-fPIC", "-fvisibility=hidden", f"-I{HEADERS[0].parent}", "-o", "libyelunnavi.so", HEAP, *WHOLE]
-    subprocess.run([*compiler, *words], cwd=made, check=True)
+    if subprocess.run([*compiler, *words], cwd=made).returncode:
+        say(f"{' '.join(compiler)} fails, as it says above, so there is no shared object for {product.target}")

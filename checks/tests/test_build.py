@@ -5,10 +5,11 @@ import shutil
 import subprocess
 import tarfile
 
+import interface
 import pytest
 import release
 from conftest import ROOT
-from marks import Product, sum_of
+from marks import HERE, Product, sum_of
 from version import version
 
 CONFIG = ROOT / "examples" / "two_links.toml"
@@ -45,6 +46,17 @@ def test_a_mark_of_other_sources_does_not_fit(tmp_path):
 def test_the_library_depends_on_its_header_and_its_target_has_a_folder():
     library, other = Product("library"), Product("library", "aarch64-unknown-linux-gnu")
     assert library.folder != other.folder and library.sum() == other.sum() != Product("program").sum()
+
+
+@pytest.mark.parametrize("compiler, told", [("false", "false fails, as it says above"), ("nowhere-cc", "no nowhere-cc here")])
+def test_a_library_without_a_shared_object(compiler, told, tmp_path, monkeypatch, capfd):
+    """The proved library is there all the same."""
+    monkeypatch.setenv("CC", compiler)
+    interface.add_interface(Product("library"), tmp_path)
+    assert sorted(path.name for path in tmp_path.iterdir()) == \
+        ["yelunnavi.h", "yelunnavi.pc", "yelunnaviConfig.cmake", "yelunnavi_words.h"]
+    found = capfd.readouterr().err
+    assert told in found and f"so there is no shared object for {HERE}" in found
 
 
 def packed(folder, gate):
