@@ -10,7 +10,7 @@ import urllib.request
 import pytest
 from conftest import CAPTURES, CONFIG, TOOL, fault, run
 from test_captures import read
-from workbench import metrics, watching
+from workbench import metrics, taps, watching
 from workbench.captures import ETHERNET, Interface, Packet
 
 A, B, MS = 0, 1, 1_000_000
@@ -94,6 +94,23 @@ def test_what_can_not_be_listened_to():
         assert found.returncode == 3 and b"Traceback" not in found.stderr
         assert b"nowhere-a: not listened to: No such device" in found.stderr or b"dumpcap ended: " in found.stderr
     assert "--fail-on takes" in fault(2, "watch", "--config", CONFIG, "a", "b", "--fail-on", "x")
+
+
+CAPTURED = b"Packets captured: 33\nPackets received/dropped on interface 'a': 18/4 (pcap:0)\n" \
+           b"Packets received/dropped on interface 'b': 15/0 (pcap:0)\n"
+
+
+def test_packets_that_dumpcap_counts_and_does_not_write_are_told(tmp_path, monkeypatch):
+    """It loses the one that it writes to a full pipe when it is ended; both.pcapng has 32."""
+    made = tmp_path / "dumpcap"
+    made.write_text(f"#!/bin/sh\ntrap '' TERM\ncat '{CAPTURES / 'both.pcapng'}'\ncat >&2 <<END\n{CAPTURED.decode()}END\n")
+    made.chmod(0o755)
+    monkeypatch.setenv("PATH", f"{tmp_path}:{os.environ['PATH']}")
+    one = watching.Tapped(taps.Dumpcap(["a", "b"]), argparse.Namespace(shift_b=0, fcs=None))
+    while one.found.qsize() < 32:
+        time.sleep(0.01)
+    taken = []
+    assert (one.close(taken.append), one.behind, len(taken)) == ([4, 0], 1, 32)
 
 
 @pytest.mark.skipif(os.geteuid() != 0, reason="listening to an interface takes a right")

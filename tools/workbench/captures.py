@@ -53,8 +53,8 @@ class Packet(NamedTuple):
 
 def packets(file, magic, lost=None):
     """The packets of a capture whose first four octets were read. Ends with `EOFError` where the file is cut short,
-    and with `Broken` where it isn't of its form. A block of pcapng that holds no packet gives None. In `lost` the packets are
-    counted, by interface, of which whoever captured says that they were lost."""
+    and with `Broken` where it isn't of its form. A block without a packet gives None. In `lost` packets are counted, by
+    interface, of which whoever captured says that they were lost."""
     return pcap(file, *PCAP[magic]) if magic in PCAP else pcapng(file, magic, Counter() if lost is None else lost)
 
 
@@ -83,7 +83,8 @@ def pcapng(file, magic, lost):
     """Each section of a file numbers its interfaces anew, and packets are numbered on, as tshark does."""
     interfaces, number, lost_here = [], 0, Counter()
     for order, kind, body in blocks(file, magic):
-        found = None
+        is_packet = kind in (PACKET, SIMPLE_PACKET, OBSOLETE_PACKET)
+        number += is_packet
         if kind == SECTION:
             interfaces, lost_here = [], Counter()
         elif kind == INTERFACE:
@@ -93,10 +94,7 @@ def pcapng(file, magic, lost):
             if own < len(interfaces):
                 lost[own] += count - lost_here[own]
                 lost_here[own] = count
-        elif kind in (PACKET, SIMPLE_PACKET, OBSOLETE_PACKET):
-            number += 1
-            found = packet(order, kind, body, number, interfaces)
-        yield found
+        yield packet(order, kind, body, number, interfaces) if is_packet else None
 
 
 def blocks(file, magic):

@@ -6,10 +6,8 @@ WHOLE_WITH_FCS = 0x2144DF1C  # the CRC-32 of every frame that is followed by its
 MOST_OCTETS = (8192 - 21) // 2  # a line of a trace has at most 8192 bytes, a time and its space 21
 TAGS = (b"\x81\x00", b"\x88\xa8", b"\x91\x00")
 
-SNAPSHOT = "cut by the snapshot length"
-BAD_FCS = "wrong frame check sequence"
-TAGGED = "VLAN tag"
-TOO_LONG = "longer than a line of a trace"
+SNAPSHOT, BAD_FCS = "cut by the snapshot length", "wrong frame check sequence"
+TAGGED, TOO_LONG = "VLAN tag", "longer than a line of a trace"
 
 
 def without_fcs(octets, has):

@@ -20,8 +20,7 @@ class Station:
         if one.left_out:
             return self.clock.since(one.time), None
         now = self.clock.of(one.net, one.time)
-        if now > self.latest:
-            self.latest = now
+        self.latest = max(self.latest, now)
         partition = self.partition
         if partition and now > partition.due[0][0]:
             partition.wake(now - 1)

@@ -13,10 +13,9 @@ from workbench import captures, files, frames, hex_traces
 from workbench.faults import BROKEN, Broken, Fault, plain
 from workbench.shifts import Shift
 
-MOST_TIME = 2**64  # nanoseconds
+MOST_TIME, SHOWN = 2**64, 8  # nanoseconds; packets that are told one by one
 LATE, NO_TIME = "too late for its place", "no time that a trace can have"
 OTHER, TORN = "of another interface", "cut by the end of the capture"
-SHOWN = 8
 # Nanoseconds that a packet of a pipe waits for earlier ones: dumpcap reads each quarter of a second.
 HOLD_OF_A_PIPE = 300_000_000
 HINTS = {b"\x1f\x8b": "compressed: gunzip it, or `zcat FILE | yelunnavi .. -`", b"\xfd7zX": "compressed: unxz it",
@@ -95,8 +94,7 @@ class Clock:
 
 
 def arrivals(packets, net_of, given, account):
-    """What comes of a capture's packets, None of what is no packet of a network; `net_of` tells the network of an interface
-    and octets."""
+    """What comes of a capture's packets, None if it is none of a network; `net_of` tells that of an interface and octets."""
     latest, shifts = 0, (0, 1000 * given.shift_b)
     try:
         for packet in packets:
@@ -168,16 +166,15 @@ class Order:
 
 def in_order(found, window, pipe, account):
     """Each waits for so many packets or, of a pipe, for some time by the packets' clock, and for none once it is quiet."""
-    order, latest = Order(account), 0
+    order = Order(account)
     for one in found:
         if one:
-            latest = one.time
             heapq.heappush(order.heap, one)
         if len(order.heap) > window:
             yield order.next()
         if pipe:
             is_quiet = files.is_quiet(pipe, HOLD_OF_A_PIPE / captures.SECOND)
-            yield from order.until(float("inf") if is_quiet else latest - HOLD_OF_A_PIPE)
+            yield from order.until(float("inf") if is_quiet else one.time - HOLD_OF_A_PIPE if one else 0)
     yield from order.until(float("inf"))
 
 

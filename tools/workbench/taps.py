@@ -99,7 +99,7 @@ class Dumpcap:
     patience = 400_000_000
 
     def __init__(self, names):
-        self.told, self.is_stopped = tempfile.TemporaryFile(), False
+        self.told, self.taken, self.is_stopped = tempfile.TemporaryFile(), 0, False
         words = ["dumpcap", "-q", "-n", *QUEUE, *itertools.chain(*(("-i", name) for name in names)), "-w", "-"]
         try:
             self.process = subprocess.Popen(words, stdin=subprocess.DEVNULL, stdout=subprocess.PIPE, stderr=self.told,
@@ -110,8 +110,9 @@ class Dumpcap:
     def packets(self):
         file = self.process.stdout
         magic = file.read(4)
-        if magic:
-            yield from captures.packets(file, magic)
+        for one in captures.packets(file, magic) if magic else ():
+            self.taken += one is not None
+            yield one
         self.process.wait()
         if self.is_stopped:
             return
@@ -119,11 +120,15 @@ class Dumpcap:
         lines = [line for line in self.told.read().decode(errors="replace").splitlines() if line]
         raise Fault(f"dumpcap ended: {plain(' '.join(lines))}", NOT_READ)
 
+    def counts(self, pattern):
+        """Those that it tells at its end."""
+        self.told.seek(0)
+        return [int(count) for count in re.findall(pattern, self.told.read())]
+
     def count_lost(self):
         """None until it has ended."""
-        self.told.seek(0)
-        found = re.findall(rb"received/dropped on interface .*?: \d+/(\d+)", self.told.read())
-        return [int(count) for count in found] if len(found) == 2 else None
+        found = self.counts(rb"received/dropped on interface .*?: \d+/(\d+)")
+        return found if len(found) == 2 else None
 
     def stop(self):
         """It writes what it has, and ends."""
@@ -131,11 +136,12 @@ class Dumpcap:
         self.process.terminate()
 
     def close(self):
-        """The packets that were lost. Whoever reads takes all others."""
+        """The packets that were lost, and how many weren't taken: of a pipe that is full dumpcap loses the packet that it
+        writes when it is ended, and counts it as captured."""
         if self.process.poll() is None:
             self.process.kill()
         self.process.wait()
-        return self.count_lost(), 0
+        return self.count_lost(), max(0, sum(self.counts(rb"Packets captured: (\d+)")) - self.taken)
 
 
 WAYS = {"dumpcap": Dumpcap, "socket": Sockets}
