@@ -13,9 +13,10 @@ from workbench import captures, files, frames, hex_traces
 from workbench.faults import BROKEN, Broken, Fault, plain
 from workbench.shifts import Shift
 
-MOST_TIME, SHOWN = 2**64, 8  # nanoseconds; packets that are told one by one
+MOST_TIME = 2**64  # nanoseconds
 LATE, NO_TIME = "too late for its place", "no time that a trace can have"
 OTHER, TORN = "of another interface", "cut by the end of the capture"
+SHOWN = 8
 # Nanoseconds that a packet of a pipe waits for earlier ones: dumpcap reads each quarter of a second.
 HOLD_OF_A_PIPE = 300_000_000
 HINTS = {b"\x1f\x8b": "compressed: gunzip it, or `zcat FILE | yelunnavi .. -`", b"\xfd7zX": "compressed: unxz it",
