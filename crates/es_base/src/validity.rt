@@ -9,7 +9,7 @@ use std::fmt;
 pub enum Freshness {
     /// Its age is at most the refresh period.
     Fresh,
-    /// It is older.
+    /// Its age is greater.
     Stale,
 }
 

@@ -38,7 +38,7 @@ fn named_key(fault: ConfigFault) -> Option<Key>
     }
 }
 
-/// What a key may have.
+/// Values that a key may have, in words.
 fn allowed_of(key: Key) -> &'static str
     ensures { result.now ≡ allowed_of key }
 {

@@ -64,7 +64,7 @@ fn show_reply(rt: &HostRuntime, frame: &GivenFrame, reply: Reply) -> io::Result<
     }
 }
 
-/// What the partition finds at this time: the newest message of `pos`, and what waits in `nav`.
+/// A step of the partition at this time: it reads the newest message of `pos`, and takes all that wait in `nav`.
 fn step(rt: &HostRuntime, partition: &mut Partition, now: u64) -> io::Result<()> {
     let reading = partition.read(now);
     println!(rt; "  pos: {reading:?}")?;

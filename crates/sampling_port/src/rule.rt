@@ -22,11 +22,11 @@ pub struct ReaderLog {
 pub enum SeatView {
     /// The seat that opens the port, from which this many readers were parted.
     Opens(u64),
-    /// The writer's.
+    /// Knowledge of the writer.
     Writes(WriterLog),
-    /// That of the reader at this place.
+    /// Knowledge of the reader at this place.
     Reads(u64, ReaderLog),
-    /// The writer's and that of the reader at this place, joined.
+    /// Knowledge of the writer and of the reader at this place, joined.
     Meets(WriterLog, u64, ReaderLog),
     /// A seat that was joined to another.
     Spent,

@@ -21,7 +21,7 @@ pub(crate) struct Burst {
     pub frames: Vec<(u64, Vec<u8>)>,
 }
 
-/// Where frames come from that look like chance.
+/// Source of frames that look random.
 #[derive(Drop)]
 pub(crate) struct Source {
     state: u64,

@@ -29,7 +29,7 @@ fn frame(alloc: Global, sequence_number: u8) -> Result<Vec<u8>, FromHexError> {
     frame_of(alloc, &[ETHERNET, IP, udp, PAYLOAD], sequence_number)
 }
 
-/// What comes on a network: the frames, a millisecond apart, each this many microseconds after it was sent.
+/// Arrivals on a network: the frames, a millisecond apart, each this many microseconds after it was sent.
 fn on_network(alloc: Global, late: u64) -> Result<Vec<Received>, AllocError> {
     let mut frames = Vec::new(alloc);
     for sequence_number in 1..=FRAMES {
@@ -44,7 +44,7 @@ fn on_network(alloc: Global, late: u64) -> Result<Vec<Received>, AllocError> {
     Ok(frames)
 }
 
-/// What comes on a network, for which there is memory.
+/// The same arrivals, for which there is memory.
 pub(crate) fn arrivals(rt: &impl Abort, alloc: Global, late: u64) -> Vec<Received> {
     on_network(alloc, late).expect(rt, "memory")
 }

@@ -45,7 +45,7 @@ depth = 64
 
 // ---- the ends of the ports, for the partitions
 
-/// What the partitions have of the receiver.
+/// Ends of the receiver's ports that the partitions have.
 #[derive(Drop)]
 struct Ends {
     first: Reader<READERS>,

@@ -15,7 +15,7 @@ const LINK: LinkNo = LinkNo(17);
 /// After how many of its frames it does so.
 const EPOCH: usize = 30;
 
-/// What a thread of a network comes back with.
+/// Result of a network's thread.
 #[derive(Drop)]
 pub(crate) struct Ended {
     pub pass: NetPass,

@@ -17,7 +17,7 @@ pub(crate) struct Call {
     pub given: Given,
 }
 
-/// What a thread did.
+/// Calls of a thread, and their results.
 #[derive(Drop)]
 pub(crate) struct Calls {
     /// Its frames, in order.

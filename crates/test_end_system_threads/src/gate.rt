@@ -8,7 +8,7 @@ use std::thread;
 /// How many turns a thread waits for another at most. A turn is one load of a flag after giving up the processor.
 pub(crate) const MOST_TURNS: u64 = 10_000_000;
 
-/// What the threads of a test tell each other.
+/// Flags by which the threads of a test tell each other how far they are.
 #[derive(Drop)]
 pub(crate) struct Flags {
     /// A thread has the lock of the link that is held.

@@ -22,7 +22,7 @@ const MANY: u64 = 200;
 /// Most links of a trace.
 const MOST: usize = 8;
 
-/// What two threads are to do.
+/// Plan of two threads.
 #[derive(Clone, Copy)]
 struct Plan<'a> {
     /// The link numbers.
@@ -33,7 +33,7 @@ struct Plan<'a> {
     takes_epochs: bool,
 }
 
-/// Where frames come from that look like chance, and are the same for the same seed.
+/// Source of frames that look random, and are the same for the same seed.
 #[derive(Drop)]
 struct Source<'a> {
     links: &'a [u16],

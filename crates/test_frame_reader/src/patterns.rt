@@ -29,7 +29,7 @@ pub(crate) fn octets(rt: &impl Abort, alloc: Global, count: usize) -> Vec<u8> {
     octets
 }
 
-/// What a trace is read as.
+/// Frames of a trace, or its fault.
 pub(crate) fn read(alloc: Global, trace: &[u8]) -> Result<Frames, TraceFault> {
     read_trace(alloc, &mut Device::new(trace))
 }

@@ -25,7 +25,7 @@ struct System {
     taker: Taker,
 }
 
-/// What can be looked at in a system.
+/// Visible state of a system.
 #[derive(Drop)]
 struct Seen {
     calls: u64,

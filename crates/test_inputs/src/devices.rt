@@ -3,17 +3,17 @@ ghost use Rattle.std.specs.Prelude.{◌≤◌, length};
 
 use std::io::{Error, ErrorKind, Read, Result, Write};
 
-/// What a reader does at one call.
+/// Answer of a reader to one call.
 #[derive(Clone, Copy, Drop)]
 pub enum ReadCall<'a> {
-    /// It gives these bytes, or as many as there is room for, and the others at the next calls.
+    /// These bytes, or as many as there is room for, and the others at the next calls.
     Gives(&'a [u8]),
-    /// It gives one of these bytes, and the others at the next calls.
+    /// One of these bytes, and the others at the next calls.
     Drips(&'a [u8]),
-    /// It is interrupted at this many calls, one after another, and at least at one.
+    /// An interruption at this many calls, one after another, and at least at one.
     Interrupted(usize),
     Fails,
-    /// It is at its end.
+    /// The end.
     Ends,
 }
 
@@ -91,7 +91,7 @@ impl Read for ScriptedReader<'_> {
     }
 }
 
-/// What a writer does at one call.
+/// Answer of a writer to one call.
 #[derive(Clone, Copy, Drop)]
 pub enum WriteCall {
     /// It takes at most this many bytes.

@@ -134,7 +134,7 @@ impl PacketName {
     }
 }
 
-/// What `First` and `Last` make.
+/// The datagram that is joined of `First` and `Last`.
 pub const JOINED: &str = "1389138a00200000a0a1a2a3a4a5a6a7b0b1b2b3b4b5b6b7b8b9babbbcbdbebf";
 
 /// 25 octets.

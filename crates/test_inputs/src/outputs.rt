@@ -1,7 +1,7 @@
 //! Whole outputs of the player with the built-in configuration, worked out by hand from the formats: of the smallest frame
 //! for `pos`, which came on A at 1000 microseconds with sequence number 0, and of no frame.
 
-/// That frame as a line of a trace.
+/// The frame's line of a trace.
 pub const LINE: &str = "1000 03000000001102000000012008004500002d000100000111cdcc0a010101e0e00011\
     13891388001900000102030405060708090a0b0c0d0e0f101100\n";
 

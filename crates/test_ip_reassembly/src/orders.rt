@@ -91,7 +91,7 @@ fn octets_past_the_end_do_not_count_for_those_before_it(rt: HostRuntime) {
 /// The UDP header of a datagram of 32 octets for UDP port 5000.
 const FOR_5000: [u8; 8] = [0x13, 0x89, 0x13, 0x88, 0, 32, 0, 0];
 
-/// That of one for UDP port 5002, and the 8 octets after it.
+/// The UDP header of one for UDP port 5002, and the 8 octets after it.
 const FOR_5002: [u8; 16] = [0x13, 0x89, 0x13, 0x8a, 0, 32, 0, 0, 9, 9, 9, 9, 9, 9, 9, 9];
 
 /// The datagram of the later header, and of piece 2.

@@ -9,7 +9,7 @@ use test_inputs::{CONSTANT, ETHERNET, frame_of};
 /// How long pieces are waited for, in microseconds.
 const LIMIT: u64 = 50_000;
 
-/// What becomes of a packet. Octets are hexadecimal texts.
+/// Fate of a packet. Octets are hexadecimal texts.
 #[derive(Clone, Copy)]
 pub(crate) enum Fate {
     Bad,

@@ -12,7 +12,7 @@ use std::collections::LinkedList;
 use std::marker::Model;
 use std::sync::Wait;
 
-/// What a user wrote.
+/// A line of a user.
 #[derive(Clone, Copy, Debug, PartialEq, Eq)]
 pub struct Line {
     pub by: User,

@@ -18,7 +18,7 @@ use std::sync::Wait;
 use test_inputs::fragments::PacketName::{First, Last};
 use test_inputs::{IP, LINK, Link, PAYLOAD, UDP};
 
-/// What happens at a link, in order.
+/// A step at a link.
 #[derive(Clone, Copy)]
 pub(crate) enum Step {
     /// A smallest frame for `pos`: its network, arrival time in microseconds, sequence number and verdict.
@@ -120,7 +120,7 @@ fn copy_after_an_epoch() -> [Step; 4] {
     ]
 }
 
-/// What was taken out counts still, and isn't delivered again.
+/// Events that were taken out count still, and aren't delivered again.
 fn check_copy(rt: &(impl Abort + Wait), alloc: Global) {
     let state = gone(rt, alloc, LINK, &copy_after_an_epoch());
     check_number(rt, "taken", state.taken(), 1);
@@ -147,7 +147,7 @@ fn fragments_around_an_epoch() -> [Step; 3] {
     ]
 }
 
-/// What came before the epoch begins at octet 16.
+/// The piece before the epoch begins at octet 16.
 fn last_fragment_before_an_epoch() -> [Step; 3] {
     [
         Packet((A, 1000, 1, Last, FragmentHeld)),
@@ -302,7 +302,7 @@ fn message_numbers_go_on_over_an_epoch(rt: HostRuntime) {
     check_reads(&rt, rt.alloc());
 }
 
-/// What a taker hasn't taken is what was delivered before the history and in it, but for what it took.
+/// Messages that a taker hasn't taken are those delivered before the history and in it, less those that it took.
 fn check_meetings(rt: &(impl Abort + Wait), alloc: Global) {
     let (mut state, mut taker) = opened_with_taker(rt, alloc, 2);
     check_step(rt, alloc, &mut state, Nav(A, 1, 1, Queued(NAV)));

@@ -47,7 +47,7 @@ pub(crate) fn receive(
     state.take(rt, alloc, net, now, &frame).expect(rt, "memory")
 }
 
-/// What is decided of a first frame of link 17, with a UDP header for one of its ports.
+/// Decision on a first frame of link 17, with a UDP header for one of its ports.
 pub(crate) fn decision_of(rt: &impl Abort, alloc: Global, udp: &str) -> Decision {
     let (state, _) = opened(rt, alloc, LINK);
     let texts = [ETHERNET, IP, udp, PAYLOAD];

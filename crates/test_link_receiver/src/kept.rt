@@ -34,7 +34,7 @@ fn keep(
     kept.note(net, FragmentHeld);
 }
 
-/// What is kept of frames with these packets, each of which is held.
+/// State after frames with these packets, each of which is held.
 fn kept_of(
     rt: &impl Abort,
     alloc: Global,

@@ -19,7 +19,7 @@ pub(crate) fn taker_of(rt: &impl Abort, mut ends: Vec<PortEnd>) -> Taker {
     taker
 }
 
-/// What happens at a link, in order.
+/// A step at a link.
 #[derive(Clone, Copy)]
 enum Step {
     /// The next frame brings 17 octets to `nav`.
@@ -149,7 +149,7 @@ fn no_taker() -> [Step; 6] {
     ]
 }
 
-/// What is decided of a frame is final if no queue is asked.
+/// A decision on a frame is final if no queue is asked.
 // rule: HIST-1
 #[test]
 fn a_queue_is_asked_for_its_own_port_alone(rt: HostRuntime) {
@@ -178,7 +178,7 @@ fn a_queue_that_nobody_reads_loses_its_newest_messages_alone(rt: HostRuntime) {
     check_steps(&rt, rt.alloc(), with_depth(1), &no_taker());
 }
 
-/// What is too long for the port doesn't come to its queue.
+/// A payload that is too long for the port doesn't come to its queue.
 // rule: PORT-3
 #[test]
 fn a_queuing_port_has_a_largest_payload(rt: HostRuntime) {

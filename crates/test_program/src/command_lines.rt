@@ -5,7 +5,7 @@ use command_line::{Line, LineFault, line_of};
 use std::alloc::{AllocError, Global};
 use std::process::Abort;
 
-/// What `line_of` returns. It has no clause: a test doesn't need what each line comes to.
+/// Result of `line_of`, without a clause: a test doesn't need what each line comes to.
 fn read(alloc: Global, words: &[String]) -> Result<Line, LineFault> {
     line_of(alloc, words)
 }
@@ -17,7 +17,7 @@ fn text_of_line(alloc: Global, line: &Line) -> Result<String, AllocError> {
     format!(in alloc; "line {config} {a} {b} {at:?}{threads}{explain}")
 }
 
-/// What `line_of` returns, as a text.
+/// Result of `line_of`, as a text.
 fn text_of(alloc: Global, answer: Result<Line, LineFault>) -> Result<String, AllocError> {
     match answer {
         Ok(line) => text_of_line(alloc, &line),

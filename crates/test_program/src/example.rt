@@ -7,7 +7,7 @@ use std::thread::Threads;
 use test_inputs::{SECOND_LINK, ScriptedReader};
 use vl_config::BUILT_IN;
 
-/// What the README shows.
+/// Output of the examples.
 const OUTPUT: &str = "1000 A vl 17 0 sampled pos 1
 1200 B vl 17 1 redundant
 3000 A vl 17 2 sampled pos 2
@@ -52,7 +52,7 @@ const NETWORK_B: &str = "# Network B.
 9200 03000000001102000000012008004500002d000100000111cdcc0a010101e0e0001113891388001900000102030405060708090a0b0c0d0e0f101106
 ";
 
-/// What becomes of fragments that come out of order, on both networks.
+/// Output for fragments that come out of order, on both networks.
 const OUTPUT_OF_FRAGMENTS: &str = "1000 A vl 17 0 fragment-held
 1100 B vl 17 1 redundant
 1150 B vl 17 2 fragmented-sample pos

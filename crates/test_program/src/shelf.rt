@@ -108,7 +108,7 @@ fn push_word(alloc: Global, words: &mut Vec<String>, word: &str) -> Result<(), A
 /// The words of a whole command line: the files `c`, `x` and `y`.
 pub(crate) const LINE: &str = "--config c --a x --b y";
 
-/// What a run is given beside its words: its files, its standard input, and what writing its standard
+/// Devices of a run beside its words: its files, its standard input, and what writing its standard
 /// output and its standard error do.
 #[derive(Clone, Copy)]
 pub(crate) struct Given<'a> {

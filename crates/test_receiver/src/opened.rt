@@ -83,7 +83,7 @@ pub(crate) fn octets_of(rt: &impl Abort, alloc: Global, rows: &[FrameRow<'_>]) -
     frames
 }
 
-/// It is this verdict of link 17, the first of the configuration, after so many frames of it.
+/// Checks that a reply is this verdict of link 17, the first of the configuration, after so many frames of it.
 pub(crate) fn check_reply(rt: &impl Abort, reply: Reply, received: u64, wanted: Verdict) {
     match reply {
         Reply::Link {

@@ -25,7 +25,7 @@ fn reader(rt: &impl Abort, slot: &mut ReceiverSlot) -> ReaderSlot {
     reader
 }
 
-/// What is told of the message with this number, which came at as many milliseconds.
+/// Reply for the message with this number, which came at as many milliseconds.
 fn message(number: u64, valid: u32) -> ReadReply {
     ReadReply {
         found: 1,

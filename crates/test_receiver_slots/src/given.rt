@@ -40,7 +40,7 @@ pub(crate) const NOTHING_TAKEN: TakeReply = TakeReply {
     len: 0,
 };
 
-/// What no call tells of a link.
+/// A reply that no call gives for a link.
 pub(crate) const NO_LINK: LinkReply = LinkReply {
     vl: 99_999,
     redundancy: 9,
@@ -77,7 +77,7 @@ pub(crate) fn frame(rt: &impl Abort, alloc: Global, is_for_nav: bool, number: u8
     frame_of(alloc, &[ETHERNET, IP, udp, PAYLOAD], number).expect(rt, "octets")
 }
 
-/// What is replied to a frame on this network.
+/// Reply to a frame on this network.
 pub(crate) fn reply(
     rt: &impl Abort,
     slot: &mut ReceiverSlot,

@@ -15,7 +15,7 @@ use test_inputs::{
 /// The place of the last link.
 const LAST: u16 = GREATEST_LINKS - 1;
 
-/// What is told of the first frame of the link at this place, which has no port.
+/// Reply to the first frame of the link at this place, which has no port.
 fn without_a_port(place: u16) -> FrameReply {
     FrameReply {
         kind: 7,
@@ -44,7 +44,7 @@ fn time_of(port: u16) -> u64 {
     u64::from(port) * 1000 + 5
 }
 
-/// What is told of the frame for this port of the last link, after one for each port before it.
+/// Reply to the frame for this port of the last link, after one for each port before it.
 fn at_port(port: u16) -> FrameReply {
     let samples = greatest_samples(port);
     FrameReply {

@@ -16,7 +16,7 @@ const SILENT: HealthReply = HealthReply {
     given_up: 0,
 };
 
-/// What no call tells of a link.
+/// A reply that no call gives for a link.
 const UNTOLD: HealthReply = HealthReply {
     came_a: 9,
     came_b: 9,

@@ -55,7 +55,7 @@ fn opened(rt: &impl Abort, alloc: Global) -> Running {
     running
 }
 
-/// What is replied to a frame by a pass.
+/// Reply of a pass to a frame.
 fn reply(rt: &impl Abort, pass: &mut PassSlot, now: u64, octets: &[u8]) -> FrameReply {
     let mut reply = FILTERED;
     assert!(rt; pass.receive(now, octets, &mut reply) == DONE);

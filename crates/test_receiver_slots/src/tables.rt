@@ -42,7 +42,7 @@ const NAV: PortRow = PortRow {
     readers: 0,
 };
 
-/// What is told of the link, and of a port of it with its name.
+/// Replies for the link, and for a port of it with its name.
 fn told(rt: &impl Abort, slot: &ReceiverSlot, port: usize) -> (LinkReply, PortReply, [u8; 16]) {
     let mut link = LinkReply {
         vl: 0,

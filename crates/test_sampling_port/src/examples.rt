@@ -119,7 +119,7 @@ fn a_message_is_held_word_by_word_and_given_back(rt: HostRuntime) {
 
 // ---- meet and read_last
 
-/// What was published before they meet is found. That the read isn't empty is proved.
+/// A message published before they meet is found. That the read isn't empty is proved.
 fn check_found<const READERS: usize>(
     rt: &impl Abort,
     writer: &mut Writer<READERS>,

@@ -25,7 +25,7 @@ fn publish_many<const READERS: usize>(
 
 // ---- one look
 
-/// What was read is the message of this number, and whole.
+/// Checks that a read gave the message of this number, and the whole of it.
 fn check_message(rt: &impl Abort, number: u64, time: u64, octets: &[u8]) {
     let wanted = [octet_of(number); 1471];
     assert!(rt; time == number && octets == wanted.as_slice(), "{number}");
@@ -243,7 +243,7 @@ fn publish_short(rt: &impl Abort, mut writer: Writer<1>) -> Writer<1> {
     writer
 }
 
-/// What is read at the number of a message is its own time.
+/// Checks that each read gives the number of a message with its own time.
 fn read_short(rt: &impl Abort, mut reader: Reader<1>) -> Reader<1> {
     let mut out = [0; 1471];
     for _ in 0..MANY_SHORT {

@@ -5,7 +5,7 @@ use slot_core::{Core, CoreEvent, Phase, READERS, SLOTS, StepRefusal, WORDS, run}
 use std::alloc::Global;
 use std::process::Abort;
 
-/// What happens at a port, or is seen of it.
+/// A move at a port, or a look at it.
 #[derive(Clone, Copy)]
 pub(crate) enum Move {
     /// A step that is accepted.
@@ -20,9 +20,9 @@ pub(crate) enum Move {
     Publishes(usize),
     /// This reader takes the three steps to a hold.
     Reads(usize),
-    /// The word `latest`, and how many messages were published.
+    /// The word `latest`, and the number of published messages.
     Latest(u64, usize),
-    /// Where reader 0 is, its announcement, and how many messages it has seen.
+    /// The phase of reader 0, its announcement, and the number of messages that it has seen.
     Reader(Phase, u64, u64),
 }
 
@@ -86,7 +86,7 @@ pub(crate) fn steps_of(rt: &impl Abort, alloc: Global, moves: &[Move]) -> Vec<Co
 
 // ---- what is seen of a port
 
-/// What is seen of this name has this value.
+/// Checks that the thing with this name has this value.
 pub(crate) fn check_value(rt: &impl Abort, name: &str, value: u64, wanted: u64) {
     assert!(rt; value == wanted, "{name}: {value}");
 }
@@ -175,7 +175,7 @@ pub(crate) fn check(rt: &impl Abort, alloc: Global, moves: &[Move]) {
 
 // ---- as one list
 
-/// What a list of steps leads to: the word `latest`, or the place of the first refused step and why.
+/// Result of a list of steps: the word `latest`, or the place of the first refused step and why.
 pub(crate) type Outcome = Result<u64, (usize, StepRefusal)>;
 
 fn outcome_of(alloc: Global, steps: &[CoreEvent]) -> Outcome {

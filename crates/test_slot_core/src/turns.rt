@@ -29,7 +29,7 @@ fn store(slot: usize, index: usize, word: u64) -> CoreEvent {
 
 // ---- a reader
 
-/// What reader 7 may do: load first, announce, load again, load a word, one after the message, clear.
+/// Turns of reader 7: load first, announce, load again, load a word, one after the message, clear.
 fn reader_turns(allowed: [bool; 6]) -> [Turn; 6] {
     let [first, announce, second, word, past, clear] = allowed;
     let reader = 7;

@@ -90,7 +90,7 @@ fn full_ports(rt: &impl Abort, alloc: Global) -> String {
     trace
 }
 
-/// What one thread writes of full ports, two threads write too.
+/// Two threads write of full ports what one thread writes.
 fn check_full<R: Abort + Threads + Wait + Sync>(rt: &R, alloc: Global) {
     let mut text = String::new(alloc);
     let begin = BUILT_IN.strip_suffix("depth = 4\n").expect(rt, "a depth");
@@ -179,7 +179,7 @@ fn filtered_frames_are_counted_by_cause_and_count_for_the_time_of_the_report(rt:
 
 // ---- long outputs
 
-/// What stands after the lines of 50,000 frames of each network.
+/// Report after the lines of 50,000 frames of each network.
 const MANY_REPORT: &str = "port pos sampling empty\n\
     port nav queuing 0\n\
     count 17 A 0 0 0 0 0 0 0 0 0 0 0 0 0\n\

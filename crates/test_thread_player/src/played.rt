@@ -17,7 +17,7 @@ pub(crate) fn config_of(rt: &impl Abort, alloc: Global, text: &str) -> Config {
     read(alloc, text).expect(rt, "a configuration")
 }
 
-/// What the player returned, and its devices after that.
+/// Result of a run of the player, and its devices after it.
 #[derive(Drop)]
 pub(crate) struct Run<'a> {
     pub answer: Result<(), PlayFault>,

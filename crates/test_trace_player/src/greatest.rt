@@ -149,7 +149,7 @@ fn add_fragment(rt: &impl Abort, alloc: Global, trace: &mut String, fragment: u1
     add_line(rt, alloc, trace, u64::from(fragment), &texts, number);
 }
 
-/// What stands before the digits of the message.
+/// Output before the digits of the message.
 const BEFORE_DIGITS: &str = "0 A vl 17 0 fragment-held\n\
     1 A vl 17 1 fragment-held\n\
     2 A vl 17 2 fragment-held\n\
@@ -160,7 +160,7 @@ const BEFORE_DIGITS: &str = "0 A vl 17 0 fragment-held\n\
     port nav queuing 1\n\
     message nav 5 8192 ";
 
-/// What stands after them.
+/// Output after them.
 const AFTER_DIGITS: &str = "\ncount 17 A 0 0 0 0 5 0 0 0 0 0 1 0 0\n\
     count 17 B 0 0 0 0 0 0 0 0 0 0 0 0 0\n\
     filtered A 0 0 0 0 0\n\

@@ -16,7 +16,7 @@ pub(crate) const QUEUING_UDP: u16 = 6000;
 /// How many messages a queue holds.
 pub(crate) const DEPTH: usize = 64;
 
-/// What a configuration has: links, and ports of each kind a link.
+/// Size of a configuration: links, and ports of each kind a link.
 #[derive(Clone, Copy)]
 pub(crate) struct Shape {
     pub links: u8,

@@ -37,7 +37,7 @@ const SPAN: u64 = 800;
 /// Number of epochs of a round.
 const EPOCHS: u64 = 11;
 
-/// What the partitions have.
+/// Ends of the ports that the partitions have.
 #[derive(Drop)]
 struct Partitions {
     readers: Vec<Reader<READERS>>,
@@ -116,7 +116,7 @@ fn take_epochs<R: Wait>(
     Ok(())
 }
 
-/// What is left once the system has ended: counts, and what the last histories delivered to each port.
+/// Adds the counts of a system that has ended, and the messages that its last histories delivered to each port.
 fn add_settled(alloc: Global, running: Running<NoGate>, digest: &mut Digest) -> io::Result<()> {
     let settled = running.settle();
     for link in settled.links.iter() {

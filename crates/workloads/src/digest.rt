@@ -1,6 +1,6 @@
 //! A number that says what came of a run.
 
-/// What was added, one number after another.
+/// Digest of all numbers that were added, in their order.
 #[derive(Clone, Copy, Drop)]
 pub(crate) struct Digest {
     pub sum: u64,

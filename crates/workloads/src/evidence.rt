@@ -91,7 +91,7 @@ impl Link {
         }
     }
 
-    /// What was delivered since the last epoch, and what waits in the queues.
+    /// Adds the messages that were delivered since the last epoch, and those that wait in the queues.
     fn look<R: Wait>(&mut self, rt: &R, alloc: Global, digest: &mut Digest) -> io::Result<()> {
         let ports = SHAPE.sampling + SHAPE.queuing;
         add_deliveries(alloc, digest, &self.state, ports)?;
@@ -111,7 +111,7 @@ impl Link {
     }
 }
 
-/// What was delivered to the ports of all links.
+/// Adds the messages that were delivered to the ports of all links.
 fn look_at_all<R: Wait>(
     rt: &R,
     alloc: Global,

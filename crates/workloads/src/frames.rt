@@ -15,7 +15,7 @@ pub(crate) const IDENTIFICATION: usize = 18;
 
 pub(crate) const CHECKSUM: usize = 24;
 
-/// That more fragments follow.
+/// The bit that more fragments follow.
 const MORE: u16 = 0x2000;
 
 /// A frame as a sender sends it again and again, each time with another identification.
@@ -23,7 +23,7 @@ const MORE: u16 = 0x2000;
 pub(crate) struct Template {
     /// All octets, as they were sent last. The last one is its sequence number.
     pub octets: Vec<u8>,
-    /// Where eight octets begin that are others each time. 0 if none are.
+    /// Offset of eight octets that are others each time. 0 if none are.
     pub stamp: usize,
     /// How many sequence numbers are left out before it.
     pub jump: u8,
@@ -31,7 +31,7 @@ pub(crate) struct Template {
     pub datagram: u16,
 }
 
-/// What a frame has anew each time that it is sent.
+/// Fields that a frame has anew each time that it is sent.
 #[derive(Clone, Copy)]
 pub(crate) struct Marks {
     pub identification: u16,

@@ -48,7 +48,7 @@ const JOBS: [&str; 7] = [
     "networks", "threads", "days", "task", "traces", "pieces", "evidence",
 ];
 
-/// What can't be made, or can't be so.
+/// Error of what can't be made, or can't be so.
 fn refused() -> io::Error {
     io::Error::from(ErrorKind::InvalidData)
 }
@@ -69,7 +69,7 @@ fn number_of(word: Option<String>, otherwise: u64) -> io::Result<u64> {
     word.as_str().parse::<u64>().map_err(|_| refused())
 }
 
-/// What the words ask for.
+/// The job that the words ask for.
 fn asked(rt: &(impl Env + AllocGlobal)) -> io::Result<Job> {
     let mut words = env::args(rt)?;
     let _program = words.next();

@@ -102,7 +102,7 @@ impl Replies {
     }
 }
 
-/// What a thread has beside its network's pass: the ends of half of the ports, and what came of them and of its frames.
+/// Share of a thread, beside its network's pass: the ends of half of the ports, with digests of them and of its frames.
 #[derive(Drop)]
 struct Share {
     queues: Vec<Queue>,
@@ -182,7 +182,7 @@ fn wait_for<R: Wait>(rt: &R, other: &AtomicU64, batches: u64) {
     }
 }
 
-/// What a thread comes back with.
+/// Result of a thread.
 #[derive(Drop)]
 struct Ended {
     pass: NetPass,
@@ -311,7 +311,7 @@ fn add_settled(alloc: Global, digest: &mut Digest, settled: &Settled) -> Result<
     Ok(())
 }
 
-/// What came of both threads' ports, and of all frames.
+/// Adds the digests of both threads' ports, and of all frames.
 fn add_shares(digest: &mut Digest, a: Share, b: Share) {
     for queue in a.queues.iter().chain(b.queues.iter()) {
         digest.add(queue.digest.sum);

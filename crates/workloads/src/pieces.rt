@@ -90,7 +90,7 @@ fn add_bursts(alloc: Global, flow: &mut Flow, link: u8, seed: u64) -> io::Result
     Ok(())
 }
 
-/// What the sender of a link sends.
+/// Frames that the sender of a link sends.
 fn flow(alloc: Global, link: u8, seed: u64) -> io::Result<Flow> {
     let mut flow = Flow::new(alloc, false);
     let seed = mixed(seed).wrapping_add(u64::from(link));

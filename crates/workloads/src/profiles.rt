@@ -78,7 +78,7 @@ fn add_flawed(alloc: Global, flow: &mut Flow, link: u8, seed: u64) -> io::Result
     Ok(())
 }
 
-/// What the sender of a link sends, in turn.
+/// Frames that the sender of a link sends, in turn.
 pub(crate) fn flow(
     alloc: Global,
     link: u8,

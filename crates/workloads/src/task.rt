@@ -206,7 +206,7 @@ fn take(receiving: &mut Receiving, at: usize, digest: &mut Digest) {
     }
 }
 
-/// What the partitions do after a frame: some read or look, and one takes.
+/// A step of the partitions after a frame: some read or look, and one takes.
 fn step(receiving: &mut Receiving, frame: u64, draw: u64, now: u64, digest: &mut Digest) {
     let (readers, takers) = (receiving.readers.len(), receiving.takers.len());
     if readers == 0 || takers == 0 {

@@ -69,10 +69,10 @@ fn traffic(alloc: Global, seed: u64) -> io::Result<Traffic> {
     Ok(traffic)
 }
 
-/// What was played.
+/// Digest of an output.
 #[derive(Clone, Copy, Drop)]
 struct Played {
-    /// What is the same, whatever the schedule.
+    /// Of all that is the same, whatever the schedule.
     digest: Digest,
     /// The sum over the fields that are up to the threads.
     free: u64,

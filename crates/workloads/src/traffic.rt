@@ -4,7 +4,7 @@ use crate::frames::{Marks, Template};
 use es_base::Memory;
 use std::alloc::Global;
 
-/// What the sender of one link sends.
+/// Frames that the sender of one link sends.
 #[derive(Drop)]
 pub(crate) struct Flow {
     frames: Vec<Template>,
