@@ -8,7 +8,7 @@ import subprocess
 
 import pytest
 from conftest import CAPTURES, CONFIG, PROGRAM, ROOT, TOOL, done, fault, run, tshark, verdicts
-from workbench import captures, stream, tracing
+from workbench import captures, exporting, stream
 from workbench.faults import Fault
 
 KERNELS = sorted(path.name for path in CAPTURES.iterdir() if "pcap" in path.suffix)
@@ -370,7 +370,7 @@ def test_mutated_captures_are_played_or_make_one_fault(written, tmp_path, capsys
                     latest[one.net] = max(latest[one.net], 0 if one.left_out else one.time)
             made += found.is_of_captures
             if case % 10 == 0:
-                tracing.write(given)
+                exporting.traces(given)
                 words = [PROGRAM, "--config", CONFIG, "--a", given.to / "a.trace", "--b", given.to / "b.trace"]
                 played = subprocess.run(words, capture_output=True)
                 assert played.returncode == 0, played.stderr

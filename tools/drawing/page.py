@@ -171,7 +171,7 @@ def faults_part(faults, gathered, unit):
         "<p>Copies that didn’t come, by their numbers and times; the most in a row; and frames that came after a later one of "
         "their network, again, or far off.</p>",
         table(["link", "network", "lost on it alone", "lost on both", "in a row", "overtaken", "again", "far off"], lost),
-        table(["link", "what", "times", f"first {unit}s"], others)])
+        table(["link", "what", "times", f"first {unit}s"], others) if others else ""])
 
 
 def table(heads, rows):
@@ -225,7 +225,8 @@ def conditions_part(drawn):
     """Which conditions of the laws were kept."""
     broken = drawn.conditions.found
     if not broken:
-        return "<p>Each condition of the laws of delivery was kept: all that was sent was delivered, once, whole, in order.</p>"
+        return ("<p>No condition of the laws of delivery was seen broken: if all held, all that was sent was delivered, once, "
+                "whole, in order.</p>")
     rows = [[word, CONDITIONS[word], one.count, f"{one.where}: {one.how}"] for word, one in broken.items()]
     heads = ["word", "condition", "times", "first by"]
     return "<h3>Conditions of the laws of delivery that were broken</h3>" + table(heads, rows)

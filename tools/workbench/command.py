@@ -124,8 +124,8 @@ COMMANDS = {
         "config": {"metavar": "C.toml", "help": "the receiver's configuration"},
         **CAPTURES, **SHIFT, "files": {**CAPTURES["files"], "nargs": "*"},
     }, ("A slip is a line FILE:LINE: TEXT. The status is 1 if there is any,\n5 if a file isn't of its form.",)),
-    "traces": ("workbench.tracing:write", "writes captures as hex traces, which the proved player takes: FOLDER/a.trace and "
-               "FOLDER/b.trace", {**CAPTURES, **SHIFT, **to("FOLDER", required=True)}, (INPUTS,)),
+    "traces": ("workbench.exporting:traces", "writes captures as hex traces, which the proved player takes: FOLDER/a.trace "
+               "and FOLDER/b.trace", {**CAPTURES, **SHIFT, **to("FOLDER", required=True)}, (INPUTS,)),
 }
 
 

@@ -55,8 +55,8 @@ class Conditions:
             self.broken("near", where, f"{steps} frames after the newest while SkewMax runs")
 
     def law(self):
-        """What the laws of the page say: `all` of what was sent was delivered; `once` at most, whole and in order, and each
-        message of which a copy came unless its queue was full; or nothing."""
+        """What the laws of the page say, if what wasn't seen broken held: `all` of what was sent was delivered; `once` at
+        most, whole and in order, and each message of which a copy came unless its queue was full; or nothing."""
         if not self.found:
             return "all"
         return "once" if set(self.found) <= {"copies", "queues"} else "-"

@@ -1,8 +1,9 @@
-"""One record a frame, for spreadsheets and pandas; or a configuration as a table in C."""
+"""One record a frame, for spreadsheets and pandas; a configuration as a table in C; captures as the player's hex traces."""
 import csv
 import io
 import itertools
 import json
+import os
 
 import c_table
 from receiver import Reply
@@ -48,3 +49,17 @@ def write_json(out, found):
         out.write(mark + json.dumps(dict(zip(COLUMNS, record))).encode())
         mark = b",\n"
     out.write(b"\n]\n" if mark == b",\n" else b"[]\n")
+
+
+def traces(given):
+    """Writes the hex traces that the player takes: FOLDER/a.trace and FOLDER/b.trace."""
+    with files.telling(given.to, "written"):
+        os.makedirs(given.to, exist_ok=True)
+    a, b = (files.writing(os.path.join(given.to, f"{net}.trace")) for net in "ab")
+    with a as of_a, b as of_b, stream.opened(given) as found:
+        outs, clock = (of_a, of_b), stream.Clock(found.is_of_captures)
+        for one in found:
+            if not one.left_out:
+                outs[one.net].write(b"%d %s\n" % (clock.of(one.net, one.time), one.octets.hex().encode()))
+    found.tell_beginning()
+    return found.status

@@ -97,8 +97,8 @@ def lines_of_link(link):
         if link[key]["count"]:
             yield f"{what}: {link[key]['count']}, at first {', '.join(link[key]['first'])}"
     yield from map(line_of_port, link["ports"])
-    yield {"all": "By docs/DELIVERY.md all that was sent was delivered, once, whole, in order: each condition was kept.",
-           "once": "By docs/DELIVERY.md each message was delivered at most once, whole, in order; what is missing:",
+    yield {"all": "No condition of docs/DELIVERY.md was seen broken: if all held, all was delivered, once, whole, in order.",
+           "once": "If the others of docs/DELIVERY.md held, each message came at most once, whole, in order. Broken:",
            "-": "The laws of docs/DELIVERY.md don't cover it; of their conditions were broken:"}[link["law"]]
     for word, one in link["broken"].items():
         yield f"  {word}: {CONDITIONS[word]}: {one['count']} times, first by {one['first']}: {one['how']}"
