@@ -1,7 +1,10 @@
-//! Counts of events and of filtered frames.
+//! Counts of events and of filtered frames, and their lines.
 use es_base::Net::{A, B};
 use es_base::{FILTER_CAUSES, FilterCause, FilterTally, Net, VERDICT_KINDS, VerdictTally};
+use output_lines::{write_counts, write_filtered};
+use std::alloc::Global;
 use std::process::Abort;
+use test_inputs::LINK;
 
 /// One more event on this network with a verdict of this kind.
 fn add(rt: &impl Abort, tally: &mut VerdictTally, net: Net, kind: usize) {
@@ -68,4 +71,26 @@ fn check_causes(rt: &impl Abort) {
 #[test]
 fn filtered_frames_are_counted_by_network_and_cause(rt: HostRuntime) {
     check_causes(&rt);
+}
+
+/// The counts of link 17 and of filtered frames, before any frame came, are these four lines.
+fn check_zeros(rt: &impl Abort, alloc: Global) {
+    let link = LINK.settings(alloc).expect(rt, "settings");
+    let mut text = Vec::new(alloc);
+    let counts = write_counts(&mut text, &link, &VerdictTally::opening());
+    let filtered = write_filtered(&mut text, &FilterTally::opening());
+    assert!(rt; counts.is_ok() && filtered.is_ok());
+    assert!(rt; text.as_slice() == ZEROS.as_bytes());
+}
+
+const ZEROS: &str = "count 17 A 0 0 0 0 0 0 0 0 0 0 0 0 0
+count 17 B 0 0 0 0 0 0 0 0 0 0 0 0 0
+filtered A 0 0 0 0 0
+filtered B 0 0 0 0 0
+";
+
+// rule: REP-8, REP-9
+#[test]
+fn counts_stand_by_network(rt: HostRuntime) {
+    check_zeros(&rt, rt.alloc());
 }

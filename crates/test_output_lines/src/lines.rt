@@ -1,9 +1,9 @@
 //! Lines of the output, printed.
 use es_base::Net::{A, B};
-use es_base::{FILTER_CAUSES, Freshness, LinkNo, PortNo, Verdict, VerdictTally};
+use es_base::{FILTER_CAUSES, LinkNo, PortNo, Verdict, VerdictTally};
 use output_lines::{
-    BusyLine, CountLine, EmptyLine, EventLine, FilteredCountLine, MessageLine, QueueLine,
-    SampleLine, VerdictText, add_line, add_words,
+    BusyLine, CountLine, EmptyLine, EventLine, FilteredCountLine, QueueLine, VerdictText, add_line,
+    add_words,
 };
 use std::alloc::Global;
 use std::fmt::Display;
@@ -58,115 +58,17 @@ fn ports_without_messages_have_a_line(rt: HostRuntime) {
     check_empty_port(&rt, rt.alloc());
 }
 
+fn check_busy_port(rt: &impl Abort, alloc: Global) {
+    let mut text = Vec::new(alloc);
+    add_line(&mut text, BusyLine { name: "pos" }).expect(rt, "memory");
+    assert!(rt; text.as_slice() == b"port pos sampling busy\n".as_slice());
+}
+
 /// No run comes to this line, but for a reader beside a writer that is faster at each of its tries.
 // rule: REP-4
 #[test]
 fn a_port_that_was_never_still_has_a_line(rt: HostRuntime) {
-    let busy = BusyLine { name: "pos" };
-    check_line(&rt, rt.alloc(), busy, "port pos sampling busy");
-}
-
-/// A message of `pos` at 1000 microseconds, with these octets.
-fn sample<'a>(state: Freshness, octets: &'a [u8]) -> SampleLine<'a> {
-    SampleLine {
-        name: "pos",
-        message_number: 1,
-        time: 1000,
-        state,
-        octets,
-    }
-}
-
-fn check_samples(rt: &impl Abort, alloc: Global) {
-    let fresh = sample(Freshness::Fresh, &[1, 2, 0xab, 0xff]);
-    check_line(
-        rt,
-        alloc,
-        fresh,
-        "port pos sampling 1 1000 4 fresh 0102abff",
-    );
-    let empty = sample(Freshness::Stale, &[]);
-    check_line(rt, alloc, empty, "port pos sampling 1 1000 0 stale");
-}
-
-// rule: REP-5, REP-12
-#[test]
-fn the_newest_message_of_a_sampling_port_is_printed(rt: HostRuntime) {
-    check_samples(&rt, rt.alloc());
-}
-
-/// A message of `nav`.
-fn queued<'a>(time: u64, octets: &'a [u8]) -> MessageLine<'a> {
-    MessageLine {
-        name: "nav",
-        time,
-        octets,
-    }
-}
-
-fn check_queued(rt: &impl Abort, alloc: Global) {
-    let line = queued(u64::MAX, &[0xa0]);
-    check_line(rt, alloc, line, "message nav 18446744073709551615 1 a0");
-    check_line(rt, alloc, queued(0, &[]), "message nav 0 0");
-}
-
-// rule: REP-7
-#[test]
-fn a_message_of_a_queue_is_printed(rt: HostRuntime) {
-    check_queued(&rt, rt.alloc());
-}
-
-/// As many octets, from 0 on; 0 follows 255.
-fn counted(rt: &impl Abort, alloc: Global, octets: usize) -> Vec<u8> {
-    let mut all = Vec::new(alloc);
-    for place in 0..octets {
-        all.push((place % 256) as u8).expect(rt, "memory");
-    }
-    all
-}
-
-/// The digits of these octets, one octet after another.
-fn digits_of(rt: &impl Abort, alloc: Global, octets: &[u8]) -> String {
-    let digits = b"0123456789abcdef";
-    let mut all = String::new(alloc);
-    for octet in octets {
-        all.push(digits[(*octet / 16) as usize] as char)
-            .expect(rt, "memory");
-        all.push(digits[(*octet % 16) as usize] as char)
-            .expect(rt, "memory");
-    }
-    all
-}
-
-/// A message of this many octets is printed whole.
-fn check_long(rt: &impl Abort, alloc: Global, octets: usize) {
-    let payload = counted(rt, alloc, octets);
-    let digits = digits_of(rt, alloc, &payload);
-    let text = format!(in alloc; "message nav 7 {octets} {digits}").expect(rt, "memory");
-    check_line(rt, alloc, queued(7, &payload), text.as_str());
-}
-
-/// Lengths on both sides of a piece of 256 octets, with and without a block of 16 after it, and the
-/// longest message of a queuing port.
-fn lengths() -> [usize; 7] {
-    [255, 256, 257, 271, 272, 273, 8192]
-}
-
-// rule: REP-12
-#[test]
-fn a_long_message_is_printed_whole(rt: HostRuntime) {
-    for octets in lengths() {
-        check_long(&rt, rt.alloc(), octets);
-    }
-}
-
-/// Lengths on both sides of 16 octets, below which there is no block, and of each number of blocks to 4.
-// rule: REP-12
-#[test]
-fn messages_of_each_length_to_70_octets_are_printed_whole(rt: HostRuntime) {
-    for octets in 1..=70 {
-        check_long(&rt, rt.alloc(), octets);
-    }
+    check_busy_port(&rt, rt.alloc());
 }
 
 fn check_no_counts(rt: &impl Abort, alloc: Global) {
