@@ -42,6 +42,19 @@ fn a_port_that_has_used_up_its_message_numbers_is_named(rt: HostRuntime) {
     check_event(&rt, rt.alloc(), exhausted, "7 A vl 17 3 exhausted pos\n");
 }
 
+fn check_queue_words(rt: &impl Abort, alloc: Global) {
+    let nav = PortNo(1);
+    check_event(rt, alloc, Verdict::Queued(nav), "7 A vl 17 3 queued nav\n");
+    let full = Verdict::Overflow(nav);
+    check_event(rt, alloc, full, "7 A vl 17 3 overflow nav\n");
+}
+
+// rule: OUT-2, OUT-6
+#[test]
+fn the_verdicts_of_a_queue_have_their_words(rt: HostRuntime) {
+    check_queue_words(&rt, rt.alloc());
+}
+
 fn check_empty_port(rt: &impl Abort, alloc: Global) {
     let sampling = EmptyLine { name: "pos" };
     check_line(rt, alloc, sampling, "port pos sampling empty");

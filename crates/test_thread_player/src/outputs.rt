@@ -67,6 +67,28 @@ fn the_lines_of_a_come_first_and_the_report_is_at_the_greatest_time(rt: HostRunt
     check_both(&rt, rt.alloc());
 }
 
+/// The last frame of all is one of A, and B has none: the message is stale then.
+const LAST_OF_A: &str = "1000 A vl 17 0 sampled pos 1\n\
+    21001 A filtered too-short\n\
+    port pos sampling 1 1000 17 stale 0102030405060708090a0b0c0d0e0f1011\n\
+    port nav queuing 0\n\
+    count 17 A 0 0 0 0 0 0 0 0 0 1 0 0 0\n\
+    count 17 B 0 0 0 0 0 0 0 0 0 0 0 0 0\n\
+    filtered A 1 0 0 0 0\n\
+    filtered B 0 0 0 0 0\n";
+
+fn check_last_of_a<R: Abort + Threads + Wait + Sync>(rt: &R, alloc: Global) {
+    let mut a = one_frame(rt, alloc);
+    a.push_str("21001 00\n").expect(rt, "memory");
+    check_output(rt, alloc, (a.as_str(), ""), None, LAST_OF_A);
+}
+
+// rule: REP-1
+#[test]
+fn the_report_is_at_the_last_frame_of_a_if_it_is_the_latest(rt: HostRuntime) {
+    check_last_of_a(&rt, rt.alloc());
+}
+
 // rule: REP-11
 #[test]
 fn two_empty_traces_have_a_report(rt: HostRuntime) {
