@@ -40,7 +40,7 @@ SLIPS = [
     # Crates that share other names, of a link with its history and without.
     (OFFER, "abbrev pub IsPlaceAt", "abbrev pub HasOutletAt : ℕ\nHasOutletAt = 0\n\nabbrev pub IsPlaceAt", "HasOutletAt stands in "),
     (REASONS, "ShowsAs: kept_messages", "ShowsAs: hex_trace", "ShowsAs stands in "),
-    (REASONS, "\nAreWithin: ", "\nis_none: es_base: of nothing\nAreWithin: ", "is_none stands in one file"),
+    (REASONS, "\nEndsWith GoesOn: ", "\nis_none: es_base: of nothing\nEndsWith GoesOn: ", "is_none stands in one file"),
 ]
 
 

@@ -3,7 +3,6 @@ pub mod Bytes
 pub mod Decoded
 pub mod Digits
 pub mod Ends
-pub mod Entries
 pub mod Marks
 pub mod Pairs
 pub mod Pieces

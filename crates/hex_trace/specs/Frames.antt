@@ -1,8 +1,8 @@
 -- The frames of a trace.
-use Rattle.std.specs.Prelude.{◌≤◌, ◌<◌, ℕ, ◌-◌, List, [], ◌∷◌, ◌++◌, Option, None, Some, length, take, drop}
+use Rattle.std.specs.Prelude.{◌<◌, ℕ, List, [], ◌∷◌, ◌++◌, Option, None, Some, length, map}
 use Rattle.std.specs.List.{All}
-use Rattle.hex_trace.specs.declared.block.Entry.{Entry}
-use Rattle.hex_trace.specs.declared.frames.LentFrame.{LentFrame}
+use Rattle.octet_block.specs.declared.LentOctets.{LentOctets}
+use Rattle.octet_block.specs.OctetBlock.{OctetBlock, TimedOctets}
 
 -- a frame, and when it came, in microseconds
 pub record TimedFrame : Type 0 where
@@ -13,15 +13,14 @@ abbrev pub timed_frame : ℕ → List ℕ → TimedFrame
 timed_frame time octets = record { time = time; frame = octets }
 
 -- a frame as it was lent
-abbrev pub lent_as : LentFrame → TimedFrame
+abbrev pub lent_as : LentOctets → TimedFrame
 lent_as lent = timed_frame lent.time lent.octets.now
 
--- the frame of an entry, whose octets lie in the block
-abbrev pub frame_of_entry : List ℕ → Entry → TimedFrame
-frame_of_entry block entry = timed_frame entry.time (take (entry.end - entry.start) (drop entry.start block))
+abbrev pub frame_of_octets : TimedOctets → TimedFrame
+frame_of_octets octets = timed_frame octets.time octets.octets
 
-abbrev pub AreWithin : List ℕ → List Entry → Type 0
-AreWithin block entries = All (λ (e : Entry). (e.start ≤ e.end) × (e.end ≤ length block)) entries
+abbrev pub frames_of_block : OctetBlock → List TimedFrame
+frames_of_block block = map frame_of_octets block.items
 
 -- when the first of these frames came
 abbrev pub first_time : List TimedFrame → Option ℕ
@@ -29,14 +28,14 @@ first_time [] = None
 first_time (frame ∷ frames) = Some frame.time
 
 -- the frames of all blocks, one block after another
-abbrev pub joined_blocks : List (List TimedFrame) → List TimedFrame
+abbrev pub joined_blocks : List OctetBlock → List TimedFrame
 joined_blocks [] = []
-joined_blocks (block ∷ blocks) = block ++ joined_blocks blocks
+joined_blocks (block ∷ blocks) = frames_of_block block ++ joined_blocks blocks
 
-abbrev pub NoneIsEmpty : List (List TimedFrame) → Type 0
-NoneIsEmpty blocks = All (λ (block : List TimedFrame). 0 < length block) blocks
+abbrev pub NoneIsEmpty : List OctetBlock → Type 0
+NoneIsEmpty blocks = All (λ (block : OctetBlock). 0 < length block.items) blocks
 
 -- the first block has a frame at this place, if there is a block
-abbrev pub IsInFirst : ℕ → List (List TimedFrame) → Type 0
+abbrev pub IsInFirst : ℕ → List OctetBlock → Type 0
 IsInFirst at [] = Unit {0}
-IsInFirst at (block ∷ blocks) = at < length block
+IsInFirst at (block ∷ blocks) = at < length block.items

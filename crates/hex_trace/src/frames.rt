@@ -1,37 +1,39 @@
 //! The frames of a trace, in their order.
-ghost use Rattle.std.specs.Prelude.{◌≡◌, ◌++◌, [], ◌∷◌, IfOk, OnOk, drop, slice_get};
+ghost use Rattle.std.specs.Prelude.{◌≡◌, ◌<◌, ◌++◌, [], ◌∷◌, IfOk, OnOk, drop, length, slice_get, true};
 ghost use Rattle.std.specs.Option.{option_map};
-ghost use Rattle.hex_trace.specs.Frames.{first_time, lent_as, timed_frame};
+ghost use Rattle.hex_trace.specs.Frames.{first_time, frames_of_block, lent_as, timed_frame};
 
-use crate::block::Block;
+use crate::line::MOST_OCTETS;
 use es_base::Memory;
+use octet_block::OctetBlock;
 use std::alloc::Global;
 use std::collections::VecDeque;
 use std::marker::Model;
 use std::mem;
 
 /// A frame of a trace.
-#[derive(Clone, Copy)]
-pub struct LentFrame<'a> {
-    /// Arrival time, in microseconds.
-    pub time: u64,
-    pub octets: &'a [u8],
-}
+pub use octet_block::LentOctets as LentFrame;
+
+/// Octets from which on a block is full.
+const FULL: usize = 256 * 1024;
+
+/// Frames for which a block has room at first; for more it grows.
+const MANY: usize = 4096;
 
 /// The frames of a trace that were read so far.
 #[derive(Drop)]
 pub(crate) struct ReadFrames {
-    full: VecDeque<Block>,
-    last: Block,
+    full: VecDeque<OctetBlock>,
+    last: OctetBlock,
 }
 
 impl Model for ReadFrames {
     ghost use Rattle.std.specs.Prelude.{◌++◌, List};
-    ghost use Rattle.hex_trace.specs.Frames.{TimedFrame, NoneIsEmpty, joined_blocks};
+    ghost use Rattle.hex_trace.specs.Frames.{TimedFrame, NoneIsEmpty, frames_of_block, joined_blocks};
 
     ghost Value = { List TimedFrame };
 
-    ghost view = { λ f. joined_blocks f.full.items ++ f.last };
+    ghost view = { λ f. joined_blocks f.full.items ++ frames_of_block f.last };
 
     ghost invariant = { λ f. NoneIsEmpty f.full.items };
 }
@@ -43,7 +45,7 @@ impl ReadFrames {
     {
         ReadFrames {
             full: VecDeque::new(alloc),
-            last: Block::new(alloc),
+            last: OctetBlock::new(alloc),
         }
     }
 
@@ -53,23 +55,25 @@ impl ReadFrames {
     {
         Ok(ReadFrames {
             full: VecDeque::new(alloc),
-            last: Block::open(alloc)?,
+            last: open_block(alloc)?,
         })
     }
 
     /// Adds a frame that came at `time`, in microseconds, after the others.
+    #[tactic(auto, using(crate::proofs::Blocks::joined_append))]
     pub(crate) fn push(&mut self, alloc: Global, time: u64, octets: &[u8]) -> Result<(), Memory>
         ensures { OnOk result (self.new ≡ self.old ++ timed_frame time octets.now ∷ []) }
     {
-        if !self.last.is_full() {
+        if !is_full(&self.last) {
             return self.last.push(time, octets);
         }
-        let full = mem::replace(&mut self.last, Block::open(alloc)?);
+        let full = mem::replace(&mut self.last, open_block(alloc)?);
         self.full.push_back(full)?;
         self.last.push(time, octets)
     }
 
     /// The frames, to be played.
+    #[tactic(auto, using(crate::proofs::Blocks::joined_append))]
     pub(crate) fn close(self) -> Result<Frames, Memory>
         ensures { IfOk result (λ frames. frames ≡ self) }
     {
@@ -87,7 +91,7 @@ impl ReadFrames {
 /// frames were dropped.
 #[derive(Drop)]
 pub struct Frames {
-    blocks: VecDeque<Block>,
+    blocks: VecDeque<OctetBlock>,
     /// Index of the next frame in the first block.
     at: usize,
 }
@@ -116,7 +120,7 @@ impl Frames {
         ensures { option_map lent_as result ≡ slice_get self.now 0 }
     {
         match self.blocks.front() {
-            Some(block) => block.frame(self.at),
+            Some(block) => frame_at(block, self.at),
             None => None,
         }
     }
@@ -136,4 +140,25 @@ impl Frames {
             self.at = 0;
         }
     }
+}
+
+/// A block without frames, with room for the octets of a full one.
+fn open_block(alloc: Global) -> Result<OctetBlock, Memory>
+    ensures { IfOk result (λ block. block.items ≡ []) }
+{
+    OctetBlock::with_room(alloc, MANY, FULL + MOST_OCTETS)
+}
+
+/// Whether there are frames, and at least `FULL` octets.
+fn is_full(block: &OctetBlock) -> bool
+    ensures { result ≡ true → 0 < length block.now.items }
+{
+    0 < block.len() && FULL <= block.used()
+}
+
+/// The frame at this place of a block. None if there are fewer.
+fn frame_at(block: &OctetBlock, place: usize) -> Option<LentFrame<'_>>
+    ensures { option_map lent_as result ≡ slice_get (frames_of_block block.now) place }
+{
+    block.get(place)
 }

@@ -3,7 +3,6 @@
 //! returns the text's frames, or its first faulty line with its cause; and a failed read exactly if one failed.
 #![tactic(auto)]
 
-mod block;
 mod decode;
 mod device;
 mod fault;

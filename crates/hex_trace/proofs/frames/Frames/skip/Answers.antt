@@ -17,6 +17,6 @@ returns-else-self-len c =
     let block = c.in-Some.block.now in
     let some : 0 < length blocks = search rules in
     let inside = within_first at blocks block c.in-Some.ensures.lookup some c.self.invariant.1 in
-    let last : at + 1 ≡ length block = omega (arith, inside, c.if-self-len.false, c.len-len.ensures) in
+    let last : at + 1 ≡ length block.items = omega (arith, inside, c.if-self-len.false, c.len-len.ensures) in
     last_of_first at blocks c.pop_front.new.self.items block c.in-Some.ensures.lookup some last c.pop_front.ensures.rest
     ∙ sym (drop-drop 1 at (joined_blocks blocks)) ∙ ap (drop 1) c.self.view_is
