@@ -12,14 +12,13 @@ use Rattle.live_system.specs.Run.{AreOpened, Passes}
 use Rattle.live_system.specs.System.{KnownNet, System}
 use Rattle.vl_config.specs.declared.rows.LinkRow.{LinkRow}
 use Rattle.vl_config.specs.declared.rows.PortRow.{PortRow}
-use Rattle.vl_config.specs.Octets.{config_of, text_of}
+use Rattle.vl_config.specs.Octets.{config_of}
 use Rattle.vl_config.specs.Rows.{table_of}
 use Rattle.receiver_slots.specs.Codes.{already_open, done, no_network, none_left, not_open}
-use Rattle.receiver_slots.specs.Handing.{has_reader, has_taker, name_code}
+use Rattle.receiver_slots.specs.Handing.{open_reader_code, open_taker_code}
 use Rattle.receiver_slots.specs.Numbers.{net_of_number}
 use Rattle.receiver_slots.specs.Readers.{readers_in}
 use Rattle.receiver_slots.specs.declared.reader_slot.ReaderState.{ReaderState}
-use Rattle.receiver_slots.specs.declared.reader_slot.ReaderState.TheVariants.{Closed, Reads, Holds}
 use Rattle.system_slots.specs.Passing.{Passing}
 
 pub record Running : Type 0 where
@@ -86,14 +85,11 @@ HandsPass net None new handed = ⊥
 
 abbrev pub hand_reader_code : Option Running → ReaderState → List ℕ → ℕ
 hand_reader_code None to name = not_open
-hand_reader_code (Some from) Closed name = name_code has_reader (text_of name) from.ends
-hand_reader_code (Some from) (Reads reader) name = already_open
-hand_reader_code (Some from) (Holds reader) name = already_open
+hand_reader_code (Some from) to name = open_reader_code from.ends to name
 
 abbrev pub hand_taker_code : Option Running → Option Known → List ℕ → ℕ
 hand_taker_code None to name = not_open
-hand_taker_code (Some from) None name = name_code has_taker (text_of name) from.ends
-hand_taker_code (Some from) (Some taker) name = already_open
+hand_taker_code (Some from) to name = open_taker_code from.ends to name
 
 -- this was handed out of the end of the port with this name, if anything was, and nothing else changed
 -- rule: EMB-25

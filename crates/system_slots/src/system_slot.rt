@@ -18,7 +18,7 @@ use receiver_slots::codes::{
     ALREADY_OPEN, DONE, NO_MEMORY, NO_NAME, NO_NETWORK, NONE_LEFT, NOT_OPEN,
 };
 use receiver_slots::facts::{tell_link, tell_port};
-use receiver_slots::handing::{place_of, take_reader, take_taker};
+use receiver_slots::handing::place_of;
 use receiver_slots::wanted::{Wanted, wanted_in_table, wanted_in_text};
 use receiver_slots::{
     FaultReply, LinkReply, LinkRow, PlaceReply, PortReply, PortRow, ReaderSlot, TakerSlot, net_of,
@@ -162,18 +162,10 @@ impl SystemSlot {
         ensures same { 0 < result → result ≢ none_left → self.new ≡ self.old }
         ensures to { 0 < result → to.new ≡ to.old }
     {
-        let Some(running) = &mut self.running else {
-            return NOT_OPEN;
-        };
-        if !to.is_closed() {
-            return ALREADY_OPEN;
+        match &mut self.running {
+            Some(running) => to.open(&mut running.ends, name),
+            None => NOT_OPEN,
         }
-        let reader = match take_reader(&mut running.ends, name) {
-            Ok(reader) => reader,
-            Err(code) => return code,
-        };
-        to.put(reader);
-        DONE
     }
 
     /// Hands the end of the queue of the queuing port with this name to a slot that has none: once. NONE_LEFT if the
@@ -185,18 +177,10 @@ impl SystemSlot {
         ensures same { 0 < result → result ≢ none_left → self.new ≡ self.old }
         ensures to { 0 < result → to.new ≡ to.old }
     {
-        let Some(running) = &mut self.running else {
-            return NOT_OPEN;
-        };
-        if !to.is_closed() {
-            return ALREADY_OPEN;
+        match &mut self.running {
+            Some(running) => to.open(&mut running.ends, name),
+            None => NOT_OPEN,
         }
-        let taker = match take_taker(&mut running.ends, name) {
-            Ok(taker) => taker,
-            Err(code) => return code,
-        };
-        to.put(taker);
-        DONE
     }
 
     /// Tells the number of links of the configuration.
