@@ -1,14 +1,14 @@
 //! Lines of the output, printed.
 use es_base::Net::{A, B};
 use es_base::{FILTER_CAUSES, LinkNo, PortNo, Verdict, VerdictTally};
+use network_calls::Reply;
 use output_lines::{
-    BusyLine, CountLine, EmptyLine, EventLine, FilteredCountLine, QueueLine, VerdictText, add_line,
-    add_words,
+    BusyLine, CountLine, EmptyLine, FilteredCountLine, QueueLine, add_line, add_reply, add_words,
 };
 use std::alloc::Global;
 use std::fmt::Display;
 use std::process::Abort;
-use test_inputs::LINK;
+use vl_config::{BUILT_IN, read_config};
 
 /// The line is printed as this text.
 fn check_line<L: Display + Drop>(rt: &impl Abort, alloc: Global, line: L, text: &str) {
@@ -18,20 +18,17 @@ fn check_line<L: Display + Drop>(rt: &impl Abort, alloc: Global, line: L, text: 
 
 /// The line of the fourth event of link 17, with this verdict, is this text.
 fn check_event(rt: &impl Abort, alloc: Global, verdict: Verdict, text: &str) {
-    let ports = LINK.ports(alloc).expect(rt, "ports");
-    let line = EventLine {
-        time: 7,
-        net: A,
+    let config = read_config(alloc, BUILT_IN)
+        .ok()
+        .expect(rt, "a configuration");
+    let reply = Reply::Link {
         vl: LinkNo(17),
         place: 3,
-        verdict: VerdictText {
-            verdict,
-            ports: ports.as_slice(),
-        },
+        verdict,
     };
-    let mut printed = Vec::new(alloc);
-    line.add_to(&mut printed).expect(rt, "memory");
-    assert!(rt; printed.as_slice() == text.as_bytes());
+    let mut lines = Vec::new(alloc);
+    add_reply(&mut lines, &config, 7, A, reply).expect(rt, "memory");
+    assert!(rt; lines.as_slice() == text.as_bytes());
 }
 
 /// No trace of a test is long enough to come to this verdict.

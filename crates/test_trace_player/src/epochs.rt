@@ -3,11 +3,12 @@ use crate::configurations::Document::BuiltIn;
 use crate::configurations::config_of;
 use crate::played::{NAV, SMALLEST, Step, texts_of};
 use crate::queues::fragments;
+use es_base::Net;
 use es_base::Net::{A, B};
-use es_base::{LinkSettings, Net};
 use frame_reader::read_frame;
 use link_receiver::{Epoch, Event, LinkState};
-use output_lines::{EventLine, VerdictText};
+use network_calls::Reply;
+use output_lines::add_reply;
 use std::alloc::Global;
 use std::process::Abort;
 use std::sync::Wait;
@@ -96,7 +97,8 @@ fn trace_of(rt: &impl Abort, alloc: Global, net: Net, epochs: &[Epoch]) -> Strin
 }
 
 /// The lines of the epochs' events, each at its place from the first epoch on.
-fn lines_of(rt: &impl Abort, alloc: Global, settings: &LinkSettings, epochs: &[Epoch]) -> Vec<u8> {
+fn lines_of(rt: &impl Abort, alloc: Global, config: &Config, epochs: &[Epoch]) -> Vec<u8> {
+    let vl = config.links().first().expect(rt, "a link").vl();
     let mut lines = Vec::new(alloc);
     for epoch in epochs {
         let events = epoch.events();
@@ -107,17 +109,12 @@ fn lines_of(rt: &impl Abort, alloc: Global, settings: &LinkSettings, epochs: &[E
                 verdict,
                 ..
             } = events.get(place).expect(rt, "an event");
-            let line = EventLine {
-                time: *time,
-                net: *net,
-                vl: settings.vl(),
+            let reply = Reply::Link {
+                vl,
                 place: epoch.first().wrapping_add(place as u64),
-                verdict: VerdictText {
-                    verdict: *verdict,
-                    ports: settings.ports(),
-                },
+                verdict: *verdict,
             };
-            line.add_to(&mut lines).expect(rt, "memory");
+            add_reply(&mut lines, config, *time, *net, reply).expect(rt, "memory");
         }
     }
     lines
@@ -129,8 +126,7 @@ fn check_epochs(rt: &(impl Abort + Wait), alloc: Global) {
     assert_eq!(rt; epochs.len(), 4);
     let a = trace_of(rt, alloc, A, &epochs);
     let b = trace_of(rt, alloc, B, &epochs);
-    let settings = config.links().first().expect(rt, "a link");
-    let lines = lines_of(rt, alloc, settings, &epochs);
+    let lines = lines_of(rt, alloc, &config, &epochs);
     assert!(rt; lines.as_slice() == LINES.as_bytes());
     let mut a = Device::new(a.as_bytes());
     let mut b = Device::new(b.as_bytes());
