@@ -13,6 +13,7 @@
 //! | `traces` | two traces in memory, played by one thread |
 //! | `pieces` | a receiver for one task on what is awkward: datagrams in pieces of 8 octets, bursts that are turned away |
 //! | `evidence` | links whose epochs are taken out often, and of each port what was delivered to it since then |
+//! | `live` | a system that keeps no frame, with a thread for each network, frames one by one and in bursts |
 //! | `all` | all of these, one after another |
 #![tactic(auto)]
 
@@ -21,8 +22,10 @@ mod days;
 mod digest;
 mod evidence;
 mod frames;
+mod live;
 mod networks;
 mod outcomes;
+mod pace;
 mod partitions;
 mod pieces;
 mod profiles;
@@ -44,8 +47,8 @@ use std::thread::Threads;
 const ROUNDS: u64 = 100;
 
 /// The names of all jobs.
-const JOBS: [&str; 7] = [
-    "networks", "threads", "days", "task", "traces", "pieces", "evidence",
+const JOBS: [&str; 8] = [
+    "networks", "threads", "days", "task", "traces", "pieces", "evidence", "live",
 ];
 
 /// Error of what can't be made, or can't be so.
@@ -99,6 +102,7 @@ fn run<R: Threads + Wait + Sync>(
         "traces" => traces::run(alloc, seed, rounds),
         "pieces" => pieces::run(alloc, seed, rounds),
         "evidence" => evidence::run(rt, alloc, seed, rounds),
+        "live" => live::run(rt, alloc, seed, rounds),
         _ => Err(refused()),
     }
 }

@@ -14,21 +14,22 @@ ghost use Rattle.end_system.specs.System.{IsPassOf};
 
 use crate::configs::{DEPTH, Shape, config_of};
 use crate::digest::{Digest, digest_of, mixed};
-use crate::outcomes::{arrival_number, cause_number, verdict_number};
+use crate::outcomes::{Replies, add_tally, arrival_number, verdict_number};
+use crate::pace::{BATCH, BATCHES, SKEW, wait_for};
 use crate::partitions::{first_of, read_newest};
 use crate::profiles::{Profile, traffic};
 use crate::traffic::Traffic;
-use end_system::{EndSystem, LinkEnds, NetPass, NoGate, Opened, Reply, Settled};
-use es_base::{Memory, Net, PortNo, VERDICT_KINDS};
+use end_system::{EndSystem, LinkEnds, NetPass, NoGate, Opened, Settled};
+use es_base::{Memory, Net, PortNo};
 use link_receiver::{LinkState, PortEnd};
 use queuing_port::Taker;
 use sampling_port::Reader;
 use slot_core::READERS;
 use std::alloc::Global;
+use std::io;
 use std::sync::Wait;
 use std::sync::atomic::{AtomicU64, Ordering};
 use std::thread::{Threads, join};
-use std::{io, thread};
 
 const SHAPE: Shape = Shape {
     links: 16,
@@ -43,15 +44,6 @@ const PROFILE: Profile = Profile {
     fragments: true,
     flawed: true,
 };
-
-/// How many frames of a network come between two waits for the other network.
-const BATCH: u64 = 256;
-
-/// Number of batches of a round.
-const BATCHES: u64 = 20;
-
-/// How much later the frames of network B come, in microseconds.
-const SKEW: u64 = 300;
 
 /// The end of a queue, and what was taken of it.
 #[derive(Drop)]
@@ -69,36 +61,6 @@ impl Queue {
             };
             self.digest.add_octets(message.octets.as_slice());
         }
-    }
-}
-
-/// Sums over the replies to both copies of each frame.
-#[derive(Clone, Copy, Drop)]
-struct Replies {
-    verdicts: u64,
-    places: u64,
-}
-
-impl Replies {
-    fn new() -> Replies {
-        Replies {
-            verdicts: 0,
-            places: 0,
-        }
-    }
-
-    /// Adds the reply to a copy of the frame with this number.
-    fn add(&mut self, frame: u64, reply: Reply) {
-        let number = match reply {
-            Reply::Filtered(cause) => cause_number(cause),
-            Reply::Link { vl, place, verdict } => {
-                let place = mixed(mixed(u64::from(vl.0)) ^ place);
-                self.places = self.places.wrapping_add(place);
-                verdict_number(verdict)
-            }
-        };
-        let verdict = mixed(mixed(frame) ^ number);
-        self.verdicts = self.verdicts.wrapping_add(verdict);
     }
 }
 
@@ -160,26 +122,6 @@ fn shares_of(alloc: Global, ends: Vec<LinkEnds>) -> Result<(Share, Share), Memor
         }
     }
     Ok((even, odd))
-}
-
-/// Whether the other thread has ended so many batches, looked at for a while.
-fn has_ended(other: &AtomicU64, batches: u64) -> bool {
-    for _ in 0..100 {
-        if other.load(Ordering::SeqCst) >= batches {
-            return true;
-        }
-    }
-    false
-}
-
-/// Waits until the other thread has ended so many batches. The greatest number says that it has no more.
-fn wait_for<R: Wait>(rt: &R, other: &AtomicU64, batches: u64) {
-    for _ in rt.forever() {
-        if has_ended(other, batches) {
-            return;
-        }
-        thread::yield_now();
-    }
 }
 
 /// Result of a thread.
@@ -286,14 +228,7 @@ fn add_events(digest: &mut Digest, link: &LinkState) {
 
 /// Counts of both networks together, and what was delivered to the first queuing port of the link.
 fn add_link(alloc: Global, digest: &mut Digest, link: &LinkState) -> Result<(), Memory> {
-    for kind in 1..=VERDICT_KINDS {
-        let tally = link.tally();
-        digest.add(
-            tally
-                .count(Net::A, kind)
-                .wrapping_add(tally.count(Net::B, kind)),
-        );
-    }
+    add_tally(digest, link.tally());
     digest.add(link.history().len() as u64);
     for message in link.deliveries(alloc, PortNo(SHAPE.sampling))? {
         digest.add_octets(message.octets.as_slice());

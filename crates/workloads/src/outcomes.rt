@@ -1,7 +1,10 @@
 //! What became of frames, as numbers.
-use crate::digest::Digest;
+use crate::digest::{Digest, mixed};
 use crate::partitions::add_message;
-use es_base::{Event, FilterCause, LinkNo, Memory, Net, PortNo, Verdict};
+use end_system::Reply;
+use es_base::{
+    Event, FilterCause, LinkNo, Memory, Net, PortNo, VERDICT_KINDS, Verdict, VerdictTally,
+};
 use link_receiver::{Epoch, LinkState};
 use std::alloc::Global;
 
@@ -73,4 +76,42 @@ pub(crate) fn add_deliveries(
         }
     }
     Ok(())
+}
+
+/// Adds the counts of a link, of both networks together.
+pub(crate) fn add_tally(digest: &mut Digest, tally: &VerdictTally) {
+    for kind in 1..=VERDICT_KINDS {
+        let on_a = tally.count(Net::A, kind);
+        digest.add(on_a.wrapping_add(tally.count(Net::B, kind)));
+    }
+}
+
+/// Sums over the replies to both copies of each frame.
+#[derive(Clone, Copy, Drop)]
+pub(crate) struct Replies {
+    pub verdicts: u64,
+    pub places: u64,
+}
+
+impl Replies {
+    pub(crate) fn new() -> Replies {
+        Replies {
+            verdicts: 0,
+            places: 0,
+        }
+    }
+
+    /// Adds the reply to a copy of the frame with this number.
+    pub(crate) fn add(&mut self, frame: u64, reply: Reply) {
+        let number = match reply {
+            Reply::Filtered(cause) => cause_number(cause),
+            Reply::Link { vl, place, verdict } => {
+                let place = mixed(mixed(u64::from(vl.0)) ^ place);
+                self.places = self.places.wrapping_add(place);
+                verdict_number(verdict)
+            }
+        };
+        let verdict = mixed(mixed(frame) ^ number);
+        self.verdicts = self.verdicts.wrapping_add(verdict);
+    }
 }

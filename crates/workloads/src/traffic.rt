@@ -48,6 +48,15 @@ pub(crate) struct Sent {
 }
 
 impl Sent {
+    /// What stands where no frame was sent.
+    pub(crate) const NOTHING: Sent = Sent {
+        link: 0,
+        frame: 0,
+        number: 0,
+        time: 0,
+        draw: 0,
+    };
+
     /// When it comes on network B, in microseconds: up to 511 after it came on A, by chance.
     pub(crate) fn later(self) -> u64 {
         self.time.wrapping_add(self.draw & 0x1ff)
