@@ -1,4 +1,5 @@
-use Rattle.std.proofs.Common.{sym, refl, length, take, List}
+use Rattle.std.proofs.Common.{◌≡◌, ◌≤◌, arith, sym, refl, rules, length, take, List}
+use Rattle.std.proofs.lemmas.List.{length-take-le}
 use Rattle.es_base.specs.declared.place.Net.{Net}
 use Rattle.es_base.specs.declared.place.Net.TheVariants.{A, B}
 use Rattle.mailbox_port.specs.Port.{most_readers}
@@ -10,7 +11,7 @@ use Rattle.live_system.specs.Burst.{steps_in_turn}
 use Rattle.live_system.specs.Run.{AreOpened, Does, HasSettled, Passes, Ran, RanAlone, Step, received, net_in}
 use Rattle.live_system.specs.System.{IsPassOf, System}
 use Rattle.live_system.proofs.Running.{ended}
-use Rattle.live_system_example.specs.Whole.{Gave, GaveAll, frame_and_burst}
+use Rattle.live_system_example.specs.Whole.{Gave, GaveAll, frame_and_burst, room}
 use Rattle.live_system_example.proofs.Steps.{of_a, of_b}
 use Rattle.live_system_example.proofs.run.Goals as goal
 
@@ -24,6 +25,8 @@ returns g c =
     let to_b = take (length c.args.on_b.now) c.join-a.result.1.1 in
     let on_b : GaveAll system opening.b c.args.on_b.now c.join-a.result.1.0 to_b = c.join-a.ensures.second in
     let last : Passes = record { a = c.join-a.result.0.0; b = c.join-a.result.1.0 } in
+    let all : length c.join-a.result.1.1 ≡ room = search rules in
+    let few : length c.args.on_b.now ≤ room = c.requires in
     let calls_b = steps_in_turn c.args.on_b.now to_b in
     let call_a = received 1000 c.args.on_a.now c.join-a.result.0.1 in
     let steps : List (Net × Step) = frame_and_burst c.args.on_a.now c.args.on_b.now c.join-a.result.0.1 to_b in
@@ -46,7 +49,6 @@ returns g c =
       system = system;
       of_config = c.in_ok-system.ensures.config;
       ends = ends;
-      to_a = c.join-a.result.0.1;
-      to_b = to_b;
+      each = omega (arith, length-take-le (length c.args.on_b.now) c.join-a.result.1.1 (omega (arith, all, few)));
       ended = ended (λ _. most_readers) system first last ends steps c.settle.result.links.items c.settle.result.a c.settle.result.b opened ran settles;
     }
