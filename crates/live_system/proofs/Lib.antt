@@ -9,3 +9,4 @@ pub mod Knowing
 pub mod Turns
 pub mod InTurn
 pub mod Parts
+pub mod Together

@@ -31,10 +31,10 @@ use Rattle.live_system.proofs.Visits.{is_call, leaves, one_call}
 abbrev LinkUser : Type 0
 LinkUser = KnownPass LiveLink (List Call)
 
-abbrev Timed : Type 0
+abbrev pub Timed : Type 0
 Timed = ℕ × Bor (List ℕ)
 
-abbrev Answer : Type 0
+abbrev pub Answer : Type 0
 Answer = ℕ × Verdict
 
 -- one frame more

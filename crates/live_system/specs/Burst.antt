@@ -1,5 +1,5 @@
 -- Frames that are given at once.
-use Rattle.std.specs.Prelude.{◌≡◌, ℕ, List, [], ◌∷◌, ◌++◌}
+use Rattle.std.specs.Prelude.{◌≡◌, ◌<◌, ◌≤◌, ℕ, suc, ◌+◌, List, [], ◌∷◌, ◌++◌, drop, slice_get, take, Some}
 use Rattle.std.specs.Borrow.{Bor}
 use Rattle.std.specs.List.{All}
 use Rattle.es_base.specs.declared.place.LinkNo.{LinkNo}
@@ -76,3 +76,37 @@ CallsInTurn old (f ∷ fs) (r ∷ rs) new =
     × Calls old (call place f.0 f.1.now verdict) mid × CallsInTurn mid fs rs new
 CallsInTurn old [] (r ∷ rs) new = ⊥
 CallsInTurn old (f ∷ fs) [] new = ⊥
+
+-- ---- the rows of a burst
+
+-- A row of the link at this place: the first of these frames and those after it that come to the link, 8 at most. It has
+-- fewer only where the next frame comes elsewhere, or where there is none.
+-- rule: CONC-6, EMB-32
+pub record IsRow (config : Configuration) (at : ℕ) (frames : Frames) (count : ℕ) : Type 0 where
+  pub some : 0 < count
+  pub few : count ≤ most_in_row
+  pub come : ComeToPlace config at (take count frames)
+  pub whole : count < most_in_row → (f : ℕ × Bor (List ℕ)) → slice_get frames count ≡ Some f → ComesToPlace config f.1.now at → ⊥
+
+-- the events of these replies stand one after another among their link's, from this place on
+-- rule: CONC-6, EMB-32
+abbrev pub StandTogether : ℕ → List Reply → Type 0
+StandTogether place [] = Unit {0}
+StandTogether place (replies.Link vl shows verdict ∷ later) = (shows ≡ shown place) × StandTogether (suc place) later
+StandTogether place (replies.Filtered cause ∷ later) = ⊥
+
+-- If the first of these frames comes to a link, it begins a row of so many, which the link took in one visit: no event
+-- of the other network stands between theirs.
+abbrev pub IsFirstRow : Configuration → Frames → ℕ → List Reply → Type 0
+IsFirstRow config frames count answers =
+    (f : ℕ × Bor (List ℕ)) (at : ℕ) → slice_get frames 0 ≡ Some f → ComesToPlace config f.1.now at
+    → IsRow config at frames count × ((place : ℕ) × StandTogether place (take count answers))
+
+-- The first so many of these frames, as rows: the number of frames of each, the last row first. A filtered frame stands
+-- alone.
+-- rule: CONC-6, EMB-32
+abbrev pub AreInRows : Configuration → List ℕ → Frames → List Reply → ℕ → Type 0
+AreInRows config [] frames answers done = done ≡ 0
+AreInRows config (count ∷ rows) frames answers done =
+    (before : ℕ) × (done ≡ before + count) × AreInRows config rows frames answers before
+    × IsFirstRow config (drop before frames) count (drop before answers)

@@ -11,7 +11,7 @@ ghost use Rattle.receiver.specs.Meetings.{HasOutletAt};
 ghost use Rattle.receiver.specs.Outlet.{reads_by};
 ghost use Rattle.receiver.specs.Port.{IsPortOf, IsQueueOf, ReadsPort, ShowsPort};
 ghost use Rattle.network_calls.specs.Calls.{call, count_calls, user_of};
-ghost use Rattle.live_system.specs.Burst.{AreFramesFor, CallsInTurn, TookInTurn, most_in_row};
+ghost use Rattle.live_system.specs.Burst.{AreFramesFor, CallsInTurn, StandTogether, TookInTurn, most_in_row};
 ghost use Rattle.live_system.specs.Calls.{LiveLink, no_calls};
 ghost use Rattle.live_system.specs.Meetings.{MeetsReader, MeetsTaker};
 ghost use Rattle.live_system.specs.Pass.{AreCountsOf, Calls, Did, IsNewPass, IsNoCall, IsSettled, Visits};
@@ -122,8 +122,8 @@ impl LinkPass {
     }
 
     /// Gives the link frames that came on the pass's network, each at its time, in microseconds: waits until the link
-    /// is free, lets the link take them one after another, and then gives it back. Replies each event's place, which
-    /// saturates at 2^64 - 1, and its verdict. Takes no memory, and can't fail.
+    /// is free, lets the link take them one after another, and then gives it back: one visit. Replies each event's
+    /// place, which saturates at 2^64 - 1, and its verdict. Takes no memory, and can't fail.
     pub(crate) fn receive_row<R: Wait>(
         &mut self,
         rt: &R,
@@ -136,7 +136,8 @@ impl LinkPass {
         requires few { length row.now ≤ most_in_row }
         requires room { length replies.old ≡ length row.now }
         requires frames { (link : LiveLink) × (self.old.link ≡ Some link) × (self.old.counts.vl ≡ link.core.settings.vl) × AreFramesFor link.core.settings.vl row.now }
-        ensures { CallsInTurn self.old row.now replies.new self.new }
+        ensures calls { CallsInTurn self.old row.now replies.new self.new }
+        ensures together { (place : ℕ) × StandTogether place replies.new }
     {
         let net = self.net;
         let answers = lock.visit(

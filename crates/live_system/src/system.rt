@@ -1,6 +1,7 @@
 //! All links, each under a lock of its own.
-ghost use Rattle.std.specs.Prelude.{◌≡◌, ℕ, IfNone, IfSome};
+ghost use Rattle.std.specs.Prelude.{◌≡◌, ℕ, [], ◌∷◌, IfNone, IfSome};
 ghost use Rattle.es_base.specs.Addressing.{ComesToPlace};
+ghost use Rattle.live_system.specs.Burst.{StandTogether};
 ghost use Rattle.live_system.specs.System.{IsPassOf, Replies};
 
 use crate::locked::Locked;
@@ -83,6 +84,7 @@ impl LiveSystem {
         ensures own { IsPassOf self.now pass.new }
         ensures net { pass.new.net ≡ pass.old.net }
         ensures replies { Replies self.now.config pass.old now frame.now.whole.now result pass.new }
+        ensures together { (place : ℕ) × StandTogether place (result ∷ []) }
     {
         let lock = &self.locks[at];
         let (place, verdict) = pass.links[at].receive(rt, lock, now, frame);

@@ -14,7 +14,7 @@
 //!
 //! The ends share one table of 64-bit words, which change in single atomic steps (`atomic_table`): `latest`, an
 //! announcement for each reader, and slots of 186 words, two more than readers (docs/SAMPLING.md has the words and
-//! the steps). By the rule of the table (`Kept` in `specs/Rule.antt`) the words, and what the writer and each
+//! the steps). By the rule of the table (`KeptTable` in `specs/Rule.antt`) the words, and what the writer and each
 //! reader know, are a lawful state of `slot_core`, each call of [`steps`] is one step of that core, and [`laws`]
 //! says what follows at every moment.
 #![tactic(auto)]

@@ -1,10 +1,11 @@
 //! The order in which a document is tested, and documents that are refused as a whole.
 use crate::checks::{Refused, check_fault, check_refused};
 use crate::configurations::{config_of, with_first_line, with_more};
+use es_base::Memory;
 use std::alloc::Global;
 use std::process::Abort;
 use vl_config::ConfigFault::{DoubleLink, Kind, Missing, Range, Text};
-use vl_config::{BUILT_IN, Config, ConfigFault, Key};
+use vl_config::{BUILT_IN, Config, ConfigFault, Key, line_in_octets, place_in_octets};
 
 /// A text, and the fault of the document that is made with it.
 type Row = (&'static str, ConfigFault);
@@ -116,4 +117,35 @@ fn a_document_is_refused_for_one_wrong_value(rt: HostRuntime) {
 fn a_document_that_is_given_twice_is_refused(rt: HostRuntime) {
     let twice = with_more(&rt, rt.alloc(), BUILT_IN);
     check_fault(&rt, rt.alloc(), twice.as_str(), Some(DoubleLink));
+}
+
+/// Octets that are no TOML document, and the line with the octet that is refused.
+type Misplaced = (&'static [u8], u64);
+
+/// A heading without its end, a key with two values, and an octet that is no UTF-8.
+fn lines_of_faults() -> [Misplaced; 3] {
+    [
+        (b"[[link]\nvl = 1\n", 1),
+        (b"[[link]]\nvl = 1\nwindow = = 2\n", 3),
+        (b"[[link]]\nvl = \xff\n", 2),
+    ]
+}
+
+/// The line of the fault Text of these octets. It has no clause, as `read` has none.
+fn line_in(alloc: Global, octets: &[u8]) -> Result<u64, Memory> {
+    let place = place_in_octets(alloc, octets)?;
+    line_in_octets(alloc, octets, Text, place)
+}
+
+fn check_line(rt: &impl Abort, alloc: Global, (octets, line): Misplaced) {
+    let found = line_in(alloc, octets).expect(rt, "memory");
+    assert!(rt; found == line, "{line}: {found}");
+}
+
+// rule: CONF-25
+#[test]
+fn what_is_no_document_is_refused_at_its_line(rt: HostRuntime) {
+    for row in lines_of_faults() {
+        check_line(&rt, rt.alloc(), row);
+    }
 }
