@@ -78,7 +78,7 @@ pub fn run<R: Threads + Wait + Sync>(
         ends: _,
     } = LiveSystem::open(alloc, config, ReaderCount::most())?;
     let shared = &system;
-    let ((a, to_a), (b, to_b)) = join(
+    let (from_a, from_b) = join(
         rt,
         move ||
             requires { IsPassOf shared.now a }
@@ -90,8 +90,11 @@ pub fn run<R: Threads + Wait + Sync>(
             ensures { GaveAll shared.entry.now b on_b.entry.now result.0 (take (length on_b.entry.now) result.1) }
         { give_all(rt, shared, b, on_b) },
     );
+    let (a, to_a) = from_a;
+    let (b, to_b) = from_b;
+    let settled = system.settle(a, b);
     Ok(Ended {
-        settled: system.settle(a, b),
+        settled,
         to_a,
         to_b,
     })
