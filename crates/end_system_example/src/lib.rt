@@ -5,10 +5,20 @@
 ghost use Rattle.std.specs.Prelude.{◌≡◌, IfOk};
 ghost use Rattle.end_system_example.specs.Whole.{IsWhole};
 
-use end_system::{EndSystem, NoGate, Opened, Settled};
+use end_system::{EndSystem, NoGate, Opened, Reply, Settled};
 use es_base::{Config, LinkNo, Memory};
+use link_receiver::Epoch;
 use std::alloc::{AllocError, Global};
 use std::sync::Wait;
+
+/// End of the program: the settled system, the replies to the frame of each network, and the epoch, if the link is there.
+#[derive(Drop)]
+pub struct Ended {
+    pub settled: Settled,
+    pub to_a: Reply,
+    pub to_b: Reply,
+    pub epoch: Option<Epoch>,
+}
 
 /// Gives network A's pass a frame at 1000 microseconds and network B's at 1001, takes an epoch out of the link with
 /// this number by A's pass, and settles the system.
@@ -19,8 +29,8 @@ pub fn run<R: Wait>(
     on_a: &[u8],
     on_b: &[u8],
     vl: LinkNo,
-) -> Result<Settled, Memory>
-    ensures { IfOk result (λ settled. IsWhole config.now on_a.now on_b.now vl settled) }
+) -> Result<Ended, Memory>
+    ensures { IfOk result (λ ended. IsWhole config.now on_a.now on_b.now vl ended.to_a ended.to_b ended.epoch ended.settled) }
 {
     let Opened {
         system,
@@ -28,11 +38,16 @@ pub fn run<R: Wait>(
         mut b,
         ends: _,
     } = EndSystem::open(alloc, config, NoGate)?;
-    let _ = system.receive(rt, alloc, &mut a, 1000, on_a)?;
-    let _ = system.receive(rt, alloc, &mut b, 1001, on_b)?;
-    let _ = match system.take_epoch(rt, alloc, &mut a, vl) {
+    let to_a = system.receive(rt, alloc, &mut a, 1000, on_a)?;
+    let to_b = system.receive(rt, alloc, &mut b, 1001, on_b)?;
+    let epoch = match system.take_epoch(rt, alloc, &mut a, vl) {
         Ok(epoch) => epoch,
         Err(_) => return Err(AllocError),
     };
-    Ok(system.settle(a, b))
+    Ok(Ended {
+        settled: system.settle(a, b),
+        to_a,
+        to_b,
+        epoch,
+    })
 }

@@ -34,13 +34,13 @@ use Rattle.network_calls.proofs.Named.{named_at, other_place, this_place}
 use Rattle.network_calls.proofs.Standing.{stand}
 use Rattle.network_calls.proofs.Rows.{at_place, does_elsewhere, does_here, found_pass, idle_at}
 use Rattle.network_calls.proofs.Settling.{SettledAt, settled_at}
-use Rattle.network_calls.proofs.Threads.{BothKnow, both_know as all_known}
+use Rattle.network_calls.proofs.Threads.{BothKnow, both_know as all_known, each_call}
 use Rattle.live_system.specs.Calls.{LiveLink, as_opened, events_of, new_outlet}
 use Rattle.live_system.specs.LookUps.{IsCounted, calls_on}
 use Rattle.live_system.specs.Pass.{Calls, KnownLink}
 use Rattle.network_calls.specs.Counts.{KnownCounts}
 use Rattle.live_system.specs.System.{AreLetGo, CallsAt, IsNewPassOf, IsPassOf, IsWithoutCalls, KnowLinks, KnownNet, System, on_link, settings_in}
-use Rattle.live_system.specs.Run.{AreOpened, CountsCalls, CountsFiltered, Does, EndsInOneRun, HasEnded, HasSettled, Passes, Ran, Step, call_in, received, calls_in, frame_in, frames_in, met, net_in, shown_call}
+use Rattle.live_system.specs.Run.{AreOpened, CountsCalls, CountsFiltered, Does, EndsInOneRun, HasEnded, HasSettled, IsAnswered, Passes, Ran, Step, call_in, received, calls_in, frame_in, frames_in, met, net_in, shown_call}
 
 -- ---- calls as replies show them
 
@@ -239,6 +239,13 @@ counts_filtered : (system : System) (first : KnownNet) (net : Net) (steps : List
     → CountsFiltered system steps net counts
 counts_filtered system first net steps last counts knows counted kind is = rw (counted.filtered, counted.net, knows.of_net) (knows.filtered net kind is)
 
+-- ---- replies
+
+answered : (system : System) (step : Step) (old new : KnownNet) → Does system step old new → IsAnswered system step
+answered system (received time octets (replies.Filtered cause)) old new does = does.0
+answered system (received time octets (replies.Link vl place verdict)) old new does = (does.0, does.1, does.2)
+answered system met old new does = tt
+
 -- ---- altogether
 
 pub ended : (readers : Port → ℕ) (system : System) (first last : Passes) (ends : List (LinkEnds PartitionEnd)) (steps : List (Net × Step)) (links : List LiveLink) (a b : KnownCounts) → AreOpened readers system first ends
@@ -256,6 +263,7 @@ ended readers system first last ends steps links a b opened ran has_settled =
           let in_config : AreNewLinks ShowsPort (reads_by ReadsPort readers) system.config.links opened.links.opened.links ends = new.links in
           let its = ends_at readers system.config.links opened.links.opened.links first.a.links ends place link.settings of_a.opened in_config opened.links.known_a link.there of_a.was_there in
           (link.settings, at.link, link.there, link.numbered, at.there, ends_in_one_run readers steps link.settings ends place first last links of_a of_b its at);
+      answered = each_call net_in (IsPassOf system) (Does system) (IsAnswered system) (answered system) first last steps ran;
       calls_a = counts_calls system first.a A steps last.a a know.a has_settled.counted_a;
       calls_b = counts_calls system first.b B steps last.b b know.b has_settled.counted_b;
       filtered_a = counts_filtered system first.a A steps last.a a know.a has_settled.counted_a;

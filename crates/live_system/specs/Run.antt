@@ -25,7 +25,7 @@ use Rattle.network_calls.specs.declared.reply.Reply.{Reply}
 use Rattle.network_calls.specs.Calls.{call, calls_from, count_calls}
 use Rattle.network_calls.specs.Counts.{KnownCounts, count_on, number_on}
 use Rattle.network_calls.specs.Places.{StandInTheRun}
-use Rattle.network_calls.specs.Threads.{BothPasses, RanAloneBy, RanBy, all_in, call_replied, latest_first_in}
+use Rattle.network_calls.specs.Threads.{BothPasses, HoldsOfEach, IsReplyTo, RanAloneBy, RanBy, all_in, call_replied, latest_first_in}
 use Rattle.live_system.specs.Calls.{LiveLink, events_of, new_outlet}
 use Rattle.live_system.specs.LookUps.{IsCounted}
 use Rattle.live_system.specs.System.{AreOfNewLinks, AreSettled, IsNewPassOf, IsPassOf, KnownNet, Replies, System}
@@ -92,6 +92,10 @@ frame_in net met = []
 abbrev pub frames_in : Net → List (Net × Step) → List Arrival
 frames_in net steps = latest_first_in (frame_in net) net steps
 
+abbrev pub IsAnswered : System → Step → Type 0
+IsAnswered system (received time octets reply) = IsReplyTo system.config octets reply
+IsAnswered system met = Unit {0}
+
 -- a call as a reply shows it: its place stops at the greatest number of 64 bits
 abbrev pub shown_call : Call → Call
 shown_call c = call (shown c.place) c.time c.frame c.verdict
@@ -124,12 +128,13 @@ CountsCalls system steps net counts =
     → (number_on vl counts.links ≡ shown (length (calls_in net vl steps)))
     × ((kind : ℕ) → IsKind verdict_kinds kind → count_on vl kind counts.net counts.links ≡ shown (count_calls kind (calls_in net vl steps)))
 
--- each link of the configuration ends in one run
+-- each link of the configuration ends in one run, and each reply is that of its frame
 -- rule: CONC-9
 pub record HasEnded (readers : Port → ℕ) (system : System) (steps : List (Net × Step)) (ends : List (LinkEnds PartitionEnd)) (links : List LiveLink) (a b : KnownCounts) : Type 0 where
   pub each : (vl : LinkNo) (place : ℕ) → link_of system.config.links vl ≡ Some place
       → (settings : Settings) × (link : LiveLink) × (slice_get system.config.links place ≡ Some settings) × (settings.vl ≡ vl) × (slice_get links place ≡ Some link)
       × EndsInOneRun readers steps settings ends place link
+  pub answered : HoldsOfEach (IsAnswered system) steps
   pub calls_a : CountsCalls system steps A a
   pub calls_b : CountsCalls system steps B b
   pub filtered_a : CountsFiltered system steps A a

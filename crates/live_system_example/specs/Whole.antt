@@ -1,5 +1,5 @@
 -- End of a system after a frame of network A and a burst of network B.
-use Rattle.std.specs.Prelude.{◌≡◌, ℕ, List, [], ◌∷◌, ◌++◌, map}
+use Rattle.std.specs.Prelude.{◌≡◌, ℕ, List, [], ◌∷◌, ◌++◌, length, map}
 use Rattle.es_base.specs.declared.place.Net.{Net}
 use Rattle.es_base.specs.declared.place.Net.TheVariants.{A, B}
 use Rattle.es_base.specs.Config.{Configuration}
@@ -36,11 +36,10 @@ on_b step = (B, step)
 abbrev pub frame_and_burst : List ℕ → Frames → Reply → List Reply → List (Net × Step)
 frame_and_burst a b to_a to_b = map on_b (steps_in_turn b to_b) ++ (A, received 1000 a to_a) ∷ []
 
--- it ends as the law of all calls says of these
-pub record IsWhole (config : Configuration) (a : List ℕ) (b : Frames) (settled : Settled) : Type 0 where
+-- it ends as the law of all calls says of these, with a reply to each frame
+pub record IsWhole (config : Configuration) (a : List ℕ) (b : Frames) (to_a : Reply) (to_b : List Reply) (settled : Settled) : Type 0 where
   pub system : System
   pub of_config : system.config ≡ config
   pub ends : List (LinkEnds PartitionEnd)
-  pub to_a : Reply
-  pub to_b : List Reply
+  pub each : length to_b ≡ length b
   pub ended : HasEnded (λ _. most_readers) system (frame_and_burst a b to_a to_b) ends settled.links.items settled.a settled.b

@@ -50,6 +50,15 @@ fn give_all<R: Wait>(
     (pass, replies)
 }
 
+/// End of the program: the settled system, and the replies to the frames of each network. Entries of `to_b` past the
+/// burst mean nothing.
+#[derive(Drop)]
+pub struct Ended {
+    pub settled: Settled,
+    pub to_a: Reply,
+    pub to_b: [Reply; ROOM],
+}
+
 /// Gives network A's pass a frame at 1000 microseconds and network B's a burst, each on a thread of its own, and
 /// settles the system.
 pub fn run<R: Threads + Wait + Sync>(
@@ -58,9 +67,9 @@ pub fn run<R: Threads + Wait + Sync>(
     config: &Config,
     on_a: &[u8],
     on_b: &[(u64, &[u8])],
-) -> Result<Settled, Memory>
+) -> Result<Ended, Memory>
     requires { length on_b.now ≤ room }
-    ensures { IfOk result (λ settled. IsWhole config.now on_a.now on_b.now settled) }
+    ensures { IfOk result (λ ended. IsWhole config.now on_a.now on_b.now ended.to_a (take (length on_b.now) ended.to_b) ended.settled) }
 {
     let Opened {
         system,
@@ -69,7 +78,7 @@ pub fn run<R: Threads + Wait + Sync>(
         ends: _,
     } = LiveSystem::open(alloc, config, ReaderCount::most())?;
     let shared = &system;
-    let ((a, _), (b, _)) = join(
+    let (from_a, from_b) = join(
         rt,
         move ||
             requires { IsPassOf shared.now a }
@@ -81,5 +90,12 @@ pub fn run<R: Threads + Wait + Sync>(
             ensures { GaveAll shared.entry.now b on_b.entry.now result.0 (take (length on_b.entry.now) result.1) }
         { give_all(rt, shared, b, on_b) },
     );
-    Ok(system.settle(a, b))
+    let (a, to_a) = from_a;
+    let (b, to_b) = from_b;
+    let settled = system.settle(a, b);
+    Ok(Ended {
+        settled,
+        to_a,
+        to_b,
+    })
 }

@@ -3,7 +3,7 @@ use Rattle.std.proofs.Common.{◌≡◌, true, false, List, [], ◌∷◌, refl,
 use Rattle.es_base.specs.declared.place.Net.{Net}
 use Rattle.es_base.specs.declared.place.Net.TheVariants.{A, B}
 use Rattle.es_base.specs.Integrity.{is_same_net}
-use Rattle.network_calls.specs.Threads.{BothPasses, MakesBy, RanAloneBy, RanBy, steps_of}
+use Rattle.network_calls.specs.Threads.{BothPasses, HoldsOfEach, MakesBy, RanAloneBy, RanBy, steps_of}
 
 -- what is known of each network's pass after some calls of both
 pub record BothKnow {P S : Type 0} (Knows : P → Net → List (Net × S) → P → Type 0) (first : BothPasses P) (steps : List (Net × S)) (now : BothPasses P) : Type 0 where
@@ -20,6 +20,11 @@ module _ {P S : Type 0} (net_in : P → Net) (IsOwn : P → Type 0) (Does : S �
   together first last ((B, step) ∷ steps) a b =
       let before : BothPasses P = record { a = last.a; b = b.0 } in
       (before, together first before steps a b.1, record { own = b.2; of_net = b.3; does = b.4; other = refl })
+
+  -- what holds of a call that was made holds of each of these
+  pub each_call : (holds : S → Type 0) → ((step : S) (old new : P) → Does step old new → holds step) → (first last : BothPasses P) (steps : List (Net × S)) → RanBy net_in IsOwn Does first steps last → HoldsOfEach holds steps
+  each_call holds one first last [] ran = tt
+  each_call holds one first last (step ∷ steps) ran = (one step.1 _ _ ran.2.does, each_call holds one first ran.0 steps ran.1)
 
   -- a call of a network adds to what is known of its pass
   abbrev KnowsMore : (P → Net → List (Net × S) → P → Type 0) → Type 0

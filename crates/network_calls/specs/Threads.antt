@@ -1,9 +1,11 @@
 -- The passes of two threads, one a network, and the calls of both, whatever a pass and a call are. It exists in contracts
 -- alone. The latest call stands first.
-use Rattle.std.specs.Prelude.{◌≡◌, ℕ, ◌==◌, List, [], ◌∷◌, ◌++◌, if◌then◌else◌}
+use Rattle.std.specs.Prelude.{◌≡◌, ℕ, ◌==◌, Err, List, [], ◌∷◌, ◌++◌, if◌then◌else◌}
 use Rattle.es_base.specs.declared.place.LinkNo.{LinkNo}
 use Rattle.es_base.specs.declared.place.Net.{Net}
 use Rattle.es_base.specs.declared.place.Net.TheVariants.{A, B}
+use Rattle.es_base.specs.Addressing.{ComesToPlace, addressed_link, addressee_of}
+use Rattle.es_base.specs.Config.{Configuration}
 use Rattle.es_base.specs.Integrity.{is_same_net}
 use Rattle.network_calls.specs.declared.call.Call.{Call}
 use Rattle.network_calls.specs.declared.reply.Reply.{Reply}
@@ -26,6 +28,11 @@ other_of B passes = passes.a
 abbrev pub steps_of : {S : Type 0} → Net → List (Net × S) → List S
 steps_of net [] = []
 steps_of net (one ∷ earlier) = if is_same_net one.0 net then one.1 ∷ steps_of net earlier else steps_of net earlier
+
+-- this holds of each of these calls of both
+abbrev pub HoldsOfEach : {S : Type 0} → (S → Type 0) → List (Net × S) → Type 0
+HoldsOfEach holds [] = Unit {0}
+HoldsOfEach holds (one ∷ earlier) = holds one.1 × HoldsOfEach holds earlier
 
 -- `P` is what is known of a pass, and `S` what a call was; a pass has a network, may be of the system, and does its calls.
 module _ {P S : Type 0} (net_in : P → Net) (IsOwn : P → Type 0) (Does : S → P → P → Type 0) where
@@ -62,3 +69,9 @@ latest_first_in each_in net (one ∷ earlier) = if is_same_net one.0 net then ea
 abbrev pub call_replied : LinkNo → ℕ → List ℕ → Reply → List Call
 call_replied vl time octets (replies.Filtered cause) = []
 call_replied vl time octets (replies.Link number place verdict) = if number.0 == vl.0 then call place time octets verdict ∷ [] else []
+
+-- the reply to a frame of these octets is of the link to which it comes, or has the cause for which it comes to none
+-- rule: CONC-5, EMB-31
+abbrev pub IsReplyTo : Configuration → List ℕ → Reply → Type 0
+IsReplyTo c octets (replies.Filtered cause) = addressed_link c octets ≡ Err cause
+IsReplyTo c octets (replies.Link vl place verdict) = (at : ℕ) × ComesToPlace c octets at × (vl ≡ addressee_of octets)

@@ -2,18 +2,33 @@
 use crate::running::{LINK_17, built_in, octets_of};
 use es_base::Net::{A, B};
 use es_base::Verdict::Sampled;
-use live_system_example::run;
+use live_system::Reply;
+use live_system_example::{Ended, run};
 use std::alloc::Global;
 use std::process::Abort;
 use std::sync::Wait;
 use std::thread::Threads;
 use test_inputs::rows::{POS, smallest_row};
 
+/// Whether a reply is of link 17.
+fn is_of_link_17(reply: Reply) -> bool {
+    match reply {
+        Reply::Link { vl, .. } => vl == LINK_17,
+        Reply::Filtered(_) => false,
+    }
+}
+
 /// Whichever came first was sampled, and the other one is redundant.
 fn check_example<R: Abort + Threads + Wait + Sync>(rt: &R, alloc: Global) {
     let config = built_in(rt, alloc);
     let frame = octets_of(rt, alloc, smallest_row((A, 1000, 1, Sampled(POS, 1))));
-    let settled = run(rt, alloc, &config, &frame, &[(1001, frame.as_slice())]).expect(rt, "memory");
+    let Ended {
+        settled,
+        to_a,
+        to_b,
+    } = run(rt, alloc, &config, &frame, &[(1001, frame.as_slice())]).expect(rt, "memory");
+    let [to_b, ..] = to_b;
+    assert!(rt; is_of_link_17(to_a) && is_of_link_17(to_b));
     assert!(rt; settled.a.calls(LINK_17) == 1 && settled.b.calls(LINK_17) == 1);
     for link in &settled.links {
         let tally = link.tally();

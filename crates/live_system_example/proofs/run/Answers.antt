@@ -1,4 +1,5 @@
-use Rattle.std.proofs.Common.{sym, refl, length, take, List}
+use Rattle.std.proofs.Common.{◌≡◌, ◌≤◌, arith, sym, refl, rules, length, take, List}
+use Rattle.std.proofs.lemmas.List.{length-take-le}
 use Rattle.es_base.specs.declared.place.Net.{Net}
 use Rattle.es_base.specs.declared.place.Net.TheVariants.{A, B}
 use Rattle.mailbox_port.specs.Port.{most_readers}
@@ -10,7 +11,7 @@ use Rattle.live_system.specs.Burst.{steps_in_turn}
 use Rattle.live_system.specs.Run.{AreOpened, Does, HasSettled, Passes, Ran, RanAlone, Step, received, net_in}
 use Rattle.live_system.specs.System.{IsPassOf, System}
 use Rattle.live_system.proofs.Running.{ended}
-use Rattle.live_system_example.specs.Whole.{Gave, GaveAll, frame_and_burst}
+use Rattle.live_system_example.specs.Whole.{Gave, GaveAll, frame_and_burst, room}
 use Rattle.live_system_example.proofs.Steps.{of_a, of_b}
 use Rattle.live_system_example.proofs.run.Goals as goal
 
@@ -20,13 +21,15 @@ returns g c =
     let system : System = opening.system in
     let first : Passes = record { a = opening.a; b = opening.b } in
     let ends : List (LinkEnds PartitionEnd) = opening.ends.items in
-    let on_a : Gave system opening.a 1000 c.args.on_a.now c.join-a.result.0.0 c.join-a.result.0.1 = c.join-a.ensures.first in
-    let to_b = take (length c.args.on_b.now) c.join-a.result.1.1 in
-    let on_b : GaveAll system opening.b c.args.on_b.now c.join-a.result.1.0 to_b = c.join-a.ensures.second in
-    let last : Passes = record { a = c.join-a.result.0.0; b = c.join-a.result.1.0 } in
+    let on_a : Gave system opening.a 1000 c.args.on_a.now c.join-from_a.result.0.0 c.join-from_a.result.0.1 = c.join-from_a.ensures.first in
+    let to_b = take (length c.args.on_b.now) c.join-from_a.result.1.1 in
+    let on_b : GaveAll system opening.b c.args.on_b.now c.join-from_a.result.1.0 to_b = c.join-from_a.ensures.second in
+    let last : Passes = record { a = c.join-from_a.result.0.0; b = c.join-from_a.result.1.0 } in
+    let all : length c.join-from_a.result.1.1 ≡ room = search rules in
+    let few : length c.args.on_b.now ≤ room = c.requires in
     let calls_b = steps_in_turn c.args.on_b.now to_b in
-    let call_a = received 1000 c.args.on_a.now c.join-a.result.0.1 in
-    let steps : List (Net × Step) = frame_and_burst c.args.on_a.now c.args.on_b.now c.join-a.result.0.1 to_b in
+    let call_a = received 1000 c.args.on_a.now c.join-from_a.result.0.1 in
+    let steps : List (Net × Step) = frame_and_burst c.args.on_a.now c.args.on_b.now c.join-from_a.result.0.1 to_b in
     let opened : AreOpened (λ _. most_readers) system first ends = record {
       own_a = c.in_ok-system.ensures.a.0;
       own_b = c.in_ok-system.ensures.b.0;
@@ -37,16 +40,15 @@ returns g c =
     let ran_a : RanAlone system opening.a (steps_of A steps) last.a = rw (of_a calls_b call_a) (opening.a, refl, on_a.own, on_a.net, on_a.replies) in
     let ran_b : RanAlone system opening.b (steps_of B steps) last.b = rw (of_b calls_b call_a) on_b.replied in
     let ran : Ran system first steps last = together net_in (IsPassOf system) (Does system) first last steps ran_a ran_b in
-    let settles : HasSettled system last c.settle.result.links.items c.settle.result.a c.settle.result.b = record {
-      links = c.settle.ensures.links;
-      counted_a = c.settle.ensures.a;
-      counted_b = c.settle.ensures.b;
+    let settles : HasSettled system last c.settle-settled.result.links.items c.settle-settled.result.a c.settle-settled.result.b = record {
+      links = c.settle-settled.ensures.links;
+      counted_a = c.settle-settled.ensures.a;
+      counted_b = c.settle-settled.ensures.b;
     } in
     record {
       system = system;
       of_config = c.in_ok-system.ensures.config;
       ends = ends;
-      to_a = c.join-a.result.0.1;
-      to_b = to_b;
-      ended = ended (λ _. most_readers) system first last ends steps c.settle.result.links.items c.settle.result.a c.settle.result.b opened ran settles;
+      each = omega (arith, length-take-le (length c.args.on_b.now) c.join-from_a.result.1.1 (omega (arith, all, few)));
+      ended = ended (λ _. most_readers) system first last ends steps c.settle-settled.result.links.items c.settle-settled.result.a c.settle-settled.result.b opened ran settles;
     }
