@@ -1,6 +1,5 @@
 -- The calls of each network among those of both.
 use Rattle.std.proofs.Common.{◌≡◌, ap, refl, List, [], ◌∷◌, ◌++◌, map}
-use Rattle.es_base.specs.declared.place.Net.{Net}
 use Rattle.es_base.specs.declared.place.Net.TheVariants.{A, B}
 use Rattle.network_calls.specs.Threads.{steps_of}
 use Rattle.live_system.specs.Run.{Step}
