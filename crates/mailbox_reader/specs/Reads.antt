@@ -19,7 +19,7 @@ pub record PortReader : Type 0 where
 abbrev pub told : PortReader → List Published → PortReader
 told v published = record { mailbox = told_mailbox v.mailbox published; refresh = v.refresh }
 
--- the reader of the same mailbox looked at it
+-- the reader of the same mailbox looked at it, once
 -- rule: EMB-9
 pub record IsLookOf (v w : PortReader) : Type 0 where
   pub reader : IsReadOf v.mailbox.reader w.mailbox.reader
