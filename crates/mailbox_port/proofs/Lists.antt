@@ -6,7 +6,7 @@ use Rattle.std.proofs.lemmas.List.Elements.{All-cons, All-nil}
 use Rattle.atomic_table.specs.Seated.{TableId}
 use Rattle.es_base.specs.declared.event.Message.{Message}
 use Rattle.triple_buffer.specs.Ends.{WriterEnd, new_reader, with_published}
-use Rattle.mailbox_port.specs.Port.{AreAlike, IsMailboxOf, buffers_of, mailboxes_from, new_mailboxes, new_port, port_end, port_with, published_of, steps_of, writer_at}
+use Rattle.mailbox_port.specs.Port.{AreAlike, IsMailboxOf, buffers_of, mailboxes_from, new_mailboxes, new_port, port_end, port_with, published_of, steps_at_each, writer_at}
 use Rattle.mailbox_port.specs.declared.port.Mailbox.{Mailbox}
 
 -- the first so many of these published a message more
@@ -42,7 +42,7 @@ pub one_more : (ws : List WriterEnd) (m : Message) → 0 < length ws → publish
 one_more [] m some = absurd (omega (arith, some))
 one_more (w ∷ ws) m some = refl
 
-one_step_more : (ws : List WriterEnd) (m : Message) → 0 < length ws → steps_of (map (λ (w : WriterEnd). with_published w m) ws) ≡ steps_of ws + 1
+one_step_more : (ws : List WriterEnd) (m : Message) → 0 < length ws → steps_at_each (map (λ (w : WriterEnd). with_published w m) ws) ≡ steps_at_each ws + 1
 one_step_more [] m some = absurd (omega (arith, some))
 one_step_more (w ∷ ws) m some = refl
 

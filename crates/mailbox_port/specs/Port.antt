@@ -30,9 +30,9 @@ published_of [] = []
 published_of (writer ∷ writers) = writer.published
 
 -- how many steps the first of these writers made, as each of them did
-abbrev pub steps_of : List WriterEnd → ℕ
-steps_of [] = 0
-steps_of (writer ∷ writers) = writer.steps
+abbrev pub steps_at_each : List WriterEnd → ℕ
+steps_at_each [] = 0
+steps_at_each (writer ∷ writers) = writer.steps
 
 -- a writer that made one step for each message
 abbrev pub writer_at : ℕ → List Message → TableId → WriterEnd
@@ -42,7 +42,7 @@ abbrev pub buffers_of : List WriterEnd → List TableId
 buffers_of writers = map (λ (writer : WriterEnd). writer.buffer) writers
 
 abbrev pub port_end : List WriterEnd → ℕ → PortEnd
-port_end writers longest = record { buffers = buffers_of writers; longest = longest; published = published_of writers; steps = steps_of writers }
+port_end writers longest = record { buffers = buffers_of writers; longest = longest; published = published_of writers; steps = steps_at_each writers }
 
 -- there is a writer, and each published the same, in one step for each message
 pub record AreAlike (writers : List WriterEnd) (longest count : ℕ) : Type 0 where

@@ -57,3 +57,9 @@ pub record IsRead (v w : PortReader) (before out : List ℕ) (answer : Reading) 
   pub looked : IsLookOf v w
   pub message : IfMessage answer (λ number time len _. IsReadAs w.mailbox.reader.seen before out number time len)
   pub empty : IfEmpty answer ((w.mailbox.reader.seen ≡ []) × (out ≡ before))
+
+-- what a read tells of a port that has published these
+-- rule: EMB-8
+abbrev pub TellsNewest : List Published → List ℕ → List ℕ → Reading → Type 0
+TellsNewest published before out (Message number time len validity) = IsReadAs published before out number time len
+TellsNewest published before out Empty = (published ≡ []) × (out ≡ before)
