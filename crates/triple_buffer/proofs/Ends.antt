@@ -75,13 +75,6 @@ sent_writer me me1 me2 slot slot' longest count sent i same t =
       count_is = ap (λ (n : ℕ). n + 1) i.count_is ∙ sym (length-append (writer_of me.0).published (message_in sent ∷ [])) ∙ sym (ap (λ (z : SeatView). length (writer_of z).published) view);
     }
 
-pub sent_list : (me me1 me2 : At) (slot slot' longest number : ℕ) (sent : Latest) (message : Message) → me1.0 ≡ me.0 → IsFilledAt me.1 me1.1 slot number message → me1.1 ≡ (slot, Some sent) ∷ [] → IsPublishedBy longest me1 me2 sent slot'
-    → (writer_of me2.0).published ≡ (writer_of me.0).published ++ message ∷ []
-sent_list me me1 me2 slot slot' longest number sent message same f holds t =
-    let is : f.4.1 ≡ sent = one_place me1.1 slot slot f.4.1 sent (f.3 ∙ ap (λ (x : Option Latest). (slot, x) ∷ []) f.4.3) holds in
-    ap (λ (z : SeatView). (writer_of z).published) t.view ∙ ap (λ (z : SeatView). (writer_of z).published ++ message_in sent ∷ []) same
-    ∙ ap (λ (m : Message). (writer_of me.0).published ++ m ∷ []) (ap message_in (sym is) ∙ f.4.5)
-
 -- the reader looked, and has the last message that was published
 pub all_seen : (me me' : At) (slot longest : ℕ) (has : Option Latest) → IsReaderSeat me slot longest has → me'.1 ≡ me.1 → me'.0 ≡ Reads (sees_all (reader_of me.0)) → IsReaderSeat me' slot longest has
 all_seen me me' slot longest has i same is = subst (λ (y : At). IsReaderSeat y slot longest has) (sym (at_view me me' _ is same)) (record {

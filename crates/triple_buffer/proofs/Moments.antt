@@ -1,5 +1,5 @@
 -- The laws of a running triple buffer.
-use Rattle.std.proofs.Common.{◌≡◌, ℕ, ◌<◌, List, [], length, sym, ap, ◌∙◌, subst, arith}
+use Rattle.std.proofs.Common.{◌≡◌, ℕ, ◌<◌, List, length, sym, ap, ◌∙◌, subst, arith}
 use mathlib.Core.Option.{some}
 use Rattle.es_base.specs.declared.event.Message.{Message}
 use Rattle.triple_buffer.specs.declared.latest.Latest.{Latest}
