@@ -6,7 +6,7 @@ use Rattle.std.proofs.lemmas.List.Elements.{All-cons, All-nil}
 use Rattle.atomic_table.specs.Seated.{TableId}
 use Rattle.es_base.specs.declared.event.Message.{Message}
 use Rattle.triple_buffer.specs.Ends.{WriterEnd, new_reader, with_published}
-use Rattle.mailbox_port.specs.Port.{AreAlike, IsMailboxOf, buffers_of, mailboxes_from, new_mailboxes, new_port, port_end, port_with, published_of, writer_at}
+use Rattle.mailbox_port.specs.Port.{AreAlike, IsMailboxOf, buffers_of, mailboxes_from, new_mailboxes, new_port, port_end, port_with, published_of, steps_at_each, writer_at}
 use Rattle.mailbox_port.specs.declared.port.Mailbox.{Mailbox}
 
 -- the first so many of these published a message more
@@ -42,9 +42,16 @@ pub one_more : (ws : List WriterEnd) (m : Message) → 0 < length ws → publish
 one_more [] m some = absurd (omega (arith, some))
 one_more (w ∷ ws) m some = refl
 
+one_step_more : (ws : List WriterEnd) (m : Message) → 0 < length ws → steps_at_each (map (λ (w : WriterEnd). with_published w m) ws) ≡ steps_at_each ws + 1
+one_step_more [] m some = absurd (omega (arith, some))
+one_step_more (w ∷ ws) m some = refl
+
 all_alike : (longest : ℕ) (all : List Message) (bs : List TableId) (m : Message) → map (λ (w : WriterEnd). with_published w m) (map (writer_at longest all) bs) ≡ map (writer_at longest (all ++ m ∷ [])) bs
 all_alike longest all [] m = refl
-all_alike longest all (b ∷ bs) m = ap (λ (l : List WriterEnd). writer_at longest (all ++ m ∷ []) b ∷ l) (all_alike longest all bs m)
+all_alike longest all (b ∷ bs) m =
+    let count : length all + 1 ≡ length (all ++ m ∷ []) = sym (length-append all (m ∷ [])) in
+    ap (λ (steps : ℕ). record { buffer = b; longest = longest; published = all ++ m ∷ []; steps = steps } ∷ map (λ (w : WriterEnd). with_published w m) (map (writer_at longest all) bs)) count
+    ∙ ap (λ (l : List WriterEnd). writer_at longest (all ++ m ∷ []) b ∷ l) (all_alike longest all bs m)
 
 count_all : (ws : List WriterEnd) (m : Message) → length (map (λ (w : WriterEnd). with_published w m) ws) ≡ length ws
 count_all [] m = refl
@@ -61,7 +68,7 @@ alike_after ws longest count m a =
     }
 
 pub end_after : (ws : List WriterEnd) (longest : ℕ) (m : Message) → 0 < length ws → port_end (map (λ (w : WriterEnd). with_published w m) ws) longest ≡ port_with (port_end ws longest) m
-end_after ws longest m some = λ i. record { buffers = same_buffers ws m i; longest = longest; published = one_more ws m some i }
+end_after ws longest m some = λ i. record { buffers = same_buffers ws m i; longest = longest; published = one_more ws m some i; steps = one_step_more ws m some i }
 
 -- each of them published the same, and takes as long messages
 at_alike : (longest : ℕ) (all : List Message) (bs : List TableId) (n : ℕ) (d : WriterEnd) → n < length (map (writer_at longest all) bs) → (get_or (map (writer_at longest all) bs) n d).longest ≡ longest

@@ -16,38 +16,47 @@ is_reader_count count = nat_le 1 count && nat_le count most_readers
 
 -- ---- the end that publishes
 
--- the buffers of its mailboxes, the longest message in octets, and what was published
+-- the buffers of its mailboxes, the longest message in octets, what was published, and how many steps it made at each
+-- mailbox, each an exchange of the word
 pub record PortEnd : Type 0 where
   pub buffers : List TableId
   pub longest : ℕ
   pub published : List Message
+  pub steps : ℕ
 
 -- what the first of these writers published, as each of them did
 abbrev pub published_of : List WriterEnd → List Message
 published_of [] = []
 published_of (writer ∷ writers) = writer.published
 
+-- how many steps the first of these writers made, as each of them did
+abbrev pub steps_at_each : List WriterEnd → ℕ
+steps_at_each [] = 0
+steps_at_each (writer ∷ writers) = writer.steps
+
+-- a writer that made one step for each message
 abbrev pub writer_at : ℕ → List Message → TableId → WriterEnd
-writer_at longest published buffer = record { buffer = buffer; longest = longest; published = published }
+writer_at longest published buffer = record { buffer = buffer; longest = longest; published = published; steps = length published }
 
 abbrev pub buffers_of : List WriterEnd → List TableId
 buffers_of writers = map (λ (writer : WriterEnd). writer.buffer) writers
 
 abbrev pub port_end : List WriterEnd → ℕ → PortEnd
-port_end writers longest = record { buffers = buffers_of writers; longest = longest; published = published_of writers }
+port_end writers longest = record { buffers = buffers_of writers; longest = longest; published = published_of writers; steps = steps_at_each writers }
 
--- there is a writer, and each published the same
+-- there is a writer, and each published the same, in one step for each message
 pub record AreAlike (writers : List WriterEnd) (longest count : ℕ) : Type 0 where
   pub some : 0 < length writers
   pub same : writers ≡ map (writer_at longest (published_of writers)) (buffers_of writers)
   pub count_is : count ≡ length (published_of writers)
 
 abbrev pub new_port : List TableId → ℕ → PortEnd
-new_port buffers longest = record { buffers = buffers; longest = longest; published = [] }
+new_port buffers longest = record { buffers = buffers; longest = longest; published = []; steps = 0 }
 
+-- one message more is published, in one step at each mailbox
 -- rule: PORT-7
 abbrev pub port_with : PortEnd → Message → PortEnd
-port_with port message = record port { published = port.published ++ message ∷ [] }
+port_with port message = record port { published = port.published ++ message ∷ []; steps = port.steps + 1 }
 
 -- ---- its mailboxes
 

@@ -19,8 +19,8 @@ pub struct Mailbox {
     pub place: usize,
 }
 
-/// Publishing end of a port. Contracts see the buffers of its mailboxes, the longest message in octets, and each
-/// published message, in order.
+/// Publishing end of a port. Contracts see the buffers of its mailboxes, the longest message in octets, each published
+/// message, in order, and the steps at each mailbox.
 #[derive(Drop)]
 pub struct PortWriter {
     writers: Vec<Writer>,

@@ -19,7 +19,7 @@ pub record PortReader : Type 0 where
 abbrev pub told : PortReader → List Published → PortReader
 told v published = record { mailbox = told_mailbox v.mailbox published; refresh = v.refresh }
 
--- the reader of the same mailbox looked at it
+-- the reader of the same mailbox looked at it, once
 -- rule: EMB-9
 pub record IsLookOf (v w : PortReader) : Type 0 where
   pub reader : IsReadOf v.mailbox.reader w.mailbox.reader
@@ -57,3 +57,9 @@ pub record IsRead (v w : PortReader) (before out : List ℕ) (answer : Reading) 
   pub looked : IsLookOf v w
   pub message : IfMessage answer (λ number time len _. IsReadAs w.mailbox.reader.seen before out number time len)
   pub empty : IfEmpty answer ((w.mailbox.reader.seen ≡ []) × (out ≡ before))
+
+-- what a read tells of a port that has published these
+-- rule: EMB-8
+abbrev pub TellsNewest : List Published → List ℕ → List ℕ → Reading → Type 0
+TellsNewest published before out (Message number time len validity) = IsReadAs published before out number time len
+TellsNewest published before out Empty = (published ≡ []) × (out ≡ before)

@@ -15,6 +15,7 @@
 //! ```
 #![tactic(auto)]
 
+pub mod laws;
 mod reader;
 mod reading;
 

@@ -68,7 +68,7 @@ impl MailboxReader {
 
     /// Reads the newest message at `now` microseconds, of the clock of the arrival times. The octets that fit are
     /// copied to the beginning of `out`, and `len` is the length of the whole message: if it is at most that of `out`,
-    /// all of the message is there. All other octets of `out` are unchanged. At most two atomic steps.
+    /// all of the message is there. All other octets of `out` are unchanged. One look, of one or two atomic steps.
     pub fn read(&mut self, now: u64, out: &mut [u8]) -> Reading
         ensures looked { IsLookOf self.old self.new }
         ensures message { IfMessage result (λ number time len _. IsReadAs self.new.mailbox.reader.seen out.old out.new number time len) }
@@ -91,7 +91,7 @@ impl MailboxReader {
         }
     }
 
-    /// Takes the newest message, if it is newer than the reader's. At most two atomic steps.
+    /// Takes the newest message, if it is newer than the reader's. One look, of one or two atomic steps.
     pub fn update(&mut self)
         ensures { IsLookOf self.old self.new }
     {

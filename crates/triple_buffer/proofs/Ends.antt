@@ -1,5 +1,5 @@
 -- What the ends keep.
-use Rattle.std.proofs.Common.{◌≡◌, ℕ, ◌+◌, List, [], ◌∷◌, ◌++◌, length, sym, refl, ap, ◌∙◌, subst, arith, true, length-append, append-nil, get_or, Option, None, Some}
+use Rattle.std.proofs.Common.{◌≡◌, ℕ, ◌+◌, ◌<◌, List, [], ◌∷◌, ◌++◌, length, sym, refl, ap, ◌∙◌, subst, arith, Bool, true, false, length-append, append-nil, get_or, Option, None, Some}
 use Rattle.es_base.specs.declared.event.Message.{Message}
 use Rattle.std.proofs.lemmas.List.{nil_from_length}
 use mathlib.Core.Option.{none}
@@ -11,7 +11,7 @@ use Rattle.triple_buffer.specs.declared.rule.ReaderView.{ReaderView}
 use Rattle.triple_buffer.specs.declared.rule.SeatView.TheVariants.{Writes, Reads}
 use Rattle.triple_buffer.specs.Rule.{HasRoom, IsLastOf, StartsWith, first_reader, first_writer, message_in, place_of_word}
 use Rattle.triple_buffer.specs.Plays.{At, IsFilledAt, learns, published, publishes, reader_enters, reader_of, sees_all, sees_newer, taken, takes, writer_enters, writer_of}
-use Rattle.triple_buffer.specs.Ends.{IsReadOf, IsReaderSeat, IsReceived, IsPublishedBy, IsWriter, MayReceive, MaySend, ReaderEnd, has_all, is_told, reader_end}
+use Rattle.triple_buffer.specs.Ends.{HasAll, IsLookMade, IsReadOf, IsReaderSeat, IsReceived, IsPublishedBy, IsWriter, LookSteps, MayReceive, MaySend, ReaderEnd, is_told, reader_end}
 use Rattle.triple_buffer.proofs.Turns.{May, receive_at, send_at, starts_same, starts_trans}
 
 -- a seat with this view, and with the place as before
@@ -75,13 +75,6 @@ sent_writer me me1 me2 slot slot' longest count sent i same t =
       count_is = ap (λ (n : ℕ). n + 1) i.count_is ∙ sym (length-append (writer_of me.0).published (message_in sent ∷ [])) ∙ sym (ap (λ (z : SeatView). length (writer_of z).published) view);
     }
 
-pub sent_list : (me me1 me2 : At) (slot slot' longest number : ℕ) (sent : Latest) (message : Message) → me1.0 ≡ me.0 → IsFilledAt me.1 me1.1 slot number message → me1.1 ≡ (slot, Some sent) ∷ [] → IsPublishedBy longest me1 me2 sent slot'
-    → (writer_of me2.0).published ≡ (writer_of me.0).published ++ message ∷ []
-sent_list me me1 me2 slot slot' longest number sent message same f holds t =
-    let is : f.4.1 ≡ sent = one_place me1.1 slot slot f.4.1 sent (f.3 ∙ ap (λ (x : Option Latest). (slot, x) ∷ []) f.4.3) holds in
-    ap (λ (z : SeatView). (writer_of z).published) t.view ∙ ap (λ (z : SeatView). (writer_of z).published ++ message_in sent ∷ []) same
-    ∙ ap (λ (m : Message). (writer_of me.0).published ++ m ∷ []) (ap message_in (sym is) ∙ f.4.5)
-
 -- the reader looked, and has the last message that was published
 pub all_seen : (me me' : At) (slot longest : ℕ) (has : Option Latest) → IsReaderSeat me slot longest has → me'.1 ≡ me.1 → me'.0 ≡ Reads (sees_all (reader_of me.0)) → IsReaderSeat me' slot longest has
 all_seen me me' slot longest has i same is = subst (λ (y : At). IsReaderSeat y slot longest has) (sym (at_view me me' _ is same)) (record {
@@ -109,6 +102,7 @@ all_seen_end table table' longest me me' same is begins =
       newest = ap (λ (z : SeatView). (reader_of z).known) is ∙ sym now;
       seen = subst (λ (l : List Message). StartsWith l r.seen) (sym now) (starts_same r.seen);
       known = subst (λ (l : List Message). StartsWith l r.known) (sym now) begins;
+      look = record { newer = false; looks = ap (λ (z : SeatView). (reader_of z).looks) is; steps = (now, ap (λ (z : SeatView). (reader_of z).steps) is) };
     }
 
 -- it looked, and saw that there is a newer one
@@ -148,12 +142,20 @@ received_end table table' longest slot slot' before me me' has has' same i looke
     let r = reader_of before.0 in
     let now : (reader_of me'.0).seen ≡ t.all = ap (λ (z : SeatView). (reader_of z).seen) t.view in
     let known : StartsWith t.all r.known = subst (λ (l : List Message). StartsWith t.all l) (ap (λ (z : SeatView). (reader_of z).known) looked) t.known in
+    let more : length r.seen < length t.all = subst (λ (l : List Message). length l < length t.all) (ap (λ (z : SeatView). (reader_of z).seen) looked) t.more in
+    let exchanged : (reader_of me'.0).steps ≡ (reader_of me.0).steps + 1 = ap (λ (z : SeatView). (reader_of z).steps) t.view in
+    let loaded : (reader_of me.0).steps ≡ r.steps + 1 = ap (λ (z : SeatView). (reader_of z).steps) looked in
     record {
       buffer = same;
       longest = refl;
       newest = ap (λ (z : SeatView). (reader_of z).known) t.view ∙ sym now;
       seen = subst (λ (l : List Message). StartsWith l r.seen) (sym now) (starts_trans t.all r.known r.seen known i.seen);
       known = subst (λ (l : List Message). StartsWith l r.known) (sym now) known;
+      look = record {
+        newer = true;
+        looks = ap (λ (z : SeatView). (reader_of z).looks) t.view ∙ ap (λ (z : SeatView). (reader_of z).looks) looked;
+        steps = (subst (λ (l : List Message). length r.seen < length l) (sym now) more, omega (arith, exchanged, loaded));
+      };
     }
 
 -- ---- two meetings
@@ -167,16 +169,26 @@ alike xs ys a b =
     sym (a.1 ∙ ap (λ (l : List Message). ys ++ l) nothing ∙ append-nil ys)
 
 -- it was told these, looked, and was told them again
-pub has_last : (v t w u : ReaderEnd) (all : List Message) → t ≡ is_told v all → IsReadOf t w → u ≡ is_told w all → StartsWith all w.known → u ≡ has_all v all
+pub has_last : (v t w u : ReaderEnd) (all : List Message) → t ≡ is_told v all → IsReadOf t w → u ≡ is_told w all → StartsWith all w.known → HasAll v u all
 has_last v t w u all told read again before =
     let later : StartsWith w.seen all = subst (λ (l : List Message). StartsWith w.seen l) (ap (λ (z : ReaderEnd). z.known) told) read.known in
     let same : w.seen ≡ all = alike all w.seen (subst (λ (l : List Message). StartsWith all l) read.newest before) later in
-    again ∙ (λ i. record {
-      buffer = (read.buffer ∙ ap (λ (z : ReaderEnd). z.buffer) told) i;
-      longest = (read.longest ∙ ap (λ (z : ReaderEnd). z.longest) told) i;
-      seen = same i;
-      known = all;
-    })
+    record {
+      buffer = ap (λ (z : ReaderEnd). z.buffer) again ∙ read.buffer ∙ ap (λ (z : ReaderEnd). z.buffer) told;
+      longest = ap (λ (z : ReaderEnd). z.longest) again ∙ read.longest ∙ ap (λ (z : ReaderEnd). z.longest) told;
+      seen = ap (λ (z : ReaderEnd). z.seen) again ∙ same;
+      known = ap (λ (z : ReaderEnd). z.known) again;
+    }
+
+told_steps : (v w : ReaderEnd) (all : List Message) (newer : Bool) → LookSteps (is_told v all) w newer → LookSteps v (is_told w all) newer
+told_steps v w all false steps = steps
+told_steps v w all true steps = steps
+
+-- and it made the one look
+pub looked_once : (v t w u : ReaderEnd) (all : List Message) → t ≡ is_told v all → IsReadOf t w → u ≡ is_told w all → IsLookMade v u
+looked_once v t w u all told read again =
+    let look : IsLookMade (is_told v all) w = subst (λ (z : ReaderEnd). IsLookMade z w) told read.look in
+    subst (λ (z : ReaderEnd). IsLookMade v z) (sym again) (record { newer = look.newer; looks = look.looks; steps = told_steps v w all look.newer look.steps })
 
 -- ---- the steps of a publication and of a read
 
@@ -231,6 +243,7 @@ received longest slot found has back me me1 me2 me3 i put told out left =
       room = told.5 ∙ ap (λ (r : ReaderView). r.longest) same ∙ i.longest_is;
       last = told.6;
       known = subst (λ (r : ReaderView). StartsWith told.0 r.known) same told.7;
+      more = subst (λ (r : ReaderView). length r.seen < length told.0) same told.8;
     }
 
 -- ---- the opening

@@ -38,6 +38,7 @@ opens_at longest a b c has_a has_b has_c empty = record {
     room = has_b;
     newest = λ h. absurd (omega (arith, h));
     all_seen = λ _. refl;
+    fresh = λ h. absurd (omega (arith, h));
     known = starts_same [];
     seen = starts_same [];
     newer = λ h. absurd (cc);

@@ -30,6 +30,9 @@ starts_trans all seen before a b = (b.0 ++ a.0, a.1 ∙ ap (λ (l : List Message
 pub starts_same : (all : List Message) → StartsWith all all
 starts_same all = ([], sym (append-nil all))
 
+pub starts_size : (all first : List Message) → StartsWith all first → length first ≤ length all
+starts_size all first a = let size = ap (λ (l : List Message). length l) a.1 ∙ length-append first a.0 in omega (arith, size)
+
 not_both : {A : Type 0} (b : Bool) → b ≡ true → b ≡ false → A
 not_both b t f = absurd (cc)
 
@@ -68,6 +71,10 @@ module _ (longest n : ℕ) (hs : Homes) (w : WriterView) (r : ReaderView) (l : L
         room = room;
         newest = λ _. record { number = number ∙ sym (length-append w.published (message_in own ∷ [])); last = λ _. (w.published, refl) };
         all_seen = λ h. absurd (omega (arith, h));
+        fresh = λ _.
+            let one_more = length-append w.published (message_in own ∷ []) in
+            let known = starts_size w.published r.known l.known in let seen = starts_size r.known r.seen l.seen in
+            omega (arith, one_more, known, seen);
         known = starts_trans all w.published r.known (message_in own ∷ [], refl) l.known;
         seen = l.seen;
         newer = λ _. omega arith;
@@ -89,6 +96,7 @@ module _ (longest n : ℕ) (hs : Homes) (w : WriterView) (r : ReaderView) (l : L
         room = room;
         newest = λ h. absurd (omega (arith, h, low));
         all_seen = λ _. refl;
+        fresh = λ h. absurd (omega (arith, h, low));
         known = starts_same w.published;
         seen = starts_same w.published;
         newer = λ h. not_both false h refl;
@@ -107,6 +115,7 @@ module _ (longest n : ℕ) (hs : Homes) (w : WriterView) (r : ReaderView) (l : L
     room = l.room;
     newest = l.newest;
     all_seen = l.all_seen;
+    fresh = l.fresh;
     known = l.known;
     seen = l.seen;
     newer = λ _. more;
@@ -114,9 +123,10 @@ module _ (longest n : ℕ) (hs : Homes) (w : WriterView) (r : ReaderView) (l : L
     readers = l.readers;
   }
 
-  -- the reader knows these messages to be published
-  pub known_keeps : (all : List Message) → StartsWith w.published all → StartsWith all r.seen → LawfulBuffers longest n hs w (learns r all)
-  known_keeps all begins seen = record {
+  -- the reader knows these messages to be published, after these looks and so many steps
+  pub known_keeps : (all : List Message) (looks : List Bool) (steps : ℕ) → StartsWith w.published all → StartsWith all r.seen
+      → LawfulBuffers longest n hs w (record (learns r all) { looks = looks; steps = steps })
+  known_keeps all looks steps begins seen = record {
     count = l.count;
     places = l.places;
     apart = l.apart;
@@ -126,6 +136,7 @@ module _ (longest n : ℕ) (hs : Homes) (w : WriterView) (r : ReaderView) (l : L
     room = l.room;
     newest = l.newest;
     all_seen = l.all_seen;
+    fresh = l.fresh;
     known = begins;
     seen = seen;
     newer = l.newer;
@@ -144,6 +155,7 @@ module _ (longest n : ℕ) (hs : Homes) (w : WriterView) (r : ReaderView) (l : L
     room = l.room;
     newest = l.newest;
     all_seen = l.all_seen;
+    fresh = l.fresh;
     known = l.known;
     seen = l.seen;
     newer = l.newer;
@@ -162,6 +174,7 @@ module _ (longest n : ℕ) (hs : Homes) (w : WriterView) (r : ReaderView) (l : L
     room = l.room;
     newest = l.newest;
     all_seen = l.all_seen;
+    fresh = l.fresh;
     known = l.known;
     seen = l.seen;
     newer = l.newer;
@@ -263,7 +276,7 @@ module _ (longest slots id : ℕ) where
         chain gives (takes (place_of_word n) (Some l.latest)),
         (tt, still longest n s.homes k.writer r l r.slot own l.apart.1),
         reader_turns longest s k id r mine r.slot _ _ (take_keeps longest n s.homes k.writer r l own room entered),
-        (k.writer.published, l.latest, refl, refl, l.places.0, l.room ∙ sym l.longest_is.1, l.newest (l.newer newer), l.known),
+        (k.writer.published, l.latest, refl, refl, l.places.0, l.room ∙ sym l.longest_is.1, l.newest (l.newer newer), l.known, l.fresh (l.newer newer)),
       )
 
   pub receive_at : (me : At) (r : ReaderView) (slot : ℕ) (own : Latest) → me ≡ (Reads r, (slot, Some own) ∷ []) → r.slot ≡ slot → HasRoom longest own → r.newer ≡ true → r.has ≡ true
@@ -281,7 +294,7 @@ module _ (longest slots id : ℕ) where
         Reads (sees_all r),
         keeps,
         tt,
-        reader_turns longest s k id r mine n _ _ (known_keeps longest n s.homes k.writer r l r.seen (subst (λ (z : List Message). StartsWith z r.seen) same (starts_same r.seen)) (starts_same r.seen)),
+        reader_turns longest s k id r mine n _ _ (known_keeps longest n s.homes k.writer r l r.seen (r.looks ++ false ∷ []) (r.steps + 1) (subst (λ (z : List Message). StartsWith z r.seen) same (starts_same r.seen)) (starts_same r.seen)),
         (refl, (λ more. absurd (omega (arith, less, more))), λ _. (refl, begins)),
       ) in
       let more : 4 ≤ n → Z = λ more. (
@@ -330,7 +343,7 @@ module _ (longest slots id : ℕ) where
       let n = get_or s.words 0 0 in
       let me = k.seats id (Meets w r) mine in
       let l : LawfulBuffers longest n s.homes w r = subst (λ (z : WriterView). LawfulBuffers longest n s.homes z r) (sym me.0.0) (subst (λ (z : ReaderView). LawfulBuffers longest n s.homes k.writer z) (sym me.1.0) k.lawful) in
-      let ok = known_keeps longest n s.homes w r l w.published (starts_same w.published) (starts_trans w.published r.known r.seen l.known l.seen) in (
+      let ok = known_keeps longest n s.homes w r l w.published r.looks r.steps (starts_same w.published) (starts_trans w.published r.known r.seen l.known l.seen) in (
         Meets w (learns r w.published),
         keeps,
         tt,

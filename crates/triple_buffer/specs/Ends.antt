@@ -1,5 +1,5 @@
 -- What a contract sees of the ends of a triple buffer.
-use Rattle.std.specs.Prelude.{◌≡◌, ℕ, ◌+◌, ◌<◌, true, List, [], ◌∷◌, ◌++◌, length, Option, None, Some}
+use Rattle.std.specs.Prelude.{◌≡◌, ℕ, ◌+◌, ◌<◌, Bool, true, false, List, [], ◌∷◌, ◌++◌, length, Option, None, Some}
 use Rattle.atomic_table.specs.Seated.{TableId}
 use Rattle.es_base.specs.declared.event.Message.{Message}
 use Rattle.triple_buffer.specs.Rule.{HasRoom, IsLastOf, StartsWith, message_in}
@@ -10,36 +10,66 @@ use Rattle.triple_buffer.specs.declared.rule.SeatView.TheVariants.{Writes, Reads
 abbrev pub most_messages : ℕ
 most_messages = 1152921504606846975
 
--- a writer: the messages that it published
+-- a writer: the messages that it published, and how many steps it made, each an exchange of the word
 pub record WriterEnd : Type 0 where
   pub buffer : TableId
   pub longest : ℕ
   pub published : List Message
+  pub steps : ℕ
 
--- a reader: the messages up to its own, and all known to be published
+-- a reader: the messages up to its own, all known to be published, its looks, true for each that found a newer message,
+-- and how many steps it made, each a load or an exchange of the word
 pub record ReaderEnd : Type 0 where
   pub buffer : TableId
   pub longest : ℕ
   pub seen : List Message
   pub known : List Message
+  pub looks : List Bool
+  pub steps : ℕ
 
 abbrev pub writer_end : TableId → ℕ → At → WriterEnd
-writer_end buffer longest me = record { buffer = buffer; longest = longest; published = (writer_of me.0).published }
+writer_end buffer longest me = record {
+  buffer = buffer;
+  longest = longest;
+  published = (writer_of me.0).published;
+  steps = (writer_of me.0).steps;
+}
 
 abbrev pub reader_end : TableId → ℕ → At → ReaderEnd
-reader_end buffer longest me = record { buffer = buffer; longest = longest; seen = (reader_of me.0).seen; known = (reader_of me.0).known }
+reader_end buffer longest me = record {
+  buffer = buffer;
+  longest = longest;
+  seen = (reader_of me.0).seen;
+  known = (reader_of me.0).known;
+  looks = (reader_of me.0).looks;
+  steps = (reader_of me.0).steps;
+}
 
 abbrev pub new_writer : TableId → ℕ → WriterEnd
-new_writer buffer longest = record { buffer = buffer; longest = longest; published = [] }
+new_writer buffer longest = record { buffer = buffer; longest = longest; published = []; steps = 0 }
 
 abbrev pub new_reader : TableId → ℕ → ReaderEnd
-new_reader buffer longest = record { buffer = buffer; longest = longest; seen = []; known = [] }
+new_reader buffer longest = record { buffer = buffer; longest = longest; seen = []; known = []; looks = []; steps = 0 }
 
+-- one message more is published, in one step
 abbrev pub with_published : WriterEnd → Message → WriterEnd
-with_published writer message = record writer { published = writer.published ++ message ∷ [] }
+with_published writer message = record writer { published = writer.published ++ message ∷ []; steps = writer.steps + 1 }
 
--- It looked: it has the last message that was published then. So it has no older one than before, and none older than
--- one of which it knew.
+-- the steps of a look: a load, and an exchange too if it found a newer message, which it then has
+-- rule: CONC-17
+abbrev pub LookSteps : ReaderEnd → ReaderEnd → Bool → Type 0
+LookSteps v w false = (w.seen ≡ v.seen) × (w.steps ≡ v.steps + 1)
+LookSteps v w true = (length v.seen < length w.seen) × (w.steps ≡ v.steps + 2)
+
+-- it made one look
+-- rule: CONC-17, EMB-9
+pub record IsLookMade (v w : ReaderEnd) : Type 0 where
+  pub newer : Bool
+  pub looks : w.looks ≡ v.looks ++ newer ∷ []
+  pub steps : LookSteps v w newer
+
+-- It looked once: it has the last message that was published at its look. So it has no older one than before, and none
+-- older than one of which it knew.
 -- rule: CONC-17, EMB-9
 pub record IsReadOf (v w : ReaderEnd) : Type 0 where
   pub buffer : w.buffer ≡ v.buffer
@@ -47,6 +77,7 @@ pub record IsReadOf (v w : ReaderEnd) : Type 0 where
   pub newest : w.known ≡ w.seen
   pub seen : StartsWith w.seen v.seen
   pub known : StartsWith w.seen v.known
+  pub look : IsLookMade v w
 
 -- it knows these to be published
 -- rule: PORT-18
@@ -54,8 +85,11 @@ abbrev pub is_told : ReaderEnd → List Message → ReaderEnd
 is_told reader published = record reader { known = published }
 
 -- it has the last of these messages, and knows no more
-abbrev pub has_all : ReaderEnd → List Message → ReaderEnd
-has_all reader published = record reader { seen = published; known = published }
+pub record HasAll (v w : ReaderEnd) (published : List Message) : Type 0 where
+  pub buffer : w.buffer ≡ v.buffer
+  pub longest : w.longest ≡ v.longest
+  pub seen : w.seen ≡ published
+  pub known : w.known ≡ published
 
 -- ---- what the ends keep
 
@@ -129,3 +163,4 @@ pub record IsReceived (longest : ℕ) (before after : At) (slot : ℕ) (has : Op
   pub room : HasRoom longest own
   pub last : IsLastOf own all
   pub known : StartsWith all (reader_of before.0).known
+  pub more : length (reader_of before.0).seen < length all

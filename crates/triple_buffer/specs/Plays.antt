@@ -1,5 +1,5 @@
 -- What each step tells its seat.
-use Rattle.std.specs.Prelude.{◌≡◌, ℕ, ◌<◌, ◌≤◌, true, false, List, [], ◌∷◌, ◌++◌, length, Option, Some}
+use Rattle.std.specs.Prelude.{◌≡◌, ℕ, ◌+◌, ◌<◌, ◌≤◌, true, false, List, [], ◌∷◌, ◌++◌, length, Option, Some}
 use Rattle.atomic_table.specs.Table.{Me, Step}
 use Rattle.es_base.specs.declared.event.Message.{Message}
 use Rattle.triple_buffer.specs.Rule.{HasRoom, IsLastOf, StartsWith, message_in, place_of_word, first_writer, first_reader}
@@ -35,8 +35,9 @@ abbrev pub IsFilledAt : List (ℕ × Option Latest) → List (ℕ × Option Late
 IsFilledAt before after slot number message = (old : Option Latest) × (new : Option Latest) × (before ≡ (slot, old) ∷ []) × (after ≡ (slot, new) ∷ [])
     × IsFilled old new number message
 
+-- one step more
 abbrev pub publishes : WriterView → Message → ℕ → WriterView
-publishes writer message slot = record writer { published = writer.published ++ message ∷ []; slot = slot }
+publishes writer message slot = record writer { published = writer.published ++ message ∷ []; slot = slot; steps = writer.steps + 1 }
 
 -- it swapped its buffer, which has this message, with the one between the ends
 -- rule: CONC-16
@@ -47,14 +48,26 @@ published step me found me' = (slot : ℕ) (own : Latest) → me.1 ≡ (slot, So
 
 -- ---- the reader
 
+-- one step more, which was a look that found a newer message
 abbrev pub sees_newer : ReaderView → ReaderView
-sees_newer reader = record reader { newer = true }
+sees_newer reader = record reader { newer = true; looks = reader.looks ++ true ∷ []; steps = reader.steps + 1 }
 
+-- one step more, which was a look that found none
 abbrev pub sees_all : ReaderView → ReaderView
-sees_all reader = record reader { known = reader.seen }
+sees_all reader = record reader { known = reader.seen; looks = reader.looks ++ false ∷ []; steps = reader.steps + 1 }
 
+-- one step more
 abbrev pub takes : ReaderView → List Message → ℕ → ReaderView
-takes reader all slot = record { seen = all; known = all; newer = false; slot = slot; has = reader.has; longest = reader.longest }
+takes reader all slot = record {
+  seen = all;
+  known = all;
+  newer = false;
+  slot = slot;
+  has = reader.has;
+  longest = reader.longest;
+  looks = reader.looks;
+  steps = reader.steps + 1;
+}
 
 -- it loaded the word: there is a newer message between the ends, or it has the last that was published
 -- rule: CONC-16
@@ -62,14 +75,15 @@ abbrev pub looked : Step (Option Latest) → At → ℕ → At → Type 0
 looked step me found me' = (me'.1 ≡ me.1) × (4 ≤ found → me'.0 ≡ Reads (sees_newer (reader_of me.0)))
     × (found < 4 → (me'.0 ≡ Reads (sees_all (reader_of me.0))) × StartsWith (reader_of me.0).seen (reader_of me.0).known)
 
--- it swapped its buffer with the one between the ends, which has the last message that was published
+-- it swapped its buffer with the one between the ends, which has the last message that was published, a newer one than
+-- its own
 -- rule: CONC-16
 abbrev pub taken : Step (Option Latest) → At → ℕ → At → Type 0
 taken step me found me' = (all : List Message) × (latest : Latest) × (me'.0 ≡ Reads (takes (reader_of me.0) all (place_of_word found)))
     × (me'.1 ≡ (place_of_word found, Some latest) ∷ []) × (place_of_word found < 3) × HasRoom (reader_of me.0).longest latest × IsLastOf latest all
-    × StartsWith all (reader_of me.0).known
+    × StartsWith all (reader_of me.0).known × (length (reader_of me.0).seen < length all)
 
--- ---- the opening: the two are parted, and each takes its buffer
+-- ---- the opening: the two are parted, and each takes its buffer. It counts no step
 
 abbrev pub parted : SeatView → SeatView
 parted (Meets writer reader) = Reads reader
@@ -87,7 +101,8 @@ abbrev pub reader_enters : Step (Option Latest) → At → ℕ → At → Type 0
 reader_enters step me found me' = (own : Latest) × (me'.0 ≡ Reads (record (reader_of me.0) { has = true }))
     × (me'.1 ≡ ((reader_of me.0).slot, Some own) ∷ []) × HasRoom (reader_of me.0).longest own × IsLastOf own (reader_of me.0).seen
 
--- ---- a meeting: the writer's seat joins the reader's, which learns what is published, and is parted from it again
+-- ---- a meeting: the writer's seat joins the reader's, which learns what is published, and is parted from it again. It
+-- counts no step
 
 abbrev pub learns : ReaderView → List Message → ReaderView
 learns reader all = record reader { known = all }

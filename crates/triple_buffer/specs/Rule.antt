@@ -52,6 +52,7 @@ pub record LawfulBuffers (longest word : ℕ) (homes : List (maybe.Option (Optio
   pub room : HasRoom longest latest
   pub newest : 4 ≤ word → IsLastOf latest w.published
   pub all_seen : word < 4 → r.seen ≡ w.published
+  pub fresh : 4 ≤ word → length r.seen < length w.published
   pub known : StartsWith w.published r.known
   pub seen : StartsWith r.known r.seen
   pub newer : r.newer ≡ true → 4 ≤ word
@@ -79,7 +80,7 @@ pub record KeptTable (longest : ℕ) (s : table.State (Option Latest) SeatView) 
 -- ---- before the first step: the word is 1
 
 abbrev pub first_writer : ℕ → WriterView
-first_writer longest = record { published = []; slot = 0; has = false; longest = longest }
+first_writer longest = record { published = []; slot = 0; has = false; longest = longest; steps = 0 }
 
 abbrev pub first_reader : ℕ → ReaderView
-first_reader longest = record { seen = []; known = []; newer = false; slot = 2; has = false; longest = longest }
+first_reader longest = record { seen = []; known = []; newer = false; slot = 2; has = false; longest = longest; looks = []; steps = 0 }
