@@ -155,6 +155,7 @@ impl RingPutter {
         ensures end { self.new ≡ record self.old { taken = self.new.taken; looks = self.new.looks } }
         ensures told { BeginsWith self.new.taken self.old.taken }
         ensures room { IsTrue result → length self.new.put < length self.new.taken + self.new.depth }
+        ensures begins { BeginsWith self.new.put self.new.taken }
         ensures full { IsFalse result → SeemsFull self.new }
         ensures full_before { IsFalse result → SeemsFull self.old }
         ensures room_is_known { length self.old.put < length self.old.taken + self.old.depth → IsTrue result }

@@ -80,8 +80,9 @@ impl OctetPutter {
         ensures value { result ≡ known_free self.new.end }
         ensures look { self.new.looks.count ≡ self.old.looks.count + 1 }
     {
+        let free = self.end.slots();
         self.looks = self.looks.and_one();
-        self.end.slots()
+        free
     }
 
     /// Puts these octets, for which there is room. It is no look.

@@ -1,7 +1,7 @@
 use Rattle.std.proofs.Common.{◌≡◌, true, false, ⊎_elim, arith}
 use Rattle.std.proofs.lemmas.Bool.{cases_Bool}
 use Rattle.message_ring.specs.Queue.{SeemsFull}
-use Rattle.message_ring.proofs.Puts.{look_keeps, look_told, full_all, full_put, looks_for_room, room_all}
+use Rattle.message_ring.proofs.Puts.{begins_put, look_keeps, look_told, full_all, full_put, looks_for_room, room_all}
 use Rattle.message_ring.proofs.RingPutter.has_room.Goals as goal
 
 pub invariant_of-self : goal.invariant_of-self
@@ -35,3 +35,6 @@ returns-clause-room_is_known c = λ less.
 pub returns-clause-looked : goal.returns-clause-looked
 returns-clause-looked c =
     rw (← c.self.view_is) (looks_for_room c.self.inside.max c.self.inside.depth c.self.inside.needed c.self.inside.latest c.self.inside.ring.end c.self.inside.ring.looks.count _ c.self.invariant.0 c.has_room.ensures.look c.has_room.ensures.no_look)
+
+pub returns-clause-begins : goal.returns-clause-begins
+returns-clause-begins c = begins_put c.self.inside.max c.has_room.new.ring.end
