@@ -19,7 +19,7 @@ mod wait;
 ghost use Rattle.std.specs.Prelude.{◌≡◌, ◌+◌, ◌*◌, ◌<◌, ◌≤◌, ℕ, length, take, drop, slice_get, Some, IfOk, OnOk, OnErr, IfSome, IfNone, IsOk, IsSome, IsTrue, IsFalse};
 ghost use Rattle.message_ring.specs.Ends.{octets_of_last, width};
 ghost use Rattle.es_base.specs.Queue.{BeginsWith};
-ghost use Rattle.message_ring.specs.Queue.{LooksForRoom, SeemsEmpty, SeemsFull, looked, message, opened, with_put, with_taken};
+ghost use Rattle.message_ring.specs.Queue.{IsFullByLook, LooksForRoom, SeemsEmpty, SeemsFull, looked, message, opened, with_put, with_taken};
 
 use crate::ends::{has_room, next_head, pop_octets, push_message};
 use crate::head::{Head, most_at_once};
@@ -155,11 +155,11 @@ impl RingPutter {
         ensures end { self.new ≡ record self.old { taken = self.new.taken; looks = self.new.looks } }
         ensures told { BeginsWith self.new.taken self.old.taken }
         ensures room { IsTrue result → length self.new.put < length self.new.taken + self.new.depth }
-        ensures begins { BeginsWith self.new.put self.new.taken }
         ensures full { IsFalse result → SeemsFull self.new }
         ensures full_before { IsFalse result → SeemsFull self.old }
         ensures room_is_known { length self.old.put < length self.old.taken + self.old.depth → IsTrue result }
         ensures looked { LooksForRoom self.old self.new }
+        ensures refused { IsFalse result → IsFullByLook self.old self.new }
     {
         has_room(&mut self.ring, self.needed)
     }

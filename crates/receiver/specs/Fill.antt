@@ -9,6 +9,7 @@ use Rattle.receiver.specs.declared.port.PortOutlet.{PortOutlet}
 use Rattle.receiver.specs.declared.port.PortOutlet.TheVariants as outlets
 use Rattle.receiver.specs.declared.queue.Fill.{Fill}
 use Rattle.receiver.specs.Link.{Ported, deliveries_of}
+use Rattle.receiver.specs.Port.{LooksOnce}
 use Rattle.receiver.specs.Queue.{IsGreatest}
 
 -- of these messages so many wait in the queue, all but those that its putter knows to be taken, and no more than the
@@ -35,6 +36,21 @@ IsFillOfPort None (Some outlet) messages fill = ⊥
 -- at the port with this number of a link
 abbrev pub IsFillAt : Ported PortOutlet → PortNo → Option Fill → Type 0
 IsFillAt link port fill = IsFillOfPort (slice_get link.core.settings.ports port.0) (slice_get link.outlets port.0) (deliveries_of link port) fill
+
+-- the queue of a port was looked at once, where there is one
+abbrev pub LooksAt : Option PortOutlet → Option PortOutlet → Type 0
+LooksAt None None = Unit {0}
+LooksAt (Some old) (Some new) = LooksOnce old new
+LooksAt (Some old) None = ⊥
+LooksAt None (Some new) = ⊥
+
+-- so it was at the port with this number of the link that there may be
+-- rule: EMB-7
+abbrev pub LooksIn : Option (Ported PortOutlet) → Option (Ported PortOutlet) → PortNo → Type 0
+LooksIn None None port = Unit {0}
+LooksIn (Some old) (Some new) port = LooksAt (slice_get old.outlets port.0) (slice_get new.outlets port.0)
+LooksIn (Some old) None port = ⊥
+LooksIn None (Some new) port = ⊥
 
 -- of the link that there may be
 -- rule: EMB-7

@@ -1,7 +1,9 @@
-use Rattle.std.proofs.Common.{◌≡◌, true, false, ⊎_elim, arith}
+use Rattle.std.proofs.Common.{◌≡◌, ◌∙◌, ap, true, false, ⊎_elim, List, length, arith}
+use Rattle.std.proofs.lemmas.List.{length-append}
+use Rattle.message_ring.specs.Stream.{Message}
 use Rattle.std.proofs.lemmas.Bool.{cases_Bool}
 use Rattle.message_ring.specs.Queue.{SeemsFull}
-use Rattle.message_ring.proofs.Puts.{begins_put, look_keeps, look_told, full_all, full_put, looks_for_room, room_all}
+use Rattle.message_ring.proofs.Puts.{begins_put, less_free, look_keeps, look_told, full_all, full_put, looks_for_room, room_all}
 use Rattle.message_ring.proofs.RingPutter.has_room.Goals as goal
 
 pub invariant_of-self : goal.invariant_of-self
@@ -36,5 +38,13 @@ pub returns-clause-looked : goal.returns-clause-looked
 returns-clause-looked c =
     rw (← c.self.view_is) (looks_for_room c.self.inside.max c.self.inside.depth c.self.inside.needed c.self.inside.latest c.self.inside.ring.end c.self.inside.ring.looks.count _ c.self.invariant.0 c.has_room.ensures.look c.has_room.ensures.no_look)
 
-pub returns-clause-begins : goal.returns-clause-begins
-returns-clause-begins c = begins_put c.self.inside.max c.has_room.new.ring.end
+pub returns-clause-refused : goal.returns-clause-refused
+returns-clause-refused c = λ is.
+    let max = c.self.inside.max in
+    let b = c.has_room.new.ring.end in
+    let keeps = look_keeps _ _ _ _ c.self.inside.ring.end b c.self.invariant.0 c.has_room.ensures.looked in
+    let full = full_all max c.self.inside.depth c.self.inside.needed c.self.inside.latest b keeps (c.has_room.ensures.full is) in
+    let less = less_free c.self.inside.ring.end b c.self.inside.needed c.has_room.ensures.looked (c.has_room.ensures.full is) in
+    let begins = begins_put max b in
+    let long = ap (λ (l : List Message). length l) begins.1 ∙ length-append _ begins.0 in
+    rw (← c.self.view_is) (record { looked = c.has_room.ensures.look less; held = begins.0; full = omega (arith, full, long); last = begins.1 })
