@@ -107,7 +107,7 @@ impl CountingPutter {
         ensures putter { self.new ≡ record self.old { known = record self.old.known { taken = self.new.known.taken } } }
         ensures told { BeginsWith self.new.known.taken taker.old.taken }
         ensures kept { BeginsWith self.new.known.taken self.old.known.taken }
-        ensures taker { (taker.new.queue ≡ taker.old.queue) × (taker.new.depth ≡ taker.old.depth) × (taker.new.taken ≡ taker.old.taken) × (taker.new.put ≡ self.old.known.put) }
+        ensures taker { (taker.new.queue ≡ taker.old.queue) × (taker.new.depth ≡ taker.old.depth) × (taker.new.taken ≡ taker.old.taken) × (taker.new.put ≡ self.old.known.put) × (taker.new.looks ≡ taker.old.looks) }
         ensures known { BeginsWith taker.new.put taker.old.put }
         ensures begins { BeginsWith taker.new.put taker.new.taken }
         ensures held { length taker.new.put ≤ length taker.new.taken + taker.old.depth }
