@@ -11,7 +11,7 @@ use Rattle.byteorder.specs.Numbers.{big_from-append}
 use Rattle.message_ring.specs.Stream.{Message, len_of, time_of_octets, message_of_octets, Reading, reading, read_on, nothing_read, messages, begun}
 use Rattle.message_ring.specs.Ends.{IsHead, IsBegun, Seen, taker_of}
 use Rattle.es_base.specs.Queue.{BeginsWith}
-use Rattle.message_ring.specs.Queue.{message, with_taken, looked}
+use Rattle.message_ring.specs.Queue.{after_look, message, with_taken}
 use Rattle.message_ring.specs.declared.head.Head.{Head}
 use Rattle.message_ring.proofs.Reading.{read_more, read_whole, read_part, begins_more, begins_length, begins_all}
 
@@ -167,7 +167,7 @@ with_body max r k r1 k1 r2 k2 body head seen p few long is q =
 
 module _ {P : Type 0} where
   pub same_view : (max depth : ℕ) (a b : Consumer ℕ Global P) → SameConsumer a b → messages max (received b) ≡ messages max (received a)
-      → messages max (received b ++ known_items b) ≡ messages max (received a) → messages max (received a ++ known_items a) ≡ messages max (received a) → (looks looks' : ℕ) → looks' ≡ looks + 1 → taker_of b max depth looks' ≡ looked (taker_of a max depth looks)
+      → messages max (received b ++ known_items b) ≡ messages max (received a) → messages max (received a ++ known_items a) ≡ messages max (received a) → (looks looks' : ℕ) → looks' ≡ looks + 1 → taker_of b max depth looks' ≡ after_look (taker_of a max depth looks)
   same_view max depth a b same taken now before looks looks' once i = record {
     queue = record { words = same.0.0 i; slots = same.0.1 i; names = same.0.2 i; heap = same.0.3 i; max = max };
     depth = depth;

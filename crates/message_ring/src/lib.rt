@@ -19,7 +19,7 @@ mod wait;
 ghost use Rattle.std.specs.Prelude.{◌≡◌, ◌+◌, ◌*◌, ◌<◌, ◌≤◌, ℕ, length, take, drop, slice_get, Some, IfOk, OnOk, OnErr, IfSome, IfNone, IsOk, IsSome, IsTrue, IsFalse};
 ghost use Rattle.message_ring.specs.Ends.{octets_of_last, width};
 ghost use Rattle.es_base.specs.Queue.{BeginsWith};
-ghost use Rattle.message_ring.specs.Queue.{IsFullByLook, LooksForRoom, SeemsEmpty, SeemsFull, looked, message, opened, with_put, with_taken};
+ghost use Rattle.message_ring.specs.Queue.{IsFullByLook, LooksForRoom, SeemsEmpty, SeemsFull, after_look, message, opened, with_put, with_taken};
 
 use crate::ends::{has_room, next_head, pop_octets, push_message};
 use crate::head::{Head, most_at_once};
@@ -211,7 +211,7 @@ impl RingPutter {
         ensures ok { OnOk result (self.new ≡ with_put self.old (message time octets.now) self.new.taken self.new.looks) }
         ensures told { BeginsWith self.new.taken self.old.taken }
         ensures depth { length self.new.put ≤ length self.new.taken + self.old.depth }
-        ensures err { OnErr result (self.new ≡ looked self.old) }
+        ensures err { OnErr result (self.new ≡ after_look self.old) }
         ensures seems_full { OnErr result (SeemsFull self.old) }
         ensures room_is_known { length self.old.put < length self.old.taken + self.old.depth → IsOk result }
         ensures looked { LooksForRoom self.old self.new }
@@ -243,7 +243,7 @@ impl RingTaker {
         ensures rest { IfSome result (λ got. drop got.len out.new ≡ drop got.len out.old) }
         ensures told { BeginsWith self.new.put self.old.put }
         ensures begins { BeginsWith self.new.put self.new.taken }
-        ensures none { IfNone result ((self.new ≡ looked self.old) × (out.new ≡ out.old)) }
+        ensures none { IfNone result ((self.new ≡ after_look self.old) × (out.new ≡ out.old)) }
         ensures seems_empty { IfNone result (SeemsEmpty self.old) }
         ensures next_is_known { length self.old.taken < length self.old.put → IsSome result }
         ensures next { IfSome result (λ got. length self.old.taken < length self.old.put →

@@ -51,6 +51,7 @@ pub(crate) struct OctetTaker {
 }
 
 impl OctetPutter {
+    #[inline(always)]
     pub(crate) fn new(end: Producer<u8>) -> OctetPutter
         ensures { (result.end ≡ end) × (result.looks.count ≡ 0) }
     {
@@ -60,6 +61,7 @@ impl OctetPutter {
         }
     }
 
+    #[inline(always)]
     pub(crate) fn capacity(&self) -> usize
         ensures { result ≡ producer_capacity self.now.end }
     {
@@ -67,6 +69,7 @@ impl OctetPutter {
     }
 
     /// Octets that this end knows to be free, without a look.
+    #[inline(always)]
     pub(crate) fn cached_slots(&self) -> usize
         ensures { result ≡ known_free self.now.end }
     {
@@ -100,6 +103,7 @@ impl OctetPutter {
     }
 
     /// What the other end took, where both ends are at hand: a meeting, and no look.
+    #[inline(always)]
     pub(crate) fn slots_beside(&mut self, taker: &mut OctetTaker)
         requires { IsPair self.old.end taker.old.end }
         ensures looked { ProducerLooked self.old.end self.new.end }
@@ -112,6 +116,7 @@ impl OctetPutter {
 }
 
 impl OctetTaker {
+    #[inline(always)]
     pub(crate) fn new(end: Consumer<u8>) -> OctetTaker
         ensures { (result.end ≡ end) × (result.looks.count ≡ 0) }
     {
@@ -151,6 +156,7 @@ impl OctetTaker {
     }
 
     /// What the other end put, where both ends are at hand: a meeting, and no look.
+    #[inline(always)]
     pub(crate) fn slots_beside(&mut self, putter: &mut OctetPutter)
         requires { IsPair putter.old.end self.old.end }
         ensures looked { ConsumerLooked self.old.end self.new.end }
