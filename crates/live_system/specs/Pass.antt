@@ -12,8 +12,8 @@ use Rattle.link_core.specs.Counted.{shown}
 use Rattle.link_lock.specs.declared.user.User.{User}
 use Rattle.link_lock.specs.Lists.{both_lists}
 use Rattle.link_lock.specs.Pass.{KnownPass, LockId}
-use Rattle.receiver.specs.Link.{Takes, TakesIfKnown}
-use Rattle.receiver.specs.Port.{AnswersPort, GivesPort, HasSpacePort, ShowsPort}
+use Rattle.receiver.specs.Link.{OverflowsIfRefused, Takes, TakesIfKnown}
+use Rattle.receiver.specs.Port.{AnswersPort, GivesPort, HasSpacePort, RefusesPort, ShowsPort}
 use Rattle.network_calls.specs.declared.call.Call.{Call}
 use Rattle.network_calls.specs.declared.counts.LinkCounts.{LinkCounts}
 use Rattle.network_calls.specs.Calls.{count_calls, user_of}
@@ -49,9 +49,11 @@ pub record Visits (pass : KnownLink) (did : LiveLink → LiveLink → Type 0) : 
 -- ---- a frame
 
 -- What one call did to a link: the place that it shows, and its verdict. Where the queue of the frame's port is known
--- to have room, before or after, the verdict is that with room.
+-- to have room, before or after, the verdict is that with room; a message overflows only where its queue refused it by
+-- a look in this call.
 abbrev pub Did : Arrival → LiveLink → LiveLink → ℕ × Verdict → Type 0
-Did a old new answer = Takes ShowsPort GivesPort AnswersPort old new a answer.0 answer.1 × TakesIfKnown HasSpacePort old new a answer.1
+Did a old new answer =
+    Takes ShowsPort GivesPort AnswersPort old new a answer.0 answer.1 × TakesIfKnown HasSpacePort old new a answer.1 × OverflowsIfRefused RefusesPort old new a answer.1
 
 -- One more call, the result of its visit, at its place, and it is counted; nothing else of the pass changes.
 -- rule: EMB-30

@@ -10,8 +10,8 @@ use mathlib.Core.List.{IsPrefix}
 use Rattle.byteorder.specs.Numbers.{big_from-append}
 use Rattle.message_ring.specs.Stream.{Message, len_of, time_of_octets, message_of_octets, Reading, reading, read_on, nothing_read, messages, begun}
 use Rattle.message_ring.specs.Ends.{IsHead, IsBegun, Seen, taker_of}
-use Rattle.es_base.specs.Queue.{BeginsWith, with_taken}
-use Rattle.message_ring.specs.Queue.{message}
+use Rattle.es_base.specs.Queue.{BeginsWith}
+use Rattle.message_ring.specs.Queue.{after_look, message, with_taken}
 use Rattle.message_ring.specs.declared.head.Head.{Head}
 use Rattle.message_ring.proofs.Reading.{read_more, read_whole, read_part, begins_more, begins_length, begins_all}
 
@@ -167,22 +167,24 @@ with_body max r k r1 k1 r2 k2 body head seen p few long is q =
 
 module _ {P : Type 0} where
   pub same_view : (max depth : ℕ) (a b : Consumer ℕ Global P) → SameConsumer a b → messages max (received b) ≡ messages max (received a)
-      → messages max (received b ++ known_items b) ≡ messages max (received a) → messages max (received a ++ known_items a) ≡ messages max (received a) → taker_of b max depth ≡ taker_of a max depth
-  same_view max depth a b same taken now before i = record {
+      → messages max (received b ++ known_items b) ≡ messages max (received a) → messages max (received a ++ known_items a) ≡ messages max (received a) → (looks looks' : ℕ) → looks' ≡ looks + 1 → taker_of b max depth looks' ≡ after_look (taker_of a max depth looks)
+  same_view max depth a b same taken now before looks looks' once i = record {
     queue = record { words = same.0.0 i; slots = same.0.1 i; names = same.0.2 i; heap = same.0.3 i; max = max };
     depth = depth;
     put = (now ∙ sym before) i;
     taken = taken i;
+    looks = once i;
   }
 
   pub same_trans : (a b d : Consumer ℕ Global P) → SameConsumer a b → SameConsumer b d → SameConsumer a d
   same_trans a b d x y = ((y.0.0 ∙ x.0.0, y.0.1 ∙ x.0.1, y.0.2 ∙ x.0.2, y.0.3 ∙ x.0.3), y.1 ∙ x.1)
 
   pub took_view : (max depth : ℕ) (a b : Consumer ℕ Global P) (m : Message) → SameConsumer a b → messages max (received b) ≡ messages max (received a) ++ m ∷ []
-      → taker_of b max depth ≡ with_taken (taker_of a max depth) m (taker_of b max depth).put
-  took_view max depth a b m same taken i = record {
+      → (looks looks' : ℕ) → looks' ≡ looks → taker_of b max depth looks' ≡ with_taken (taker_of a max depth looks) m (taker_of b max depth looks').put
+  took_view max depth a b m same taken looks looks' none i = record {
     queue = record { words = same.0.0 i; slots = same.0.1 i; names = same.0.2 i; heap = same.0.3 i; max = max };
     depth = depth;
-    put = (taker_of b max depth).put;
+    put = (taker_of b max depth looks').put;
     taken = taken i;
+    looks = none i;
   }

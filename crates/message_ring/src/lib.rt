@@ -13,23 +13,25 @@
 
 mod ends;
 mod head;
+mod look;
 mod wait;
 
 ghost use Rattle.std.specs.Prelude.{◌≡◌, ◌+◌, ◌*◌, ◌<◌, ◌≤◌, ℕ, length, take, drop, slice_get, Some, IfOk, OnOk, OnErr, IfSome, IfNone, IsOk, IsSome, IsTrue, IsFalse};
 ghost use Rattle.message_ring.specs.Ends.{octets_of_last, width};
-ghost use Rattle.es_base.specs.Queue.{BeginsWith, Holds, opened, with_put, with_taken};
-ghost use Rattle.message_ring.specs.Queue.{SeemsEmpty, SeemsFull, message};
+ghost use Rattle.es_base.specs.Queue.{BeginsWith};
+ghost use Rattle.message_ring.specs.Queue.{IsFullByLook, LooksForRoom, SeemsEmpty, SeemsFull, after_look, message, opened, with_put, with_taken};
 
 use crate::ends::{has_room, next_head, pop_octets, push_message};
 use crate::head::{Head, most_at_once};
+use crate::look::{OctetPutter, OctetTaker};
 use crate::wait::{last_with, size_at};
 use circular_buffer::HeapCircularBuffer;
 pub use head::HEAD;
-use rtrb::{Consumer, Producer, RingBuffer};
+use rtrb::RingBuffer;
 use std::alloc::{AllocError, Global};
 use std::marker::Model;
 
-/// The queue is full: the message was not put.
+/// The queue is full, by a look in this call: the message was not put.
 #[derive(Debug, Clone, Copy, PartialEq, Eq)]
 pub struct Full;
 
@@ -44,7 +46,7 @@ pub struct Taken {
 /// taken list of which it learned.
 #[derive(Drop)]
 pub struct RingPutter {
-    ring: Producer<u8>,
+    ring: OctetPutter,
     max: usize,
     depth: usize,
     // Octets that have to be free, if fewer messages wait than the queue holds.
@@ -62,16 +64,16 @@ impl Model for RingPutter {
 
     ghost Value = { Known };
 
-    ghost view = { λ p. putter_of p.ring p.max p.depth };
+    ghost view = { λ p. putter_of p.ring.end p.max p.depth p.ring.looks.count };
 
-    ghost invariant = { λ p. KeepsPut p.ring p.max p.depth p.latest p.needed × IsRoomFor p.max p.room.items };
+    ghost invariant = { λ p. KeepsPut p.ring.end p.max p.depth p.latest p.needed × IsRoomFor p.max p.room.items };
 }
 
 /// The end that takes messages. Contracts see what it knows: the whole taken list, and that part of the
 /// put list of which it learned.
 #[derive(Drop)]
 pub struct RingTaker {
-    ring: Consumer<u8>,
+    ring: OctetTaker,
     max: usize,
     depth: usize,
     // The head of a message whose octets this end has not seen yet.
@@ -85,9 +87,9 @@ impl Model for RingTaker {
 
     ghost Value = { Known };
 
-    ghost view = { λ t. taker_of t.ring t.max t.depth };
+    ghost view = { λ t. taker_of t.ring.end t.max t.depth t.ring.looks.count };
 
-    ghost invariant = { λ t. IsBegun t.max (received t.ring) t.begun };
+    ghost invariant = { λ t. IsBegun t.max (received t.ring.end) t.begun };
 }
 
 /// Both ends of a new queue, which holds up to `depth` messages of up to `max` octets. All memory of the queue is
@@ -106,7 +108,7 @@ pub fn open_ring(
     let latest = HeapCircularBuffer::with_capacity(alloc, depth - 1)?;
     let (producer, consumer) = RingBuffer::new(alloc, depth * width)?;
     let putter = RingPutter {
-        ring: producer,
+        ring: OctetPutter::new(producer),
         max,
         depth,
         needed: depth * width,
@@ -114,7 +116,7 @@ pub fn open_ring(
         room,
     };
     let taker = RingTaker {
-        ring: consumer,
+        ring: OctetTaker::new(consumer),
         max,
         depth,
         begun: None,
@@ -122,13 +124,14 @@ pub fn open_ring(
     Ok((putter, taker))
 }
 
-/// Synchronizes the two ends of one queue: each then knows at least what the other did. Nothing else changes.
+/// Synchronizes the two ends of one queue: each then knows at least what the other did. Nothing else changes, and it
+/// counts as no look.
 pub fn meet(putter: &mut RingPutter, taker: &mut RingTaker)
     requires { (taker.old.queue ≡ putter.old.queue) × (taker.old.depth ≡ putter.old.depth) }
-    ensures putter { (putter.new.queue ≡ putter.old.queue) × (putter.new.depth ≡ putter.old.depth) × (putter.new.put ≡ putter.old.put) }
+    ensures putter { (putter.new.queue ≡ putter.old.queue) × (putter.new.depth ≡ putter.old.depth) × (putter.new.put ≡ putter.old.put) × (putter.new.looks ≡ putter.old.looks) }
     ensures told { BeginsWith putter.new.taken taker.old.taken }
     ensures kept { BeginsWith putter.new.taken putter.old.taken }
-    ensures taker { (taker.new.queue ≡ taker.old.queue) × (taker.new.depth ≡ taker.old.depth) × (taker.new.taken ≡ taker.old.taken) × (taker.new.put ≡ putter.old.put) }
+    ensures taker { (taker.new.queue ≡ taker.old.queue) × (taker.new.depth ≡ taker.old.depth) × (taker.new.taken ≡ taker.old.taken) × (taker.new.put ≡ putter.old.put) × (taker.new.looks ≡ taker.old.looks) }
     ensures known { BeginsWith taker.new.put taker.old.put }
     ensures begins { BeginsWith taker.new.put taker.new.taken }
     ensures held { length taker.new.put ≤ length taker.new.taken + taker.old.depth }
@@ -145,16 +148,18 @@ impl RingPutter {
         self.max
     }
 
-    /// Whether there is room for one more message; it stays, whatever the other end does. False: as many messages as
-    /// the queue holds were put that this end doesn't know to be taken, also after it looked. True if it knows of room
-    /// before the call.
+    /// Whether there is room for one more message; it stays, whatever the other end does. False: after it looked in this
+    /// call, as many messages as the queue holds were put that this end doesn't know to be taken. If it knows of room
+    /// before the call the answer is true, and it doesn't look.
     pub fn has_room(&mut self) -> bool
-        ensures end { self.new ≡ record self.old { taken = self.new.taken } }
+        ensures end { self.new ≡ record self.old { taken = self.new.taken; looks = self.new.looks } }
         ensures told { BeginsWith self.new.taken self.old.taken }
         ensures room { IsTrue result → length self.new.put < length self.new.taken + self.new.depth }
         ensures full { IsFalse result → SeemsFull self.new }
         ensures full_before { IsFalse result → SeemsFull self.old }
         ensures room_is_known { length self.old.put < length self.old.taken + self.old.depth → IsTrue result }
+        ensures looked { LooksForRoom self.old self.new }
+        ensures refused { IsFalse result → IsFullByLook self.old self.new }
     {
         has_room(&mut self.ring, self.needed)
     }
@@ -162,10 +167,11 @@ impl RingPutter {
     /// Number of waiting messages: those put that this end doesn't know to be taken, after it looked what the other end
     /// took. A message is taken once all of its octets are. It costs a step for each message that waits.
     pub fn waiting(&mut self) -> usize
-        ensures end { self.new ≡ record self.old { taken = self.new.taken } }
+        ensures end { self.new ≡ record self.old { taken = self.new.taken; looks = self.new.looks } }
         ensures told { BeginsWith self.new.taken self.old.taken }
         ensures count { result + length self.new.taken ≡ length self.new.put }
         ensures depth { result ≤ self.new.depth }
+        ensures looked { self.new.looks ≡ self.old.looks + 1 }
     {
         let free = self.ring.slots();
         last_with(&self.latest, self.ring.capacity() - free)
@@ -183,29 +189,32 @@ impl RingPutter {
         }
     }
 
-    /// Whether more octets wait than these, heads included, after this end looked what the other end took, if it had to.
-    /// By the octets of the last so many messages it tells whether more than so many wait.
+    /// Whether more octets wait than these, heads included. True: after it looked in this call. By the octets of the last
+    /// so many messages it tells whether more than so many wait.
     pub fn has_more_waiting(&mut self, octets: usize) -> bool
-        ensures end { self.new ≡ record self.old { taken = self.new.taken } }
+        ensures end { self.new ≡ record self.old { taken = self.new.taken; looks = self.new.looks } }
         ensures told { BeginsWith self.new.taken self.old.taken }
         ensures more { IsTrue result → (count : ℕ) → octets ≡ octets_of_last count self.old.put → length self.new.taken + count < length self.new.put }
         ensures no_more { IsFalse result → (count : ℕ) → octets ≡ octets_of_last count self.old.put → length self.new.put ≤ length self.new.taken + count }
+        ensures looked { IsTrue result → self.new.looks ≡ self.old.looks + 1 }
+        ensures looks { (self.old.looks ≤ self.new.looks) × (self.new.looks ≤ self.old.looks + 1) }
     {
         let free = self.ring.capacity().saturating_sub(octets);
         let is_room = has_room(&mut self.ring, free);
         !is_room
     }
 
-    /// Puts a message at the end of the queue. `Err`: as many messages as the queue holds were put that this end
-    /// doesn't know to be taken.
+    /// Puts a message at the end of the queue. `Err`: after it looked in this call, as many messages as the queue holds
+    /// were put that this end doesn't know to be taken. If it knows of room before the call it doesn't look.
     pub fn put(&mut self, time: u64, octets: &[u8]) -> Result<(), Full>
         requires { length octets.now ≤ self.old.queue.max }
-        ensures ok { OnOk result (self.new ≡ with_put self.old (message time octets.now) self.new.taken) }
+        ensures ok { OnOk result (self.new ≡ with_put self.old (message time octets.now) self.new.taken self.new.looks) }
         ensures told { BeginsWith self.new.taken self.old.taken }
         ensures depth { length self.new.put ≤ length self.new.taken + self.old.depth }
-        ensures err { OnErr result (self.new ≡ self.old) }
+        ensures err { OnErr result (self.new ≡ after_look self.old) }
         ensures seems_full { OnErr result (SeemsFull self.old) }
         ensures room_is_known { length self.old.put < length self.old.taken + self.old.depth → IsOk result }
+        ensures looked { LooksForRoom self.old self.new }
     {
         if !has_room(&mut self.ring, self.needed) {
             return Err(Full);
@@ -226,15 +235,15 @@ impl RingTaker {
         self.max
     }
 
-    /// Takes the oldest message, and copies its octets to the beginning of `out`. None only if this end took all
-    /// messages that it knows to be put.
+    /// Takes the oldest message, and copies its octets to the beginning of `out`. None: after it looked in this call, this
+    /// end took all messages that it knows to be put.
     pub fn take(&mut self, out: &mut [u8]) -> Option<Taken>
         requires { self.old.queue.max ≤ length out.old }
         ensures some { IfSome result (λ got. (got.len ≤ self.old.queue.max) × (self.new ≡ with_taken self.old (message got.time (take got.len out.new)) self.new.put)) }
         ensures rest { IfSome result (λ got. drop got.len out.new ≡ drop got.len out.old) }
         ensures told { BeginsWith self.new.put self.old.put }
         ensures begins { BeginsWith self.new.put self.new.taken }
-        ensures none { IfNone result ((self.new ≡ self.old) × (out.new ≡ out.old)) }
+        ensures none { IfNone result ((self.new ≡ after_look self.old) × (out.new ≡ out.old)) }
         ensures seems_empty { IfNone result (SeemsEmpty self.old) }
         ensures next_is_known { length self.old.taken < length self.old.put → IsSome result }
         ensures next { IfSome result (λ got. length self.old.taken < length self.old.put →

@@ -3,9 +3,9 @@ use Rattle.std.proofs.Common.{◌≡◌, ◌∙◌, ap, sym, refl, ℕ, ◌+◌,
 use Rattle.std.proofs.lemmas.List.{length-append, map-append}
 use Rattle.std.proofs.Math.Nat.{max-eq_left, max-eq_right}
 use Rattle.es_base.specs.declared.event.Message.{Message}
-use Rattle.es_base.specs.Queue.{BeginsWith, with_put}
+use Rattle.es_base.specs.Queue.{BeginsWith}
 use Rattle.message_ring.specs.Ends.{AreShort, octets_of_last}
-use Rattle.message_ring.specs.Queue.{Known}
+use Rattle.message_ring.specs.Queue.{Known, with_put}
 use Rattle.message_ring.specs.Stream.{size}
 use Rattle.message_ring.proofs.Reading.{begins_trans}
 use Rattle.message_ring.proofs.Latest.{last_few, last_with_one, short_drop, total_short}
@@ -120,7 +120,7 @@ greatest_same greatest taken put few = sym (max-eq_left (omega (arith, few)))
 
 -- ---- by a put and a look
 
-pub put_has : (old put : Known) (message : Message) → put ≡ with_put old message put.taken → BeginsWith put.taken old.taken → HasPut old put message
+pub put_has : (old put : Known) (message : Message) → put ≡ with_put old message put.taken put.looks → BeginsWith put.taken old.taken → HasPut old put message
 put_has old put message is told = record {
   queue = ap (λ (k : Known). k.queue) is;
   depth = ap (λ (k : Known). k.depth) is;
@@ -128,7 +128,7 @@ put_has old put message is told = record {
   told = told;
 }
 
-pub looked_has : (old put new : Known) (message : Message) → HasPut old put message → new ≡ record put { taken = new.taken } → BeginsWith new.taken put.taken → HasPut old new message
+pub looked_has : (old put new : Known) (message : Message) → HasPut old put message → new ≡ record put { taken = new.taken; looks = new.looks } → BeginsWith new.taken put.taken → HasPut old new message
 looked_has old put new message has looked told = record {
   queue = ap (λ (k : Known). k.queue) looked ∙ has.queue;
   depth = ap (λ (k : Known). k.depth) looked ∙ has.depth;

@@ -13,7 +13,7 @@ use Rattle.es_base.specs.Run.{settled}
 use Rattle.link_core.specs.declared.outcome.Outcome.TheVariants.{KeptAway}
 use Rattle.link_core.specs.Link.{Link, outcome_after, with_event}
 use Rattle.link_core.specs.Seen.{kept_away}
-use Rattle.receiver.specs.Link.{Ported}
+use Rattle.receiver.specs.Link.{OverflowsIfRefused, Ported}
 use Rattle.link_core.proofs.Away.{away_decided}
 use Rattle.receiver.proofs.Frames.{IsAsked, IsLent}
 
@@ -36,6 +36,14 @@ nothing_lent old core a verdict away taken frame number =
       frame = frame;
       number = number;
     }
+
+brings_nothing : (payload : way.Payload) (verdict : Verdict) → kept_away (way.brings payload) ≡ Some verdict → ⊥
+brings_nothing payload verdict away = cc
+
+-- it brings no message that may overflow
+pub none_refused : {P : Type 0} (refusing : P → P → Type 0) (old new : Ported P) (a : Arrival) (verdict reply : Verdict) → kept_away (outcome_after old.core.settings old.core.past a) ≡ Some verdict
+    → OverflowsIfRefused refusing old new a reply
+none_refused refusing old new a verdict reply away = λ payload brings over. absurd (brings_nothing payload verdict (rw brings at away))
 
 module _ {P : Type 0} (shows : Port → P → List Message → Type 0) (has_space : P → Type 0) (gives : P → P → List Message → Type 0) (answers : PortKind → List Message → Bool → Type 0) where
   pub nobody_asked : (old : Ported P) (a : Arrival) (verdict : Verdict) → kept_away (outcome_after old.core.settings old.core.past a) ≡ Some verdict

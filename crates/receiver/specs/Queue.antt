@@ -1,8 +1,7 @@
 -- The queue of a port, as its outlet knows it.
 use Rattle.std.specs.Prelude.{◌≡◌, ◌≤◌, ◌<◌, ℕ, ◌+◌, ◌-◌, List, [], ◌∷◌, length, map, max}
-use Rattle.es_base.specs.Queue.{opened}
 use Rattle.message_ring.specs.Ends.{AreShort, octets_of_last}
-use Rattle.message_ring.specs.Queue.{Known, QueueId}
+use Rattle.message_ring.specs.Queue.{Known, QueueId, opened}
 use Rattle.message_ring.specs.Stream.{size}
 
 -- what the end that puts knows, and the greatest number of messages that waited

@@ -1,7 +1,7 @@
 //! The end of a port's queue that puts messages, which counts those that wait.
 ghost use Rattle.std.specs.Prelude.{◌≡◌, ◌+◌, ◌-◌, ◌<◌, ◌≤◌, IfOk, IsFalse, IsTrue, length, max};
-ghost use Rattle.es_base.specs.Queue.{BeginsWith, opened, with_put};
-ghost use Rattle.message_ring.specs.Queue.{SeemsFull, message};
+ghost use Rattle.es_base.specs.Queue.{BeginsWith};
+ghost use Rattle.message_ring.specs.Queue.{IsFullByLook, LooksForRoom, SeemsFull, message, with_put};
 ghost use Rattle.receiver.specs.Queue.{IsGreatest, new_queue};
 
 use es_base::Memory;
@@ -61,29 +61,32 @@ impl CountingPutter {
         Ok((counting, taker))
     }
 
-    /// Whether there is room for one more message; it stays, whatever the other end does. False: as many messages as
-    /// the queue holds were put that this end doesn't know to be taken, also after it looked. True if it knows of room
-    /// before the call.
+    /// Whether there is room for one more message; it stays, whatever the other end does. False: after it looked in this
+    /// call, as many messages as the queue holds were put that this end doesn't know to be taken. If it knows of room
+    /// before the call the answer is true, and it doesn't look.
     pub(crate) fn has_room(&mut self) -> bool
-        ensures end { self.new ≡ record self.old { known = record self.old.known { taken = self.new.known.taken } } }
+        ensures end { self.new ≡ record self.old { known = record self.old.known { taken = self.new.known.taken; looks = self.new.known.looks } } }
         ensures told { BeginsWith self.new.known.taken self.old.known.taken }
         ensures room { IsTrue result → length self.new.known.put < length self.new.known.taken + self.new.known.depth }
         ensures full { IsFalse result → SeemsFull self.new.known }
         ensures full_before { IsFalse result → SeemsFull self.old.known }
         ensures room_is_known { length self.old.known.put < length self.old.known.taken + self.old.known.depth → IsTrue result }
+        ensures looked { LooksForRoom self.old.known self.new.known }
+        ensures refused { IsFalse result → IsFullByLook self.old.known self.new.known }
     {
         self.putter.has_room()
     }
 
     /// Puts a message at the end of the queue, and counts what waits then. It looks what was taken only if more may wait
-    /// than ever.
+    /// than ever, and once at most.
     // rule: EMB-7
     pub(crate) fn put(&mut self, time: u64, octets: &[u8])
         requires short { length octets.now ≤ self.old.known.queue.max }
         requires room { length self.old.known.put < length self.old.known.taken + self.old.known.depth }
-        ensures end { self.new.known ≡ with_put self.old.known (message time octets.now) self.new.known.taken }
+        ensures end { self.new.known ≡ with_put self.old.known (message time octets.now) self.new.known.taken self.new.known.looks }
         ensures told { BeginsWith self.new.known.taken self.old.known.taken }
         ensures greatest { self.new.greatest ≡ max self.old.greatest (length self.new.known.put - length self.new.known.taken) }
+        ensures looks { (self.old.known.looks ≤ self.new.known.looks) × (self.new.known.looks ≤ self.old.known.looks + 1) }
     {
         let _ = self.putter.put(time, octets);
         if self.greatest + 1 < self.depth {
@@ -104,7 +107,7 @@ impl CountingPutter {
         ensures putter { self.new ≡ record self.old { known = record self.old.known { taken = self.new.known.taken } } }
         ensures told { BeginsWith self.new.known.taken taker.old.taken }
         ensures kept { BeginsWith self.new.known.taken self.old.known.taken }
-        ensures taker { (taker.new.queue ≡ taker.old.queue) × (taker.new.depth ≡ taker.old.depth) × (taker.new.taken ≡ taker.old.taken) × (taker.new.put ≡ self.old.known.put) }
+        ensures taker { (taker.new.queue ≡ taker.old.queue) × (taker.new.depth ≡ taker.old.depth) × (taker.new.taken ≡ taker.old.taken) × (taker.new.put ≡ self.old.known.put) × (taker.new.looks ≡ taker.old.looks) }
         ensures known { BeginsWith taker.new.put taker.old.put }
         ensures begins { BeginsWith taker.new.put taker.new.taken }
         ensures held { length taker.new.put ≤ length taker.new.taken + taker.old.depth }
@@ -115,8 +118,9 @@ impl CountingPutter {
     /// Fill level of the queue, after this end looked what the other end took. It costs a step for each message that
     /// waits.
     pub(crate) fn fill(&mut self) -> Fill
-        ensures end { self.new ≡ record self.old { known = record self.old.known { taken = self.new.known.taken } } }
+        ensures end { self.new ≡ record self.old { known = record self.old.known { taken = self.new.known.taken; looks = self.new.known.looks } } }
         ensures told { BeginsWith self.new.known.taken self.old.known.taken }
+        ensures looked { self.new.known.looks ≡ self.old.known.looks + 1 }
         ensures waiting { (result.waiting + length self.new.known.taken ≡ length self.new.known.put) × (result.waiting ≤ self.new.known.depth) }
         ensures greatest { (result.greatest ≡ self.new.greatest) × IsGreatest self.new.known result.greatest }
     {

@@ -1,7 +1,6 @@
 //! The work of a partition: it has ends of ports, and nothing else of the receiver.
 ghost use Rattle.std.specs.Prelude.{◌≡◌, ◌<◌, IfNone, IfOk, IfSome, IsSome, length, take};
-ghost use Rattle.es_base.specs.Queue.{with_taken};
-ghost use Rattle.message_ring.specs.Queue.{SeemsEmpty, message};
+ghost use Rattle.message_ring.specs.Queue.{SeemsEmpty, after_look, message, with_taken};
 ghost use Rattle.mailbox_reader.specs.Reads.{IfMessage, IsRead};
 ghost use Rattle.es_base.specs.Age.{freshness as freshness_at};
 
@@ -46,11 +45,11 @@ impl Partition {
         self.pos.read(now, &mut self.out)
     }
 
-    /// The oldest message of `nav` that wasn't taken, if this end knows of one.
+    /// The oldest message of `nav` that wasn't taken. None: by a look in this call.
     pub fn take(&mut self) -> Option<Taken>
         ensures pos { self.new.pos ≡ self.old.pos }
         ensures some { IfSome result (λ got. self.new.nav ≡ with_taken self.old.nav (message got.time (take got.len self.new.out)) self.new.nav.put) }
-        ensures none { IfNone result (self.new ≡ self.old) }
+        ensures none { IfNone result (self.new ≡ record self.old { nav = after_look self.old.nav }) }
         ensures seems_empty { IfNone result (SeemsEmpty self.old.nav) }
         ensures next_is_known { length self.old.nav.taken < length self.old.nav.put → IsSome result }
     {

@@ -8,7 +8,7 @@ use Rattle.receiver.specs.declared.port.PortOutlet.{PortOutlet}
 use Rattle.receiver.specs.Link.{Ported}
 use Rattle.receiver.specs.Port.{GivesPort}
 use Rattle.receiver.specs.Receiver.{LinksStay}
-use Rattle.receiver.specs.Fill.{IsFillAt}
+use Rattle.receiver.specs.Fill.{IsFillAt, LooksIn}
 use Rattle.receiver.specs.declared.queue.Fill.{Fill}
 use Rattle.receiver_slots.specs.Codes.{done, no_place, none_left, not_open}
 use Rattle.receiver_slots.specs.Receiving.{Receiving}
@@ -58,12 +58,13 @@ fill_code (Some now) place port = link_queue_code (slice_get now.receiver.links 
 abbrev pub fill_reply_of : Fill → FillReply
 fill_reply_of fill = record { waiting = fill.waiting; greatest = fill.greatest }
 
--- the fill level of this port's queue, after its end of the queue looked
+-- the fill level of this port's queue, by a look of its end of the queue in this call
 abbrev pub TellsFillOn : Receiving → Receiving → ℕ → ℕ → FillReply → Type 0
 TellsFillOn old new place port reply =
     LinksStay GivesPort old.receiver new.receiver × (new.ends ≡ old.ends)
     × ((link : Ported PortOutlet) × (slice_get new.receiver.links place ≡ Some link)
     × IsFillAt link (port_no port) (Some (record { waiting = reply.waiting; greatest = reply.greatest })))
+    × LooksIn (slice_get old.receiver.links place) (slice_get new.receiver.links place) (port_no port)
 
 -- rule: EMB-21
 abbrev pub TellsFill : Option Receiving → Option Receiving → ℕ → ℕ → FillReply → Type 0

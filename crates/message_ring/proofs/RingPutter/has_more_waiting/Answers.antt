@@ -16,16 +16,16 @@ is_true true is = refl
 is_true false is = absurd (true≢false is)
 
 pub invariant_of-self : goal.invariant_of-self
-invariant_of-self c = (look_keeps _ _ _ _ c.self.inside.ring c.has_room-is_room.new.ring c.self.invariant.0 c.has_room-is_room.ensures.looked, c.self.invariant.1)
+invariant_of-self c = (look_keeps _ _ _ _ c.self.inside.ring.end c.has_room-is_room.new.ring.end c.self.invariant.0 c.has_room-is_room.ensures.looked, c.self.invariant.1)
 
 pub returns-clause-told : goal.returns-clause-told
-returns-clause-told c = rw (← c.self.view_is) (look_told c.self.inside.max c.self.inside.ring c.has_room-is_room.new.ring c.has_room-is_room.ensures.looked)
+returns-clause-told c = rw (← c.self.view_is) (look_told c.self.inside.max c.self.inside.ring.end c.has_room-is_room.new.ring.end c.has_room-is_room.ensures.looked)
 
 pub returns-clause-more : goal.returns-clause-more
 returns-clause-more c = λ is count octets.
-    let b = c.has_room-is_room.new.ring in
+    let b = c.has_room-is_room.new.ring.end in
     let looked = c.has_room-is_room.ensures.looked in
-    let k = look_keeps _ _ _ _ c.self.inside.ring b c.self.invariant.0 looked in
+    let k = look_keeps _ _ _ _ c.self.inside.ring.end b c.self.invariant.0 looked in
     let over = c.has_room-is_room.ensures.full (is_false c.has_room-is_room.result is) in
     let free = c.saturating_sub-free.ensures in
     let capacity = c.capacity.ensures in
@@ -35,9 +35,9 @@ returns-clause-more c = λ is count octets.
 
 pub returns-clause-no_more : goal.returns-clause-no_more
 returns-clause-no_more c = λ is count octets.
-    let b = c.has_room-is_room.new.ring in
+    let b = c.has_room-is_room.new.ring.end in
     let looked = c.has_room-is_room.ensures.looked in
-    let k = look_keeps _ _ _ _ c.self.inside.ring b c.self.invariant.0 looked in
+    let k = look_keeps _ _ _ _ c.self.inside.ring.end b c.self.invariant.0 looked in
     let room = c.has_room-is_room.ensures.room (is_true c.has_room-is_room.result is) in
     let free = c.saturating_sub-free.ensures in
     let capacity = c.capacity.ensures in

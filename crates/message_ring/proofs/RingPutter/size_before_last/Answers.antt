@@ -10,7 +10,7 @@ returns-then-before-len c =
     let requires = c.requires in
     let here = c.if-before-len.true in
     let len = c.len.ensures.len in
-    rw (← c.self.view_is) (one_more_back _ _ _ c.args.before c.size_at.result c.self.inside.latest c.self.inside.ring k (omega (arith, depth, requires)) (omega (arith, here, len)) c.size_at.ensures)
+    rw (← c.self.view_is) (one_more_back _ _ _ c.args.before c.size_at.result c.self.inside.latest c.self.inside.ring.end k (omega (arith, depth, requires)) (omega (arith, here, len)) c.size_at.ensures)
 
 pub returns-else-before-len : goal.returns-else-before-len
 returns-else-before-len c =
@@ -19,4 +19,4 @@ returns-else-before-len c =
     let requires = c.requires in
     let here = c.if-before-len.false in
     let len = c.len.ensures.len in
-    rw (← c.self.view_is) (none_back _ _ _ c.args.before c.self.inside.latest c.self.inside.ring k (omega (arith, depth, requires)) (omega (arith, here, len)))
+    rw (← c.self.view_is) (none_back _ _ _ c.args.before c.self.inside.latest c.self.inside.ring.end k (omega (arith, depth, requires)) (omega (arith, here, len)))

@@ -36,3 +36,11 @@ returns-clause-fill c =
     met s.core opened s.received at c.in_ok-outlet.outlet.now c.fill.new.self there c.fill.ensures.outlet c.self.invariant in
     let here = slice_get-set_same opened at c.fill.new.self (slice_get_within opened at c.in_ok-outlet.outlet.now there) in
     rw here (filled_at _ c.fill.new.self _ c.fill.result (rw here at (after.shown at)) c.fill.ensures.fill)
+
+pub returns-clause-looked : goal.returns-clause-looked
+returns-clause-looked c =
+    let opened = c.self.inside.outlets.items in
+    let at = c.args.port.0 in
+    let there : slice_get opened at ≡ Some c.in_ok-outlet.outlet.now = slice_get-get_or opened at c.in_ok-outlet.outlet.now (c.in_ok-outlet.ensures.item.3.0) ∙ ap (λ outlet. Some outlet) (sym c.in_ok-outlet.ensures.value) in
+    let here = slice_get-set_same opened at c.fill.new.self (slice_get_within opened at c.in_ok-outlet.outlet.now there) in
+    rw (← c.self.view_is, there, here) c.fill.ensures.looked

@@ -31,3 +31,11 @@ returns-clause-fill c =
     let place = c.args.place in
     let there : slice_get links place ≡ Some c.in_ok-link.link.now = slice_get-get_or links place c.in_ok-link.link.now (c.in_ok-link.ensures.item.3.0) ∙ ap (λ link. Some link) (sym c.in_ok-link.ensures.value) in
     rw (slice_get-set_same links place c.fill.new.self (slice_get_within links place c.in_ok-link.link.now there)) c.fill.ensures.fill
+
+pub returns-clause-looked : goal.returns-clause-looked
+returns-clause-looked c =
+    let links = c.self.inside.links.items in
+    let place = c.args.place in
+    let there : slice_get links place ≡ Some c.in_ok-link.link.now = slice_get-get_or links place c.in_ok-link.link.now (c.in_ok-link.ensures.item.3.0) ∙ ap (λ link. Some link) (sym c.in_ok-link.ensures.value) in
+    let here = slice_get-set_same links place c.fill.new.self (slice_get_within links place c.in_ok-link.link.now there) in
+    rw (← c.self.view_is, there, here) c.fill.ensures.looked

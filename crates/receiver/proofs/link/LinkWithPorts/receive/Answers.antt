@@ -5,7 +5,7 @@ use Rattle.link_core.specs.Link.{outcome_after}
 use Rattle.link_core.specs.Seen.{kept_away}
 use Rattle.receiver.specs.Link.{Ported, Takes, ported}
 use Rattle.receiver.proofs.Frames.{IsLent, takes_it, with_room}
-use Rattle.receiver.proofs.Turned.{nobody_asked, nothing_lent}
+use Rattle.receiver.proofs.Turned.{nobody_asked, none_refused, nothing_lent}
 use Rattle.receiver.proofs.link.LinkWithPorts.receive.Goals as goal
 
 pub invariant_of-self : goal.invariant_of-self
@@ -53,3 +53,12 @@ returns-in-Some-clause-known g c =
     let new : Ported _ = ported c.turn_away.new.self c.self.inside.outlets.items c.next_place.new.received in
     rw (← c.self.view_is)
     (with_room o.shows o.has_space o.gives o.answers old new old.outlets c.turn_away.new.self a (KeptAway verdict) true verdict None (nobody_asked o.shows o.has_space o.gives o.answers old a verdict away) lent refl)
+
+pub returns-in-Some-clause-refused : goal.returns-in-Some-clause-refused
+returns-in-Some-clause-refused g c =
+    let old = ported c.self.inside.core c.self.inside.outlets.items c.self.inside.received in
+    let a = arrived c.args.net c.args.now c.args.frame.now.whole.now in
+    let verdict = c.in-Some.verdict in
+    let away : kept_away (outcome_after old.core.settings old.core.past a) ≡ Some verdict = sym c.turn_away.ensures.verdict ∙ c.in-Some.is in
+    let new : Ported _ = ported c.turn_away.new.self c.self.inside.outlets.items c.next_place.new.received in
+    rw (← c.self.view_is) (none_refused g.P.Outlet.refuses old new a verdict verdict away)
