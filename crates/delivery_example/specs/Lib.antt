@@ -1,1 +1,5 @@
 pub mod Example
+pub mod Given
+pub mod Task
+pub mod Order
+pub mod TwoThreads
