@@ -38,16 +38,16 @@ module _ (shows : ℕ → ℕ) where
   by_order es p q r x y z never before is_x is_y is_z (inl three) =
       inl (are_three arrival_on_a first_arrival_on_b second_arrival_on_b es three.e three.f three.g three.are
       (event_is arrival_on_a 0 p x three.e is_x three.is)
-      (event_is first_arrival_on_b 1 q y three.f is_y three.then)
+      (event_is first_arrival_on_b 1 q y three.f is_y three.after)
       (event_is second_arrival_on_b 2 r z three.g is_z three.last_is))
   by_order es p q r x y z never before is_x is_y is_z (inr (inl three)) =
       inr (are_three first_arrival_on_b arrival_on_a second_arrival_on_b es three.e three.f three.g three.are
       (event_is first_arrival_on_b 0 q y three.e is_y three.is)
-      (event_is arrival_on_a 1 p x three.f is_x three.then)
+      (event_is arrival_on_a 1 p x three.f is_x three.after)
       (event_is second_arrival_on_b 2 r z three.g is_z three.last_is))
   by_order es p q r x y z never before is_x is_y is_z (inr (inr three)) =
       let place_of_a : p ≡ shows 2 = is_x.at ∙ ap (λ (c : Call). shows c.place) three.last_is.of_call in
-      let place_of_c : r ≡ shows 1 = is_z.at ∙ ap (λ (c : Call). shows c.place) three.then.of_call in
+      let place_of_c : r ≡ shows 1 = is_z.at ∙ ap (λ (c : Call). shows c.place) three.after.of_call in
       absurd (never (rw (place_of_a, place_of_c) at before))
 
   pub in_order : (es : List Event) (to_a first_to_b second_to_b : Reply) (a : IsCall 100 first_on_a to_a) (b : IsCall 900 first_on_b first_to_b) (c : IsCall 10500 second_on_b second_to_b) (x y z : Call)

@@ -57,12 +57,12 @@ record ShowTwo (c d : Call) (xs : List Call) : Type 0 where
   y : Call
   are : xs ≡ x ∷ y ∷ []
   is : c ≡ shown_call x
-  then : d ≡ shown_call y
+  after : d ≡ shown_call y
 
 show_two : (c d : Call) (xs : List Call) → c ∷ d ∷ [] ≡ map shown_call xs → ShowTwo c d xs
 show_two c d [] is = cc
 show_two c d (x ∷ []) is = cc
-show_two c d (x ∷ y ∷ []) is = record { x = x; y = y; are = refl; is = cc; then = cc }
+show_two c d (x ∷ y ∷ []) is = record { x = x; y = y; are = refl; is = cc; after = cc }
 show_two c d (x ∷ y ∷ z ∷ xs) is = cc
 
 shown_of : (a : Arrival) (place : ℕ) (verdict : Verdict) (x : Call) → call place a.time a.frame verdict ≡ shown_call x → IsCallOf shown a place x
@@ -90,7 +90,7 @@ in_either_order link to_a first_to_b second_to_b of_a of_b of_c taken replied =
     (in_order shown es to_a first_to_b second_to_b a b c one.x two.x two.y never taken
     (shown_of arrival_on_a a.place a.verdict one.x one.is)
     (shown_of first_arrival_on_b b.place b.verdict two.x two.is)
-    (shown_of second_arrival_on_b c.place c.verdict two.y two.then)
+    (shown_of second_arrival_on_b c.place c.verdict two.y two.after)
     one.are
     two.are)
 

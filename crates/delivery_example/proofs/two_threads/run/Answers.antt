@@ -59,10 +59,10 @@ returns-clause-ended g c =
     }
 
 pub returns-clause-given : goal.returns-clause-given
+unfolding returns-clause-ended
 returns-clause-given g c = λ of taken.
     let opening = c.in_ok-system.field-0 in
     let ended = returns-clause-ended g c in
-    let same = c.in_ok-system.ensures.config in
     given_once (λ _. most_readers) ended.system ended.ends c.settle.result.links.items c.args.on_a.now c.args.first_on_b.now c.args.second_on_b.now c.join-a.result.0.1 c.join-a.result.1.1 c.give-b.result.1 ended.delivers
     (record {
       old_a = opening.a;
