@@ -1,10 +1,10 @@
 -- What the ports of a settled link hold.
-use Rattle.std.proofs.Common.{◌≡◌, ◌∙◌, ap, subst, sym, tt, ℕ, List, [], ◌∷◌, map}
-use Rattle.std.specs.Prelude.{slice_get}
+use Rattle.std.proofs.Common.{◌≡◌, ◌∙◌, ap, subst, sym, ℕ, List, [], ◌∷◌, map}
+use Rattle.std.specs.Prelude.{slice_get, Some}
 use Rattle.std.specs.List.{All}
+use Rattle.std.proofs.lemmas.List.Elements.{All-cons, All-nil}
 use Rattle.es_base.specs.declared.event.Message.{Message}
 use Rattle.es_base.specs.declared.place.Net.{Net}
-use Rattle.es_base.specs.declared.place.PortNo.{PortNo}
 use Rattle.es_base.specs.Settings.{Settings}
 use Rattle.link_core.specs.Counted.{port_no}
 use Rattle.sampling_port.specs.Ends.{ReaderEnd, is_told}
@@ -29,8 +29,9 @@ outlets_hold link carried outlets at bring (taken, pieces, now, is, of_channels)
     subst (λ (messages : List Message). ShowsDelivered (slice_get outlets at) messages) (brought link.settings (past_of link) carried (port_no at) bring) (is.all.shown at)
 
 all_told : (published wanted : List (List ℕ)) (readers : List ReaderEnd) → published ≡ wanted → All (λ (reader : ReaderEnd). reader.seen ≡ wanted) (map (λ (reader : ReaderEnd). is_told reader published) readers)
-all_told published wanted [] is = tt
-all_told published wanted (reader ∷ readers) is = (is, all_told published wanted readers is)
+all_told published wanted [] is = All-nil (λ (reader : ReaderEnd). reader.seen ≡ wanted)
+all_told published wanted (reader ∷ readers) is =
+    All-cons (λ (reader : ReaderEnd). reader.seen ≡ wanted) (is_told reader published) (map (λ (reader : ReaderEnd). is_told reader published) readers) is (all_told published wanted readers is)
 
 knows_each : (link : Link) (carried : List Carried) (end : PortEnd) → BringDatagrams link.settings (past_of link) carried → KnowsEach carried (after_meeting link end)
 knows_each link carried (ends.Queuing port name taker) bring = brought link.settings (past_of link) carried port bring
@@ -47,10 +48,10 @@ holds_each link carried of_opening may bring = record {
 
 pub each_holds : (system : System) (steps : List (Net × Step)) (ends : List LinkEnds) (links : List Link) (a b : KnownCounts) → HasEnded system steps ends links a b → EachHolds system ends links
 each_holds system steps ends links a b ended vl place named =
-    let (settings, link, there, numbered, link_there, run) = ended.each vl place named in
-    (
+    let (settings, link, there, numbered, link_there, run) = ended.each vl place named in (
       link,
       run.its_ends,
+      there ∙ ap (λ (o : Settings). Some o) (sym run.with_settings),
       ap (λ (o : Settings). o.vl) run.with_settings ∙ numbered,
       link_there,
       run.there,

@@ -2,7 +2,6 @@
 use Rattle.std.specs.Prelude.{◌≡◌, ℕ, List, map, slice_get, Some}
 use Rattle.std.specs.List.{All}
 use Rattle.es_base.specs.declared.place.LinkNo.{LinkNo}
-use Rattle.es_base.specs.declared.place.PortNo.{PortNo}
 use Rattle.es_base.specs.Config.{link_of}
 use Rattle.ip_reassembly.specs.Kept.{Kept}
 use Rattle.link_core.specs.declared.rules_state.RulesState.{RulesState}
@@ -55,5 +54,5 @@ pub record HoldsEach (link : Link) (carried : List Carried) (of_opening : LinkEn
 abbrev pub EachHolds : System → List LinkEnds → List Link → Type 0
 EachHolds system ends links =
     (vl : LinkNo) (place : ℕ) → link_of system.config.links vl ≡ Some place
-    → (link : Link) × (of_opening : LinkEnds) × (link.settings.vl ≡ vl) × (slice_get links place ≡ Some link) × (slice_get ends place ≡ Some of_opening)
+    → (link : Link) × (of_opening : LinkEnds) × (slice_get system.config.links place ≡ Some link.settings) × (link.settings.vl ≡ vl) × (slice_get links place ≡ Some link) × (slice_get ends place ≡ Some of_opening)
     × ((carried : List Carried) → BringDatagrams link.settings (past_of link) carried → HoldsEach link carried of_opening)
