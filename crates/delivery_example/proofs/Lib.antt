@@ -7,3 +7,4 @@ pub mod Orders
 pub mod Replied
 pub mod InOrder
 pub mod ThreadCalls
+pub mod KeepingCalls

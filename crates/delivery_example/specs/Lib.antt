@@ -3,3 +3,4 @@ pub mod Given
 pub mod Task
 pub mod Order
 pub mod TwoThreads
+pub mod Keeping

@@ -3,6 +3,7 @@
 //! was given once.
 #![tactic(auto)]
 
+pub mod keeping;
 pub mod laws;
 pub mod one_task;
 pub mod two_threads;
