@@ -1,5 +1,5 @@
 -- The example meets what is asked.
-use Rattle.std.proofs.Common.{◌≡◌, ℕ, true, List, [], ◌∷◌, refl, arith, inl, inr}
+use Rattle.std.proofs.Common.{◌≡◌, ℕ, true, List, [], ◌∷◌, refl, arith, inl}
 use Rattle.std.proofs.lemmas.Bool.{false≢true}
 use Rattle.es_base.specs.declared.event.Event.{Event}
 use Rattle.es_base.specs.declared.verdict.Verdict.{Verdict}
@@ -12,12 +12,11 @@ use Rattle.es_base.specs.Packet as packets
 use Rattle.es_base.specs.Past.{AreFramesOf}
 use Rattle.es_base.specs.Run.{IsRun}
 use Rattle.frame_delivery.specs.Network.{ComeWhole}
-use Rattle.frame_delivery.specs.Sending.{HaveNumbers}
 use Rattle.frame_delivery.specs.Examples.{numbering}
 use Rattle.datagram_delivery.specs.Bringing.{BringDatagrams, copies_of}
 use Rattle.datagram_delivery.specs.Datagrams.{CarryPackets}
 use Rattle.datagram_delivery.specs.Examples.{packet_sent}
-use Rattle.datagram_delivery.specs.Interleaved.{AreInterleaved, Carried}
+use Rattle.datagram_delivery.specs.Interleaved.{AreInterleaved}
 use Rattle.datagram_delivery.proofs.Bringing.{brought}
 use Rattle.delivery_example.proofs.Rooms.{three}
 use Rattle.delivery_example.specs.Example.{arrival_on_a, first_arrival_on_b, first_on_a, first_on_b, link_with_nav, message, nav, past, past_if_b_is_first, second_arrival_on_b, second_on_b, sent, sent_if_b_is_first, timing}

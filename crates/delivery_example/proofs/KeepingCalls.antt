@@ -1,5 +1,5 @@
 -- What comes of the calls of a task with both passes, at a link that keeps its history.
-use Rattle.std.proofs.Common.{◌≡◌, ◌∙◌, ◌<◌, ap, sym, subst, refl, arith, ℕ, List, [], ◌∷◌, ◌++◌, map}
+use Rattle.std.proofs.Common.{◌≡◌, ◌∙◌, ◌<◌, ap, sym, subst, refl, arith, ℕ, List, [], ◌∷◌, ◌++◌}
 use Rattle.std.specs.Prelude.{reverse, slice_get, Option, Some}
 use Rattle.std.proofs.lemmas.List.{reverse-append, reverse-reverse}
 use Rattle.std.proofs.lemmas.Option.{same_Some}
@@ -18,7 +18,6 @@ use Rattle.link_receiver.specs.Outlet.{ShowsDelivered}
 use Rattle.end_system.specs.declared.ends.LinkEnds.{LinkEnds}
 use Rattle.end_system_delivery.specs.Delivery.{DeliversEach, WasGiven}
 use Rattle.end_system_delivery.specs.Holding.{EachHolds, HoldsEach}
-use Rattle.network_calls.specs.declared.call.Call.{Call}
 use Rattle.network_calls.specs.declared.reply.Reply.{Reply}
 use Rattle.network_calls.specs.declared.reply.Reply.TheVariants.{Filtered, Link}
 use Rattle.network_calls.specs.Calls.{call, calls_from}

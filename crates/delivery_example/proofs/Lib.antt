@@ -8,3 +8,4 @@ pub mod Replied
 pub mod InOrder
 pub mod ThreadCalls
 pub mod KeepingCalls
+pub mod Traces

@@ -1,5 +1,5 @@
 -- The frames of the example come to its link.
-use Rattle.std.proofs.Common.{◌≡◌, ◌∙◌, ap, sym, subst, refl, ℕ, List, [], ◌∷◌, Option, None, Some, Ok, Err, map}
+use Rattle.std.proofs.Common.{◌≡◌, ◌∙◌, ap, sym, refl, ℕ, List, Some, Ok}
 use Rattle.std.proofs.lemmas.Option.{same_Some}
 use Rattle.es_base.specs.Addressing as addressing
 use Rattle.es_base.specs.Addressing.{ComesToPlace, addressed_link, addressee_of}

@@ -1,7 +1,6 @@
 -- What comes of the calls of a task.
-use Rattle.std.proofs.Common.{◌≡◌, ◌∙◌, ap, sym, subst, refl, ℕ, ◌==◌, Bool, true, false, List, [], ◌∷◌, Option, None, Some, Ok, Err, inl, map}
+use Rattle.std.proofs.Common.{◌≡◌, ◌∙◌, ap, sym, subst, refl, ℕ, ◌==◌, Bool, true, List, [], ◌∷◌, Option, None, Some, Ok, Err, inl, map}
 use Rattle.std.specs.Prelude.{slice_get}
-use Rattle.std.proofs.lemmas.Option.{same_Some}
 use Rattle.es_base.specs.declared.event.Arrival.{Arrival}
 use Rattle.es_base.specs.declared.event.Event.{Event}
 use Rattle.es_base.specs.declared.event.Message.{Message}
@@ -74,8 +73,8 @@ are_three settings on_a first_on_b second_on_b to_a first_to_b second_to_b past 
       answers = (first.room, second.room, third.room);
       verdicts = (first.verdict, second.verdict, third.verdict);
       is = third.is ∙ ap (λ (more : List Event). event_of (arrived nets.B 10500 second_on_b) third.room third.verdict ∷ more)
-      (second.is ∙ ap (λ (more : List Event). event_of (arrived nets.B 900 first_on_b) second.room second.verdict ∷ more)
-      (first.is ∙ ap (λ (more : List Event). event_of (arrived nets.A 100 on_a) first.room first.verdict ∷ more) nothing));
+          (second.is ∙ ap (λ (more : List Event). event_of (arrived nets.B 900 first_on_b) second.room second.verdict ∷ more)
+          (first.is ∙ ap (λ (more : List Event). event_of (arrived nets.A 100 on_a) first.room first.verdict ∷ more) nothing));
     }
 
 -- ---- what it was given

@@ -1,7 +1,5 @@
 -- The port of the example has its message.
 use Rattle.std.specs.Prelude.{◌≡◌, [], ◌∷◌, slice_get, Option, None, Some}
-use Rattle.es_base.specs.Port.{Port}
-use Rattle.es_base.specs.declared.port.PortKind.TheVariants.{Queuing}
 use Rattle.receiver.specs.declared.port.PortOutlet.{PortOutlet}
 use Rattle.receiver.specs.Link.{Ported}
 use Rattle.receiver.specs.Port.{ShowsPort}

@@ -4,3 +4,4 @@ pub mod Task
 pub mod Order
 pub mod TwoThreads
 pub mod Keeping
+pub mod Traces

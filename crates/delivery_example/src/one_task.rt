@@ -7,8 +7,8 @@ ghost use Rattle.delivery_example.specs.Given.{WasGivenOnce};
 ghost use Rattle.delivery_example.specs.Task.{calls_of_task};
 
 use es_base::{Config, Memory, Net};
-use receiver::{Opened, PortOutlet, ReaderCount, Receiver, Reply};
 use receiver::laws::the_calls_on_each_link_are_its_past;
+use receiver::{Opened, PortOutlet, ReaderCount, Receiver, Reply};
 use receiver_delivery::laws::each_datagram_is_given_once;
 use std::alloc::Global;
 
@@ -36,13 +36,13 @@ pub fn run(
     the_calls_on_each_link_are_its_past::<PortOutlet>();
     each_datagram_is_given_once::<PortOutlet>();
     let mut opened = Receiver::<PortOutlet>::open(alloc, config, ReaderCount::most())?;
-    let on_a = opened.receiver.receive(Net::A, 100, on_a);
-    let first_on_b = opened.receiver.receive(Net::B, 900, first_on_b);
-    let second_on_b = opened.receiver.receive(Net::B, 10_500, second_on_b);
+    let to_a = opened.receiver.receive(Net::A, 100, on_a);
+    let to_b = opened.receiver.receive(Net::B, 900, first_on_b);
+    let to_b_again = opened.receiver.receive(Net::B, 10_500, second_on_b);
     Ok(Received {
         opened,
-        on_a,
-        first_on_b,
-        second_on_b,
+        on_a: to_a,
+        first_on_b: to_b,
+        second_on_b: to_b_again,
     })
 }

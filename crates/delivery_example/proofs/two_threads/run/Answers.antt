@@ -1,14 +1,11 @@
-use Rattle.std.proofs.Common.{ap, refl, subst, sym, List}
+use Rattle.std.proofs.Common.{refl, subst, sym, List}
 use Rattle.es_base.specs.declared.place.Net.{Net}
-use Rattle.es_base.specs.declared.place.Net.TheVariants.{A, B}
 use Rattle.es_base.specs.Config.{Configuration}
 use Rattle.mailbox_port.specs.Port.{most_readers}
 use Rattle.receiver.specs.declared.ends.LinkEnds.{LinkEnds}
 use Rattle.receiver.specs.declared.partition.PartitionEnd.{PartitionEnd}
-use Rattle.network_calls.specs.Threads.{steps_of}
 use Rattle.live_system.specs.Run.{AreOpened, HasSettled, Passes, Ran, Step}
 use Rattle.live_system.specs.System.{System}
-use Rattle.live_system_delivery.specs.Delivery.{DeliversEach}
 use Rattle.delivery_example.specs.Example.{AreOfTheExample}
 use Rattle.delivery_example.specs.TwoThreads.{GaveOne, steps_of_threads}
 use Rattle.delivery_example.proofs.ThreadCalls.{given_once}
