@@ -1,0 +1,11 @@
+pub mod Rooms
+pub mod Example
+pub mod Brings
+pub mod Named
+pub mod TaskCalls
+pub mod Orders
+pub mod Replied
+pub mod InOrder
+pub mod ThreadCalls
+pub mod KeepingCalls
+pub mod Traces
