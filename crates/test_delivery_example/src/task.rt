@@ -33,8 +33,10 @@ fn check_task(rt: &impl Abort, alloc: Global) {
     let mut opened = ran.opened;
     let mut nav = opened.take_taker("nav").expect(rt, "a taker");
     let mut out = [0u8; 100];
+    assert!(rt; nav.max() == 100);
     let taken = nav.take(&mut out).expect(rt, "a message");
     assert!(rt; taken.time == 10_500 && taken.len == 16 && out[..16] == MESSAGE[..]);
+    assert!(rt; nav.max() == 100);
     assert!(rt; nav.take(&mut out).is_none());
 }
 
