@@ -7,7 +7,7 @@ use Rattle.es_base.specs.declared.verdict.Verdict.{Verdict}
 use Rattle.es_base.specs.Run.{IsRun}
 use Rattle.datagram_delivery.specs.Bringing.{BringDatagrams}
 use Rattle.datagram_delivery.specs.Interleaved.{Carried, messages_ended}
-use Rattle.delivery_example.specs.Example.{arrival_on_a, first_arrival_on_b, link_with_nav, message, nav, second_arrival_on_b, sent, sent_if_b_is_first}
+use Rattle.delivery_example.specs.Example.{arrival_on_a, first_arrival_on_b, link_with_nav, nav_message, nav, second_arrival_on_b, sent, sent_if_b_is_first}
 use Rattle.delivery_example.proofs.Example.{bring, bring_if_b_is_first}
 use Rattle.delivery_example.proofs.Rooms.{AreTrue, each_has_room, each_has_room_if_b_is_first, three}
 
@@ -21,7 +21,7 @@ pub record AreThree (first second third : Arrival) (past : List Event) : Type 0 
 pub record BringsMessage (past : List Event) : Type 0 where
   pub carried : List Carried
   pub bring : BringDatagrams link_with_nav past carried
-  pub ends : messages_ended nav carried ≡ message ∷ []
+  pub ends : messages_ended nav carried ≡ nav_message ∷ []
 
 with_rooms : (first second third : Arrival) (answers : Bool × Bool × Bool) (verdicts : Verdict × Verdict × Verdict) → AreTrue answers
     → three first second third answers verdicts ≡ three first second third (true, true, true) verdicts

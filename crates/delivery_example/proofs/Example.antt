@@ -19,7 +19,7 @@ use Rattle.datagram_delivery.specs.Examples.{packet_sent}
 use Rattle.datagram_delivery.specs.Interleaved.{AreInterleaved}
 use Rattle.datagram_delivery.proofs.Bringing.{brought}
 use Rattle.delivery_example.proofs.Rooms.{three}
-use Rattle.delivery_example.specs.Example.{arrival_on_a, first_arrival_on_b, first_on_a, first_on_b, link_with_nav, message, nav, past, past_if_b_is_first, second_arrival_on_b, second_on_b, sent, sent_if_b_is_first, timing}
+use Rattle.delivery_example.specs.Example.{arrival_on_a, first_arrival_on_b, first_on_a, first_on_b, link_with_nav, nav_message, nav, past, past_if_b_is_first, second_arrival_on_b, second_on_b, sent, sent_if_b_is_first, timing_of_sender}
 
 -- ---- the events, with whatever verdicts
 
@@ -32,7 +32,7 @@ events_if_b_is_first one two third = three first_arrival_on_b arrival_on_a secon
 abbrev indices : List ℕ
 indices = 1 ∷ 0 ∷ 0 ∷ []
 
-whole : (one two third : Verdict) → ComeWhole link_with_nav numbering timing (copies_of indices (events one two third))
+whole : (one two third : Verdict) → ComeWhole link_with_nav numbering timing_of_sender (copies_of indices (events one two third))
 unfolding first_on_a first_on_b second_on_b
 whole one two third = record {
   timely = record {
@@ -52,7 +52,7 @@ whole one two third = record {
   apart = omega arith;
 }
 
-whole_if_b_is_first : (one two third : Verdict) → ComeWhole link_with_nav numbering timing (copies_of indices (events_if_b_is_first one two third))
+whole_if_b_is_first : (one two third : Verdict) → ComeWhole link_with_nav numbering timing_of_sender (copies_of indices (events_if_b_is_first one two third))
 unfolding first_on_a first_on_b second_on_b
 whole_if_b_is_first one two third = record {
   timely = record {
@@ -105,7 +105,7 @@ bring one two third = record {
   indices = indices;
   each = refl;
   numbering = numbering;
-  timing = timing;
+  timing = timing_of_sender;
   come = whole one two third;
   packet = packet_sent;
   carry = carry one two third;
@@ -119,7 +119,7 @@ bring_if_b_is_first one two third = record {
   indices = indices;
   each = refl;
   numbering = numbering;
-  timing = timing;
+  timing = timing_of_sender;
   come = whole_if_b_is_first one two third;
   packet = packet_sent;
   carry = carry_if_b_is_first one two third;
@@ -146,5 +146,5 @@ are_frames = (
   (record { short = omega arith; long = omega arith; carries = refl }, refl, (record { short = omega arith; long = omega arith; carries = refl }, refl, tt)),
 )
 
-pub delivered_once : deliveries link_with_nav past nav ≡ message ∷ []
+pub delivered_once : deliveries link_with_nav past nav ≡ nav_message ∷ []
 delivered_once = brought link_with_nav past sent nav (bring _ _ _)

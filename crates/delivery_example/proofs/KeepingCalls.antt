@@ -22,13 +22,13 @@ use Rattle.network_calls.specs.declared.reply.Reply.{Reply}
 use Rattle.network_calls.specs.declared.reply.Reply.TheVariants.{Filtered, Link}
 use Rattle.network_calls.specs.Calls.{call, calls_from}
 use Rattle.delivery_example.specs.Example as example
-use Rattle.delivery_example.specs.Example.{AreOfTheExample, arrival_on_a, configuration, first_arrival_on_b, first_on_a, first_on_b, link_with_nav, message, nav, second_arrival_on_b, second_on_b}
+use Rattle.delivery_example.specs.Example.{AreOfTheExample, arrival_on_a, configuration, first_arrival_on_b, first_on_a, first_on_b, link_with_nav, nav_message, nav, second_arrival_on_b, second_on_b}
 use Rattle.link_receiver.specs.Epoch.{Handed}
 use Rattle.link_receiver.specs.Link.{Link as Kept, past_of}
 use Rattle.end_system.specs.Calls.{events_of}
 use Rattle.end_system.specs.Run.{calls_in}
 use Rattle.end_system.specs.System.{KnownNet, Replies, System}
-use Rattle.delivery_example.specs.Keeping.{HoldsMessage, IsHeld, steps_of_keeping}
+use Rattle.delivery_example.specs.Keeping.{HoldsMessage, IsHeldOnce, steps_of_keeping}
 use Rattle.delivery_example.specs.Order.{WasTakenBefore}
 use Rattle.delivery_example.proofs.Brings.{AreInEitherOrder, brings_message}
 use Rattle.delivery_example.proofs.InOrder.{IsCallOf, in_order}
@@ -88,7 +88,7 @@ its_settings : slice_get configuration.links 0 ≡ Some link_with_nav
 unfolding example.configuration
 its_settings = refl
 
-is_held : (link : Kept) (of_opening : LinkEnds) (carried : List Carried) → messages_ended nav carried ≡ message ∷ [] → HoldsEach link carried of_opening → WasGiven link carried nav → IsHeld link
+is_held : (link : Kept) (of_opening : LinkEnds) (carried : List Carried) → messages_ended nav carried ≡ nav_message ∷ [] → HoldsEach link carried of_opening → WasGiven link carried nav → IsHeldOnce link
 is_held link of_opening carried ends holds given = record {
   given = given.put ∙ ends;
   put = λ outlets are. subst (λ (messages : List Message). ShowsDelivered (slice_get outlets 0) messages) ends (holds.outlets outlets are 0);

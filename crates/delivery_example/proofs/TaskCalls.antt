@@ -24,8 +24,8 @@ use Rattle.receiver.specs.Receiver.{AreLinksOf, Links, RepliesTo}
 use Rattle.receiver.specs.Run.{AddsIf, AddsReply, AreEventsAt, HasRun}
 use Rattle.receiver_delivery.specs.Delivery.{DeliversEach, WereGiven}
 use Rattle.delivery_example.specs.Example as example
-use Rattle.delivery_example.specs.Example.{AreOfTheExample, arrival_on_a, configuration, first_arrival_on_b, first_on_a, first_on_b, link_with_nav, message, nav_port, second_arrival_on_b, second_on_b, sent}
-use Rattle.delivery_example.specs.Given.{HasMessage, WasGivenOnce}
+use Rattle.delivery_example.specs.Example.{AreOfTheExample, arrival_on_a, configuration, first_arrival_on_b, first_on_a, first_on_b, link_with_nav, nav, nav_message, nav_port, second_arrival_on_b, second_on_b, sent}
+use Rattle.delivery_example.specs.Given.{HasNavMessage, WasGivenOnce}
 use Rattle.delivery_example.specs.Task.{calls_of_task}
 use Rattle.delivery_example.proofs.Brings.{AreThree, brings_message}
 use Rattle.delivery_example.proofs.Named.{ComeToFirst, a_comes, first_of_b_comes, first_place, second_of_b_comes}
@@ -84,12 +84,12 @@ outlet_of : (port : Port) (outlet : Option PortOutlet) (messages : List Message)
 outlet_of port None messages shows = absurd shows
 outlet_of port (Some one) messages shows = (one, refl, shows)
 
-pub has_message : (link : Ported PortOutlet) (carried : List Carried) → link.core.settings ≡ link_with_nav → messages_ended (record { 0 = 0 }) carried ≡ message ∷ [] → WereGiven ShowsPort link carried → HasMessage link
+pub has_message : (link : Ported PortOutlet) (carried : List Carried) → link.core.settings ≡ link_with_nav → messages_ended nav carried ≡ nav_message ∷ [] → WereGiven ShowsPort link carried → HasNavMessage link
 has_message link carried is ends given =
-    let at_nav : ShowsAt ShowsPort (Some nav_port) (slice_get link.outlets 0) (message ∷ []) =
+    let at_nav : ShowsAt ShowsPort (Some nav_port) (slice_get link.outlets 0) (nav_message ∷ []) =
     subst (λ (messages : List Message). ShowsAt ShowsPort (Some nav_port) (slice_get link.outlets 0) messages) ends
-    (subst (λ (o : Settings). ShowsAt ShowsPort (slice_get o.ports 0) (slice_get link.outlets 0) (messages_ended (record { 0 = 0 }) carried)) is (given 0)) in
-    let (outlet, there, shows) = outlet_of nav_port (slice_get link.outlets 0) (message ∷ []) at_nav in
+    (subst (λ (o : Settings). ShowsAt ShowsPort (slice_get o.ports 0) (slice_get link.outlets 0) (messages_ended nav carried)) is (given 0)) in
+    let (outlet, there, shows) = outlet_of nav_port (slice_get link.outlets 0) (nav_message ∷ []) at_nav in
     record { outlet = outlet; there = there; given = shows }
 
 -- the one link of the configuration

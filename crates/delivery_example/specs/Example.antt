@@ -78,14 +78,14 @@ abbrev pub second_arrival_on_b : Arrival
 second_arrival_on_b = arrived nets.B second_time_on_b second_on_b
 
 -- frames that are sent 10 milliseconds apart, 100 to 900 microseconds on their way, and up to 800 taken late
-abbrev pub timing : Timing
-timing = timed 10000 20000 100 900 800
+abbrev pub timing_of_sender : Timing
+timing_of_sender = timed 10000 20000 100 900 800
 
 -- ---- what comes of it
 
 -- the message, which is whole with the second fragment
-abbrev pub message : Message
-message = record { time = second_time_on_b; octets = sixteen_octets }
+abbrev pub nav_message : Message
+nav_message = record { time = second_time_on_b; octets = sixteen_octets }
 
 abbrev pub past : List Event
 past = event_of second_arrival_on_b true (verdicts.Queued nav) ∷ event_of first_arrival_on_b true verdicts.Redundant ∷ event_of arrival_on_a true verdicts.FragmentHeld ∷ []

@@ -14,7 +14,7 @@ use Rattle.end_system.specs.Run.{Step, received, took}
 use Rattle.end_system.specs.System.{System}
 use Rattle.end_system_delivery.specs.Delivery.{DeliversEach}
 use Rattle.end_system_delivery.specs.Holding.{AreOutletsOf, EachHolds}
-use Rattle.delivery_example.specs.Example.{first_time_on_b, message, nav, second_time_on_b, time_on_a}
+use Rattle.delivery_example.specs.Example.{first_time_on_b, nav_message, nav, second_time_on_b, time_on_a}
 
 -- these frames were given, with these replies, and an epoch of link 17 taken out before the last, if there is one: the
 -- latest first
@@ -34,10 +34,10 @@ pub record EndedKeeping (config : Configuration) (on_a first_on_b second_on_b : 
   pub holds : EachHolds system ends settled.links.items
 
 -- the queue of the link's port was given exactly this message, once: a taker that meets the link has it
-pub record IsHeld (link : Link) : Type 0 where
-  pub given : all_deliveries_of link nav ≡ message ∷ []
-  pub put : (outlets : List Outlet) → AreOutletsOf link outlets → ShowsDelivered (slice_get outlets 0) (message ∷ [])
+pub record IsHeldOnce (link : Link) : Type 0 where
+  pub given : all_deliveries_of link nav ≡ nav_message ∷ []
+  pub put : (outlets : List Outlet) → AreOutletsOf link outlets → ShowsDelivered (slice_get outlets 0) (nav_message ∷ [])
 
 abbrev pub HoldsMessage : Option Link → Type 0
 HoldsMessage None = ⊥
-HoldsMessage (Some link) = IsHeld link
+HoldsMessage (Some link) = IsHeldOnce link

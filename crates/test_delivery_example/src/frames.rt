@@ -53,7 +53,7 @@ fn octets(rt: &impl Abort, alloc: Global, digits: &str) -> Vec<u8> {
         .expect(rt, "octets")
 }
 
-pub(crate) fn example(rt: &impl Abort, alloc: Global) -> Example {
+pub(crate) fn given(rt: &impl Abort, alloc: Global) -> Example {
     Example {
         config: read_config(alloc, CONFIGURATION)
             .ok()

@@ -1,6 +1,6 @@
 //! Both kinds of end systems.
-use crate::frames::{Example, LINK_17, MESSAGE, NAV, example};
-use delivery_example::{keeping, live};
+use crate::frames::{Example, LINK_17, MESSAGE, NAV, given};
+use delivery_example::{keeping, two_threads};
 use es_base::Verdict::{self, FragmentHeld, Queued, Redundant};
 use network_calls::Reply;
 use std::alloc::Global;
@@ -25,8 +25,10 @@ fn check_threads<R: Abort + Threads + Wait + Sync>(rt: &R, alloc: Global) {
         on_a,
         first_on_b,
         second_on_b,
-    } = example(rt, alloc);
-    let ran = live::run(rt, alloc, &config, &on_a, &first_on_b, &second_on_b).expect(rt, "memory");
+    } = given(rt, alloc);
+    let ran = two_threads::run(rt, alloc, &config, &on_a, &first_on_b, &second_on_b).expect(
+        rt, "memory",
+    );
     let a_is_first = is_reply(ran.on_a, 0, FragmentHeld) && is_reply(ran.first_on_b, 1, Redundant);
     let b_is_first = is_reply(ran.on_a, 1, Redundant) && is_reply(ran.first_on_b, 0, FragmentHeld);
     assert!(rt; a_is_first || b_is_first);
@@ -42,7 +44,7 @@ fn check_keeping(rt: &(impl Abort + Wait), alloc: Global) {
         on_a,
         first_on_b,
         second_on_b,
-    } = example(rt, alloc);
+    } = given(rt, alloc);
     let ran = keeping::run(rt, alloc, &config, &on_a, &first_on_b, &second_on_b).expect(
         rt, "memory",
     );
@@ -54,7 +56,7 @@ fn check_keeping(rt: &(impl Abort + Wait), alloc: Global) {
         let messages = link.deliveries(alloc, NAV).expect(rt, "memory");
         assert!(rt; messages.len() == 1);
         for message in &messages {
-            assert!(rt; message.time == 10_500 && message.octets.as_slice() == MESSAGE);
+            assert!(rt; message.time == 10_500 && message.octets.as_slice() == MESSAGE.as_slice());
         }
     }
 }

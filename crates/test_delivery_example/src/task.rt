@@ -1,5 +1,5 @@
 //! The receiver for one task.
-use crate::frames::{Example, LINK_17, MESSAGE, NAV, example};
+use crate::frames::{Example, LINK_17, MESSAGE, NAV, given};
 use delivery_example::one_task::run;
 use es_base::Verdict::{self, FragmentHeld, Queued, Redundant};
 use receiver::Reply;
@@ -25,7 +25,7 @@ fn check_task(rt: &impl Abort, alloc: Global) {
         on_a,
         first_on_b,
         second_on_b,
-    } = example(rt, alloc);
+    } = given(rt, alloc);
     let ran = run(alloc, &config, &on_a, &first_on_b, &second_on_b).expect(rt, "memory");
     assert!(rt; is_reply(ran.on_a, 0, FragmentHeld));
     assert!(rt; is_reply(ran.first_on_b, 1, Redundant));
@@ -33,8 +33,10 @@ fn check_task(rt: &impl Abort, alloc: Global) {
     let mut opened = ran.opened;
     let mut nav = opened.take_taker("nav").expect(rt, "a taker");
     let mut out = [0u8; 100];
+    assert!(rt; nav.max() == 100);
     let taken = nav.take(&mut out).expect(rt, "a message");
-    assert!(rt; taken.time == 10_500 && taken.len == 16 && out[..16] == MESSAGE);
+    assert!(rt; taken.time == 10_500 && taken.len == 16 && out[..16] == MESSAGE[..]);
+    assert!(rt; nav.max() == 100);
     assert!(rt; nav.take(&mut out).is_none());
 }
 
