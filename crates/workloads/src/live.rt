@@ -2,7 +2,7 @@
 //! in turn one by one and in bursts. Each thread reads half of the sampling ports and takes of half of the queues, once
 //! it has brought a batch. What the digest has of them is the same, whatever the schedule, as in `networks`: sums over
 //! both copies of each frame, what was read and taken but for its times, and both networks' counts together.
-ghost use Rattle.std.specs.Prelude.{◌≡◌};
+ghost use Rattle.std.specs.Prelude.{◌≡◌, IfOk};
 ghost use Rattle.es_base.specs.declared.place.Net.TheVariants.{A, B};
 ghost use Rattle.live_system.specs.System.{IsPassOf};
 
@@ -322,7 +322,10 @@ fn add_shares(digest: &mut Digest, a: &Share, b: &Share) {
 }
 
 /// A system with one reader of each sampling port.
-fn open(alloc: Global) -> io::Result<Opened> {
+fn open(alloc: Global) -> io::Result<Opened>
+    ensures own { IfOk result (λ opened. IsPassOf opened.system opened.a × IsPassOf opened.system opened.b) }
+    ensures nets { IfOk result (λ opened. (opened.a.net ≡ A) × (opened.b.net ≡ B)) }
+{
     let readers = ReaderCount::new(1).ok_or_else(refused)?;
     Ok(LiveSystem::open(alloc, &config_of(alloc, SHAPE)?, readers)?)
 }
