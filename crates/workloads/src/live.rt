@@ -45,6 +45,9 @@ const BURST: usize = 32;
 /// Number of bursts of a batch.
 const BURSTS: u64 = BATCH / BURST as u64;
 
+/// How many times as many batches come in a round as in `networks`, whose frames take longer.
+const TIMES: u64 = 4;
+
 /// Room for the longest message, in octets.
 const ROOM: usize = 8192;
 
@@ -346,7 +349,7 @@ pub(crate) fn run<R: Threads + Wait + Sync>(
     let (share_a, share_b) = shares_of(alloc, ends)?;
     let sent_a = traffic(alloc, SHAPE, PROFILE, seed)?;
     let sent_b = traffic(alloc, SHAPE, PROFILE, seed)?;
-    let batches = rounds.wrapping_mul(BATCHES);
+    let batches = rounds.wrapping_mul(BATCHES).wrapping_mul(TIMES);
     let shared = &system;
     let (ended_a, ended_b) = (AtomicU64::new(0), AtomicU64::new(0));
     let (at_a, at_b) = (&ended_a, &ended_b);
