@@ -14,7 +14,7 @@ from parts.worked import with_sum
 
 VL, PORTS, FIRST_UDP = 17, 32, 5000
 LONGEST_SKEW, LONGEST_LIMIT = 1_000_000, 10_000_000
-NETS = "AB"
+NETS, SOURCE = "AB", (10, 1, 1, 1)
 
 
 class Frame(NamedTuple):
@@ -123,7 +123,7 @@ class Networks:
         time, number = self.r.randrange(10_000), self.r.choice([0, 255, self.r.randrange(256)])
         self.sent, self.numbers, self.restarts = [time], [number], set()
         for index in range(1, self.count):
-            if self.r.random() < self.restart:
+            if self.restarts_at(index):
                 self.restarts.add(index)
                 time, number = time + max(self.gap, self.pause), 0
             else:
@@ -131,6 +131,9 @@ class Networks:
             time += self.later()
             self.sent.append(time)
             self.numbers.append(number)
+
+    def restarts_at(self, index):
+        return self.r.random() < self.restart
 
     def later(self):
         """How much later than it may a frame is sent."""
@@ -205,11 +208,15 @@ class Networks:
     def trace(self, net):
         return "".join(f"{copy.time} {self.octets(copy).hex()}\n" for copy in self.copies if copy.net == net)
 
+    def source(self, index):
+        """The source address of a frame's packet."""
+        return SOURCE
+
     def octets(self, copy):
         frame = self.frames[copy.index]
         word = (0x2000 if frame.more else 0) | frame.offset // 8
         head = struct.pack(">BBHHHBBH4s4s", 0x45, 0, 20 + len(frame.octets), frame.ident, word, 1, 17, 0,
-                           bytes([10, 1, 1, 1]), bytes([224, 224, 0, 17]))
+                           bytes(self.source(copy.index)), bytes([224, 224, 0, 17]))
         interface = 0x20 if copy.net == "A" else 0x40
         body = struct.pack(">IH", 0x03000000, VL) + bytes([2, 0, 0, 0, 1, interface, 8, 0]) + with_sum(head) + frame.octets
         return body + bytes(max(0, 59 - len(body))) + bytes([self.numbers[copy.index]])
