@@ -6,10 +6,10 @@ message asks (checks/parts/arrivals.py). Each class of `FAULTY` has one fault, a
 """
 import itertools
 
-from parts.random_networks import LONGEST_LIMIT, NETS, SOURCE, Copy, Networks
+from parts.random_networks import LONGEST_SKEW, NETS, SOURCE, Copy, Networks
 
 STRANGE_SOURCE = (10, 1, 1, 2)
-LONGEST_OUTAGE = 300
+LONGEST_OUTAGE, LONGEST_TURN = 300, 0x10000
 
 
 class Faulty(Networks):
@@ -24,10 +24,16 @@ class Faulty(Networks):
 
     def draw_sender(self):
         self.streams, self.recounts = self.r.randint(1, 4), self.r.random() < 0.5
+        self.turn = self.r.choice([LONGEST_TURN, self.r.randint(5, 40)])
         self.starts, self.counted_from, self.disguised = set(), 0, set()
 
+    def drawn_skew(self):
+        """Now and then SkewMax runs for more than 128 gaps."""
+        return self.r.choice([super().drawn_skew(), self.r.randint(self.spread, min(LONGEST_SKEW, 250 * self.gap))])
+
     def drawn_limit(self):
-        return self.r.choice([self.longest_datagram(), LONGEST_LIMIT, self.r.randrange(40 * self.gap)])
+        """Now and then too short for some datagrams."""
+        return self.r.choice([super().drawn_limit(), self.r.randrange(40 * self.gap)])
 
     # ---- what is sent
 
@@ -42,8 +48,8 @@ class Faulty(Networks):
             yield next(frames)
 
     def ident(self, message):
-        """A count, which begins anew at a restart or survives it."""
-        return message - self.counted_from
+        """A count that turns over, and begins anew at a restart or survives it."""
+        return (message - self.counted_from) % self.turn
 
     def restarts_at(self, index):
         return index in self.starts
@@ -74,15 +80,17 @@ class Faulty(Networks):
     # ---- another sender
 
     def strange(self, own):
-        """Copies of another sender's frames, which stand after the sender's in the lists of frames and numbers."""
+        """Copies of another sender's frames, which stand after the sender's in the lists of frames and numbers. They have
+        the identification of one of the sender's datagrams, and now and then its addresses too."""
         for _ in range(self.r.randint(0, self.strangers)):
             at, nets = self.r.randrange(len(own)), self.r.choice(["A", "B", "AB"])
             time, number = own[at].time, self.strange_number(own[:at], nets[0])
-            for frame in self.strange_datagram(self.frames[own[at].index]):
+            ident, is_disguised = self.frames[own[at].index].ident, self.r.random() < 0.3
+            for frame in self.strange_datagram():
                 index = len(self.frames)
-                self.frames.append(frame)
+                self.frames.append(frame._replace(ident=ident))
                 self.numbers.append(number)
-                if frame.ident == self.frames[own[at].index].ident:
+                if is_disguised:
                     self.disguised.add(index)
                 yield from (Copy(time, net, index) for net in nets)
                 time, number = time + self.r.randrange(self.gap), number % 255 + 1
@@ -92,16 +100,13 @@ class Faulty(Networks):
         latest = next((self.numbers[copy.index] for copy in reversed(before) if copy.net == net), 0)
         return self.r.choice([0, latest % 255 + 1, (latest + self.window - 1) % 255 + 1, self.r.randrange(256)])
 
-    def strange_datagram(self, beside):
-        """A datagram or its first fragments, now and then with addresses and identification of one of the sender's."""
+    def strange_datagram(self):
+        """A datagram or its first fragments."""
         frames = []
         for frame in self.stream():
             frames.append(frame)
             if not frame.more:
-                break
-        if self.r.random() < 0.3:
-            frames = [frame._replace(ident=beside.ident) for frame in frames]
-        return frames[:self.r.randint(1, len(frames))]
+                return frames[:self.r.randint(1, len(frames))]
 
     def source(self, index):
         return STRANGE_SOURCE if index >= self.count and index not in self.disguised else SOURCE
@@ -116,7 +121,9 @@ class OneOut(Faulty):
 
     def draw_sender(self):
         super().draw_sender()
-        self.outages = {self.r.choice(NETS): self.r.randint(1, 3)}
+        self.outages, self.turn = {self.r.choice(NETS): self.r.randint(1, 3)}, LONGEST_TURN
+
+    drawn_limit = Networks.drawn_limit
 
 
 class BothOut(Faulty):
@@ -131,12 +138,17 @@ class Losing(Faulty):
 
 class RestartingInParts(Faulty):
     """restarts in the midst of datagrams, and losses"""
-    restart, lost, lost_alone = 0.02, 0.02, 0.02
+    restart, lost, lost_alone = 0.05, 0.06, 0.02
+    drawn_limit = Networks.drawn_limit
+
+    def step(self, length):
+        """Datagrams of two to eight fragments, or of one."""
+        return -(-length // (8 * self.r.randint(1, 8))) * 8
 
 
 class Strange(Faulty):
     """frames of another sender, and old ones once more"""
-    strangers = 12
+    strangers = 20
 
 
 class OpenedInParts(Faulty):
