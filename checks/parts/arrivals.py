@@ -10,7 +10,7 @@ time that fits, on networks that begin near each other. All before a stretch is 
   fragments all others were offered before, in order and within the reassembly limit; within the limit before the first
   nothing came with its addresses and identification; and another began a group only while fewer than three stood that
   began after it.
-- A message that arrives is put at the end of its port's messages, with the time of this copy.
+- A message that arrives, and whose queue isn't full, is put at the end of its port's messages, with the time of this copy.
 
 What a program forwarded is looked at in the past of a stretch, and where one begins; there the law speaks of it, too.
 """
@@ -57,7 +57,8 @@ def follows(number, before, window):
 
 def keeps_times(networks):
     """Whether the times of sender and networks fit SkewMax, and no copy overtakes."""
-    return networks.spread <= networks.skew and networks.spread + networks.skew < networks.pause and networks.spread < networks.gap
+    fits = networks.spread <= networks.skew and networks.spread + networks.skew < networks.pause
+    return fits and networks.spread < networks.gap
 
 
 # ---- packets that are offered
@@ -186,7 +187,9 @@ class Arrivals:
     def is_in_time(self, copy):
         """Whether it is of a frame of the sender's, and came no later than its networks bring one."""
         sender = self.networks
-        return self.keeps_times and copy.index < sender.count and sender.least <= copy.time - sender.sent[copy.index] <= sender.least + sender.spread
+        if not self.keeps_times or copy.index >= sender.count:
+            return False
+        return 0 <= copy.time - sender.sent[copy.index] - sender.least <= sender.spread
 
     def is_skew_over(self, now):
         return self.last_forwarded is None or now > self.last_forwarded + self.networks.skew
@@ -217,6 +220,17 @@ def got_at(networks, verdicts, messages):
     return got, sum(map(len, left.values()))
 
 
+def places_with_room(networks, places, got):
+    """Those of some places at which the queue of the frame's message wasn't full."""
+    found, waiting = set(), collections.Counter()
+    for place, copy in enumerate(networks.copies):
+        if place in places and waiting[networks.udp(networks.frames[copy.index].message)] < networks.depth:
+            found.add(place)
+        if place in got:
+            waiting[got[place][0]] += 1
+    return found
+
+
 def judged(networks, verdicts, messages):
     """What arrived, and what is wrong with what the ports got."""
     law = Arrivals(networks, [words[0] not in ("out-of-sequence", "redundant") for words in verdicts])
@@ -232,6 +246,7 @@ def judged(networks, verdicts, messages):
         counts["strange" if copy.index >= networks.count else "beside"] += place not in law.places
         counts["twice"] += place in law.stretches and (law.stretches[place], number) in once
         once.add((law.stretches.get(place), number))
-    counts["missing"] = len(law.places - right)
+    arrive = places_with_room(networks, law.places, got)
+    counts["missing"] = len(arrive - right)
     ended = {frame.message for frame in networks.frames[:networks.count] if not frame.more}
-    return counts + collections.Counter(sent=len(ended), arrive=len(law.places))
+    return counts + collections.Counter(sent=len(ended), arrive=len(arrive))

@@ -6,7 +6,7 @@ message asks (checks/parts/arrivals.py). Each class of `FAULTY` has one fault, a
 """
 import itertools
 
-from parts.random_networks import LONGEST_SKEW, NETS, SOURCE, Copy, Networks
+from parts.random_networks import DEEPEST, LONGEST_SKEW, NETS, SOURCE, Copy, Networks
 
 STRANGE_SOURCE = (10, 1, 1, 2)
 LONGEST_OUTAGE, LONGEST_TURN = 300, 0x10000
@@ -24,7 +24,8 @@ class Faulty(Networks):
 
     def draw_sender(self):
         self.streams, self.recounts = self.r.randint(1, 4), self.r.random() < 0.5
-        self.turn = self.r.choice([LONGEST_TURN, self.r.randint(5, 40)])
+        self.turn = self.r.choice([LONGEST_TURN, LONGEST_TURN, LONGEST_TURN, self.r.randint(5, 40)])
+        self.depth = self.r.choice([DEEPEST, DEEPEST, self.r.randint(5, 15)])
         self.starts, self.counted_from, self.disguised = set(), 0, set()
 
     def drawn_skew(self):
@@ -121,7 +122,8 @@ class OneOut(Faulty):
 
     def draw_sender(self):
         super().draw_sender()
-        self.outages, self.turn = {self.r.choice(NETS): self.r.randint(1, 3)}, LONGEST_TURN
+        self.outages = {self.r.choice(NETS): self.r.randint(1, 3)}
+        self.turn, self.depth = LONGEST_TURN, DEEPEST
 
     drawn_limit = Networks.drawn_limit
 

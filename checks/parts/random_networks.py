@@ -12,7 +12,7 @@ from typing import NamedTuple
 
 from parts.worked import with_sum
 
-VL, PORTS, FIRST_UDP = 17, 32, 5000
+VL, PORTS, FIRST_UDP, DEEPEST = 17, 32, 5000, 64
 LONGEST_SKEW, LONGEST_LIMIT = 1_000_000, 10_000_000
 NETS, SOURCE = "AB", (10, 1, 1, 1)
 
@@ -39,6 +39,8 @@ class Networks:
     # Whether some frames are lost on both networks, and by how much the identification of a datagram is greater than
     # that of the one before.
     lost_on_both, ident_step = None, 1
+    # How many messages a queue holds. Nobody takes one; so many are never full.
+    depth = DEEPEST
     # The share of frames before which the sender restarts, the least window, and the network that brings all copies as
     # late as it may, if there is one.
     restart, least_window, slower = 0.01, 1, None
@@ -202,7 +204,7 @@ class Networks:
                  f"window = {self.window}"]
         for udp in range(FIRST_UDP, FIRST_UDP + PORTS):
             lines += ["[[link.port]]", f'name = "{udp}"', 'kind = "queuing"', 'address = "224.224.0.17"', f"udp = {udp}",
-                      "depth = 64"]
+                      f"depth = {self.depth}"]
         return "\n".join(lines) + "\n"
 
     def trace(self, net):
