@@ -130,7 +130,15 @@ class OneOut(Faulty):
 
 class BothOut(Faulty):
     """both networks out, each for up to 300 frames"""
-    outages = {"A": 2, "B": 2}
+
+    def draw_sender(self):
+        super().draw_sender()
+        self.begins = [self.r.randrange(self.count) for _ in range(2)]
+
+    def out(self, net):
+        """One is out soon after the other, and returns at any time."""
+        spans = [(begin + self.r.randint(0, 20), begin + self.r.randint(20, LONGEST_OUTAGE)) for begin in self.begins]
+        return {index for span in spans for index in range(*span)}
 
 
 class Losing(Faulty):
