@@ -13,5 +13,8 @@ pub mod Parts
 pub mod Few
 pub mod Interleaved
 pub mod Bringing
+pub mod OfferedSince
+pub mod Arriving
 pub mod Messages
 pub mod Examples
+pub mod SinceExamples

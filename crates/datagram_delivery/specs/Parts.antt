@@ -13,6 +13,9 @@ use Rattle.es_base.specs.Groups.{is_same_key}
 use Rattle.es_base.specs.Outcome.{Payload, datagram_payload}
 use Rattle.es_base.specs.Reassembly.{packet_in}
 use Rattle.es_base.specs.Settings.{Settings}
+use Rattle.datagram_delivery.specs.Datagrams.{IsUnused}
+use Rattle.datagram_delivery.specs.Offers.{offered_in}
+use Rattle.datagram_delivery.specs.Splitting.{Offer}
 
 -- a packet has a part of a datagram or the whole of it: the octets from its offset on; and if no more follow, those
 -- up to its end
@@ -41,6 +44,16 @@ AreOfOneWith limit datagram e (earlier ∷ past) = AreOfOne limit datagram e ear
 abbrev pub HaveParts : ℕ → (Event → List ℕ) → List Event → Type 0
 HaveParts limit datagram [] = Unit {0}
 HaveParts limit datagram (e ∷ past) = IsPart datagram e × AreOfOneWith limit datagram e past × HaveParts limit datagram past
+
+-- no packet with its key was offered in an old past within the limit before it
+abbrev pub IsUnusedIn : ℕ → List Offer → Event → Type 0
+IsUnusedIn limit old e = (packet : PacketParts) → packet_in e.frame ≡ Ok packet → IsUnused limit (key_of packet) e.time old
+
+-- the same of the frames that come after an old past, which may have anything but these keys within the limit
+abbrev pub HavePartsSince : Settings → (Event → List ℕ) → List Event → List Event → Type 0
+HavePartsSince settings datagram old [] = Unit {0}
+HavePartsSince settings datagram old (e ∷ past) =
+    IsPart datagram e × AreOfOneWith settings.reassembly datagram e past × IsUnusedIn settings.reassembly (offered_in settings old) e × HavePartsSince settings datagram old past
 
 -- a message is the message of a datagram for a port of the link, where this frame has the datagram or a part of it
 -- rule: DELIV-2

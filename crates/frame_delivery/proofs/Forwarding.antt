@@ -16,14 +16,14 @@ use Rattle.frame_delivery.proofs.Kept.{each_passing}
 -- ---- the newest of some copies
 
 -- the copy that is listed first of the new ones, and what holds of it
-record Newest (numbering : Numbering) (copies : List Copy) : Type 0 where
-  copy : Copy
-  earlier : List Copy
-  is : new_copies copies ≡ copy ∷ earlier
-  greatest : copy.index ≡ greatest_index copies
-  number : sequence_number_of copy.event.frame ≡ number_of_frame numbering copy.index
+pub record Newest (numbering : Numbering) (copies : List Copy) : Type 0 where
+  pub copy : Copy
+  pub earlier : List Copy
+  pub is : new_copies copies ≡ copy ∷ earlier
+  pub greatest : copy.index ≡ greatest_index copies
+  pub number : sequence_number_of copy.event.frame ≡ number_of_frame numbering copy.index
 
-newest_of : (numbering : Numbering) (copy : Copy) (before : List Copy) → HaveNumbers numbering (copy ∷ before) → Newest numbering (copy ∷ before)
+pub newest_of : (numbering : Numbering) (copy : Copy) (before : List Copy) → HaveNumbers numbering (copy ∷ before) → Newest numbering (copy ∷ before)
 newest_of numbering copy [] numbers = record { copy = copy; earlier = []; is = refl; greatest = omega arith; number = numbers.0 }
 newest_of numbering copy (other ∷ before) numbers =
     ⊎_elim
@@ -47,7 +47,7 @@ newest_of numbering copy (other ∷ before) numbers =
 
 -- ---- the first copy is a new one
 
-first_is_new : (numbering : Numbering) (skew_max : ℕ) (before : List Copy) (copy : Copy) → numbering.first ≤ 255 → HaveNumbers numbering before → sequence_number_of copy.event.frame ≡ number_of_frame numbering copy.index
+pub first_is_new : (numbering : Numbering) (skew_max : ℕ) (before : List Copy) (copy : Copy) → numbering.first ≤ 255 → HaveNumbers numbering before → sequence_number_of copy.event.frame ≡ number_of_frame numbering copy.index
     → ComesInTime numbering skew_max before copy
     → is_first_copy skew_max (as_forwarded (new_copies before)) (sequence_number_of copy.event.frame) copy.event.time ≡ is_new copy.index before
 first_is_new numbering skew_max [] copy small numbers number in_time = refl

@@ -7,8 +7,13 @@ pub mod Near
 pub mod Times
 pub mod Firsts
 pub mod Main
+pub mod Since
+pub mod OneNetwork
 pub mod Delivered
+pub mod DeliveredSince
 pub mod Whole
+pub mod OneNetworkWhole
 pub mod Messages
 pub mod Conditions
 pub mod Examples
+pub mod SinceExamples

@@ -5,3 +5,4 @@ pub mod Network
 pub mod Messages
 pub mod Conditions
 pub mod Examples
+pub mod Since

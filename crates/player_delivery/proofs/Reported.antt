@@ -16,12 +16,17 @@ use Rattle.trace_player.specs.Output.{lines_of, report_time_of}
 use Rattle.datagram_delivery.specs.Bringing.{BringDatagrams}
 use Rattle.datagram_delivery.specs.Interleaved.{Carried}
 use Rattle.datagram_delivery.proofs.Bringing.{brought}
-use Rattle.player_delivery.specs.Reported.{AreWritten, StandsIn, lines_sent}
+use Rattle.datagram_delivery.proofs.OfferedSince.{deliveries_by_offers}
+use Rattle.player_delivery.specs.Reported.{AreWritten, StandsIn, lines_offered, lines_sent}
 
 pub lines_are : (constant : List ℕ) (link : Settings) (frames : List Arrival) (carried : List Carried) (at : ℕ) → BringDatagrams link (past_after constant link frames) carried
     → link_lines at link (past_after constant link frames) ≡ lines_sent link carried at
 lines_are constant link frames carried at bring =
     ap (λ delivered. ports_lines at delivered 0 link.ports) (fun_ext (λ port. brought link (past_after constant link frames) carried port bring))
+
+-- whatever came
+pub lines_are_offered : (constant : List ℕ) (link : Settings) (frames : List Arrival) (at : ℕ) → link_lines at link (past_after constant link frames) ≡ lines_offered link (past_after constant link frames) at
+lines_are_offered constant link frames at = ap (λ delivered. ports_lines at delivered 0 link.ports) (fun_ext (λ port. deliveries_by_offers link (past_after constant link frames) port))
 
 -- ---- texts in texts
 

@@ -1,11 +1,14 @@
 -- What the player writes of the messages of a link.
 use Rattle.std.specs.Prelude.{◌≡◌, ℕ, List, ◌++◌, Option, reverse}
+use Rattle.es_base.specs.declared.event.Event.{Event}
 use Rattle.es_base.specs.Config.{Configuration}
 use Rattle.es_base.specs.Settings.{Settings}
 use Rattle.hex_trace.specs.Frames.{TimedFrame}
 use Rattle.output_lines.specs.Report.{ports_lines}
 use Rattle.trace_player.specs.Merge.{merged}
 use Rattle.trace_player.specs.Output.{output_of, report_time_of}
+use Rattle.datagram_delivery.specs.Datagrams.{messages_by}
+use Rattle.datagram_delivery.specs.Offers.{offered_in}
 use Rattle.datagram_delivery.specs.Interleaved.{Carried, messages_ended}
 
 -- a piece of text stands in a text
@@ -16,6 +19,10 @@ StandsIn piece text = (before : List ℕ) × (after : List ℕ) × (text ≡ bef
 -- time of the report
 abbrev pub lines_sent : Settings → List Carried → ℕ → List ℕ
 lines_sent link carried at = ports_lines at (λ port. messages_ended port carried) 0 link.ports
+
+-- the lines on a link's ports if the packets of the frames that were forwarded were offered once, one by one
+abbrev pub lines_offered : Settings → List Event → ℕ → List ℕ
+lines_offered link past at = ports_lines at (λ port. messages_by link (offered_in link past) port) 0 link.ports
 
 -- they stand in what is written for two traces
 -- rule: DELIV-14

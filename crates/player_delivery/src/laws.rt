@@ -9,14 +9,16 @@ ghost use Rattle.trace_player.specs.Histories.{past_after};
 ghost use Rattle.trace_player.specs.Merge.{merged};
 ghost use Rattle.datagram_delivery.specs.Bringing.{BringDatagrams};
 ghost use Rattle.datagram_delivery.specs.Interleaved.{Carried};
-ghost use Rattle.player_delivery.specs.Reported.{AreWritten, lines_sent};
+ghost use Rattle.player_delivery.specs.Reported.{AreWritten, lines_offered, lines_sent};
 
 /// The report's lines on a link's ports are those of the messages sent to them, each once and whole, if copies of it
 /// came and its queue had room; and of no other. They stand in the order in which their sending ended. This asks of the
 /// link's frames in both traces that they are copies of a sender's, of all fragments of a datagram or of none, on
 /// networks that keep what is asked of them. At most four of its datagrams may be in parts at a time. Nobody takes a
-/// message from a queue of the player. These lines are in the output of the traces, which `trace_player::play` writes.
+/// message from a queue of the player. Whatever came, the lines are those of the packets of the forwarded frames, each
+/// offered once. These lines are in the output of the traces, which `trace_player::play` writes.
 pub fn each_message_is_reported_once()
+    ensures offered { (constant : List ℕ) (link : Settings) (frames : List Arrival) (at : ℕ) → link_lines at link (past_after constant link frames) ≡ lines_offered link (past_after constant link frames) at }
     ensures lines { (constant : List ℕ) (link : Settings) (frames : List Arrival) (carried : List Carried) (at : ℕ) → BringDatagrams link (past_after constant link frames) carried
         → link_lines at link (past_after constant link frames) ≡ lines_sent link carried at }
     ensures written { (c : Configuration) (a b : List TimedFrame) (asked : Option ℕ) (place : ℕ) (link : Settings) (carried : List Carried) → slice_get c.links place ≡ Some link

@@ -1,0 +1,361 @@
+-- After any past, from the first copy on that is forwarded, the first copy of each frame that passes is forwarded.
+use Rattle.std.proofs.Common.{◌≡◌, ◌∙◌, sym, ap, subst, ℕ, ◌+◌, ◌<◌, ◌≤◌, Bool, true, false, not, List, [], ◌∷◌, ◌++◌, length, suc, inl, refl, ⊎_elim, arith}
+use Rattle.std.specs.Prelude.{◌&&◌, ◌||◌, ◌⊎◌, nat_lt, max}
+use Rattle.std.proofs.lemmas.Bool.{cases_Bool}
+use Rattle.es_base.specs.declared.event.Arrival.{Arrival}
+use Rattle.es_base.specs.declared.event.Event.{Event}
+use Rattle.es_base.specs.Frame.{sequence_number_of}
+use Rattle.es_base.specs.Past.{arrival_of}
+use Rattle.es_base.specs.Integrity.{passes}
+use Rattle.es_base.specs.Copies.{Forwarded, elapsed, greatest_time, is_ahead, is_first_copy}
+use Rattle.es_base.specs.Redundancy.{forwarded, is_forwarded, is_forwarded_after}
+use Rattle.es_base.specs.Settings.{Settings}
+use Rattle.frame_delivery.specs.Sending.{Copy, EachCopy, HaveNumbers, Numbering, events_of_copies, number_of_frame}
+use Rattle.frame_delivery.specs.Once.{AreInOrder, ComesInTime, IsForwardedIfFirst, as_forwarded, first_copies, has_come, is_new, new_copies, newest_time, passing_copies}
+use Rattle.frame_delivery.specs.Network.{BeginNear, ComeTimely, HasNoOvertaking, IsNeverLate, IsOnItsWay, Timing, time_of_all}
+use Rattle.frame_delivery.specs.Running.{EachForwarded}
+use Rattle.frame_delivery.specs.Since.{ComeAfter, IsFirstPassing, PassTimely, counts, events_since, forwarded_since, passing_since}
+use Rattle.frame_delivery.proofs.Forwarding.{first_is_new, new_in_order, newest_of}
+use Rattle.frame_delivery.proofs.Firsts.{new_are_first}
+use Rattle.frame_delivery.proofs.Running.{all_over, first_when_over}
+use Rattle.frame_delivery.proofs.Times.{all_in_time, apart_not_late, none_overtaken, not_late}
+
+-- ---- what holds of each copy holds of each of those that count
+
+pub each_since : (Holds : Copy → Type 0) (settings : Settings) (old : List Event) (copies : List Copy) → EachCopy (λ before copy. Holds copy) copies → EachCopy (λ before copy. Holds copy) (passing_since settings old copies)
+each_since Holds settings old [] each = tt
+each_since Holds settings old (copy ∷ before) each =
+    ⊎_elim
+    (λ (is : counts settings (events_since before old) (arrival_of copy.event) (passing_since settings old before) ≡ true). rw is (each.0, each_since Holds settings old before each.1))
+    (λ (is : counts settings (events_since before old) (arrival_of copy.event) (passing_since settings old before) ≡ false). rw is (each_since Holds settings old before each.1))
+    (cases_Bool (counts settings (events_since before old) (arrival_of copy.event) (passing_since settings old before)))
+
+time_of_since : (settings : Settings) (old : List Event) (copies : List Copy) → time_of_all (passing_since settings old copies) ≤ time_of_all copies
+time_of_since settings old [] = omega arith
+time_of_since settings old (copy ∷ before) =
+    let rest = time_of_since settings old before in
+    ⊎_elim
+    (λ (is : counts settings (events_since before old) (arrival_of copy.event) (passing_since settings old before) ≡ true). rw is (omega (arith, rest)))
+    (λ (is : counts settings (events_since before old) (arrival_of copy.event) (passing_since settings old before) ≡ false). rw is (omega (arith, rest)))
+    (cases_Bool (counts settings (events_since before old) (arrival_of copy.event) (passing_since settings old before)))
+
+order_since : (wait : ℕ) (settings : Settings) (old : List Event) (copies : List Copy) → EachCopy (λ before copy. time_of_all before ≤ copy.event.time + wait) copies
+    → EachCopy (λ before copy. time_of_all before ≤ copy.event.time + wait) (passing_since settings old copies)
+order_since wait settings old [] order = tt
+order_since wait settings old (copy ∷ before) order =
+    let rest = time_of_since settings old before in
+    let here = order.0 in
+    ⊎_elim
+    (λ (is : counts settings (events_since before old) (arrival_of copy.event) (passing_since settings old before) ≡ true). rw is (omega (arith, rest, here), order_since wait settings old before order.1))
+    (λ (is : counts settings (events_since before old) (arrival_of copy.event) (passing_since settings old before) ≡ false). rw is (order_since wait settings old before order.1))
+    (cases_Bool (counts settings (events_since before old) (arrival_of copy.event) (passing_since settings old before)))
+
+-- ---- the frames that were forwarded are those copies, and before them the old ones
+
+pub forwarded_are : (settings : Settings) (old : List Event) (copies : List Copy) → forwarded settings (events_since copies old) ≡ as_forwarded (forwarded_since settings old copies) ++ forwarded settings old
+forwarded_are settings old [] = refl
+forwarded_are settings old (copy ∷ before) =
+    let rest = forwarded_are settings old before in
+    ⊎_elim
+    (λ (is : is_forwarded settings (events_since before old) (arrival_of copy.event) ≡ true).
+    rw is (ap (λ (frames : List Forwarded). record { sequence_number = sequence_number_of copy.event.frame; time = copy.event.time } ∷ frames) rest))
+    (λ (is : is_forwarded settings (events_since before old) (arrival_of copy.event) ≡ false). rw is rest)
+    (cases_Bool (is_forwarded settings (events_since before old) (arrival_of copy.event)))
+
+-- ---- old frames that are no later change nothing
+
+greatest_join : (some old : List Forwarded) → greatest_time (some ++ old) ≡ max (greatest_time some) (greatest_time old)
+greatest_join [] old = omega arith
+greatest_join (frame ∷ some) old = let rest = greatest_join some old in omega (arith, rest)
+
+first_among : (skew_max : ℕ) (all some old : List Forwarded) (frame : Forwarded) (number now : ℕ) → all ≡ frame ∷ some → greatest_time old ≤ greatest_time all
+    → is_first_copy skew_max (all ++ old) number now ≡ is_first_copy skew_max all number now
+first_among skew_max [] some old frame number now is earlier = cc
+first_among skew_max (first ∷ others) some old frame number now is earlier =
+    let joined = greatest_join others old in
+    let e : greatest_time (first ∷ (others ++ old)) ≡ greatest_time (first ∷ others) = omega (arith, joined, earlier) in
+    ap (λ (time : ℕ). nat_lt skew_max (elapsed now time) || is_ahead first.sequence_number number) e
+
+newest_after : (time : ℕ) (one : Copy) (some : List Copy) → EachCopy (λ before copy. time ≤ copy.event.time) (one ∷ some) → time ≤ newest_time (one ∷ some)
+newest_after time one [] each = let here = each.0 in omega (arith, here)
+newest_after time one (other ∷ some) each =
+    let here = each.0 in
+    let rest = newest_after time other some each.1 in
+    ⊎_elim
+    (λ (new : is_new one.index (other ∷ some) ≡ true). rw new (omega (arith, here)))
+    (λ (old : is_new one.index (other ∷ some) ≡ false). rw old rest)
+    (cases_Bool (is_new one.index (other ∷ some)))
+
+old_time : (settings : Settings) (time : ℕ) (old : List Event) → EachForwarded settings (λ e. e.time ≤ time) old → greatest_time (forwarded settings old) ≤ time
+old_time settings time [] each = omega arith
+old_time settings time (e ∷ old) each =
+    let rest = old_time settings time old each.1 in
+    ⊎_elim
+    (λ (is : is_forwarded settings old (arrival_of e) ≡ true). let here = each.0 is in rw is (omega (arith, here, rest)))
+    (λ (is : is_forwarded settings old (arrival_of e) ≡ false). rw is rest)
+    (cases_Bool (is_forwarded settings old (arrival_of e)))
+
+old_times : (settings : Settings) (old : List Event) (copies : List Copy) → ComeAfter settings old copies → EachCopy (λ before copy. greatest_time (forwarded settings old) ≤ copy.event.time) copies
+old_times settings old [] after = tt
+old_times settings old (copy ∷ before) after = (old_time settings copy.event.time old after.0, old_times settings old before after.1)
+
+-- ---- so the new ones of those that count are forwarded
+
+forwarded_if : (settings : Settings) (frames : List Forwarded) (past : List Event) (a : Arrival) (new : Bool) → settings.redundancy ≡ true → passes settings past a ≡ true
+    → is_first_copy settings.skew_max frames (sequence_number_of a.frame) a.time ≡ new → is_forwarded_after settings frames past a ≡ new
+forwarded_if settings frames past a true on pass first = rw (pass, on, first) refl
+forwarded_if settings frames past a false on pass first = rw (pass, on, first) refl
+
+refused : (settings : Settings) (past : List Event) (a : Arrival) → passes settings past a ≡ false → is_forwarded settings past a ≡ false
+refused settings past a fails = rw fails refl
+
+-- what is asked of those that count
+abbrev AreSound : Settings → Numbering → List Event → List Copy → Type 0
+AreSound settings numbering old some =
+    HaveNumbers numbering some × EachCopy (λ before copy. greatest_time (forwarded settings old) ≤ copy.event.time) some × EachCopy (ComesInTime numbering settings.skew_max) some
+
+module _ (settings : Settings) (numbering : Numbering) (old : List Event) (on : settings.redundancy ≡ true) (small : numbering.first ≤ 255) where
+  -- after some that count, one that passes is forwarded exactly if it is new
+  new_is_forwarded : (copy : Copy) (before : List Copy) (one : Copy) (some : List Copy) → forwarded_since settings old before ≡ new_copies (one ∷ some) → AreSound settings numbering old (copy ∷ one ∷ some)
+      → passes settings (events_since before old) (arrival_of copy.event) ≡ true → is_forwarded settings (events_since before old) (arrival_of copy.event) ≡ is_new copy.index (one ∷ some)
+  new_is_forwarded copy before one some rest sound pass =
+      let (numbers, after, in_time) = sound in
+      let found = newest_of numbering one some numbers.1 in
+      let frames : forwarded settings (events_since before old) ≡ as_forwarded (new_copies (one ∷ some)) ++ forwarded settings old =
+      forwarded_are settings old before ∙ ap (λ (copies : List Copy). as_forwarded copies ++ forwarded settings old) rest in
+      let first : is_first_copy settings.skew_max (as_forwarded (new_copies (one ∷ some)) ++ forwarded settings old) (sequence_number_of copy.event.frame) copy.event.time ≡ is_new copy.index (one ∷ some) =
+      first_among settings.skew_max (as_forwarded (new_copies (one ∷ some))) (as_forwarded found.earlier) (forwarded settings old)
+      (record { sequence_number = sequence_number_of found.copy.event.frame; time = found.copy.event.time }) (sequence_number_of copy.event.frame) copy.event.time (ap as_forwarded found.is)
+      (newest_after (greatest_time (forwarded settings old)) one some after.1)
+      ∙ first_is_new numbering settings.skew_max (one ∷ some) copy small numbers.1 numbers.0 in_time.0 in
+      ap (λ (frames : List Forwarded). is_forwarded_after settings frames (events_since before old) (arrival_of copy.event)) frames
+      ∙ forwarded_if settings (as_forwarded (new_copies (one ∷ some)) ++ forwarded settings old) (events_since before old) (arrival_of copy.event) (is_new copy.index (one ∷ some)) on pass first
+
+  new_step : (copy : Copy) (before : List Copy) → (AreSound settings numbering old (passing_since settings old before) → forwarded_since settings old before ≡ new_copies (passing_since settings old before))
+      → AreSound settings numbering old (passing_since settings old (copy ∷ before))
+      → (some : List Copy) → passing_since settings old before ≡ some → forwarded_since settings old (copy ∷ before) ≡ new_copies (passing_since settings old (copy ∷ before))
+  new_step copy before earlier sound [] none =
+      let rest : forwarded_since settings old before ≡ [] = earlier (subst (AreSound settings numbering old) (sym none) (tt, tt, tt)) ∙ ap new_copies none in
+      ⊎_elim
+      (λ (is : is_forwarded settings (events_since before old) (arrival_of copy.event) ≡ true). rw (none, is) (ap (λ (copies : List Copy). copy ∷ copies) rest))
+      (λ (is : is_forwarded settings (events_since before old) (arrival_of copy.event) ≡ false). rw (none, is) rest)
+      (cases_Bool (is_forwarded settings (events_since before old) (arrival_of copy.event)))
+  new_step copy before earlier sound (one ∷ some) is =
+      ⊎_elim
+      (λ (pass : passes settings (events_since before old) (arrival_of copy.event) ≡ true).
+      let at : AreSound settings numbering old (copy ∷ one ∷ some) = rw (is, pass) at sound in
+      let rest : forwarded_since settings old before ≡ new_copies (one ∷ some) = earlier (subst (AreSound settings numbering old) (sym is) (at.0.1, at.1.1, at.2.1)) ∙ ap new_copies is in
+      let same = new_is_forwarded copy before one some rest at pass in
+      ⊎_elim
+      (λ (new : is_new copy.index (one ∷ some) ≡ true). rw (same ∙ new, is, pass, new) (ap (λ (copies : List Copy). copy ∷ copies) rest))
+      (λ (not_new : is_new copy.index (one ∷ some) ≡ false). rw (same ∙ not_new, is, pass, not_new) rest)
+      (cases_Bool (is_new copy.index (one ∷ some))))
+      (λ (fails : passes settings (events_since before old) (arrival_of copy.event) ≡ false).
+      let at : AreSound settings numbering old (one ∷ some) = rw (is, fails) at sound in
+      let rest : forwarded_since settings old before ≡ new_copies (one ∷ some) = earlier (subst (AreSound settings numbering old) (sym is) at) ∙ ap new_copies is in
+      rw (refused settings (events_since before old) (arrival_of copy.event) fails, is, fails) rest)
+      (cases_Bool (passes settings (events_since before old) (arrival_of copy.event)))
+
+  -- those that count before a copy are asked no more
+  sound_before : (copy : Copy) (before : List Copy) → AreSound settings numbering old (passing_since settings old (copy ∷ before)) → AreSound settings numbering old (passing_since settings old before)
+  sound_before copy before sound =
+      ⊎_elim
+      (λ (is : counts settings (events_since before old) (arrival_of copy.event) (passing_since settings old before) ≡ true).
+      let at : AreSound settings numbering old (copy ∷ passing_since settings old before) = rw is at sound in
+      (at.0.1, at.1.1, at.2.1))
+      (λ (is : counts settings (events_since before old) (arrival_of copy.event) (passing_since settings old before) ≡ false). rw is at sound)
+      (cases_Bool (counts settings (events_since before old) (arrival_of copy.event) (passing_since settings old before)))
+
+  pub new_since : (copies : List Copy) → AreSound settings numbering old (passing_since settings old copies) → forwarded_since settings old copies ≡ new_copies (passing_since settings old copies)
+  new_since [] sound = refl
+  new_since (copy ∷ before) sound = new_step copy before (new_since before) sound (passing_since settings old before) refl
+
+-- ---- from what is asked of the sender and of the networks
+
+pub firsts_since : (settings : Settings) (numbering : Numbering) (timing : Timing) (old : List Event) (copies : List Copy) → PassTimely settings numbering timing old copies
+    → (forwarded_since settings old copies ≡ first_copies (passing_since settings old copies)) × AreInOrder (first_copies (passing_since settings old copies))
+firsts_since settings numbering timing old copies pass =
+    let timely = pass.timely in
+    let times = timely.times in
+    let some : List Copy = passing_since settings old copies in
+    let in_time = all_in_time numbering timing times.gaps times.pauses settings.skew_max some timely.fits (apart_not_late numbering timing times.gaps times.pauses pass.apart) pass.near times.ways times.order in
+    let firsts : new_copies some ≡ first_copies some = new_are_first some (none_overtaken numbering timing times.gaps times.pauses some pass.apart times.ways times.order) in
+    (new_since settings numbering old timely.redundancy timely.first copies (timely.numbers, old_times settings old some pass.after, in_time) ∙ firsts, subst AreInOrder firsts (new_in_order some))
+
+-- where copies may be overtaken, the new ones are forwarded
+pub news_since : (settings : Settings) (numbering : Numbering) (timing : Timing) (old : List Event) (copies : List Copy) → ComeTimely settings numbering timing (passing_since settings old copies) → IsNeverLate timing
+    → BeginNear settings.skew_max (passing_since settings old copies) → ComeAfter settings old (passing_since settings old copies)
+    → (forwarded_since settings old copies ≡ new_copies (passing_since settings old copies)) × AreInOrder (new_copies (passing_since settings old copies))
+news_since settings numbering timing old copies timely on_time near after =
+    let times = timely.times in
+    let some : List Copy = passing_since settings old copies in
+    let in_time = all_in_time numbering timing times.gaps times.pauses settings.skew_max some timely.fits (not_late numbering timing times.gaps times.pauses on_time) near times.ways times.order in
+    (new_since settings numbering old timely.redundancy timely.first copies (timely.numbers, old_times settings old some after, in_time), new_in_order some)
+
+-- so is the first copy of a frame that counts
+not_more : (copy : Copy) (copies : List Copy) → copies ≡ copy ∷ copies → ⊥
+not_more copy copies e = longer (length copies) (ap length e)
+  where
+    longer : (n : ℕ) → n ≡ suc n → ⊥
+    longer n e = absurd (omega (arith, e))
+
+-- what is asked of all is asked of those before the last
+pub pass_before : (settings : Settings) (numbering : Numbering) (timing : Timing) (old : List Event) (copy : Copy) (before : List Copy) → PassTimely settings numbering timing old (copy ∷ before)
+    → PassTimely settings numbering timing old before
+pass_before settings numbering timing old copy before pass =
+    let timely = pass.timely in
+    let near = pass.near in
+    let after = pass.after in
+    ⊎_elim
+    (λ (is : counts settings (events_since before old) (arrival_of copy.event) (passing_since settings old before) ≡ true).
+    let all : ComeTimely settings numbering timing (copy ∷ passing_since settings old before) = rw is at timely in
+    let times = all.times in
+    record {
+      timely = record {
+        redundancy = all.redundancy;
+        first = all.first;
+        numbers = all.numbers.1;
+        times = record { gaps = times.gaps; pauses = times.pauses; ways = times.ways.1; order = times.order.1 };
+        fits = all.fits;
+      };
+      apart = pass.apart;
+      near = (rw is at near).1;
+      after = (rw is at after).1;
+    })
+    (λ (is : counts settings (events_since before old) (arrival_of copy.event) (passing_since settings old before) ≡ false). record { timely = rw is at timely; apart = pass.apart; near = rw is at near; after = rw is at after })
+    (cases_Bool (counts settings (events_since before old) (arrival_of copy.event) (passing_since settings old before)))
+
+pub first_since : (settings : Settings) (numbering : Numbering) (timing : Timing) (old : List Event) (copy : Copy) (before : List Copy) → PassTimely settings numbering timing old (copy ∷ before)
+    → IsFirstPassing settings old before copy → is_forwarded settings (events_since before old) (arrival_of copy.event) ≡ true
+first_since settings numbering timing old copy before pass first =
+    let all : forwarded_since settings old (copy ∷ before) ≡ first_copies (passing_since settings old (copy ∷ before)) = (firsts_since settings numbering timing old (copy ∷ before) pass).0 in
+    let here : forwarded_since settings old (copy ∷ before) ≡ copy ∷ first_copies (passing_since settings old before) = all ∙ rw (first.0, first.1) refl in
+    let rest : forwarded_since settings old before ≡ first_copies (passing_since settings old before) = (firsts_since settings numbering timing old before (pass_before settings numbering timing old copy before pass)).0 in
+    ⊎_elim
+    (λ (is : is_forwarded settings (events_since before old) (arrival_of copy.event) ≡ true). is)
+    (λ (is : is_forwarded settings (events_since before old) (arrival_of copy.event) ≡ false).
+    let none : forwarded_since settings old (copy ∷ before) ≡ forwarded_since settings old before = rw is refl in
+    absurd (not_more copy (first_copies (passing_since settings old before)) (sym rest ∙ sym none ∙ here)))
+    (cases_Bool (is_forwarded settings (events_since before old) (arrival_of copy.event)))
+
+-- and no other copy of it
+pub other_since : (settings : Settings) (numbering : Numbering) (timing : Timing) (old : List Event) (copy : Copy) (before : List Copy) → PassTimely settings numbering timing old (copy ∷ before)
+    → has_come copy.index (passing_since settings old before) ≡ true → is_forwarded settings (events_since before old) (arrival_of copy.event) ≡ false
+other_since settings numbering timing old copy before pass come =
+    let all : forwarded_since settings old (copy ∷ before) ≡ first_copies (passing_since settings old (copy ∷ before)) = (firsts_since settings numbering timing old (copy ∷ before) pass).0 in
+    let rest : forwarded_since settings old before ≡ first_copies (passing_since settings old before) = (firsts_since settings numbering timing old before (pass_before settings numbering timing old copy before pass)).0 in
+    let same : first_copies (passing_since settings old (copy ∷ before)) ≡ first_copies (passing_since settings old before) =
+    ⊎_elim
+    (λ (is : counts settings (events_since before old) (arrival_of copy.event) (passing_since settings old before) ≡ true). rw (is, come) refl)
+    (λ (is : counts settings (events_since before old) (arrival_of copy.event) (passing_since settings old before) ≡ false). rw is refl)
+    (cases_Bool (counts settings (events_since before old) (arrival_of copy.event) (passing_since settings old before))) in
+    ⊎_elim
+    (λ (is : is_forwarded settings (events_since before old) (arrival_of copy.event) ≡ true).
+    let more : forwarded_since settings old (copy ∷ before) ≡ copy ∷ forwarded_since settings old before = rw is refl in
+    absurd (not_more copy (forwarded_since settings old before) (rest ∙ sym same ∙ sym all ∙ more)))
+    (λ (is : is_forwarded settings (events_since before old) (arrival_of copy.event) ≡ false). is)
+    (cases_Bool (is_forwarded settings (events_since before old) (arrival_of copy.event)))
+
+-- what is asked of all copies is asked of those that pass
+pub all_pass_timely : (settings : Settings) (numbering : Numbering) (timing : Timing) (old : List Event) (copies : List Copy) → ComeTimely settings numbering timing copies → HasNoOvertaking timing
+    → BeginNear settings.skew_max (passing_since settings old copies) → ComeAfter settings old copies → PassTimely settings numbering timing old copies
+all_pass_timely settings numbering timing old copies timely apart near after =
+    let times = timely.times in
+    record {
+      timely = record {
+        redundancy = timely.redundancy;
+        first = timely.first;
+        numbers = each_since (λ copy. sequence_number_of copy.event.frame ≡ number_of_frame numbering copy.index) settings old copies timely.numbers;
+        times = record {
+          gaps = times.gaps;
+          pauses = times.pauses;
+          ways = each_since (IsOnItsWay timing) settings old copies times.ways;
+          order = order_since timing.wait settings old copies times.order;
+        };
+        fits = timely.fits;
+      };
+      apart = apart;
+      near = near;
+      after = each_since (λ copy. EachForwarded settings (λ e. e.time ≤ copy.event.time) old) settings old copies after;
+    }
+
+-- ---- at the latest when SkewMax is over since each old frame that was forwarded
+
+none_forwarded : (settings : Settings) (old : List Event) (copies : List Copy) → passing_since settings old copies ≡ [] → forwarded settings (events_since copies old) ≡ forwarded settings old
+none_forwarded settings old [] none = refl
+none_forwarded settings old (copy ∷ before) none =
+    ⊎_elim
+    (λ (is : counts settings (events_since before old) (arrival_of copy.event) (passing_since settings old before) ≡ true). let e : copy ∷ passing_since settings old before ≡ [] = rw is at none in cc)
+    (λ (is : counts settings (events_since before old) (arrival_of copy.event) (passing_since settings old before) ≡ false).
+    let before_none : passing_since settings old before ≡ [] = rw is at none in
+    let not_forwarded : is_forwarded settings (events_since before old) (arrival_of copy.event) ≡ false =
+    sym (ap (counts settings (events_since before old) (arrival_of copy.event)) before_none) ∙ is in
+    rw not_forwarded (none_forwarded settings old before before_none))
+    (cases_Bool (counts settings (events_since before old) (arrival_of copy.event) (passing_since settings old before)))
+
+forwarded_first : (settings : Settings) (frames : List Forwarded) (past : List Event) (a : Arrival) → passes settings past a ≡ true
+    → (frames ≡ []) ⊎ (greatest_time frames + settings.skew_max < a.time) → is_forwarded_after settings frames past a ≡ true
+forwarded_first settings frames past a pass over = rw (pass, first_when_over settings.skew_max frames (sequence_number_of a.frame) a.time over) (go settings.redundancy)
+  where
+    go : (on : Bool) → (true && not (on && not true)) ≡ true
+    go true = refl
+    go false = refl
+
+pub counts_at_last : (settings : Settings) (old : List Event) (copy : Copy) (before : List Copy) → passes settings (events_since before old) (arrival_of copy.event) ≡ true
+    → EachForwarded settings (λ e. e.time + settings.skew_max < copy.event.time) old → passing_since settings old (copy ∷ before) ≡ copy ∷ passing_since settings old before
+counts_at_last settings old copy before pass over =
+    let is : counts settings (events_since before old) (arrival_of copy.event) (passing_since settings old before) ≡ true = go (passing_since settings old before) refl in
+    rw is refl
+  where
+    go : (some : List Copy) → passing_since settings old before ≡ some → counts settings (events_since before old) (arrival_of copy.event) some ≡ true
+    go [] none =
+        ap (λ (frames : List Forwarded). is_forwarded_after settings frames (events_since before old) (arrival_of copy.event)) (none_forwarded settings old before none)
+        ∙ forwarded_first settings (forwarded settings old) (events_since before old) (arrival_of copy.event) pass (all_over settings copy.event.time old over)
+    go (one ∷ some) is = pass
+
+-- ---- with no old past these are the copies that pass
+
+pub events_alone : (copies : List Copy) → events_since copies [] ≡ events_of_copies copies
+events_alone [] = refl
+events_alone (copy ∷ before) = ap (λ (events : List Event). copy.event ∷ events) (events_alone before)
+
+pub passing_alone : (settings : Settings) (copies : List Copy) → passing_since settings [] copies ≡ passing_copies settings copies
+passing_alone settings [] = refl
+passing_alone settings (copy ∷ before) =
+    let same : counts settings (events_since before []) (arrival_of copy.event) (passing_since settings [] before) ≡ passes settings (events_of_copies before) (arrival_of copy.event) =
+    go (passing_since settings [] before) refl ∙ ap (λ (past : List Event). passes settings past (arrival_of copy.event)) (events_alone before) in
+    ⊎_elim
+    (λ (is : passes settings (events_of_copies before) (arrival_of copy.event) ≡ true). rw (same ∙ is, is) (ap (λ (copies : List Copy). copy ∷ copies) (passing_alone settings before)))
+    (λ (is : passes settings (events_of_copies before) (arrival_of copy.event) ≡ false). rw (same ∙ is, is) (passing_alone settings before))
+    (cases_Bool (passes settings (events_of_copies before) (arrival_of copy.event)))
+  where
+    go : (some : List Copy) → passing_since settings [] before ≡ some → counts settings (events_since before []) (arrival_of copy.event) some ≡ passes settings (events_since before []) (arrival_of copy.event)
+    go (one ∷ some) is = refl
+    go [] none =
+        ⊎_elim
+        (λ (pass : passes settings (events_since before []) (arrival_of copy.event) ≡ true).
+        ap (λ (frames : List Forwarded). is_forwarded_after settings frames (events_since before []) (arrival_of copy.event)) (none_forwarded settings [] before none)
+        ∙ forwarded_first settings [] (events_since before []) (arrival_of copy.event) pass (inl refl) ∙ sym pass)
+        (λ (fails : passes settings (events_since before []) (arrival_of copy.event) ≡ false). refused settings (events_since before []) (arrival_of copy.event) fails ∙ sym fails)
+        (cases_Bool (passes settings (events_since before []) (arrival_of copy.event)))
+
+-- what holds of each copy holds of those that are forwarded
+pub each_forwarded : (Holds : Copy → Type 0) (settings : Settings) (old : List Event) (copies : List Copy) → EachCopy (λ before copy. Holds copy) copies → EachCopy (λ before copy. Holds copy) (forwarded_since settings old copies)
+each_forwarded Holds settings old [] each = tt
+each_forwarded Holds settings old (copy ∷ before) each =
+    ⊎_elim
+    (λ (is : is_forwarded settings (events_since before old) (arrival_of copy.event) ≡ true). rw is (each.0, each_forwarded Holds settings old before each.1))
+    (λ (is : is_forwarded settings (events_since before old) (arrival_of copy.event) ≡ false). rw is (each_forwarded Holds settings old before each.1))
+    (cases_Bool (is_forwarded settings (events_since before old) (arrival_of copy.event)))
+
+-- where exactly the first copies are forwarded, these are they
+pub firsts_are_all : (settings : Settings) (copies : List Copy) → EachCopy (IsForwardedIfFirst settings) copies → forwarded_since settings [] copies ≡ first_copies copies
+firsts_are_all settings [] each = refl
+firsts_are_all settings (copy ∷ before) each =
+    let rest = firsts_are_all settings before each.1 in
+    let same : is_forwarded settings (events_since before []) (arrival_of copy.event) ≡ not (has_come copy.index before) =
+    ap (λ (past : List Event). is_forwarded settings past (arrival_of copy.event)) (events_alone before) ∙ each.0 in
+    ⊎_elim
+    (λ (come : has_come copy.index before ≡ true). rw (same ∙ ap not come, come) rest)
+    (λ (first : has_come copy.index before ≡ false). rw (same ∙ ap not first, first) (ap (λ (copies : List Copy). copy ∷ copies) rest))
+    (cases_Bool (has_come copy.index before))
