@@ -1,10 +1,15 @@
 -- What the player writes of the messages of a link.
-use Rattle.std.specs.Prelude.{◌≡◌, ℕ, List, ◌++◌, Option, reverse}
+use Rattle.std.specs.Prelude.{◌≡◌, ℕ, List, ◌∷◌, ◌++◌, Option, reverse}
 use Rattle.es_base.specs.declared.event.Event.{Event}
+use Rattle.es_base.specs.declared.event.Message.{Message}
+use Rattle.es_base.specs.declared.port.PortKind.TheVariants.{Queuing}
 use Rattle.es_base.specs.Config.{Configuration}
+use Rattle.es_base.specs.Outcome.{Payload}
+use Rattle.es_base.specs.Port.{Port}
 use Rattle.es_base.specs.Settings.{Settings}
 use Rattle.hex_trace.specs.Frames.{TimedFrame}
-use Rattle.output_lines.specs.Report.{ports_lines}
+use Rattle.output_lines.specs.Line.{message_text}
+use Rattle.output_lines.specs.Report.{line, port_lines, ports_lines}
 use Rattle.trace_player.specs.Merge.{merged}
 use Rattle.trace_player.specs.Output.{output_of, report_time_of}
 use Rattle.datagram_delivery.specs.Datagrams.{messages_by}
@@ -28,3 +33,12 @@ lines_offered link past at = ports_lines at (λ port. messages_by link (offered_
 -- rule: DELIV-14
 abbrev pub AreWritten : Configuration → List TimedFrame → List TimedFrame → Option ℕ → Settings → List Carried → Type 0
 AreWritten c a b asked link carried = StandsIn (lines_sent link carried (report_time_of asked (reverse (merged a b)))) (output_of c a b asked)
+
+-- A message of this time stands in what is written for two traces, in the lines of its port: they are those of all that
+-- was delivered to the port, with the message among it. A queuing port's have each message, a sampling port's the newest.
+-- rule: DELIV-14
+pub record IsWritten (c : Configuration) (a b : List TimedFrame) (asked : Option ℕ) (port : Port) (payload : Payload) (time : ℕ) : Type 0 where
+  pub earlier : List Message
+  pub later : List Message
+  pub lines : StandsIn (port_lines (report_time_of asked (reverse (merged a b))) port (earlier ++ record { time = time; octets = payload.octets } ∷ later)) (output_of c a b asked)
+  pub queued : (depth : ℕ) → port.kind ≡ Queuing depth → StandsIn (line (message_text port.name time payload.octets)) (output_of c a b asked)
