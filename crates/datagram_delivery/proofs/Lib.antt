@@ -10,6 +10,7 @@ pub mod Unused
 pub mod Slices
 pub mod Origins
 pub mod Parts
+pub mod WholeParts
 pub mod Few
 pub mod Interleaved
 pub mod Bringing

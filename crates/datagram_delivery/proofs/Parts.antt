@@ -70,7 +70,7 @@ agree_step limit datagram e packet earlier before read one agree false = agree
 agree_step limit datagram e packet earlier before read one agree true = go (packet_in earlier.frame) refl
   where
     go : (other : Result PacketParts PacketFault) → packet_in earlier.frame ≡ other → Agree limit (part_of datagram e packet) (part_with datagram earlier other before)
-    go (Ok other) is = (λ same soon. one packet other read is same soon, agree)
+    go (Ok other) is = (λ fragment part same soon. one packet other read is fragment part same soon, agree)
     go (Err fault) is = agree
 
 agree_all : (settings : Settings) (limit : ℕ) (datagram : Event → List ℕ) (e : Event) (packet : PacketParts) (old past : List Event) → packet_in e.frame ≡ Ok packet → AreOfOneWith limit datagram e past
@@ -212,7 +212,7 @@ all_since settings datagram old (e ∷ past) port have =
 
 parts_alone : (settings : Settings) (datagram : Event → List ℕ) (past : List Event) → HaveParts settings.reassembly datagram past → HavePartsSince settings datagram [] past
 parts_alone settings datagram [] have = tt
-parts_alone settings datagram (e ∷ past) have = (have.0, have.1, λ packet reads. tt, parts_alone settings datagram past have.2)
+parts_alone settings datagram (e ∷ past) have = (have.0, have.1, λ packet reads fragment. tt, parts_alone settings datagram past have.2)
 
 pub brought_was_sent : (settings : Settings) (datagram : Event → List ℕ) (e : Event) (past : List Event) (payload : Payload) → HaveParts settings.reassembly datagram (e ∷ past)
     → outcome settings past (arrival_of e) ≡ brings payload → IsMessageOfDatagram settings e.frame (datagram e) payload

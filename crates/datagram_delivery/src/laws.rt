@@ -24,7 +24,7 @@ ghost use Rattle.datagram_delivery.specs.Datagrams.{AreSent, CarryPackets, IsSpl
 ghost use Rattle.datagram_delivery.specs.Offers.{offered_in};
 ghost use Rattle.datagram_delivery.specs.Arriving.{Arrives, IsOneOf};
 ghost use Rattle.datagram_delivery.specs.Interleaved.{AreInterleaved, Carried, SendsOn, SendsNext, carried_offers, messages_ended};
-ghost use Rattle.datagram_delivery.specs.Parts.{HaveParts, HavePartsSince, IsMessageOfDatagram, WereSentIn};
+ghost use Rattle.datagram_delivery.specs.Parts.{AreWhole, HaveParts, HavePartsSince, IsMessageOfDatagram, WereSentIn};
 ghost use Rattle.frame_delivery.specs.Examples.{numbering, timing};
 ghost use Rattle.datagram_delivery.specs.Examples.{a_part_before, after_a_part, among_one_another, datagram_at, datagram_octets, eight, first_key, five_begun, four_begun, four_in_parts, fragment, in_two_fragments, link_of_100, link_with_queue, sixteen_octets, message_sent, one_identification, packet_sent, part_sent, payload_sent};
 
@@ -132,18 +132,20 @@ pub fn each_message_that_arrives_is_delivered()
 {}
 
 /// Nothing is made up, mixed or cut, whatever is lost, brought twice or out of order: a message that a port gets is
-/// that of the datagram of which the frame has a part that came at its time. It is only asked that no two frames that
-/// come within the limit of time of each other are of different datagrams with one identification.
+/// that of the datagram of which the frame has a part that came at its time. It is only asked that no two fragments that
+/// come within the limit of time of each other are of different datagrams with one identification. So nothing is asked of
+/// the identifications of datagrams that are sent whole.
 pub fn each_message_was_sent()
     ensures brought { (settings : Settings) (datagram : Event → List ℕ) (e : Event) (past : List Event) (payload : Payload) → HaveParts settings.reassembly datagram (e ∷ past)
         → outcome settings past (arrival_of e) ≡ brings payload → IsMessageOfDatagram settings e.frame (datagram e) payload }
     ensures delivered { (settings : Settings) (datagram : Event → List ℕ) (past : List Event) (port : PortNo) → HaveParts settings.reassembly datagram past
         → WereSentIn settings datagram port past (deliveries settings past port) }
+    ensures whole { (limit : ℕ) (datagram : Event → List ℕ) (past : List Event) → AreWhole datagram past → HaveParts limit datagram past }
 {}
 
 /// The same of the frames that come after any old past, whatever came in it, and whatever groups stand: it is only asked
-/// besides that their identifications weren't used there within the limit of time. So strange frames, once they are over,
-/// mix no message.
+/// besides that the identifications of fragments weren't used there within the limit of time. So strange frames, once
+/// they are over, mix no message.
 pub fn each_message_was_sent_after_any_past()
     ensures brought { (settings : Settings) (datagram : Event → List ℕ) (old : List Event) (e : Event) (past : List Event) (payload : Payload) → HavePartsSince settings datagram old (e ∷ past)
         → outcome settings (past ++ old) (arrival_of e) ≡ brings payload → IsMessageOfDatagram settings e.frame (datagram e) payload }

@@ -73,7 +73,7 @@ port_stands at delivered place (first ∷ ports) zero number port is there =
       [],
       rest,
       ap (λ (one : Port). port_lines at one (delivered (record { 0 = place })) ++ rest) (same_Some first port there)
-      ∙ ap (λ (n : ℕ). port_lines at port (delivered (record { 0 = n })) ++ rest) same,
+          ∙ ap (λ (n : ℕ). port_lines at port (delivered (record { 0 = n })) ++ rest) same,
     )
 port_stands at delivered place (first ∷ ports) (suc further) number port is there =
     stands_after (port_lines at port (delivered (record { 0 = number }))) (port_lines at first (delivered (record { 0 = place }))) (ports_lines at delivered (place + 1) ports)
