@@ -37,7 +37,7 @@ AreWritten c a b asked link carried = StandsIn (lines_sent link carried (report_
 -- A message of this time stands in what is written for two traces, in the lines of its port: they are those of all that
 -- was delivered to the port, with the message among it. A queuing port's have each message, a sampling port's the newest.
 -- rule: DELIV-14
-pub record IsWritten (c : Configuration) (a b : List TimedFrame) (asked : Option ℕ) (port : Port) (payload : Payload) (time : ℕ) : Type 0 where
+pub record IsReported (c : Configuration) (a b : List TimedFrame) (asked : Option ℕ) (port : Port) (payload : Payload) (time : ℕ) : Type 0 where
   pub earlier : List Message
   pub later : List Message
   pub lines : StandsIn (port_lines (report_time_of asked (reverse (merged a b))) port (earlier ++ record { time = time; octets = payload.octets } ∷ later)) (output_of c a b asked)

@@ -12,7 +12,7 @@ ghost use Rattle.trace_player.specs.Merge.{merged};
 ghost use Rattle.datagram_delivery.specs.Arriving.{Arrives};
 ghost use Rattle.datagram_delivery.specs.Bringing.{BringDatagrams};
 ghost use Rattle.datagram_delivery.specs.Interleaved.{Carried};
-ghost use Rattle.player_delivery.specs.Reported.{AreWritten, IsWritten, lines_offered, lines_sent};
+ghost use Rattle.player_delivery.specs.Reported.{AreWritten, IsReported, lines_offered, lines_sent};
 
 /// The report's lines on a link's ports are those of the messages sent to them, each once and whole, if copies of it
 /// came and its queue had room; and of no other. They stand in the order in which their sending ended. This asks of the
@@ -30,5 +30,5 @@ pub fn each_message_is_reported_once()
     ensures written { (c : Configuration) (a b : List TimedFrame) (asked : Option ℕ) (place : ℕ) (link : Settings) (carried : List Carried) → slice_get c.links place ≡ Some link
         → BringDatagrams link (past_after c.constant link (reverse (merged a b))) carried → AreWritten c a b asked link carried }
     ensures arrived { (c : Configuration) (a b : List TimedFrame) (asked : Option ℕ) (place : ℕ) (link : Settings) (port : Port) (payload : Payload) (time : ℕ) → slice_get c.links place ≡ Some link
-        → slice_get link.ports payload.port.0 ≡ Some port → Arrives link (past_after c.constant link (reverse (merged a b))) payload time → IsWritten c a b asked port payload time }
+        → slice_get link.ports payload.port.0 ≡ Some port → Arrives link (past_after c.constant link (reverse (merged a b))) payload time → IsReported c a b asked port payload time }
 {}
