@@ -17,9 +17,8 @@ use Rattle.frame_delivery.specs.Once.{has_come, passing_copies}
 use Rattle.frame_delivery.specs.Sending.{Copy, Numbering, events_of_copies}
 use Rattle.frame_delivery.specs.Since.{PassTimely}
 use Rattle.frame_delivery.proofs.DeliveredSince.{delivered_since}
-use Rattle.frame_delivery.proofs.Kept.{each_passing}
 use Rattle.frame_delivery.proofs.OneNetwork.{firsts_alone, row_come}
-use Rattle.frame_delivery.proofs.Since.{each_forwarded, events_alone}
+use Rattle.frame_delivery.proofs.Since.{each_forwarded, each_passing, events_alone}
 use Rattle.frame_delivery.proofs.Whole.{all_first_octets}
 
 -- a frame of which a copy passes came
