@@ -17,6 +17,7 @@ use Rattle.datagram_delivery.specs.Offers.{offered_in}
 use Rattle.datagram_delivery.specs.Splitting.{Offer}
 
 -- a datagram in fragments, of which this is the last, was offered among these
+-- rule: DELIV-12
 pub record IsSplitAfter (settings : Settings) (payload : Payload) (offers : List Offer) (last : Offer) : Type 0 where
   pub first : Offer
   pub during : List Offer

@@ -32,6 +32,7 @@ counts settings past a [] = is_forwarded settings past a
 counts settings past a (one ∷ some) = passes settings past a
 
 -- the copies that pass integrity checking, from the first on that is forwarded
+-- rule: DELIV-5
 abbrev pub passing_since : Settings → List Event → List Copy → List Copy
 passing_since settings old [] = []
 passing_since settings old (copy ∷ before) =
