@@ -30,5 +30,5 @@ pub fn each_message_is_reported_once()
     ensures written { (c : Configuration) (a b : List TimedFrame) (asked : Option ℕ) (place : ℕ) (link : Settings) (carried : List Carried) → slice_get c.links place ≡ Some link
         → BringDatagrams link (past_after c.constant link (reverse (merged a b))) carried → AreWritten c a b asked link carried }
     ensures arrived { (c : Configuration) (a b : List TimedFrame) (asked : Option ℕ) (place : ℕ) (link : Settings) (port : Port) (payload : Payload) (time : ℕ) → slice_get c.links place ≡ Some link
-        → slice_get link.ports payload.port.0 ≡ Some port → Arrives link (past_after c.constant link (reverse (merged a b))) payload time → IsReported c a b asked port payload time }
+        → slice_get link.ports payload.port.0 ≡ Some port → (one : Arrives link (past_after c.constant link (reverse (merged a b))) payload time) → IsReported c a b asked link port payload time one }
 {}
