@@ -87,7 +87,8 @@ pub fn a_split_message_is_delivered()
 {}
 
 /// What a port gets is what it would get if the packets of the frames that were forwarded were offered one by one, in any
-/// past of a link: this asks nothing of senders and of networks, and no fault voids it. So do the groups stand.
+/// past of a link: this asks nothing of senders and of networks, and no fault voids it. The groups stand as after these
+/// offers.
 pub fn deliveries_are_of_what_was_offered()
     ensures messages { (settings : Settings) (past : List Event) (port : PortNo) → deliveries settings past port ≡ messages_by settings (offered_in settings past) port }
     ensures groups { (settings : Settings) (past : List Event) → groups_in settings past ≡ groups_after_offers settings.reassembly [] (offered_in settings past) }

@@ -20,9 +20,10 @@ ghost use Rattle.player_delivery.specs.Reported.{AreWritten, IsReported, lines_o
 /// networks that keep what is asked of them. At most four of its datagrams may be in parts at a time. Nobody takes a
 /// message from a queue of the player. These lines are in the output of the traces, which `trace_player::play` writes.
 ///
-/// And whatever came, the lines are those of the packets of the forwarded frames, each offered once. So a message is
-/// written if a copy passed of its frame, or of the frame of each of its fragments, since any fault was over (`Arrives`).
-/// Of a queuing port each has its line; of a sampling port the newest.
+/// And whatever came, the lines are those of the packets of the forwarded frames, each offered once. So each message that
+/// arrives (`Arrives`) is among those that are written for its port: a copy passed of its frame, or of the frame of each of
+/// its fragments, since any fault was over, and its queue had room. A queuing port's messages have a line each; of a
+/// sampling port's the newest has one.
 pub fn each_message_is_reported_once()
     ensures offered { (constant : List ℕ) (link : Settings) (frames : List Arrival) (at : ℕ) → link_lines at link (past_after constant link frames) ≡ lines_offered link (past_after constant link frames) at }
     ensures lines { (constant : List ℕ) (link : Settings) (frames : List Arrival) (carried : List Carried) (at : ℕ) → BringDatagrams link (past_after constant link frames) carried
