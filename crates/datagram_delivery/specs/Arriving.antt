@@ -9,8 +9,8 @@ use Rattle.es_base.specs.Settings.{Settings}
 use Rattle.frame_delivery.specs.Messages.{has_room}
 use Rattle.frame_delivery.specs.Network.{Timing}
 use Rattle.frame_delivery.specs.Once.{first_copies}
-use Rattle.frame_delivery.specs.Sending.{Copy, Numbering}
-use Rattle.frame_delivery.specs.Since.{IsFirstPassing, PassTimely, events_since, forwarded_since, passing_since}
+use Rattle.frame_delivery.specs.Sending.{Copy, Numbering, events_since}
+use Rattle.frame_delivery.specs.Since.{IsFirstPassing, PassTimely, forwarded_since, passing_since}
 use Rattle.datagram_delivery.specs.Datagrams.{CarryPackets, IsSentWhole, IsSplitAmong, offers_of}
 use Rattle.datagram_delivery.specs.Offers.{offered_in}
 use Rattle.datagram_delivery.specs.Splitting.{Offer}

@@ -10,11 +10,11 @@ use Rattle.es_base.specs.Integrity.{passes}
 use Rattle.es_base.specs.Copies.{Forwarded, elapsed, greatest_time, is_ahead, is_first_copy}
 use Rattle.es_base.specs.Redundancy.{forwarded, is_forwarded, is_forwarded_after}
 use Rattle.es_base.specs.Settings.{Settings}
-use Rattle.frame_delivery.specs.Sending.{Copy, EachCopy, HaveNumbers, Numbering, events_of_copies, number_of_frame}
+use Rattle.frame_delivery.specs.Sending.{Copy, EachCopy, HaveNumbers, Numbering, events_of_copies, events_since, number_of_frame}
 use Rattle.frame_delivery.specs.Once.{AreInOrder, ComesInTime, IsForwardedIfFirst, IsForwardedIfNew, IsNotOvertaken, as_forwarded, first_copies, has_come, is_new, new_copies, newest_time, passing_copies}
 use Rattle.frame_delivery.specs.Network.{BeginNear, ComeTimely, HasNoOvertaking, IsNeverLate, IsOnItsWay, Timing, time_of_all}
 use Rattle.frame_delivery.specs.Running.{EachForwarded}
-use Rattle.frame_delivery.specs.Since.{ComeAfter, IsFirstPassing, PassTimely, counts, events_since, forwarded_since, passing_since}
+use Rattle.frame_delivery.specs.Since.{ComeAfter, IsFirstPassing, PassTimely, counts, forwarded_since, passing_since}
 use Rattle.frame_delivery.proofs.Forwarding.{first_is_new, new_in_order, newest_of}
 use Rattle.frame_delivery.proofs.Firsts.{new_are_first, new_is_first}
 use Rattle.frame_delivery.proofs.Running.{all_over, first_when_over}
@@ -319,13 +319,9 @@ counts_at_last settings old copy before pass over =
 
 -- ---- with no old past these are the copies that pass
 
-pub events_alone : (copies : List Copy) → events_since copies [] ≡ events_of_copies copies
-events_alone [] = refl
-events_alone (copy ∷ before) = ap (λ (events : List Event). copy.event ∷ events) (events_alone before)
-
 counts_alone : (settings : Settings) (copy : Copy) (before : List Copy)
     → counts settings (events_since before []) (arrival_of copy.event) (passing_since settings [] before) ≡ passes settings (events_of_copies before) (arrival_of copy.event)
-counts_alone settings copy before = go (passing_since settings [] before) refl ∙ ap (λ (past : List Event). passes settings past (arrival_of copy.event)) (events_alone before)
+counts_alone settings copy before = go (passing_since settings [] before) refl
   where
     go : (some : List Copy) → passing_since settings [] before ≡ some → counts settings (events_since before []) (arrival_of copy.event) some ≡ passes settings (events_since before []) (arrival_of copy.event)
     go (one ∷ some) is = refl
@@ -372,7 +368,7 @@ pub new_are_forwarded : (settings : Settings) (numbering : Numbering) (copies : 
     → EachCopy (ComesInTime numbering settings.skew_max) (passing_copies settings copies)
     → forwarded settings (events_of_copies copies) ≡ as_forwarded (new_copies (passing_copies settings copies))
 new_are_forwarded settings numbering copies on small numbers in_time =
-    ap (forwarded settings) (sym (events_alone copies)) ∙ forwarded_are settings [] copies ∙ append-nil (as_forwarded (forwarded_since settings [] copies))
+    forwarded_are settings [] copies ∙ append-nil (as_forwarded (forwarded_since settings [] copies))
     ∙ ap as_forwarded (new_since settings numbering [] on small copies (sound_alone settings numbering copies numbers in_time) ∙ ap new_copies (passing_alone settings copies))
 
 each_new : (settings : Settings) (numbering : Numbering) (copies : List Copy) → settings.redundancy ≡ true → numbering.first ≤ 255 → AreSound settings numbering [] (passing_since settings [] copies)
@@ -381,7 +377,7 @@ each_new settings numbering [] on small sound = tt
 each_new settings numbering (copy ∷ before) on small sound =
     let earlier = sound_before settings numbering [] on small copy before sound in
     let is = as_new settings numbering [] on small copy before (new_since settings numbering [] on small before earlier) sound in (
-      ap (λ (past : List Event). is_forwarded settings past (arrival_of copy.event)) (sym (events_alone before)) ∙ is
+      is
           ∙ ap (λ (b : Bool). b && is_new copy.index (passing_since settings [] before)) (counts_alone settings copy before)
           ∙ ap (λ (some : List Copy). passes settings (events_of_copies before) (arrival_of copy.event) && is_new copy.index some) (passing_alone settings before),
       each_new settings numbering before on small earlier,
@@ -405,8 +401,7 @@ pub firsts_are_all : (settings : Settings) (copies : List Copy) → EachCopy (Is
 firsts_are_all settings [] each = refl
 firsts_are_all settings (copy ∷ before) each =
     let rest = firsts_are_all settings before each.1 in
-    let same : is_forwarded settings (events_since before []) (arrival_of copy.event) ≡ not (has_come copy.index before) =
-    ap (λ (past : List Event). is_forwarded settings past (arrival_of copy.event)) (events_alone before) ∙ each.0 in
+    let same : is_forwarded settings (events_since before []) (arrival_of copy.event) ≡ not (has_come copy.index before) = each.0 in
     ⊎_elim
     (λ (come : has_come copy.index before ≡ true). rw (same ∙ ap not come, come) rest)
     (λ (first : has_come copy.index before ≡ false). rw (same ∙ ap not first, first) (ap (λ (copies : List Copy). copy ∷ copies) rest))
