@@ -78,7 +78,7 @@ same_packet one two is = cc
 pub parts_met : HaveParts 50000 (λ e. datagram_octets) (events_of_copies in_two_fragments)
 parts_met = (
   λ packet read. subst (IsPartOf datagram_octets) (same_packet (packet_sent 1) packet (sym split_carries.0 ∙ read)) (record { within = omega arith; octets = refl; ends = λ last. refl }),
-  (λ one other read read_too same soon. refl, tt),
+  (λ one other read read_too fragment part same soon. refl, tt),
   (
     λ packet read. subst (IsPartOf datagram_octets) (same_packet (packet_sent 0) packet (sym split_carries.1.0 ∙ read)) (record { within = omega arith; octets = refl; ends = λ last. cc }),
     tt,
@@ -190,13 +190,13 @@ pub parts_of_two : HaveParts 99 datagram_at (events_of_copies one_identification
 unfolding third head_of_both
 parts_of_two = (
   λ packet read. subst (IsPartOf (datagram_of 2)) (same_packet (third 16 false (eight 2)) packet (sym reads_new_last ∙ read)) (record { within = omega arith; octets = refl; ends = λ last. refl }),
-  (λ one other read read_too same soon. refl, (λ one other read read_too same soon. absurd (omega (arith, soon)), (λ one other read read_too same soon. absurd (omega (arith, soon)), tt))),
+  (λ one other read read_too fragment part same soon. refl, (λ one other read read_too fragment part same soon. absurd (omega (arith, soon)), (λ one other read read_too fragment part same soon. absurd (omega (arith, soon)), tt))),
   (
     λ packet read. subst (IsPartOf (datagram_of 2)) (same_packet (third 0 true head_of_both) packet (sym reads_new_first ∙ read)) (record { within = omega arith; octets = refl; ends = λ last. cc }),
-    (λ one other read read_too same soon. absurd (omega (arith, soon)), (λ one other read read_too same soon. absurd (omega (arith, soon)), tt)),
+    (λ one other read read_too fragment part same soon. absurd (omega (arith, soon)), (λ one other read read_too fragment part same soon. absurd (omega (arith, soon)), tt)),
     (
       λ packet read. subst (IsPartOf (datagram_of 1)) (same_packet (third 8 true (eight 1)) packet (sym reads_old_second ∙ read)) (record { within = omega arith; octets = refl; ends = λ last. cc }),
-      (λ one other read read_too same soon. refl, tt),
+      (λ one other read read_too fragment part same soon. refl, tt),
       (
         λ packet read. subst (IsPartOf (datagram_of 1)) (same_packet (third 0 true head_of_both) packet (sym reads_old_first ∙ read)) (record { within = omega arith; octets = refl; ends = λ last. cc }),
         tt,
@@ -208,7 +208,7 @@ parts_of_two = (
 
 pub not_of_one : HaveParts 100 datagram_at (events_of_copies one_identification) → ⊥
 unfolding third
-not_of_one have = let same : datagram_of 1 ≡ datagram_of 2 = have.1.1.0 (third 16 false (eight 2)) (third 8 true (eight 1)) reads_new_last reads_old_second refl (omega arith) in cc
+not_of_one have = let same : datagram_of 1 ≡ datagram_of 2 = have.1.1.0 (third 16 false (eight 2)) (third 8 true (eight 1)) reads_new_last reads_old_second refl refl refl (omega arith) in cc
 
 mixed : deliveries link_of_100 (events_of_copies one_identification) (record { 0 = 0 }) ≡ record { time = 200; octets = eight 1 ++ eight 2 } ∷ []
 unfolding fate groups_after fragments.octets_below packets.ones_sum words.u16_at words.u32_at outcomes.outcome outcomes.frame_payload outcomes.datagram_payload

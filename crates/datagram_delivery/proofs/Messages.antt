@@ -1,39 +1,42 @@
 -- The theorems on messages that come in datagrams, whole or in fragments.
-use Rattle.std.proofs.Common.{◌≡◌, ◌∙◌, ap, sym, append_assoc, refl, ℕ, ◌≤◌, true, false, not, List, [], ◌∷◌, ◌++◌, length, Ok}
+use Rattle.std.proofs.Common.{◌≡◌, ◌∙◌, ap, append-nil, ℕ, ◌≤◌, false, not, List, [], ◌∷◌, ◌++◌, length, Ok}
 use Rattle.es_base.specs.declared.place.PortNo.{PortNo}
-use Rattle.es_base.specs.declared.fragment.DatagramKey.{DatagramKey}
 use Rattle.es_base.specs.Limits.{most_samples}
 use Rattle.es_base.specs.Past.{arrival_of}
 use Rattle.es_base.specs.Packet.{PacketParts}
-use Rattle.es_base.specs.Fragments.{key_of}
-use Rattle.es_base.specs.Groups.{Group, fate, whole}
-use Rattle.es_base.specs.Reassembly.{groups_in}
-use Rattle.es_base.specs.Redundancy.{is_forwarded}
-use Rattle.es_base.specs.Outcome.{Payload, brings, brought, datagram_payload, outcome, packet_payload}
+use Rattle.es_base.specs.Reassembly.{packet_in}
+use Rattle.es_base.specs.Outcome.{Payload, brings, outcome}
 use Rattle.es_base.specs.Deliveries.{deliveries}
 use Rattle.es_base.specs.Settings.{Settings}
-use Rattle.es_base.proofs.Keys.{key_itself}
-use Rattle.frame_delivery.specs.Sending.{Copy, Numbering, events_of_copies}
-use Rattle.frame_delivery.specs.Once.{first_copies, has_come}
+use Rattle.frame_delivery.specs.Sending.{Copy, EachCopy, Numbering, events_of_copies, events_since}
+use Rattle.frame_delivery.specs.Once.{IsForwardedIfFirst, first_copies, has_come}
 use Rattle.frame_delivery.specs.Network.{ComeWhole, Timing}
+use Rattle.frame_delivery.specs.Since.{forwarded_since}
 use Rattle.frame_delivery.proofs.Main.{each_first_is_forwarded}
-use Rattle.datagram_delivery.specs.Splitting.{Offer, groups_after_offers, joined, pieces_of}
+use Rattle.frame_delivery.proofs.Since.{each_forwarded, firsts_are_all}
+use Rattle.datagram_delivery.specs.Splitting.{Offer}
 use Rattle.datagram_delivery.specs.Datagrams.{AreSent, CarryPackets, IsSplitAmong, Sent, all_offers, messages_by, messages_sent, offers_of}
+use Rattle.datagram_delivery.specs.Offers.{offered_in}
 use Rattle.datagram_delivery.specs.Interleaved.{AreInterleaved, Carried, carried_offers, messages_ended}
-use Rattle.datagram_delivery.proofs.Standing.{absent_place}
-use Rattle.datagram_delivery.proofs.Splits.{last_completes}
-use Rattle.datagram_delivery.proofs.Offered.{deliveries_are, forwarded_brings, groups_are}
-use Rattle.datagram_delivery.proofs.Datagrams.{all_sent_are_delivered, offers_join}
-use Rattle.datagram_delivery.proofs.Unused.{all_begun, first_front, same_begin, same_groups, same_room, unused_begins}
+use Rattle.datagram_delivery.proofs.Offered.{deliveries_by_offers, offers_since, split_in_any_past}
+use Rattle.datagram_delivery.proofs.Datagrams.{all_sent_are_delivered}
 use Rattle.datagram_delivery.proofs.Interleaved.{all_ended_are_delivered}
 
 -- ---- any packets
+
+-- where exactly the first copies are forwarded, their packets are offered
+whole_offers : (settings : Settings) (packet : ℕ → PacketParts) (copies : List Copy) → EachCopy (IsForwardedIfFirst settings) copies → CarryPackets packet copies
+    → offered_in settings (events_since copies []) ≡ offers_of packet (first_copies copies)
+whole_offers settings packet copies each carry =
+    offers_since settings packet [] copies (each_forwarded (λ copy. packet_in copy.event.frame ≡ Ok (packet copy.index)) settings [] copies carry)
+    ∙ append-nil (offers_of packet (forwarded_since settings [] copies)) ∙ ap (offers_of packet) (firsts_are_all settings copies each)
 
 pub packets_offered : (settings : Settings) (numbering : Numbering) (timing : Timing) (packet : ℕ → PacketParts) (copies : List Copy) (port : PortNo) → ComeWhole settings numbering timing copies
     → CarryPackets packet copies
     → deliveries settings (events_of_copies copies) port ≡ messages_by settings (offers_of packet (first_copies copies)) port
 packets_offered settings numbering timing packet copies port come carry =
-    deliveries_are settings packet port copies (each_first_is_forwarded settings numbering timing copies come) carry
+    deliveries_by_offers settings (events_since copies []) port
+    ∙ ap (λ (offers : List Offer). messages_by settings offers port) (whole_offers settings packet copies (each_first_is_forwarded settings numbering timing copies come) carry)
 
 -- ---- datagrams one after another
 
@@ -54,30 +57,9 @@ pub split_delivered : (settings : Settings) (numbering : Numbering) (timing : Ti
     → IsSplitAmong settings payload earlier first during (record { packet = packet copy.index; time = copy.event.time; room = copy.event.room })
     → outcome settings (events_of_copies before) (arrival_of copy.event) ≡ brings payload
 split_delivered settings numbering timing packet copy before first during earlier payload come carry is_first same split =
-    let limit : ℕ = settings.reassembly in
-    let last : Offer = record { packet = packet copy.index; time = copy.event.time; room = copy.event.room } in
-    let key : DatagramKey = key_of last.packet in
-    let standing : List Group = groups_after_offers limit [] earlier in
-    let ours : List Offer = during ++ first ∷ [] in
     let each = each_first_is_forwarded settings numbering timing (copy ∷ before) come in
-    let is : is_forwarded settings (events_of_copies before) (arrival_of copy.event) ≡ true = each.0 ∙ ap not is_first in
-    let alone = unused_begins limit key first.time earlier standing (all_begun limit earlier) split.parts.unused in
-    let front = first_front limit key first during split.parts.fronts split.parts.begins in
-    let groups : groups_in settings (events_of_copies before) ≡ groups_after_offers limit alone.others ours =
-    groups_are settings packet before each.1 carry.1 ∙ ap (groups_after_offers limit []) (same ∙ sym (append_assoc during (first ∷ []) earlier)) ∙ offers_join limit [] ours earlier
-    ∙ same_groups limit key first during standing alone.others split.parts.begins front alone.found alone.absent in
-    let begun = same_begin limit key first standing alone.others split.parts.begins front alone.found alone.absent in
-    let room = same_room limit key first during standing alone.others split.parts.begins begun split.room in
-    let completes = last_completes limit alone.others key ours last (absent_place key alone.others alone.absent) split.parts.fronts room (key_itself key) split.parts.ends in
-    forwarded_brings settings (events_of_copies before) (arrival_of copy.event) (packet copy.index) is carry.0
-    ∙ ap (λ groups. brought (packet_payload settings.ports limit groups (packet copy.index) copy.event.time)) groups
-    ∙ whole_brings settings (groups_after_offers limit alone.others ours) last (joined (pieces_of key ours) ++ last.packet.octets) payload completes split.parts.admits
-  where
-    whole_brings : (settings : Settings) (groups : List Group) (offer : Offer) (octets : List ℕ) (payload : Payload)
-        → fate settings.reassembly groups offer.packet offer.time ≡ whole octets true
-        → datagram_payload settings.ports (record { destination = offer.packet.destination; joined = true; octets = octets }) ≡ Ok payload
-        → brought (packet_payload settings.ports settings.reassembly groups offer.packet offer.time) ≡ brings payload
-    whole_brings settings groups offer octets payload is admits = rw (is, admits) refl
+    split_in_any_past settings (events_of_copies before) (arrival_of copy.event) copy.event.room (packet copy.index) first during earlier payload (each.0 ∙ ap not is_first) carry.0
+    (whole_offers settings packet before each.1 carry.1 ∙ same) split
 
 -- ---- datagrams among one another
 

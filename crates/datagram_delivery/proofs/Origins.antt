@@ -1,5 +1,5 @@
 -- Each group has parts of one datagram.
-use Rattle.std.proofs.Common.{◌≡◌, ◌∙◌, ap, sym, subst, ℕ, ◌+◌, ◌≤◌, inl, inr, Bool, true, false, not, cond, List, [], ◌∷◌, length, take, drop, remove, Option, None, Some, is_some, refl, arith}
+use Rattle.std.proofs.Common.{◌≡◌, ◌∙◌, ap, sym, subst, ℕ, ◌+◌, ◌<◌, ◌≤◌, inl, inr, Bool, true, false, not, cond, List, [], ◌∷◌, length, take, drop, remove, Option, None, Some, is_some, refl, arith}
 use Rattle.std.specs.Prelude.{◌==◌, ◌&&◌, ◌⊎◌, slice_get}
 use Rattle.std.proofs.lemmas.Bool.{eqb-true, ltb-false}
 use Rattle.es_base.specs.declared.fragment.DatagramKey.{DatagramKey}
@@ -8,10 +8,11 @@ use Rattle.es_base.specs.Copies.{elapsed}
 use Rattle.es_base.specs.Fragments.{is_bad, is_whole, key_of, piece_of}
 use Rattle.es_base.specs.Groups.{Found, Group, bad, begin_of, begins, datagram_with, fate, fate_if, found_at, found_for, found_if, group_with, groups_after, groups_with, has_key, is_over, is_same_key, joins, pieces_with, place_of, whole, with_room, without_group}
 use Rattle.es_base.proofs.Firsts.{found_at as found_place, passes_found}
-use Rattle.datagram_delivery.specs.Splitting.{Offer, are_some, groups_after_offers}
+use Rattle.datagram_delivery.specs.Splitting.{Offer, are_some, groups_after_offers, is_of}
+use Rattle.datagram_delivery.specs.Datagrams.{IsUnused}
 use Rattle.datagram_delivery.specs.Parts.{IsPartOf}
 use Rattle.datagram_delivery.proofs.Each.{EachGroup, each_at, each_more, each_push, each_remove, each_room, each_set}
-use Rattle.datagram_delivery.proofs.Unused.{begin_same}
+use Rattle.datagram_delivery.proofs.Unused.{Begun, all_begun, begin_same, unused_at}
 use Rattle.datagram_delivery.proofs.Slices.{AreSlices, IsSlice, made_is}
 use Rattle.datagram_delivery.proofs.Rows.{take_all}
 
@@ -26,11 +27,17 @@ offers_in (part ∷ before) = part.offer ∷ offers_in before
 
 abbrev pub AgreeWith : ℕ → Part → Part → Type 0
 AgreeWith limit later earlier =
-    is_same_key (key_of earlier.offer.packet) (key_of later.offer.packet) ≡ true → later.offer.time ≤ earlier.offer.time + limit → earlier.datagram ≡ later.datagram
+    is_whole later.offer.packet ≡ false → is_whole earlier.offer.packet ≡ false → is_same_key (key_of earlier.offer.packet) (key_of later.offer.packet) ≡ true → later.offer.time ≤ earlier.offer.time + limit
+    → earlier.datagram ≡ later.datagram
 
 abbrev pub Agree : ℕ → Part → List Part → Type 0
 Agree limit part [] = Unit {0}
 Agree limit part (earlier ∷ before) = AgreeWith limit part earlier × Agree limit part before
+
+-- the keys of fragments weren't used among old offers within the limit
+abbrev pub AreUnused : ℕ → List Offer → List Part → Type 0
+AreUnused limit old [] = Unit {0}
+AreUnused limit old (part ∷ before) = (is_whole part.offer.packet ≡ false → IsUnused limit (key_of part.offer.packet) part.offer.time old) × AreUnused limit old before
 
 abbrev pub AreParts : ℕ → List Part → Type 0
 AreParts limit [] = Unit {0}
@@ -47,21 +54,29 @@ agree_at limit later earlier [] agree among = absurd among
 agree_at limit later earlier (other ∷ before) agree (inl same) = subst (λ (part : Part). AgreeWith limit later part) same agree.0
 agree_at limit later earlier (other ∷ before) agree (inr among) = agree_at limit later earlier before agree.1 among
 
--- it began with one of these parts, and has pieces of its datagram
+-- it began with one of these parts, a fragment, and has pieces of its datagram
 record Origin (before : List Part) (group : Group) : Type 0 where
   part : Part
   among : IsAmong part before
+  fragment : is_whole part.offer.packet ≡ false
   key : group.key ≡ key_of part.offer.packet
   some : are_some group.pieces ≡ true
   begin : begin_of group ≡ part.offer.time
   slices : AreSlices part.datagram group.pieces
 
-abbrev HaveOrigins : List Part → List Group → Type 0
-HaveOrigins before groups = EachGroup (Origin before) groups
+-- or it began with an old offer
+abbrev From : List Offer → List Part → Group → Type 0
+From old before group = Begun old group ⊎ Origin before group
 
-origins_later : (part : Part) (before : List Part) (groups : List Group) → HaveOrigins before groups → HaveOrigins (part ∷ before) groups
-origins_later part before groups have =
-    each_more (Origin before) (Origin (part ∷ before)) groups (λ group o. record { part = o.part; among = inr o.among; key = o.key; some = o.some; begin = o.begin; slices = o.slices }) have
+abbrev HaveOrigins : List Offer → List Part → List Group → Type 0
+HaveOrigins old before groups = EachGroup (From old before) groups
+
+from_later : (old : List Offer) (part : Part) (before : List Part) (group : Group) → From old before group → From old (part ∷ before) group
+from_later old part before group (inl begun) = inl begun
+from_later old part before group (inr o) = inr (record { part = o.part; among = inr o.among; fragment = o.fragment; key = o.key; some = o.some; begin = o.begin; slices = o.slices })
+
+origins_later : (old : List Offer) (part : Part) (before : List Part) (groups : List Group) → HaveOrigins old before groups → HaveOrigins old (part ∷ before) groups
+origins_later old part before groups have = each_more (From old before) (From old (part ∷ before)) groups (λ group from. from_later old part before group from) have
 
 -- ---- a piece
 
@@ -90,45 +105,60 @@ found_now limit groups key now = at (place_of key groups) refl
     at None is = inl refl
     at (Some place) is = got place is (slice_get groups place) refl
 
--- the group that a part joins has pieces of its datagram
-joined_slices : (limit : ℕ) (part : Part) (before : List Part) (groups : List Group) (place : ℕ) (group : Group) → Agree limit part before → HaveOrigins before groups
-    → slice_get groups place ≡ Some group → has_key (key_of part.offer.packet) group ≡ true → is_over limit part.offer.time group ≡ false → AreSlices part.datagram group.pieces
-joined_slices limit part before groups place group agree have got is not_over =
-    let o = each_at (Origin before) groups place group have got in
+-- the group that a part joins began with a part of its datagram
+record Joined (part : Part) (before : List Part) (group : Group) : Type 0 where
+  origin : Origin before group
+  same : origin.part.datagram ≡ part.datagram
+
+joined_from : (limit : ℕ) (old : List Offer) (part : Part) (before : List Part) (group : Group) → is_whole part.offer.packet ≡ false → IsUnused limit (key_of part.offer.packet) part.offer.time old → Agree limit part before → From old before group
+    → has_key (key_of part.offer.packet) group ≡ true → is_over limit part.offer.time group ≡ false → Joined part before group
+joined_from limit old part before group fragment unused agree (inl b) is not_over =
+    let of : is_of (key_of part.offer.packet) b.offer ≡ true = ap (λ (key : DatagramKey). is_same_key key (key_of part.offer.packet)) (sym b.key) ∙ is in
+    let past : b.offer.time + limit < part.offer.time = unused_at limit (key_of part.offer.packet) part.offer.time b.offer old unused b.among of in
+    let not_late : elapsed part.offer.time (begin_of group) ≤ limit = ltb-false limit (elapsed part.offer.time (begin_of group)) not_over in
+    let begin = b.begin in
+    absurd (omega (arith, past, not_late, begin))
+joined_from limit old part before group fragment unused agree (inr o) is not_over =
     let same : is_same_key (key_of o.part.offer.packet) (key_of part.offer.packet) ≡ true = ap (λ (key : DatagramKey). is_same_key key (key_of part.offer.packet)) (sym o.key) ∙ is in
     let not_late : elapsed part.offer.time (begin_of group) ≤ limit = ltb-false limit (elapsed part.offer.time (begin_of group)) not_over in
     let begin = o.begin in
     let soon : part.offer.time ≤ o.part.offer.time + limit = omega (arith, not_late, begin) in
-    subst (λ (datagram : List ℕ). AreSlices datagram group.pieces) (agree_at limit part o.part before agree o.among same soon) o.slices
+    record { origin = o; same = agree_at limit part o.part before agree o.among fragment o.fragment same soon }
 
-joined_origin : (limit : ℕ) (part : Part) (before : List Part) (groups : List Group) (place : ℕ) (group : Group) → IsPartOf part.datagram part.offer.packet → Agree limit part before → HaveOrigins before groups
+joined_slices : (limit : ℕ) (old : List Offer) (part : Part) (before : List Part) (groups : List Group) (place : ℕ) (group : Group) → is_whole part.offer.packet ≡ false → IsUnused limit (key_of part.offer.packet) part.offer.time old
+    → Agree limit part before → HaveOrigins old before groups → slice_get groups place ≡ Some group → has_key (key_of part.offer.packet) group ≡ true → is_over limit part.offer.time group ≡ false
+    → AreSlices part.datagram group.pieces
+joined_slices limit old part before groups place group fragment unused agree have got is not_over =
+    let j = joined_from limit old part before group fragment unused agree (each_at (From old before) groups place group have got) is not_over in
+    subst (λ (datagram : List ℕ). AreSlices datagram group.pieces) j.same j.origin.slices
+
+joined_origin : (limit : ℕ) (old : List Offer) (part : Part) (before : List Part) (groups : List Group) (place : ℕ) (group : Group) → IsPartOf part.datagram part.offer.packet
+    → is_whole part.offer.packet ≡ false → IsUnused limit (key_of part.offer.packet) part.offer.time old → Agree limit part before → HaveOrigins old before groups
     → slice_get groups place ≡ Some group → has_key (key_of part.offer.packet) group ≡ true → is_over limit part.offer.time group ≡ false
     → Origin (part ∷ before) (group_with group (piece_of part.offer.packet part.offer.time))
-joined_origin limit part before groups place group is_part agree have got is not_over =
-    let o = each_at (Origin before) groups place group have got in
-    let same : is_same_key (key_of o.part.offer.packet) (key_of part.offer.packet) ≡ true = ap (λ (key : DatagramKey). is_same_key key (key_of part.offer.packet)) (sym o.key) ∙ is in
-    let not_late : elapsed part.offer.time (begin_of group) ≤ limit = ltb-false limit (elapsed part.offer.time (begin_of group)) not_over in
-    let begin = o.begin in
-    let soon : part.offer.time ≤ o.part.offer.time + limit = omega (arith, not_late, begin) in
-    let one : o.part.datagram ≡ part.datagram = agree_at limit part o.part before agree o.among same soon in
+joined_origin limit old part before groups place group is_part fragment unused agree have got is not_over =
+    let j = joined_from limit old part before group fragment unused agree (each_at (From old before) groups place group have got) is not_over in
+    let o = j.origin in
     record {
       part = o.part;
       among = inr o.among;
+      fragment = o.fragment;
       key = o.key;
       some = refl;
       begin = begin_same part.offer.time 0 group.pieces o.some ∙ o.begin;
-      slices = (subst (λ (datagram : List ℕ). IsSlice datagram (piece_of part.offer.packet part.offer.time)) (sym one) (slice_of_part part is_part), o.slices);
+      slices = (subst (λ (datagram : List ℕ). IsSlice datagram (piece_of part.offer.packet part.offer.time)) (sym j.same) (slice_of_part part is_part), o.slices);
     }
 
-new_origin : (part : Part) (before : List Part) → IsPartOf part.datagram part.offer.packet → Origin (part ∷ before) (record { key = key_of part.offer.packet; pieces = piece_of part.offer.packet part.offer.time ∷ [] })
-new_origin part before is_part = record { part = part; among = inl refl; key = refl; some = refl; begin = refl; slices = (slice_of_part part is_part, tt) }
+new_origin : (part : Part) (before : List Part) → IsPartOf part.datagram part.offer.packet → is_whole part.offer.packet ≡ false → Origin (part ∷ before) (record { key = key_of part.offer.packet; pieces = piece_of part.offer.packet part.offer.time ∷ [] })
+new_origin part before is_part fragment = record { part = part; among = inl refl; fragment = fragment; key = refl; some = refl; begin = refl; slices = (slice_of_part part is_part, tt) }
 
 -- ---- the groups after a part
 
-origins_after : (limit : ℕ) (part : Part) (before : List Part) (groups : List Group) → IsPartOf part.datagram part.offer.packet → Agree limit part before → HaveOrigins before groups
-    → HaveOrigins (part ∷ before) (groups_after limit groups part.offer.packet part.offer.time)
+origins_after : (limit : ℕ) (old : List Offer) (part : Part) (before : List Part) (groups : List Group) → IsPartOf part.datagram part.offer.packet
+    → (is_whole part.offer.packet ≡ false → IsUnused limit (key_of part.offer.packet) part.offer.time old) → Agree limit part before → HaveOrigins old before groups
+    → HaveOrigins old (part ∷ before) (groups_after limit groups part.offer.packet part.offer.time)
 unfolding groups_after IsFoundNow
-origins_after limit part before groups is_part agree have = go (is_whole part.offer.packet) (is_bad part.offer.packet) refl refl
+origins_after limit old part before groups is_part unused agree have = go (is_whole part.offer.packet) (is_bad part.offer.packet) refl refl
   where
     packet : PacketParts
     packet = part.offer.packet
@@ -136,42 +166,44 @@ origins_after limit part before groups is_part agree have = go (is_whole part.of
     now : ℕ
     now = part.offer.time
 
-    kept : HaveOrigins (part ∷ before) groups
-    kept = origins_later part before groups have
+    kept : HaveOrigins old (part ∷ before) groups
+    kept = origins_later old part before groups have
 
-    without_it : (place : Option ℕ) → HaveOrigins (part ∷ before) (without_group groups place)
+    without_it : (place : Option ℕ) → HaveOrigins old (part ∷ before) (without_group groups place)
     without_it None = kept
-    without_it (Some place) = each_remove (Origin (part ∷ before)) groups place kept
+    without_it (Some place) = each_remove (From old (part ∷ before)) groups place kept
 
-    stood : (others : List Group) → IsFoundNow limit groups (key_of packet) now (begins others) → HaveOrigins (part ∷ before) others
-    stood others (inl same) = subst (HaveOrigins (part ∷ before)) (sym same) kept
-    stood others (inr (place, same)) = subst (HaveOrigins (part ∷ before)) (sym same) (each_remove (Origin (part ∷ before)) groups place kept)
+    stood : (others : List Group) → IsFoundNow limit groups (key_of packet) now (begins others) → HaveOrigins old (part ∷ before) others
+    stood others (inl same) = subst (HaveOrigins old (part ∷ before)) (sym same) kept
+    stood others (inr (place, same)) = subst (HaveOrigins old (part ∷ before)) (sym same) (each_remove (From old (part ∷ before)) groups place kept)
 
-    with_it : (found : Found) → IsFoundNow limit groups (key_of packet) now found → (complete : Bool) → HaveOrigins (part ∷ before) (groups_with groups (key_of packet) (piece_of packet now) found complete)
-    with_it (joins place group) found true = each_remove (Origin (part ∷ before)) groups place kept
-    with_it (joins place group) found false =
-        each_set (Origin (part ∷ before)) groups place (group_with group (piece_of packet now)) kept (joined_origin limit part before groups place group is_part agree have found.0 found.1 found.2)
-    with_it (begins others) found true = each_room (Origin (part ∷ before)) others (stood others found)
-    with_it (begins others) found false =
-        each_push (Origin (part ∷ before)) (with_room others) (record { key = key_of packet; pieces = piece_of packet now ∷ [] }) (each_room (Origin (part ∷ before)) others (stood others found)) (new_origin part before is_part)
+    with_it : is_whole packet ≡ false → (found : Found) → IsFoundNow limit groups (key_of packet) now found → (complete : Bool) → HaveOrigins old (part ∷ before) (groups_with groups (key_of packet) (piece_of packet now) found complete)
+    with_it fragment (joins place group) found true = each_remove (From old (part ∷ before)) groups place kept
+    with_it fragment (joins place group) found false =
+        each_set (From old (part ∷ before)) groups place (group_with group (piece_of packet now)) kept (inr (joined_origin limit old part before groups place group is_part fragment (unused fragment) agree have found.0 found.1 found.2))
+    with_it fragment (begins others) found true = each_room (From old (part ∷ before)) others (stood others found)
+    with_it fragment (begins others) found false =
+        each_push (From old (part ∷ before)) (with_room others) (record { key = key_of packet; pieces = piece_of packet now ∷ [] }) (each_room (From old (part ∷ before)) others (stood others found)) (inr (new_origin part before is_part fragment))
 
-    go : (all unfit : Bool) → is_whole packet ≡ all → is_bad packet ≡ unfit → HaveOrigins (part ∷ before) (groups_after limit groups packet now)
+    go : (all unfit : Bool) → is_whole packet ≡ all → is_bad packet ≡ unfit → HaveOrigins old (part ∷ before) (groups_after limit groups packet now)
     go true unfit e f = rw e (without_it (place_of (key_of packet) groups))
     go false true e f = rw (e, f) kept
-    go false false e f = rw (e, f) (with_it (found_for limit groups (key_of packet) now) (found_now limit groups (key_of packet) now) (is_some (datagram_with limit groups packet now)))
+    go false false e f = rw (e, f) (with_it e (found_for limit groups (key_of packet) now) (found_now limit groups (key_of packet) now) (is_some (datagram_with limit groups packet now)))
 
-all_origins : (limit : ℕ) (parts : List Part) → AreParts limit parts → HaveOrigins parts (groups_after_offers limit [] (offers_in parts))
-all_origins limit [] are = tt
-all_origins limit (part ∷ before) are = origins_after limit part before (groups_after_offers limit [] (offers_in before)) are.0 are.1 (all_origins limit before are.2)
+all_origins : (limit : ℕ) (old : List Offer) (parts : List Part) → AreParts limit parts → AreUnused limit old parts
+    → HaveOrigins old parts (groups_after_offers limit (groups_after_offers limit [] old) (offers_in parts))
+all_origins limit old [] are unused = each_more (Begun old) (From old []) (groups_after_offers limit [] old) (λ group begun. inl begun) (all_begun limit old).0
+all_origins limit old (part ∷ before) are unused =
+    origins_after limit old part before (groups_after_offers limit (groups_after_offers limit [] old) (offers_in before)) are.0 unused.0 are.1 (all_origins limit old before are.2 unused.1)
 
 -- ---- what is handed on
 
-found_slices : (limit : ℕ) (part : Part) (before : List Part) (groups : List Group) (found : Found) → IsPartOf part.datagram part.offer.packet → Agree limit part before → HaveOrigins before groups
-    → IsFoundNow limit groups (key_of part.offer.packet) part.offer.time found → AreSlices part.datagram (pieces_with (piece_of part.offer.packet part.offer.time) found)
+found_slices : (limit : ℕ) (old : List Offer) (part : Part) (before : List Part) (groups : List Group) (found : Found) → IsPartOf part.datagram part.offer.packet → is_whole part.offer.packet ≡ false → IsUnused limit (key_of part.offer.packet) part.offer.time old → Agree limit part before
+    → HaveOrigins old before groups → IsFoundNow limit groups (key_of part.offer.packet) part.offer.time found → AreSlices part.datagram (pieces_with (piece_of part.offer.packet part.offer.time) found)
 unfolding IsFoundNow
-found_slices limit part before groups (joins place group) is_part agree have found =
-    (slice_of_part part is_part, joined_slices limit part before groups place group agree have found.0 found.1 found.2)
-found_slices limit part before groups (begins others) is_part agree have found = (slice_of_part part is_part, tt)
+found_slices limit old part before groups (joins place group) is_part fragment unused agree have found =
+    (slice_of_part part is_part, joined_slices limit old part before groups place group fragment unused agree have found.0 found.1 found.2)
+found_slices limit old part before groups (begins others) is_part fragment unused agree have found = (slice_of_part part is_part, tt)
 
 whole_part : (datagram : List ℕ) (packet : PacketParts) → IsPartOf datagram packet → is_whole packet ≡ true → packet.octets ≡ datagram
 whole_part datagram packet is full = go (packet.offset == 0) packet.more refl refl full
@@ -185,10 +217,10 @@ whole_part datagram packet is full = go (packet.offset == 0) packet.more refl re
         let long : length packet.octets ≡ length datagram = omega (arith, start, end) in
         is.octets ∙ ap (λ (n : ℕ). take (length packet.octets) (drop n datagram)) start ∙ ap (λ (n : ℕ). take n datagram) long ∙ take_all datagram
 
-pub handed_on_is_sent : (limit : ℕ) (part : Part) (before : List Part) (octets : List ℕ) (joined : Bool) → AreParts limit (part ∷ before)
-    → fate limit (groups_after_offers limit [] (offers_in before)) part.offer.packet part.offer.time ≡ whole octets joined → octets ≡ part.datagram
+pub handed_on_is_sent : (limit : ℕ) (old : List Offer) (part : Part) (before : List Part) (octets : List ℕ) (joined : Bool) → AreParts limit (part ∷ before) → AreUnused limit old (part ∷ before)
+    → fate limit (groups_after_offers limit (groups_after_offers limit [] old) (offers_in before)) part.offer.packet part.offer.time ≡ whole octets joined → octets ≡ part.datagram
 unfolding fate
-handed_on_is_sent limit part before octets joined are is = go (is_whole packet) (is_bad packet) refl refl
+handed_on_is_sent limit old part before octets joined are unused is = go (is_whole packet) (is_bad packet) refl refl
   where
     packet : PacketParts
     packet = part.offer.packet
@@ -197,19 +229,19 @@ handed_on_is_sent limit part before octets joined are is = go (is_whole packet) 
     now = part.offer.time
 
     groups : List Group
-    groups = groups_after_offers limit [] (offers_in before)
+    groups = groups_after_offers limit (groups_after_offers limit [] old) (offers_in before)
 
     same_whole : (one two : List ℕ) (b c : Bool) → whole one b ≡ whole two c → one ≡ two
     same_whole one two b c e = cc
 
-    made : (found : Option (List ℕ)) → datagram_with limit groups packet now ≡ found → fate_if found ≡ whole octets joined → octets ≡ part.datagram
-    made None e f = cc
-    made (Some all) e f =
+    made : is_whole packet ≡ false → (found : Option (List ℕ)) → datagram_with limit groups packet now ≡ found → fate_if found ≡ whole octets joined → octets ≡ part.datagram
+    made fragment None e f = cc
+    made fragment (Some all) e f =
         let same : all ≡ octets = same_whole all octets true joined f in
         sym same ∙ made_is part.datagram (pieces_with (piece_of packet now) (found_for limit groups (key_of packet) now)) all
-        (found_slices limit part before groups (found_for limit groups (key_of packet) now) are.0 are.1 (all_origins limit before are.2) (found_now limit groups (key_of packet) now)) e
+        (found_slices limit old part before groups (found_for limit groups (key_of packet) now) are.0 fragment (unused.0 fragment) are.1 (all_origins limit old before are.2 unused.1) (found_now limit groups (key_of packet) now)) e
 
     go : (all unfit : Bool) → is_whole packet ≡ all → is_bad packet ≡ unfit → octets ≡ part.datagram
     go true unfit e f = sym (same_whole packet.octets octets false joined (rw e at is)) ∙ whole_part part.datagram packet are.0 e
     go false true e f = let none : bad ≡ whole octets joined = rw (e, f) at is in cc
-    go false false e f = made (datagram_with limit groups packet now) refl (rw (e, f) at is)
+    go false false e f = made e (datagram_with limit groups packet now) refl (rw (e, f) at is)

@@ -1,5 +1,5 @@
 -- A message that is brought to a port is that of a datagram that was sent.
-use Rattle.std.proofs.Common.{◌≡◌, ◌∙◌, ap, sym, ℕ, Bool, true, false, List, [], ◌∷◌, ◌++◌, inl, inr, Some, Result, Ok, Err, refl}
+use Rattle.std.proofs.Common.{◌≡◌, ◌∙◌, ap, sym, subst, append-nil, append_assoc, ℕ, Bool, true, false, List, [], ◌∷◌, ◌++◌, inl, inr, Some, Result, Ok, Err, refl}
 use Rattle.std.specs.Prelude.{◌&&◌, if◌then◌else◌}
 use Rattle.es_base.specs.declared.event.Arrival.{Arrival}
 use Rattle.es_base.specs.declared.event.Event.{Event}
@@ -19,9 +19,11 @@ use Rattle.es_base.specs.Redundancy.{forwarded, is_forwarded, is_redundant}
 use Rattle.es_base.specs.Outcome.{Outcome, Payload, brings, brought, datagram_payload, frame_payload, out_of_sequence, outcome, packet_payload, reassembled, redundant, refused}
 use Rattle.es_base.specs.Deliveries.{delivered, deliveries, is_same_port, number_delivered, takes_one_more}
 use Rattle.es_base.specs.Settings.{Settings}
-use Rattle.datagram_delivery.specs.Splitting.{groups_after_offers}
-use Rattle.datagram_delivery.specs.Parts.{AreOfOne, AreOfOneWith, HaveParts, IsMessageOfDatagram, IsPart, WereSentIn}
-use Rattle.datagram_delivery.proofs.Origins.{Agree, AreParts, Part, handed_on_is_sent, offers_in}
+use Rattle.datagram_delivery.specs.Splitting.{Offer, groups_after_offers}
+use Rattle.datagram_delivery.specs.Offers.{offered_in}
+use Rattle.datagram_delivery.specs.Parts.{AreOfOne, AreOfOneWith, HaveParts, HavePartsSince, IsMessageOfDatagram, IsPart, IsUnusedIn, WereSentIn}
+use Rattle.datagram_delivery.proofs.Origins.{Agree, AreParts, AreUnused, Part, handed_on_is_sent, offers_in}
+use Rattle.datagram_delivery.proofs.Offered.{groups_by_offers}
 
 -- ---- the parts that reassembly is offered
 
@@ -36,25 +38,28 @@ part_if : (Event → List ℕ) → Event → Bool → List Part → List Part
 part_if datagram e true before = part_with datagram e (packet_in e.frame) before
 part_if datagram e false before = before
 
-parts_in : Settings → (Event → List ℕ) → List Event → List Part
-parts_in settings datagram [] = []
-parts_in settings datagram (e ∷ past) = part_if datagram e (is_forwarded settings past (arrival_of e)) (parts_in settings datagram past)
+-- of the frames that come after an old past
+parts_in : Settings → (Event → List ℕ) → List Event → List Event → List Part
+parts_in settings datagram old [] = []
+parts_in settings datagram old (e ∷ past) = part_if datagram e (is_forwarded settings (past ++ old) (arrival_of e)) (parts_in settings datagram old past)
 
-groups_step : (settings : Settings) (datagram : Event → List ℕ) (e : Event) (before : List Part) (groups : List Group) → groups ≡ groups_after_offers settings.reassembly [] (offers_in before) → (is : Bool)
-    → groups_by settings.reassembly groups (offered is e.frame) e.time ≡ groups_after_offers settings.reassembly [] (offers_in (part_if datagram e is before))
+groups_step : (settings : Settings) (datagram : Event → List ℕ) (e : Event) (before : List Part) (standing groups : List Group) → groups ≡ groups_after_offers settings.reassembly standing (offers_in before) → (is : Bool)
+    → groups_by settings.reassembly groups (offered is e.frame) e.time ≡ groups_after_offers settings.reassembly standing (offers_in (part_if datagram e is before))
 unfolding part_if part_with part_of
-groups_step settings datagram e before groups same false = same
-groups_step settings datagram e before groups same true = go (packet_in e.frame)
+groups_step settings datagram e before standing groups same false = same
+groups_step settings datagram e before standing groups same true = go (packet_in e.frame)
   where
-    go : (read : Result PacketParts PacketFault) → groups_by settings.reassembly groups (result_ok read) e.time ≡ groups_after_offers settings.reassembly [] (offers_in (part_with datagram e read before))
+    go : (read : Result PacketParts PacketFault) → groups_by settings.reassembly groups (result_ok read) e.time ≡ groups_after_offers settings.reassembly standing (offers_in (part_with datagram e read before))
     go (Ok packet) = ap (λ groups. groups_by settings.reassembly groups (Some packet) e.time) same
     go (Err fault) = same
 
-groups_are_those : (settings : Settings) (datagram : Event → List ℕ) (past : List Event) → groups_in settings past ≡ groups_after_offers settings.reassembly [] (offers_in (parts_in settings datagram past))
+groups_are_those : (settings : Settings) (datagram : Event → List ℕ) (old past : List Event)
+    → groups_in settings (past ++ old) ≡ groups_after_offers settings.reassembly (groups_after_offers settings.reassembly [] (offered_in settings old)) (offers_in (parts_in settings datagram old past))
 unfolding parts_in
-groups_are_those settings datagram [] = refl
-groups_are_those settings datagram (e ∷ past) =
-    groups_step settings datagram e (parts_in settings datagram past) (groups_in settings past) (groups_are_those settings datagram past) (is_forwarded settings past (arrival_of e))
+groups_are_those settings datagram old [] = groups_by_offers settings old
+groups_are_those settings datagram old (e ∷ past) =
+    groups_step settings datagram e (parts_in settings datagram old past) (groups_after_offers settings.reassembly [] (offered_in settings old)) (groups_in settings (past ++ old)) (groups_are_those settings datagram old past)
+    (is_forwarded settings (past ++ old) (arrival_of e))
 
 -- ---- they are parts
 
@@ -65,15 +70,15 @@ agree_step limit datagram e packet earlier before read one agree false = agree
 agree_step limit datagram e packet earlier before read one agree true = go (packet_in earlier.frame) refl
   where
     go : (other : Result PacketParts PacketFault) → packet_in earlier.frame ≡ other → Agree limit (part_of datagram e packet) (part_with datagram earlier other before)
-    go (Ok other) is = (λ same soon. one packet other read is same soon, agree)
+    go (Ok other) is = (λ fragment part same soon. one packet other read is fragment part same soon, agree)
     go (Err fault) is = agree
 
-agree_all : (settings : Settings) (limit : ℕ) (datagram : Event → List ℕ) (e : Event) (packet : PacketParts) (past : List Event) → packet_in e.frame ≡ Ok packet → AreOfOneWith limit datagram e past
-    → Agree limit (part_of datagram e packet) (parts_in settings datagram past)
+agree_all : (settings : Settings) (limit : ℕ) (datagram : Event → List ℕ) (e : Event) (packet : PacketParts) (old past : List Event) → packet_in e.frame ≡ Ok packet → AreOfOneWith limit datagram e past
+    → Agree limit (part_of datagram e packet) (parts_in settings datagram old past)
 unfolding parts_in
-agree_all settings limit datagram e packet [] read one = tt
-agree_all settings limit datagram e packet (earlier ∷ past) read one =
-    agree_step limit datagram e packet earlier (parts_in settings datagram past) read one.0 (agree_all settings limit datagram e packet past read one.1) (is_forwarded settings past (arrival_of earlier))
+agree_all settings limit datagram e packet old [] read one = tt
+agree_all settings limit datagram e packet old (earlier ∷ past) read one =
+    agree_step limit datagram e packet earlier (parts_in settings datagram old past) read one.0 (agree_all settings limit datagram e packet old past read one.1) (is_forwarded settings (past ++ old) (arrival_of earlier))
 
 parts_step : (limit : ℕ) (datagram : Event → List ℕ) (e : Event) (before : List Part) → IsPart datagram e → ((packet : PacketParts) → packet_in e.frame ≡ Ok packet → Agree limit (part_of datagram e packet) before)
     → AreParts limit before → (is : Bool) → AreParts limit (part_if datagram e is before)
@@ -85,12 +90,28 @@ parts_step limit datagram e before is_part agree are true = go (packet_in e.fram
     go (Ok packet) is = (is_part packet is, agree packet is, are)
     go (Err fault) is = are
 
-are_parts : (settings : Settings) (datagram : Event → List ℕ) (past : List Event) → HaveParts settings.reassembly datagram past → AreParts settings.reassembly (parts_in settings datagram past)
+are_parts : (settings : Settings) (datagram : Event → List ℕ) (old past : List Event) → HavePartsSince settings datagram old past → AreParts settings.reassembly (parts_in settings datagram old past)
 unfolding parts_in
-are_parts settings datagram [] have = tt
-are_parts settings datagram (e ∷ past) have =
-    parts_step settings.reassembly datagram e (parts_in settings datagram past) have.0 (λ packet read. agree_all settings settings.reassembly datagram e packet past read have.1)
-    (are_parts settings datagram past have.2) (is_forwarded settings past (arrival_of e))
+are_parts settings datagram old [] have = tt
+are_parts settings datagram old (e ∷ past) have =
+    parts_step settings.reassembly datagram e (parts_in settings datagram old past) have.0 (λ packet read. agree_all settings settings.reassembly datagram e packet old past read have.1)
+    (are_parts settings datagram old past have.3) (is_forwarded settings (past ++ old) (arrival_of e))
+
+-- their keys weren't used in the old past
+unused_step : (limit : ℕ) (datagram : Event → List ℕ) (old : List Offer) (e : Event) (before : List Part) → IsUnusedIn limit old e → AreUnused limit old before → (is : Bool) → AreUnused limit old (part_if datagram e is before)
+unfolding part_if part_with part_of
+unused_step limit datagram old e before unused are false = are
+unused_step limit datagram old e before unused are true = go (packet_in e.frame) refl
+  where
+    go : (read : Result PacketParts PacketFault) → packet_in e.frame ≡ read → AreUnused limit old (part_with datagram e read before)
+    go (Ok packet) is = (unused packet is, are)
+    go (Err fault) is = are
+
+are_unused : (settings : Settings) (datagram : Event → List ℕ) (old past : List Event) → HavePartsSince settings datagram old past → AreUnused settings.reassembly (offered_in settings old) (parts_in settings datagram old past)
+unfolding parts_in
+are_unused settings datagram old [] have = tt
+are_unused settings datagram old (e ∷ past) have =
+    unused_step settings.reassembly datagram (offered_in settings old) e (parts_in settings datagram old past) have.2 (are_unused settings datagram old past have.3) (is_forwarded settings (past ++ old) (arrival_of e))
 
 -- ---- what is brought
 
@@ -117,26 +138,27 @@ brought_by settings past a payload is = go (passes settings past a) (is_redundan
     go true true e f = let other : redundant ≡ brings payload = rw (e, f) at is in cc
     go true false e f = paid (frame_payload settings (groups_in settings past) a) (rw (e, f) at is)
 
-pub brought_was_sent : (settings : Settings) (datagram : Event → List ℕ) (e : Event) (past : List Event) (payload : Payload) → HaveParts settings.reassembly datagram (e ∷ past)
-    → outcome settings past (arrival_of e) ≡ brings payload → IsMessageOfDatagram settings e.frame (datagram e) payload
+pub brought_since : (settings : Settings) (datagram : Event → List ℕ) (old : List Event) (e : Event) (past : List Event) (payload : Payload) → HavePartsSince settings datagram old (e ∷ past)
+    → outcome settings (past ++ old) (arrival_of e) ≡ brings payload → IsMessageOfDatagram settings e.frame (datagram e) payload
 unfolding frame_payload part_of
-brought_was_sent settings datagram e past payload have is =
-    go (packet_in e.frame) refl (brought_by settings past (arrival_of e) payload is)
+brought_since settings datagram old e past payload have is =
+    go (packet_in e.frame) refl (brought_by settings (past ++ old) (arrival_of e) payload is)
   where
     limit : ℕ
     limit = settings.reassembly
 
     before : List Part
-    before = parts_in settings datagram past
+    before = parts_in settings datagram old past
 
-    handed : (packet : PacketParts) → packet_in e.frame ≡ Ok packet → (found : Fate) → fate limit (groups_in settings past) packet e.time ≡ found
+    handed : (packet : PacketParts) → packet_in e.frame ≡ Ok packet → (found : Fate) → fate limit (groups_in settings (past ++ old)) packet e.time ≡ found
         → reassembled_payload settings packet found ≡ Ok payload → IsMessageOfDatagram settings e.frame (datagram e) payload
     handed packet read bad e2 made = cc
     handed packet read held e2 made = cc
     handed packet read (whole octets joined) e2 made =
         let part : Part = part_of datagram e packet in
-        let are : AreParts limit (part ∷ before) = (have.0 packet read, agree_all settings limit datagram e packet past read have.1, are_parts settings datagram past have.2) in
-        let same : octets ≡ datagram e = handed_on_is_sent limit part before octets joined are (ap (λ groups. fate limit groups packet e.time) (sym (groups_are_those settings datagram past)) ∙ e2) in
+        let are : AreParts limit (part ∷ before) = (have.0 packet read, agree_all settings limit datagram e packet old past read have.1, are_parts settings datagram old past have.3) in
+        let unused : AreUnused limit (offered_in settings old) (part ∷ before) = (have.2 packet read, are_unused settings datagram old past have.3) in
+        let same : octets ≡ datagram e = handed_on_is_sent limit (offered_in settings old) part before octets joined are unused (ap (λ groups. fate limit groups packet e.time) (sym (groups_are_those settings datagram old past)) ∙ e2) in
         record {
           packet = packet;
           reads = read;
@@ -144,8 +166,8 @@ brought_was_sent settings datagram e past payload have is =
           admits = ap (λ (o : List ℕ). datagram_payload settings.ports (record { destination = packet.destination; joined = joined; octets = o })) (sym same) ∙ made;
         }
 
-    go : (read : Result PacketParts PacketFault) → packet_in e.frame ≡ read → read_payload settings (groups_in settings past) e.time read ≡ Ok payload → IsMessageOfDatagram settings e.frame (datagram e) payload
-    go (Ok packet) read made = handed packet read (fate limit (groups_in settings past) packet e.time) refl made
+    go : (read : Result PacketParts PacketFault) → packet_in e.frame ≡ read → read_payload settings (groups_in settings (past ++ old)) e.time read ≡ Ok payload → IsMessageOfDatagram settings e.frame (datagram e) payload
+    go (Ok packet) read made = handed packet read (fate limit (groups_in settings (past ++ old)) packet e.time) refl made
     go (Err fault) read made = cc
 
 -- ---- what a port gets
@@ -173,10 +195,32 @@ sent_here settings datagram port e past (brings payload) before was = go (is_sam
     go true false to = tt
     go true true to = (inl (record { payload = payload; of = was payload refl; to = to; time = refl; octets = refl }), tt)
 
+pub all_since : (settings : Settings) (datagram : Event → List ℕ) (old past : List Event) (port : PortNo) → HavePartsSince settings datagram old past
+    → (more : List Message) × (deliveries settings (past ++ old) port ≡ deliveries settings old port ++ more) × WereSentIn settings datagram port past more
+all_since settings datagram old [] port have = ([], sym (append-nil (deliveries settings old port)), tt)
+all_since settings datagram old (e ∷ past) port have =
+    let (more, is, sent) = all_since settings datagram old past port have.3 in
+    let before : ℕ = number_delivered settings (past ++ old) port in
+    let one : List Message = delivered (outcome settings (past ++ old) (arrival_of e)) e.room e.time port before in (
+      more ++ one,
+      ap (λ (messages : List Message). messages ++ one) is ∙ append_assoc (deliveries settings old port) more one,
+      sent_join settings datagram port (e ∷ past) more one (sent_later settings datagram port e past more sent)
+          (sent_here settings datagram port e past (outcome settings (past ++ old) (arrival_of e)) before (λ payload brings_it. brought_since settings datagram old e past payload have brings_it)),
+    )
+
+-- ---- with no old past
+
+parts_alone : (settings : Settings) (datagram : Event → List ℕ) (past : List Event) → HaveParts settings.reassembly datagram past → HavePartsSince settings datagram [] past
+parts_alone settings datagram [] have = tt
+parts_alone settings datagram (e ∷ past) have = (have.0, have.1, λ packet reads fragment. tt, parts_alone settings datagram past have.2)
+
+pub brought_was_sent : (settings : Settings) (datagram : Event → List ℕ) (e : Event) (past : List Event) (payload : Payload) → HaveParts settings.reassembly datagram (e ∷ past)
+    → outcome settings past (arrival_of e) ≡ brings payload → IsMessageOfDatagram settings e.frame (datagram e) payload
+brought_was_sent settings datagram e past payload have is =
+    brought_since settings datagram [] e past payload (parts_alone settings datagram (e ∷ past) have) (ap (λ (past : List Event). outcome settings past (arrival_of e)) (append-nil past) ∙ is)
+
 pub all_were_sent : (settings : Settings) (datagram : Event → List ℕ) (past : List Event) (port : PortNo) → HaveParts settings.reassembly datagram past
     → WereSentIn settings datagram port past (deliveries settings past port)
-all_were_sent settings datagram [] port have = tt
-all_were_sent settings datagram (e ∷ past) port have =
-    sent_join settings datagram port (e ∷ past) (deliveries settings past port) (delivered (outcome settings past (arrival_of e)) e.room e.time port (number_delivered settings past port))
-    (sent_later settings datagram port e past (deliveries settings past port) (all_were_sent settings datagram past port have.2))
-    (sent_here settings datagram port e past (outcome settings past (arrival_of e)) (number_delivered settings past port) (λ payload is. brought_was_sent settings datagram e past payload have is))
+all_were_sent settings datagram past port have =
+    let (more, is, sent) = all_since settings datagram [] past port (parts_alone settings datagram past have) in
+    subst (WereSentIn settings datagram port past) (sym is ∙ ap (λ (past : List Event). deliveries settings past port) (append-nil past)) sent

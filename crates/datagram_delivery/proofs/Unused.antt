@@ -152,7 +152,7 @@ all_begun limit (offer ∷ before) = begun_after limit offer before (groups_afte
 
 -- ---- a key that wasn't used within the limit
 
-unused_at : (limit : ℕ) (key : DatagramKey) (time : ℕ) (offer : Offer) (before : List Offer) → IsUnused limit key time before → IsAmong offer before → is_of key offer ≡ true → offer.time + limit < time
+pub unused_at : (limit : ℕ) (key : DatagramKey) (time : ℕ) (offer : Offer) (before : List Offer) → IsUnused limit key time before → IsAmong offer before → is_of key offer ≡ true → offer.time + limit < time
 unused_at limit key time offer [] unused among is = absurd among
 unused_at limit key time offer (other ∷ before) unused (inl same) is = subst (λ (o : Offer). is_of key o ≡ true → o.time + limit < time) same unused.0 is
 unused_at limit key time offer (other ∷ before) unused (inr among) is = unused_at limit key time offer before unused.1 among is

@@ -1,6 +1,6 @@
 -- A message in two fragments of which each network loses one, two messages among one another, and fragments that meet
 -- all that is asked but one thing, of which a datagram isn't completed or is mixed. Times are in microseconds.
-use Rattle.std.specs.Prelude.{ℕ, zero, suc, nat_lt, Bool, true, false, List, [], ◌∷◌, ◌++◌, if◌then◌else◌}
+use Rattle.std.specs.Prelude.{ℕ, ◌+◌, ◌*◌, zero, suc, nat_lt, Bool, true, false, List, [], ◌∷◌, ◌++◌, if◌then◌else◌}
 use Rattle.es_base.specs.declared.place.Net.{Net}
 use Rattle.es_base.specs.declared.place.Net.TheVariants as nets
 use Rattle.es_base.specs.declared.verdict.Verdict.TheVariants as verdicts
@@ -10,6 +10,8 @@ use Rattle.es_base.specs.declared.fragment.DatagramKey.{DatagramKey}
 use Rattle.es_base.specs.Fragments.{key_of}
 use Rattle.es_base.specs.Packet.{PacketParts}
 use Rattle.es_base.specs.Settings.{Settings}
+use Rattle.es_base.specs.Outcome.{Payload}
+use Rattle.frame_delivery.specs.Network.{Timing}
 use Rattle.frame_delivery.specs.Sending.{Copy}
 use Rattle.datagram_delivery.specs.Splitting.{Offer}
 use Rattle.datagram_delivery.specs.Datagrams.{Sent}
@@ -68,6 +70,22 @@ message_sent = record {
   payload = record { port = record { 0 = 0 }; kind = Queuing 4; joined = true; octets = sixteen_octets };
   offers = record { packet = packet_sent 1; time = 1500; room = true } ∷ record { packet = packet_sent 0; time = 100; room = true } ∷ [];
 }
+
+-- ---- the same message, after the first fragment of another with its identification, whose others were lost, and a frame
+-- ---- of no sender
+
+abbrev pub a_part_before : List Event
+a_part_before = (came_with nets.A 0 (253 ∷ []) 20).event ∷ (came_with nets.B 0 first_frame 10).event ∷ []
+
+abbrev pub after_a_part : List Copy
+after_a_part = came_with nets.B 1 second_frame 61500 ∷ came_with nets.A 0 first_frame 60100 ∷ []
+
+-- frames that are sent from 60000 on, more than the limit of 50000 later
+abbrev pub timing_after_a_part : Timing
+timing_after_a_part = record { sent = λ index. 60000 + 1000 * index; gap = 1000; pause = 2000; least = 100; greatest = 900; wait = 100 }
+
+abbrev pub payload_sent : Payload
+payload_sent = record { port = record { 0 = 0 }; kind = Queuing 4; joined = true; octets = sixteen_octets }
 
 -- ---- two messages whose fragments come among one another
 

@@ -8,11 +8,14 @@ use Rattle.es_base.specs.declared.event.Event.{Event}
 use Rattle.es_base.specs.declared.event.Message.{Message}
 use Rattle.es_base.specs.Deliveries.{is_same_port}
 use Rattle.es_base.specs.Packet.{PacketParts}
-use Rattle.es_base.specs.Fragments.{key_of}
+use Rattle.es_base.specs.Fragments.{is_whole, key_of}
 use Rattle.es_base.specs.Groups.{is_same_key}
 use Rattle.es_base.specs.Outcome.{Payload, datagram_payload}
 use Rattle.es_base.specs.Reassembly.{packet_in}
 use Rattle.es_base.specs.Settings.{Settings}
+use Rattle.datagram_delivery.specs.Datagrams.{IsUnused}
+use Rattle.datagram_delivery.specs.Offers.{offered_in}
+use Rattle.datagram_delivery.specs.Splitting.{Offer}
 
 -- a packet has a part of a datagram or the whole of it: the octets from its offset on; and if no more follow, those
 -- up to its end
@@ -25,22 +28,41 @@ pub record IsPartOf (datagram : List ℕ) (packet : PacketParts) : Type 0 where
 abbrev pub IsPart : (Event → List ℕ) → Event → Type 0
 IsPart datagram e = (packet : PacketParts) → packet_in e.frame ≡ Ok packet → IsPartOf (datagram e) packet
 
--- two frames whose packets have one key, the later of which comes within the limit after the other, have parts of one
--- datagram
+-- two frames with fragments of one key, the later of which comes within the limit after the other, have parts of one
+-- datagram; a frame with a whole datagram may have any key
 abbrev pub AreOfOne : ℕ → (Event → List ℕ) → Event → Event → Type 0
 AreOfOne limit datagram later earlier =
-    (one other : PacketParts) → packet_in later.frame ≡ Ok one → packet_in earlier.frame ≡ Ok other → is_same_key (key_of other) (key_of one) ≡ true
+    (one other : PacketParts) → packet_in later.frame ≡ Ok one → packet_in earlier.frame ≡ Ok other → is_whole one ≡ false → is_whole other ≡ false → is_same_key (key_of other) (key_of one) ≡ true
     → later.time ≤ earlier.time + limit → datagram earlier ≡ datagram later
 
 abbrev pub AreOfOneWith : ℕ → (Event → List ℕ) → Event → List Event → Type 0
 AreOfOneWith limit datagram e [] = Unit {0}
 AreOfOneWith limit datagram e (earlier ∷ past) = AreOfOne limit datagram e earlier × AreOfOneWith limit datagram e past
 
--- all frames of a past have parts of datagrams, and no two datagrams have one key within the limit
+-- all frames of a past have parts of datagrams, and no two datagrams in fragments have one key within the limit
 -- rule: DELIV-2
 abbrev pub HaveParts : ℕ → (Event → List ℕ) → List Event → Type 0
 HaveParts limit datagram [] = Unit {0}
 HaveParts limit datagram (e ∷ past) = IsPart datagram e × AreOfOneWith limit datagram e past × HaveParts limit datagram past
+
+-- the frame of an event has the whole of a datagram, if it has a packet
+abbrev pub IsWholeIn : (Event → List ℕ) → Event → Type 0
+IsWholeIn datagram e = (packet : PacketParts) → packet_in e.frame ≡ Ok packet → (is_whole packet ≡ true) × (packet.octets ≡ datagram e)
+
+abbrev pub AreWhole : (Event → List ℕ) → List Event → Type 0
+AreWhole datagram [] = Unit {0}
+AreWhole datagram (e ∷ past) = IsWholeIn datagram e × AreWhole datagram past
+
+-- no packet with the key of this fragment was offered in an old past within the limit before it
+abbrev pub IsUnusedIn : ℕ → List Offer → Event → Type 0
+IsUnusedIn limit old e = (packet : PacketParts) → packet_in e.frame ≡ Ok packet → is_whole packet ≡ false → IsUnused limit (key_of packet) e.time old
+
+-- the same of the frames that come after an old past, which may have anything but these keys within the limit
+-- rule: DELIV-2
+abbrev pub HavePartsSince : Settings → (Event → List ℕ) → List Event → List Event → Type 0
+HavePartsSince settings datagram old [] = Unit {0}
+HavePartsSince settings datagram old (e ∷ past) =
+    IsPart datagram e × AreOfOneWith settings.reassembly datagram e past × IsUnusedIn settings.reassembly (offered_in settings old) e × HavePartsSince settings datagram old past
 
 -- a message is the message of a datagram for a port of the link, where this frame has the datagram or a part of it
 -- rule: DELIV-2

@@ -1,25 +1,32 @@
 //! Which senders and networks bring each datagram once, whole, in order.
-ghost use Rattle.std.specs.Prelude.{◌≡◌, ℕ, ◌≤◌, ◌+◌, true, false, List, [], ◌∷◌, ◌++◌, length, None};
+ghost use Rattle.std.specs.Prelude.{◌≡◌, ℕ, ◌≤◌, ◌+◌, Bool, true, false, List, [], ◌∷◌, ◌++◌, length, None, Ok};
 ghost use Rattle.es_base.specs.declared.place.PortNo.{PortNo};
 ghost use Rattle.es_base.specs.declared.fragment.DatagramKey.{DatagramKey};
+ghost use Rattle.es_base.specs.declared.event.Arrival.{Arrival};
 ghost use Rattle.es_base.specs.declared.event.Event.{Event};
+ghost use Rattle.es_base.specs.declared.event.Message.{Message};
 ghost use Rattle.es_base.specs.Settings.{Settings};
 ghost use Rattle.es_base.specs.Limits.{most_samples};
 ghost use Rattle.es_base.specs.Past.{arrival_of};
 ghost use Rattle.es_base.specs.Packet.{PacketParts};
 ghost use Rattle.es_base.specs.Fragments.{key_of};
 ghost use Rattle.es_base.specs.Groups.{Group, fate, held, place_of, whole};
+ghost use Rattle.es_base.specs.Reassembly.{groups_in, packet_in};
+ghost use Rattle.es_base.specs.Redundancy.{is_forwarded};
 ghost use Rattle.es_base.specs.Outcome.{Payload, brings, outcome};
 ghost use Rattle.es_base.specs.Deliveries.{deliveries};
-ghost use Rattle.frame_delivery.specs.Sending.{Copy, Numbering, events_of_copies};
-ghost use Rattle.frame_delivery.specs.Once.{first_copies, has_come};
+ghost use Rattle.frame_delivery.specs.Sending.{Copy, Numbering, events_of_copies, events_since};
+ghost use Rattle.frame_delivery.specs.Once.{first_copies, has_come, passing_copies};
 ghost use Rattle.frame_delivery.specs.Network.{ComeWhole, Timing};
+ghost use Rattle.frame_delivery.specs.Since.{IsFirstPassing, PassTimely, forwarded_since, passing_since};
 ghost use Rattle.datagram_delivery.specs.Splitting.{AreFronts, IsLastFragment, Offer, LeavesRoom, groups_after_offers, is_of, joined, other_keys, pieces_of};
 ghost use Rattle.datagram_delivery.specs.Datagrams.{AreSent, CarryPackets, IsSplitAmong, IsSplitInOrder, Sent, all_offers, messages_by, messages_sent, offers_of};
+ghost use Rattle.datagram_delivery.specs.Offers.{offered_in};
+ghost use Rattle.datagram_delivery.specs.Arriving.{Arrives, past_before};
 ghost use Rattle.datagram_delivery.specs.Interleaved.{AreInterleaved, Carried, SendsOn, SendsNext, carried_offers, messages_ended};
-ghost use Rattle.datagram_delivery.specs.Parts.{HaveParts, IsMessageOfDatagram, WereSentIn};
+ghost use Rattle.datagram_delivery.specs.Parts.{AreWhole, HaveParts, HavePartsSince, IsMessageOfDatagram, WereSentIn};
 ghost use Rattle.frame_delivery.specs.Examples.{numbering, timing};
-ghost use Rattle.datagram_delivery.specs.Examples.{among_one_another, datagram_at, datagram_octets, eight, first_key, five_begun, four_begun, four_in_parts, fragment, in_two_fragments, link_of_100, link_with_queue, sixteen_octets, message_sent, one_identification, packet_sent, part_sent};
+ghost use Rattle.datagram_delivery.specs.Examples.{a_part_before, after_a_part, among_one_another, datagram_at, datagram_octets, eight, first_key, five_begun, four_begun, four_in_parts, fragment, in_two_fragments, link_of_100, link_with_queue, sixteen_octets, message_sent, one_identification, packet_sent, part_sent, payload_sent};
 
 /// A datagram that is split into fragments is joined whole: each fragment but the last is held, and the last brings
 /// exactly the octets of all, one after the other. They come in order and within the limit of time, none is missing,
@@ -79,24 +86,83 @@ pub fn a_split_message_is_delivered()
         → outcome settings (events_of_copies before) (arrival_of copy.event) ≡ brings payload }
 {}
 
+/// What a port gets is what it would get if the packets of the frames that were forwarded were offered one by one, in any
+/// past of a link: this asks nothing of senders and of networks, and no fault voids it. The groups stand as after these
+/// offers.
+pub fn deliveries_are_of_what_was_offered()
+    ensures messages { (settings : Settings) (past : List Event) (port : PortNo) → deliveries settings past port ≡ messages_by settings (offered_in settings past) port }
+    ensures groups { (settings : Settings) (past : List Event) → groups_in settings past ≡ groups_after_offers settings.reassembly [] (offered_in settings past) }
+{}
+
+/// After any past the packet of each frame of which a copy passes, from the first on that is forwarded, is offered once,
+/// in the order of sending, at the time of the first that passes: whatever is lost of others, and whatever the packets
+/// are.
+pub fn each_passing_packet_is_offered_once()
+    ensures since { (settings : Settings) (numbering : Numbering) (timing : Timing) (packet : ℕ → PacketParts) (old : List Event) (copies : List Copy) → PassTimely settings numbering timing old copies
+        → CarryPackets packet (forwarded_since settings old copies)
+        → offered_in settings (events_since copies old) ≡ offers_of packet (first_copies (passing_since settings old copies)) ++ offered_in settings old }
+    ensures alone { (settings : Settings) (numbering : Numbering) (timing : Timing) (packet : ℕ → PacketParts) (copies : List Copy) (port : PortNo) → PassTimely settings numbering timing [] copies
+        → CarryPackets packet (forwarded_since settings [] copies)
+        → deliveries settings (events_of_copies copies) port ≡ messages_by settings (offers_of packet (first_copies (passing_copies settings copies))) port }
+{}
+
+/// After any past, whatever came in it, whatever groups stand, and whatever is lost of others: a message in fragments, of
+/// each of which a copy passes, is delivered whole with the first copy that passes of its last fragment. It is asked that
+/// its identification wasn't used within the limit of time before, and that of the groups that others begin after it at
+/// most three stand at a time (`three_others_leave_room`).
+pub fn a_split_message_is_delivered_after_any_past()
+    ensures once_forwarded { (settings : Settings) (past : List Event) (a : Arrival) (room : Bool) (packet : PacketParts) (first : Offer) (during earlier : List Offer) (payload : Payload)
+        → is_forwarded settings past a ≡ true → packet_in a.frame ≡ Ok packet → offered_in settings past ≡ during ++ first ∷ earlier
+        → IsSplitAmong settings payload earlier first during (record { packet = packet; time = a.time; room = room })
+        → outcome settings past a ≡ brings payload }
+    ensures passing { (settings : Settings) (numbering : Numbering) (timing : Timing) (packet : ℕ → PacketParts) (old : List Event) (copy : Copy) (before : List Copy) (first : Offer) (during earlier : List Offer) (payload : Payload)
+        → PassTimely settings numbering timing old (copy ∷ before) → CarryPackets packet (forwarded_since settings old (copy ∷ before)) → IsFirstPassing settings old before copy
+        → offers_of packet (first_copies (passing_since settings old before)) ++ offered_in settings old ≡ during ++ first ∷ earlier
+        → IsSplitAmong settings payload earlier first during (record { packet = packet copy.index; time = copy.event.time; room = copy.event.room })
+        → outcome settings (events_since before old) (arrival_of copy.event) ≡ brings payload }
+{}
+
+/// So a message that arrives is delivered to its port: whatever came before its sender's copies, whatever was lost of
+/// others, and whatever comes after it. No fault of a sender or a network, once it is over, voids this. It stands right
+/// after what was delivered before it: so each that arrives has a place of its own.
+pub fn each_message_that_arrives_is_delivered()
+    ensures brings { (settings : Settings) (past : List Event) (payload : Payload) (time : ℕ) → (one : Arrives settings past payload time) → outcome settings (past_before one) (arrival_of one.copy.event) ≡ brings payload }
+    ensures delivered { (settings : Settings) (past : List Event) (payload : Payload) (time : ℕ) → (one : Arrives settings past payload time)
+        → (later : List Message) × (deliveries settings past payload.port ≡ deliveries settings (past_before one) payload.port ++ record { time = time; octets = payload.octets } ∷ later) }
+{}
+
 /// Nothing is made up, mixed or cut, whatever is lost, brought twice or out of order: a message that a port gets is
-/// that of the datagram of which the frame has a part that came at its time. It is only asked that no two frames that
-/// come within the limit of time of each other are of different datagrams with one identification.
+/// that of the datagram of which the frame has a part that came at its time. It is only asked that no two fragments that
+/// come within the limit of time of each other are of different datagrams with one identification. So nothing is asked of
+/// the identifications of datagrams that are sent whole.
 pub fn each_message_was_sent()
     ensures brought { (settings : Settings) (datagram : Event → List ℕ) (e : Event) (past : List Event) (payload : Payload) → HaveParts settings.reassembly datagram (e ∷ past)
         → outcome settings past (arrival_of e) ≡ brings payload → IsMessageOfDatagram settings e.frame (datagram e) payload }
     ensures delivered { (settings : Settings) (datagram : Event → List ℕ) (past : List Event) (port : PortNo) → HaveParts settings.reassembly datagram past
         → WereSentIn settings datagram port past (deliveries settings past port) }
+    ensures whole { (limit : ℕ) (datagram : Event → List ℕ) (past : List Event) → AreWhole datagram past → HaveParts limit datagram past }
+{}
+
+/// The same of the frames that come after any old past, whatever came in it, and whatever groups stand: it is only asked
+/// besides that the identifications of fragments weren't used there within the limit of time. So strange frames, once
+/// they are over, mix no message.
+pub fn each_message_was_sent_after_any_past()
+    ensures brought { (settings : Settings) (datagram : Event → List ℕ) (old : List Event) (e : Event) (past : List Event) (payload : Payload) → HavePartsSince settings datagram old (e ∷ past)
+        → outcome settings (past ++ old) (arrival_of e) ≡ brings payload → IsMessageOfDatagram settings e.frame (datagram e) payload }
+    ensures delivered { (settings : Settings) (datagram : Event → List ℕ) (old past : List Event) (port : PortNo) → HavePartsSince settings datagram old past
+        → (more : List Message) × (deliveries settings (past ++ old) port ≡ deliveries settings old port ++ more) × WereSentIn settings datagram port past more }
 {}
 
 /// The conditions can be met: by four frames that two networks bring, each with a loss, over the end of the sequence
-/// numbers, and all four are forwarded; and by a message in two fragments, of which each network loses one.
+/// numbers, and all four are forwarded; and by a message in two fragments, of which each network loses one,
+/// also after a part of another with its identification, of which the rest was lost, and a frame of no sender.
 pub fn the_conditions_can_be_met()
     ensures in_fragments { ComeWhole link_with_queue numbering timing in_two_fragments }
     ensures carried { CarryPackets packet_sent in_two_fragments }
     ensures offered { offers_of packet_sent (first_copies in_two_fragments) ≡ all_offers (message_sent ∷ []) }
     ensures sent { AreSent link_with_queue (message_sent ∷ []) }
     ensures among { AreInterleaved link_with_queue among_one_another }
+    ensures arrives { Arrives link_with_queue (events_since after_a_part a_part_before) payload_sent 61500 }
     ensures parts { HaveParts 50000 (λ e. datagram_octets) (events_of_copies in_two_fragments) }
     ensures delivered { deliveries link_with_queue (events_of_copies in_two_fragments) (record { 0 = 0 }) ≡ record { time = 1500; octets = sixteen_octets } ∷ [] }
 {}

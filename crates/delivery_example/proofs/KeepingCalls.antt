@@ -16,7 +16,7 @@ use Rattle.datagram_delivery.specs.Bringing.{BringDatagrams}
 use Rattle.datagram_delivery.specs.Interleaved.{Carried, messages_ended}
 use Rattle.link_receiver.specs.Outlet.{ShowsDelivered}
 use Rattle.end_system.specs.declared.ends.LinkEnds.{LinkEnds}
-use Rattle.end_system_delivery.specs.Delivery.{DeliversEach, WasGiven}
+use Rattle.end_system_delivery.specs.Delivery.{DeliversEach, WereGiven}
 use Rattle.end_system_delivery.specs.Holding.{EachHolds, HoldsEach}
 use Rattle.network_calls.specs.declared.reply.Reply.{Reply}
 use Rattle.network_calls.specs.declared.reply.Reply.TheVariants.{Filtered, Link}
@@ -88,7 +88,7 @@ its_settings : slice_get configuration.links 0 ≡ Some link_with_nav
 unfolding example.configuration
 its_settings = refl
 
-is_held : (link : Kept) (of_opening : LinkEnds) (carried : List Carried) → messages_ended nav carried ≡ nav_message ∷ [] → HoldsEach link carried of_opening → WasGiven link carried nav → IsHeldOnce link
+is_held : (link : Kept) (of_opening : LinkEnds) (carried : List Carried) → messages_ended nav carried ≡ nav_message ∷ [] → HoldsEach link carried of_opening → WereGiven link carried nav → IsHeldOnce link
 is_held link of_opening carried ends holds given = record {
   given = given.put ∙ ends;
   put = λ outlets are. subst (λ (messages : List Message). ShowsDelivered (slice_get outlets 0) messages) ends (holds.outlets outlets are 0);
@@ -113,7 +113,6 @@ given_once system ends links epoch on_a first_of_b second_of_b to_a first_to_b s
     let either = in_either_order link epoch to_a first_to_b second_to_b of_a of_b of_c taken calls in
     let brings = brings_message (past_of link) either (subst (λ (o : Settings). IsRun o (past_of link)) settings_are run.run) in
     let bring : BringDatagrams link.settings (past_of link) brings.carried = subst (λ (o : Settings). BringDatagrams o (past_of link) brings.carried) (sym is) brings.bring in
-    let bring_too : BringDatagrams settings (past_of link) brings.carried = subst (λ (o : Settings). BringDatagrams o (past_of link) brings.carried) (sym settings_are) brings.bring in
     let held : HoldsEach link brings.carried of_opening =
     subst (λ (link : Kept). BringDatagrams link.settings (past_of link) brings.carried → HoldsEach link brings.carried of_opening) same (each brings.carried) bring in
-    subst HoldsMessage (sym link_there) (is_held link of_opening brings.carried brings.ends held (gives brings.carried bring_too nav))
+    subst HoldsMessage (sym link_there) (is_held link of_opening brings.carried brings.ends held (gives.brought brings.carried bring nav))

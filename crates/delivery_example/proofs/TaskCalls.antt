@@ -22,7 +22,7 @@ use Rattle.receiver.specs.Outlet.{ShowsAt}
 use Rattle.receiver.specs.Port.{AnswersPort, GivesPort, ShowsPort}
 use Rattle.receiver.specs.Receiver.{AreLinksOf, Links, RepliesTo}
 use Rattle.receiver.specs.Run.{AddsIf, AddsReply, AreEventsAt, HasRun}
-use Rattle.receiver_delivery.specs.Delivery.{DeliversEach, WereGiven}
+use Rattle.receiver_delivery.specs.Delivery.{DeliversEach, GivesEach, WereGiven}
 use Rattle.delivery_example.specs.Example as example
 use Rattle.delivery_example.specs.Example.{AreOfTheExample, arrival_on_a, configuration, first_arrival_on_b, first_on_a, first_on_b, link_with_nav, nav, nav_message, nav_port, second_arrival_on_b, second_on_b, sent}
 use Rattle.delivery_example.specs.Given.{HasNavMessage, WasGivenOnce}
@@ -107,14 +107,14 @@ unfolding example.configuration
 links_are links are = are
 
 given_at : (links : List (Ported PortOutlet)) (past_of_example : (link : Ported PortOutlet) → slice_get links 0 ≡ Some link → AreThree arrival_on_a first_arrival_on_b second_arrival_on_b link.core.past) → AreLinksOf (link_with_nav ∷ []) links
-    → ((link : Ported PortOutlet) → slice_get links 0 ≡ Some link → IsPorted ShowsPort link × ((carried : List Carried) → BringDatagrams link.core.settings link.core.past carried → WereGiven ShowsPort link carried)) → WasGivenOnce (slice_get links 0)
+    → ((link : Ported PortOutlet) → slice_get links 0 ≡ Some link → IsPorted ShowsPort link × GivesEach ShowsPort link) → WasGivenOnce (slice_get links 0)
 given_at links past_of_example are gives =
     let one = first_link links are in
     let (ported, given) = gives one.link one.there in
     let run : IsRun link_with_nav one.link.core.past = subst (λ (o : Settings). IsRun o one.link.core.past) one.with_settings ported.run in
     let brings = brings_message one.link.core.past (inl (past_of_example one.link one.there)) run in
     let bring = subst (λ (o : Settings). BringDatagrams o one.link.core.past brings.carried) (sym one.with_settings) brings.bring in
-    subst WasGivenOnce (sym one.there) (has_message one.link brings.carried one.with_settings brings.ends (given brings.carried bring))
+    subst WasGivenOnce (sym one.there) (has_message one.link brings.carried one.with_settings brings.ends (given.brought brings.carried bring))
 
 -- the calls of the task, on the example's frames
 pub record RanTask (config : Configuration) (on_a first_of_b second_of_b : List ℕ) (to_a first_to_b second_to_b : Reply) (last : Links PortOutlet) : Type 0 where

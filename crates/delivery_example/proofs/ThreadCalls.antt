@@ -129,5 +129,5 @@ given_once readers system ends links on_a first_of_b second_of_b to_a first_to_b
     λ net. sym (λ i. calls_in net (numbered i) (steps_of_threads (of.of_a i) (of.first_of_b i) (of.second_of_b i) to_a first_to_b second_to_b)) ∙ run.replied net in
     let either = in_either_order link to_a first_to_b second_to_b of_a of_b of_c taken replied in
     let brings = brings_message link.core.past either (subst (λ (o : Settings). IsRun o link.core.past) (run.with_settings ∙ is) run.ported.run) in
-    let bring = subst (λ (o : Settings). BringDatagrams o link.core.past brings.carried) (sym is) brings.bring in
-    subst WasGivenOnce (sym link_there) (has_message link brings.carried (run.with_settings ∙ is) brings.ends (gives brings.carried bring))
+    let bring = subst (λ (o : Settings). BringDatagrams o link.core.past brings.carried) (sym (run.with_settings ∙ is)) brings.bring in
+    subst WasGivenOnce (sym link_there) (has_message link brings.carried (run.with_settings ∙ is) brings.ends (gives.brought brings.carried bring))

@@ -50,7 +50,7 @@ latest_on numbering (copy ∷ before) net numbers =
     (λ (is : is_same_net copy.event.net net ≡ false). rw is (latest_on numbering before net numbers.1))
     (cases_Bool (is_same_net copy.event.net net))
 
-may_follow_too : (numbering : Numbering) (window : ℕ) (before : Option ℕ) (index : ℕ) → IsLater before index → MayFollow numbering window before index
+pub may_follow_too : (numbering : Numbering) (window : ℕ) (before : Option ℕ) (index : ℕ) → IsLater before index → MayFollow numbering window before index
     → may_follow window (option_map (number_of_frame numbering) before) (number_of_frame numbering index) ≡ true
 may_follow_too numbering window None index later may = refl
 may_follow_too numbering window (Some before) index later may =

@@ -14,7 +14,7 @@ use Rattle.frame_delivery.specs.Running.{EachForwarded, SomeForwarded}
 
 -- ---- the greatest time of those that were forwarded
 
-all_over : (settings : Settings) (now : ℕ) (past : List Event) → EachForwarded settings (λ e. e.time + settings.skew_max < now) past
+pub all_over : (settings : Settings) (now : ℕ) (past : List Event) → EachForwarded settings (λ e. e.time + settings.skew_max < now) past
     → (forwarded settings past ≡ []) ⊎ (greatest_time (forwarded settings past) + settings.skew_max < now)
 all_over settings now [] each = inl refl
 all_over settings now (e ∷ past) each =
@@ -42,7 +42,7 @@ one_near settings now (e ∷ past) (inr later) =
 
 -- ---- so SkewMax is over, or runs
 
-first_when_over : (skew_max : ℕ) (frames : List Forwarded) (number now : ℕ) → (frames ≡ []) ⊎ (greatest_time frames + skew_max < now) → is_first_copy skew_max frames number now ≡ true
+pub first_when_over : (skew_max : ℕ) (frames : List Forwarded) (number now : ℕ) → (frames ≡ []) ⊎ (greatest_time frames + skew_max < now) → is_first_copy skew_max frames number now ≡ true
 first_when_over skew_max [] number now over = refl
 first_when_over skew_max (frame ∷ earlier) number now (inl none) = cc
 first_when_over skew_max (frame ∷ earlier) number now (inr over) = or_left _ _ (lt-ltb skew_max (elapsed now (greatest_time (frame ∷ earlier))) (omega (arith, over)))

@@ -74,7 +74,7 @@ all_octets payload port n (copy ∷ before) order room all =
         kept true = refl
         kept false = refl
 
-first_rooms : (payload : ℕ → Payload) (copies : List Copy) → HaveRoom payload copies → HaveRoom payload (first_copies copies)
+pub first_rooms : (payload : ℕ → Payload) (copies : List Copy) → HaveRoom payload copies → HaveRoom payload (first_copies copies)
 first_rooms payload [] room = tt
 first_rooms payload (copy ∷ before) room =
     ⊎_elim

@@ -1,6 +1,7 @@
 -- Copies that meet all that is asked, and copies that meet all but one thing, of which the receiver loses a frame, or
 -- forwards one twice. Frames have the sequence number alone. Times are in microseconds.
 use Rattle.std.specs.Prelude.{ℕ, ◌*◌, ◌==◌, true, false, List, [], ◌∷◌}
+use Rattle.es_base.specs.declared.event.Event.{Event}
 use Rattle.es_base.specs.declared.place.Net.{Net}
 use Rattle.es_base.specs.declared.place.Net.TheVariants as nets
 use Rattle.es_base.specs.declared.verdict.Verdict.TheVariants as verdicts
@@ -40,6 +41,25 @@ abbrev pub with_losses : List Copy
 with_losses =
     received nets.B 3 2 3900 ∷ received nets.A 3 2 3100 ∷ received nets.A 2 1 2200 ∷ received nets.B 1 255 1500 ∷ received nets.B 0 254 900 ∷ received nets.A 0 254 100 ∷ []
 
+-- B is out for three frames, more than the window, and its next one is out of sequence; A brings each frame
+abbrev pub one_network_out : List Copy
+one_network_out =
+    received nets.B 4 5 4900 ∷ received nets.A 4 5 4100 ∷ received nets.A 3 4 3100 ∷ received nets.A 2 3 2100 ∷ received nets.A 1 2 1100 ∷ received nets.B 0 1 900 ∷ received nets.A 0 1 100 ∷ []
+
+-- two frames of no sender that we know of, one on each network
+abbrev pub strange : List Event
+strange = (received nets.B 0 50 60).event ∷ (received nets.A 0 200 50).event ∷ []
+
+-- the first frame has number 10, and the sender doesn't restart
+abbrev pub from_ten : Numbering
+from_ten = record { first = 10; restarts = λ index. false }
+
+-- of three frames after these the first is out of sequence on both networks, and the first copy of the second comes
+-- while SkewMax runs, of 1500; and once more a frame of no sender comes, which is out of sequence, and so is B's next
+abbrev pub after_strange : List Copy
+after_strange =
+    received nets.B 2 12 2900 ∷ received nets.B 0 99 2500 ∷ received nets.A 2 12 2100 ∷ received nets.B 1 11 1900 ∷ received nets.A 1 11 1100 ∷ received nets.B 0 10 900 ∷ received nets.A 0 10 100 ∷ []
+
 -- ---- one thing isn't met
 
 -- the first frame has number 1, and the sender doesn't restart
@@ -61,6 +81,18 @@ two_lost = received nets.B 3 4 3900 ∷ received nets.A 3 4 3100 ∷ received ne
 -- A is cut off after a frame, and B begins 128 frames later, just before SkewMax is over
 abbrev pub far_apart : List Copy
 far_apart = received nets.B 128 129 128100 ∷ received nets.A 0 1 100 ∷ []
+
+-- a frame that was forwarded before has a time that is later than those of the copies that come
+abbrev pub of_later_time : List Event
+of_later_time = (received nets.B 0 50 5000).event ∷ []
+
+-- A brings each frame, and one of another sender passes on B
+abbrev pub stranger_passes : List Copy
+stranger_passes = received nets.A 1 2 1100 ∷ received nets.B 0 50 200 ∷ received nets.A 0 1 100 ∷ []
+
+-- the sender restarts, 3000 after its frame before
+abbrev pub restarted : List Copy
+restarted = received nets.A 1 0 3100 ∷ received nets.A 0 57 100 ∷ []
 
 -- the sender restarts after its first frame
 abbrev pub from_57 : Numbering

@@ -14,6 +14,11 @@ abbrev pub indices_on : List Copy → Net → List ℕ
 indices_on [] net = []
 indices_on (copy ∷ before) net = if is_same_net copy.event.net net then copy.index ∷ indices_on before net else indices_on before net
 
+-- the copies that came on a network
+abbrev pub copies_on : Net → List Copy → List Copy
+copies_on net [] = []
+copies_on net (copy ∷ before) = if is_same_net copy.event.net net then copy ∷ copies_on net before else copies_on net before
+
 -- a frame is later than the one before it on its network, if there was one
 abbrev pub IsLater : Option ℕ → ℕ → Type 0
 IsLater None index = Unit {0}
@@ -34,6 +39,13 @@ MayFollow numbering window (Some before) index = ((index ≤ before + window) ×
 -- rule: DELIV-4
 abbrev pub LosesFew : Numbering → ℕ → List Copy → Type 0
 LosesFew numbering window copies = EachCopy (λ before copy. MayFollow numbering window (latest (indices_on before copy.event.net)) copy.index) copies
+
+-- one network brings the frames in the order of sending, and loses fewer than `window` in a row, and not the first after
+-- a restart, whatever the other brings
+pub record BringsInRow (numbering : Numbering) (window : ℕ) (net : Net) (copies : List Copy) : Type 0 where
+  pub numbers : HaveNumbers numbering (copies_on net copies)
+  pub order : KeepsOrder (copies_on net copies)
+  pub losses : LosesFew numbering window (copies_on net copies)
 
 -- ---- how long frames are on their way
 

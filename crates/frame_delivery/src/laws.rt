@@ -1,5 +1,7 @@
 //! Which networks bring each frame once, in order, and what a port gets of frames that have whole messages.
-ghost use Rattle.std.specs.Prelude.{◌≡◌, ℕ, ◌<◌, ◌≤◌, ◌+◌, true, false, List, [], ◌∷◌, length};
+ghost use Rattle.std.specs.Prelude.{◌≡◌, ℕ, ◌<◌, ◌≤◌, ◌+◌, true, false, List, [], ◌∷◌, ◌++◌, length, Some};
+ghost use Rattle.es_base.specs.declared.place.Net.{Net};
+ghost use Rattle.es_base.specs.declared.place.Net.TheVariants as nets;
 ghost use Rattle.es_base.specs.declared.place.PortNo.{PortNo};
 ghost use Rattle.es_base.specs.declared.event.Arrival.{Arrival};
 ghost use Rattle.es_base.specs.declared.event.Event.{Event};
@@ -7,18 +9,19 @@ ghost use Rattle.es_base.specs.Settings.{Settings};
 ghost use Rattle.es_base.specs.Frame.{sequence_number_of};
 ghost use Rattle.es_base.specs.Limits.{most_samples};
 ghost use Rattle.es_base.specs.Past.{arrival_of};
-ghost use Rattle.es_base.specs.Integrity.{passes};
+ghost use Rattle.es_base.specs.Integrity.{is_same_net, latest, passes};
 ghost use Rattle.es_base.specs.Copies.{Forwarded, is_ahead};
 ghost use Rattle.es_base.specs.Redundancy.{forwarded, is_forwarded};
 ghost use Rattle.es_base.specs.Outcome.{Payload};
-ghost use Rattle.es_base.specs.Deliveries.{deliveries};
-ghost use Rattle.frame_delivery.specs.Sending.{Copy, EachCopy, HaveNumbers, Numbering, RunsOn, events_of_copies, number_of_frame};
+ghost use Rattle.es_base.specs.Deliveries.{deliveries, number_delivered};
+ghost use Rattle.frame_delivery.specs.Sending.{Copy, EachCopy, HaveNumbers, Numbering, RunsOn, events_of_copies, events_since, number_of_frame};
 ghost use Rattle.frame_delivery.specs.Once.{AreInOrder, ComesInTime, IsForwardedIfFirst, IsForwardedIfNew, IsOvertaken, as_forwarded, first_copies, has_come, new_copies, passing_copies};
 ghost use Rattle.frame_delivery.specs.Running.{EachForwarded, SomeForwarded};
-ghost use Rattle.frame_delivery.specs.Network.{BeginNear, ComeTimely, ComeWhole, IsNeverLate, HasAge, HasNoOvertaking, IsOverSoon, KeepsOrder, KeepsTimes, LosesFew, Timing};
+ghost use Rattle.frame_delivery.specs.Since.{ComeAfter, IsFirstPassing, PassTimely, forwarded_since, passing_since};
+ghost use Rattle.frame_delivery.specs.Network.{BeginNear, BringsInRow, ComeTimely, ComeWhole, IsNeverLate, HasAge, HasNoOvertaking, IsOverSoon, KeepsOrder, KeepsTimes, LosesFew, MayFollow, Timing, copies_on, indices_on};
 ghost use Rattle.frame_delivery.specs.Conditions.{MeetAll, MeetAllBut, apart, covers, is_asked_for_all, is_asked_for_once, late, late_restart, losses, near, restarts};
 ghost use Rattle.frame_delivery.specs.Messages.{AllCame, CarryWhole, HaveRoom, messages_of, octets_of_messages, octets_sent};
-ghost use Rattle.frame_delivery.specs.Examples.{after_skew_max, behind_a_restart, far_apart, far_behind, frame_at, from_57, from_one, link, numbering, overtaken, soon_restarted, timed, timing, two_lost, wide_link, with_losses};
+ghost use Rattle.frame_delivery.specs.Examples.{after_skew_max, after_strange, behind_a_restart, far_apart, far_behind, frame_at, from_57, from_one, from_ten, link, numbering, of_later_time, one_network_out, overtaken, received, restarted, soon_restarted, strange, stranger_passes, timed, timing, two_lost, wide_link, with_losses};
 
 /// The sequence number of a frame is ahead of those of the 127 frames before it, and of no later one up to 127.
 pub fn a_later_frame_is_ahead()
@@ -85,6 +88,54 @@ pub fn no_frame_that_passes_is_lost()
         → BeginNear settings.skew_max (passing_copies settings copies) → forwarded settings (events_of_copies copies) ≡ as_forwarded (first_copies (passing_copies settings copies)) }
 {}
 
+/// One network is enough. If it keeps the order of the frames, and loses fewer than the window in a row, each of its
+/// copies passes, whatever the other network brings; and each frame of which it brings a copy is forwarded, once, in
+/// order, if no other sender's frame passes on the other. After an outage a network's copies pass again from the second
+/// on.
+pub fn one_network_is_enough()
+    ensures passes { (settings : Settings) (numbering : Numbering) (net : Net) (copy : Copy) (before : List Copy) → BringsInRow numbering settings.window net (copy ∷ before)
+        → is_same_net copy.event.net net ≡ true → passes settings (events_of_copies before) (arrival_of copy.event) ≡ true }
+    ensures passes_again { (settings : Settings) (numbering : Numbering) (old : List Event) (copy : Copy) (before : List Copy) (last : ℕ) → HaveNumbers numbering (copies_on copy.event.net (copy ∷ before))
+        → latest (indices_on before copy.event.net) ≡ Some last → last < copy.index → MayFollow numbering settings.window (Some last) copy.index
+        → passes settings (events_since before old) (arrival_of copy.event) ≡ true }
+    ensures brings { (settings : Settings) (numbering : Numbering) (timing : Timing) (copies : List Copy) (net : Net) (index : ℕ) → PassTimely settings numbering timing [] copies
+        → BringsInRow numbering settings.window net copies → has_come index (copies_on net copies) ≡ true → has_come index (forwarded_since settings [] copies) ≡ true }
+    ensures once { (settings : Settings) (numbering : Numbering) (timing : Timing) (copies : List Copy) → PassTimely settings numbering timing [] copies
+        → (forwarded_since settings [] copies ≡ first_copies (passing_copies settings copies)) × AreInOrder (first_copies (passing_copies settings copies)) }
+{}
+
+/// Whatever came before on the link, frames of a stranger or numbers that don't follow: from the first copy on that is
+/// forwarded then, the first copy of each frame that passes is forwarded, and no other, in order. If copies may be
+/// overtaken, those are forwarded that are of a later frame than all before. With nothing before these are all that pass.
+pub fn forwarding_recovers()
+    ensures forwarded { (settings : Settings) (numbering : Numbering) (timing : Timing) (old : List Event) (copies : List Copy) → PassTimely settings numbering timing old copies
+        → (forwarded_since settings old copies ≡ first_copies (passing_since settings old copies)) × AreInOrder (first_copies (passing_since settings old copies)) }
+    ensures each { (settings : Settings) (numbering : Numbering) (timing : Timing) (old : List Event) (copies : List Copy) (index : ℕ) → PassTimely settings numbering timing old copies
+        → has_come index (forwarded_since settings old copies) ≡ has_come index (passing_since settings old copies) }
+    ensures first { (settings : Settings) (numbering : Numbering) (timing : Timing) (old : List Event) (copy : Copy) (before : List Copy) → PassTimely settings numbering timing old (copy ∷ before)
+        → IsFirstPassing settings old before copy → is_forwarded settings (events_since before old) (arrival_of copy.event) ≡ true }
+    ensures no_other { (settings : Settings) (numbering : Numbering) (timing : Timing) (old : List Event) (copy : Copy) (before : List Copy) → PassTimely settings numbering timing old (copy ∷ before)
+        → has_come copy.index (passing_since settings old before) ≡ true → is_forwarded settings (events_since before old) (arrival_of copy.event) ≡ false }
+    ensures even_if_overtaken { (settings : Settings) (numbering : Numbering) (timing : Timing) (old : List Event) (copies : List Copy) → ComeTimely settings numbering timing (passing_since settings old copies) → IsNeverLate timing
+        → BeginNear settings.skew_max (passing_since settings old copies) → ComeAfter settings old (passing_since settings old copies)
+        → (forwarded_since settings old copies ≡ new_copies (passing_since settings old copies)) × AreInOrder (new_copies (passing_since settings old copies)) }
+    ensures nothing_before { (settings : Settings) (copies : List Copy) → passing_since settings [] copies ≡ passing_copies settings copies }
+{}
+
+/// A link has recovered at the latest with the first copy that passes once SkewMax is over since all that was forwarded
+/// before: each frame of which a copy passes from then on is forwarded. A copy passes if the one before it on its network
+/// is of one of the `window` frames before.
+pub fn a_link_recovers_within_skew_max()
+    ensures at_the_latest { (settings : Settings) (old : List Event) (copy : Copy) (before : List Copy) → passes settings (events_since before old) (arrival_of copy.event) ≡ true
+        → EachForwarded settings (λ e. e.time + settings.skew_max < copy.event.time) old → passing_since settings old (copy ∷ before) ≡ copy ∷ passing_since settings old before }
+    ensures within_skew_max { (settings : Settings) (numbering : Numbering) (timing : Timing) (old : List Event) (copy : Copy) (before : List Copy) → PassTimely settings numbering timing old (copy ∷ before)
+        → passes settings (events_since before old) (arrival_of copy.event) ≡ true → EachForwarded settings (λ e. e.time + settings.skew_max < copy.event.time) old
+        → has_come copy.index (forwarded_since settings old (copy ∷ before)) ≡ true }
+    ensures heals { (settings : Settings) (numbering : Numbering) (old : List Event) (copy : Copy) (before : List Copy) (last : ℕ) → HaveNumbers numbering (copies_on copy.event.net (copy ∷ before))
+        → latest (indices_on before copy.event.net) ≡ Some last → last < copy.index → MayFollow numbering settings.window (Some last) copy.index
+        → EachForwarded settings (λ e. e.time + settings.skew_max < copy.event.time) old → passing_since settings old (copy ∷ before) ≡ copy ∷ passing_since settings old before }
+{}
+
 /// Networks begin near each other if SkewMax is over before 128 frames more are sent. So it is only for a longer
 /// SkewMax that one has to ask where a network begins, or comes back after a cut.
 pub fn a_short_skew_max_is_near()
@@ -92,6 +143,8 @@ pub fn a_short_skew_max_is_near()
         → BeginNear settings.skew_max copies }
     ensures passing { (settings : Settings) (numbering : Numbering) (timing : Timing) (copies : List Copy) → KeepsTimes numbering timing copies → IsOverSoon timing settings.skew_max
         → BeginNear settings.skew_max (passing_copies settings copies) }
+    ensures since { (settings : Settings) (numbering : Numbering) (timing : Timing) (old : List Event) (copies : List Copy) → KeepsTimes numbering timing copies → IsOverSoon timing settings.skew_max
+        → BeginNear settings.skew_max (passing_since settings old copies) }
 {}
 
 /// The age of a message, since the time of its first copy, is less than its age since it was sent by what this copy was
@@ -107,6 +160,15 @@ pub fn each_message_is_delivered_once()
         → CarryWhole settings payload copies → length copies ≤ most_samples → deliveries settings (events_of_copies copies) port ≡ messages_of payload port (first_copies copies) }
 {}
 
+/// After any past a port gets the message of each frame of which a copy passes, from the first on that is forwarded: once,
+/// in the order of sending, whole, with the time of the first that passes; but for those whose queue was full then. It
+/// is lost only if no copy passes, whatever was lost of others.
+pub fn each_passing_message_is_delivered_once()
+    ensures { (settings : Settings) (numbering : Numbering) (timing : Timing) (payload : ℕ → Payload) (old : List Event) (copies : List Copy) (port : PortNo) → PassTimely settings numbering timing old copies
+        → CarryWhole settings payload (forwarded_since settings old copies) → number_delivered settings old port + length copies ≤ most_samples
+        → deliveries settings (events_since copies old) port ≡ deliveries settings old port ++ messages_of payload port (first_copies (passing_since settings old copies)) }
+{}
+
 /// And if a copy of each frame comes, on one network or on both, and its queue is never full, it gets all that was sent
 /// to it.
 pub fn all_messages_are_delivered()
@@ -114,12 +176,21 @@ pub fn all_messages_are_delivered()
         → CarryWhole settings payload copies → length copies ≤ most_samples → HaveRoom payload copies → AllCame n copies → octets_of_messages (deliveries settings (events_of_copies copies) port) ≡ octets_sent payload port n }
 {}
 
+/// So all that was sent is delivered though one network is out, if the other brings each frame, and no queue is full.
+pub fn all_messages_are_delivered_by_one_network()
+    ensures { (settings : Settings) (numbering : Numbering) (timing : Timing) (payload : ℕ → Payload) (copies : List Copy) (port : PortNo) (net : Net) (n : ℕ) → PassTimely settings numbering timing [] copies
+        → BringsInRow numbering settings.window net copies → AllCame n copies → AllCame n (copies_on net copies) → CarryWhole settings payload copies → length copies ≤ most_samples → HaveRoom payload copies
+        → octets_of_messages (deliveries settings (events_of_copies copies) port) ≡ octets_sent payload port n }
+{}
+
 /// The conditions that `no_frame_is_lost` and `no_frame_is_forwarded_twice` ask, one by one: where each of them is met,
-/// the law holds. So the examples below leave none out.
+/// the law holds. So the examples below leave none out. And those of `forwarding_recovers`, asked of all copies.
 pub fn these_are_the_conditions()
     ensures all { (settings : Settings) (numbering : Numbering) (timing : Timing) (copies : List Copy) → MeetAll is_asked_for_all settings numbering timing copies → ComeWhole settings numbering timing copies }
     ensures once { (settings : Settings) (numbering : Numbering) (timing : Timing) (copies : List Copy) → MeetAll is_asked_for_once settings numbering timing copies
         → ComeTimely settings numbering timing copies × IsNeverLate timing × BeginNear settings.skew_max (passing_copies settings copies) }
+    ensures passing { (settings : Settings) (numbering : Numbering) (timing : Timing) (old : List Event) (copies : List Copy) → ComeTimely settings numbering timing copies → HasNoOvertaking timing
+        → BeginNear settings.skew_max (passing_since settings old copies) → ComeAfter settings old copies → PassTimely settings numbering timing old copies }
 {}
 
 /// The conditions can be met: by four frames that two networks bring, each with a loss, over the end of the sequence
@@ -129,6 +200,28 @@ pub fn the_conditions_can_be_met()
     ensures with_a_long_skew_max { ComeWhole (link 1000000) numbering (timed 1000 2000000 100 900 100) with_losses }
     ensures forwarded { forwarded (link 1000) (events_of_copies with_losses) ≡ frame_at 2 3100 ∷ frame_at 1 2200 ∷ frame_at 255 1500 ∷ frame_at 254 100 ∷ [] }
     ensures forwarded_with_it { forwarded (link 1000000) (events_of_copies with_losses) ≡ frame_at 2 3100 ∷ frame_at 1 2200 ∷ frame_at 255 1500 ∷ frame_at 254 100 ∷ [] }
+{}
+
+/// No frame is lost while one network is out for longer than the window and the other brings each: this breaks that few
+/// are lost, which `no_frame_is_lost` asks, and nothing that `one_network_is_enough` does. Of three frames after strange
+/// ones the second is forwarded, with its first copy that passes once SkewMax is over since those, and so is the third, as
+/// `forwarding_recovers` says, though one more strange frame comes meanwhile, which is out of sequence. But a frame of
+/// which a copy passes can be lost if one was forwarded before with a later time than the copies have that come; or while
+/// SkewMax runs since a stranger's frame that passes, though on the other network. And the copies of
+/// `each_condition_is_needed` all pass where SkewMax is too short or too long, a copy overtakes, or networks begin far
+/// apart: so each of these conditions is needed of copies that pass, too.
+pub fn a_link_recovers_in_examples()
+    ensures one_network_out { MeetAllBut is_asked_for_all losses (link 1000) from_one timing one_network_out × BringsInRow from_one 2 nets.A one_network_out
+        × (forwarded (link 1000) (events_of_copies one_network_out) ≡ frame_at 5 4100 ∷ frame_at 4 3100 ∷ frame_at 3 2100 ∷ frame_at 2 1100 ∷ frame_at 1 100 ∷ []) }
+    ensures after_strange_frames { PassTimely (link 1500) from_ten (timed 1000 3000 100 900 100) strange after_strange
+        × (passing_since (link 1500) strange after_strange ≡ received nets.A 2 12 2100 ∷ received nets.B 1 11 1900 ∷ [])
+        × (forwarded (link 1500) (events_since after_strange strange) ≡ frame_at 12 2100 ∷ frame_at 11 1900 ∷ frame_at 50 60 ∷ frame_at 200 50 ∷ []) }
+    ensures after_a_later_time { ComeTimely (link 1000) from_57 (timed 3000 3000 100 100 0) restarted × HasNoOvertaking (timed 3000 3000 100 100 0) × BeginNear 1000 (passing_since (link 1000) of_later_time restarted)
+        × (passing_since (link 1000) of_later_time restarted ≡ restarted) × (ComeAfter (link 1000) of_later_time restarted → ⊥)
+        × (forwarded (link 1000) (events_since restarted of_later_time) ≡ frame_at 57 100 ∷ frame_at 50 5000 ∷ []) }
+    ensures while_a_stranger_passes { BringsInRow from_one 2 nets.A stranger_passes × (passing_copies (link 1000) stranger_passes ≡ stranger_passes)
+        × (forwarded (link 1000) (events_of_copies stranger_passes) ≡ frame_at 50 200 ∷ frame_at 1 100 ∷ []) }
+    ensures all_pass { (passing_copies (link 1000) after_skew_max ≡ after_skew_max) × (passing_copies (link 1000) overtaken ≡ overtaken) × (passing_copies (link 128000) far_apart ≡ far_apart) × (passing_copies (link 1000) soon_restarted ≡ soon_restarted) }
 {}
 
 /// Counterexamples with one condition not met, by a microsecond or by one frame, and all others that the law asks met:

@@ -8,19 +8,17 @@ use Rattle.es_base.specs.Settings.{Settings}
 use Rattle.receiver.specs.declared.ends.LinkEnds.{LinkEnds}
 use Rattle.receiver.specs.declared.partition.PartitionEnd.{PartitionEnd}
 use Rattle.receiver.specs.Port.{ShowsPort}
-use Rattle.datagram_delivery.specs.Bringing.{BringDatagrams}
-use Rattle.datagram_delivery.specs.Interleaved.{Carried}
-use Rattle.receiver_delivery.specs.Delivery.{WereGiven}
+use Rattle.receiver_delivery.specs.Delivery.{GivesEach}
 use Rattle.live_system.specs.Calls.{LiveLink}
 use Rattle.live_system.specs.Run.{EndsInOneRun, Step}
 use Rattle.live_system.specs.System.{System}
 
--- each link of the configuration ends in one run of all its events; and if they bring datagrams, its ports were given
--- their messages: a sampling port published them, a queuing port put them into its queue
+-- each link of the configuration ends in one run of all its events, and gave each message of these to its port: a
+-- sampling port published it, a queuing port put it into its queue
 -- rule: DELIV-14
 abbrev pub DeliversEach : (Port → ℕ) → System → List (Net × Step) → List (LinkEnds PartitionEnd) → List LiveLink → Type 0
 DeliversEach readers system steps ends links =
     (vl : LinkNo) (place : ℕ) → link_of system.config.links vl ≡ Some place
     → (settings : Settings) × (link : LiveLink) × (slice_get system.config.links place ≡ Some settings) × (settings.vl ≡ vl) × (slice_get links place ≡ Some link)
     × EndsInOneRun readers steps settings ends place link
-    × ((carried : List Carried) → BringDatagrams settings link.core.past carried → WereGiven ShowsPort link carried)
+    × GivesEach ShowsPort link

@@ -1,4 +1,5 @@
 use Rattle.datagram_delivery.proofs.Examples.{among_sent, parts_met, split_carries, split_message_delivered, split_met, split_offered, split_sent}
+use Rattle.datagram_delivery.proofs.SinceExamples.{arrives_after_a_part}
 use Rattle.datagram_delivery.proofs.laws.the_conditions_can_be_met.Goals as goal
 
 pub returns : goal.returns
@@ -8,6 +9,7 @@ returns c = record {
   offered = split_offered;
   sent = split_sent;
   among = among_sent;
+  arrives = arrives_after_a_part;
   parts = parts_met;
   delivered = split_message_delivered;
 }

@@ -1,0 +1,53 @@
+-- A message that arrives at a link: whatever came before its sender's copies, and whatever comes after it.
+use Rattle.std.specs.Prelude.{◌≡◌, ◌<◌, ◌⊎◌, ℕ, true, List, ◌∷◌, ◌++◌}
+use Rattle.es_base.specs.declared.event.Event.{Event}
+use Rattle.es_base.specs.Deliveries.{number_delivered}
+use Rattle.es_base.specs.Limits.{most_samples}
+use Rattle.es_base.specs.Outcome.{Payload}
+use Rattle.es_base.specs.Packet.{PacketParts}
+use Rattle.es_base.specs.Settings.{Settings}
+use Rattle.frame_delivery.specs.Messages.{has_room}
+use Rattle.frame_delivery.specs.Network.{Timing}
+use Rattle.frame_delivery.specs.Once.{first_copies}
+use Rattle.frame_delivery.specs.Sending.{Copy, Numbering, events_since}
+use Rattle.frame_delivery.specs.Since.{IsFirstPassing, PassTimely, forwarded_since, passing_since}
+use Rattle.datagram_delivery.specs.Datagrams.{CarryPackets, IsSentWhole, IsSplitAmong, offers_of}
+use Rattle.datagram_delivery.specs.Offers.{offered_in}
+use Rattle.datagram_delivery.specs.Splitting.{Offer}
+
+-- a datagram in fragments, of which this is the last, was offered among these
+-- rule: DELIV-12
+pub record IsSplitAfter (settings : Settings) (payload : Payload) (offers : List Offer) (last : Offer) : Type 0 where
+  pub first : Offer
+  pub during : List Offer
+  pub earlier : List Offer
+  pub is : offers ≡ during ++ first ∷ earlier
+  pub among : IsSplitAmong settings payload earlier first during last
+
+-- with this packet, after these offers, a message is whole: the packet has it, or its last fragment
+abbrev pub Completes : Settings → Payload → List Offer → Offer → Type 0
+Completes settings payload offers last = IsSentWhole settings payload last ⊎ IsSplitAfter settings payload offers last
+
+-- A message arrives at a time in a past of a link. After an old past, whatever came in it, the copies that pass are of a
+-- sender's frames and come in time; the last of them is the first of its frame, and completes the message; its queue had
+-- room. What came after it doesn't matter.
+pub record Arrives (settings : Settings) (past : List Event) (payload : Payload) (time : ℕ) : Type 0 where
+  pub later : List Event
+  pub copy : Copy
+  pub before : List Copy
+  pub old : List Event
+  pub is : past ≡ later ++ events_since (copy ∷ before) old
+  pub numbering : Numbering
+  pub timing : Timing
+  pub pass : PassTimely settings numbering timing old (copy ∷ before)
+  pub packet : ℕ → PacketParts
+  pub carry : CarryPackets packet (forwarded_since settings old (copy ∷ before))
+  pub first : IsFirstPassing settings old before copy
+  pub completes : Completes settings payload (offers_of packet (first_copies (passing_since settings old before)) ++ offered_in settings old) (record { packet = packet copy.index; time = copy.event.time; room = copy.event.room })
+  pub room : has_room payload.kind copy.event.room ≡ true
+  pub few : number_delivered settings (events_since before old) payload.port < most_samples
+  pub at : time ≡ copy.event.time
+
+-- the events that came before the copy with which it arrives
+abbrev pub past_before : {settings : Settings} {past : List Event} {payload : Payload} {time : ℕ} → Arrives settings past payload time → List Event
+past_before one = events_since one.before one.old

@@ -1,0 +1,395 @@
+-- After any past, from the first copy on that is forwarded, the first copy of each frame that passes is forwarded.
+use Rattle.std.proofs.Common.{◌≡◌, ◌∙◌, sym, ap, subst, ℕ, ◌+◌, ◌<◌, ◌≤◌, Bool, true, false, not, List, [], ◌∷◌, ◌++◌, append-nil, inl, refl, ⊎_elim, arith}
+use Rattle.std.specs.Prelude.{◌&&◌, ◌||◌, ◌⊎◌, nat_lt, max}
+use Rattle.std.proofs.lemmas.Bool.{and_from, and_right, cases_Bool}
+use Rattle.es_base.specs.declared.event.Arrival.{Arrival}
+use Rattle.es_base.specs.declared.event.Event.{Event}
+use Rattle.es_base.specs.Frame.{sequence_number_of}
+use Rattle.es_base.specs.Past.{arrival_of}
+use Rattle.es_base.specs.Integrity.{passes}
+use Rattle.es_base.specs.Copies.{Forwarded, elapsed, greatest_time, is_ahead, is_first_copy}
+use Rattle.es_base.specs.Redundancy.{forwarded, is_forwarded, is_forwarded_after}
+use Rattle.es_base.specs.Settings.{Settings}
+use Rattle.frame_delivery.specs.Sending.{Copy, EachCopy, HaveNumbers, Numbering, events_of_copies, events_since, number_of_frame}
+use Rattle.frame_delivery.specs.Once.{AreInOrder, ComesInTime, IsForwardedIfFirst, IsForwardedIfNew, IsNotOvertaken, as_forwarded, first_copies, has_come, is_new, new_copies, newest_time, passing_copies}
+use Rattle.frame_delivery.specs.Network.{BeginNear, ComeTimely, HasNoOvertaking, IsNeverLate, IsOnItsWay, Timing, time_of_all}
+use Rattle.frame_delivery.specs.Running.{EachForwarded}
+use Rattle.frame_delivery.specs.Since.{ComeAfter, IsFirstPassing, PassTimely, counts, forwarded_since, passing_since}
+use Rattle.frame_delivery.proofs.Forwarding.{first_is_new, new_in_order, newest_of}
+use Rattle.frame_delivery.proofs.Firsts.{new_are_first, new_is_first}
+use Rattle.frame_delivery.proofs.Running.{all_over, first_when_over}
+use Rattle.frame_delivery.proofs.Times.{all_in_time, apart_not_late, none_overtaken, not_late}
+
+-- ---- what holds of each copy holds of each of those that count
+
+pub each_since : (Holds : Copy → Type 0) (settings : Settings) (old : List Event) (copies : List Copy) → EachCopy (λ before copy. Holds copy) copies → EachCopy (λ before copy. Holds copy) (passing_since settings old copies)
+each_since Holds settings old [] each = tt
+each_since Holds settings old (copy ∷ before) each =
+    ⊎_elim
+    (λ (is : counts settings (events_since before old) (arrival_of copy.event) (passing_since settings old before) ≡ true). rw is (each.0, each_since Holds settings old before each.1))
+    (λ (is : counts settings (events_since before old) (arrival_of copy.event) (passing_since settings old before) ≡ false). rw is (each_since Holds settings old before each.1))
+    (cases_Bool (counts settings (events_since before old) (arrival_of copy.event) (passing_since settings old before)))
+
+time_of_since : (settings : Settings) (old : List Event) (copies : List Copy) → time_of_all (passing_since settings old copies) ≤ time_of_all copies
+time_of_since settings old [] = omega arith
+time_of_since settings old (copy ∷ before) =
+    let rest = time_of_since settings old before in
+    ⊎_elim
+    (λ (is : counts settings (events_since before old) (arrival_of copy.event) (passing_since settings old before) ≡ true). rw is (omega (arith, rest)))
+    (λ (is : counts settings (events_since before old) (arrival_of copy.event) (passing_since settings old before) ≡ false). rw is (omega (arith, rest)))
+    (cases_Bool (counts settings (events_since before old) (arrival_of copy.event) (passing_since settings old before)))
+
+order_since : (wait : ℕ) (settings : Settings) (old : List Event) (copies : List Copy) → EachCopy (λ before copy. time_of_all before ≤ copy.event.time + wait) copies
+    → EachCopy (λ before copy. time_of_all before ≤ copy.event.time + wait) (passing_since settings old copies)
+order_since wait settings old [] order = tt
+order_since wait settings old (copy ∷ before) order =
+    let rest = time_of_since settings old before in
+    let here = order.0 in
+    ⊎_elim
+    (λ (is : counts settings (events_since before old) (arrival_of copy.event) (passing_since settings old before) ≡ true). rw is (omega (arith, rest, here), order_since wait settings old before order.1))
+    (λ (is : counts settings (events_since before old) (arrival_of copy.event) (passing_since settings old before) ≡ false). rw is (order_since wait settings old before order.1))
+    (cases_Bool (counts settings (events_since before old) (arrival_of copy.event) (passing_since settings old before)))
+
+-- ---- the frames that were forwarded are those copies, and before them the old ones
+
+pub forwarded_are : (settings : Settings) (old : List Event) (copies : List Copy) → forwarded settings (events_since copies old) ≡ as_forwarded (forwarded_since settings old copies) ++ forwarded settings old
+forwarded_are settings old [] = refl
+forwarded_are settings old (copy ∷ before) =
+    let rest = forwarded_are settings old before in
+    ⊎_elim
+    (λ (is : is_forwarded settings (events_since before old) (arrival_of copy.event) ≡ true).
+    rw is (ap (λ (frames : List Forwarded). record { sequence_number = sequence_number_of copy.event.frame; time = copy.event.time } ∷ frames) rest))
+    (λ (is : is_forwarded settings (events_since before old) (arrival_of copy.event) ≡ false). rw is rest)
+    (cases_Bool (is_forwarded settings (events_since before old) (arrival_of copy.event)))
+
+-- ---- old frames that are no later change nothing
+
+greatest_join : (some old : List Forwarded) → greatest_time (some ++ old) ≡ max (greatest_time some) (greatest_time old)
+greatest_join [] old = omega arith
+greatest_join (frame ∷ some) old = let rest = greatest_join some old in omega (arith, rest)
+
+first_among : (skew_max : ℕ) (all some old : List Forwarded) (frame : Forwarded) (number now : ℕ) → all ≡ frame ∷ some → greatest_time old ≤ greatest_time all
+    → is_first_copy skew_max (all ++ old) number now ≡ is_first_copy skew_max all number now
+first_among skew_max [] some old frame number now is earlier = cc
+first_among skew_max (first ∷ others) some old frame number now is earlier =
+    let joined = greatest_join others old in
+    let e : greatest_time (first ∷ (others ++ old)) ≡ greatest_time (first ∷ others) = omega (arith, joined, earlier) in
+    ap (λ (time : ℕ). nat_lt skew_max (elapsed now time) || is_ahead first.sequence_number number) e
+
+newest_after : (time : ℕ) (one : Copy) (some : List Copy) → EachCopy (λ before copy. time ≤ copy.event.time) (one ∷ some) → time ≤ newest_time (one ∷ some)
+newest_after time one [] each = let here = each.0 in omega (arith, here)
+newest_after time one (other ∷ some) each =
+    let here = each.0 in
+    let rest = newest_after time other some each.1 in
+    ⊎_elim
+    (λ (new : is_new one.index (other ∷ some) ≡ true). rw new (omega (arith, here)))
+    (λ (old : is_new one.index (other ∷ some) ≡ false). rw old rest)
+    (cases_Bool (is_new one.index (other ∷ some)))
+
+old_time : (settings : Settings) (time : ℕ) (old : List Event) → EachForwarded settings (λ e. e.time ≤ time) old → greatest_time (forwarded settings old) ≤ time
+old_time settings time [] each = omega arith
+old_time settings time (e ∷ old) each =
+    let rest = old_time settings time old each.1 in
+    ⊎_elim
+    (λ (is : is_forwarded settings old (arrival_of e) ≡ true). let here = each.0 is in rw is (omega (arith, here, rest)))
+    (λ (is : is_forwarded settings old (arrival_of e) ≡ false). rw is rest)
+    (cases_Bool (is_forwarded settings old (arrival_of e)))
+
+old_times : (settings : Settings) (old : List Event) (copies : List Copy) → ComeAfter settings old copies → EachCopy (λ before copy. greatest_time (forwarded settings old) ≤ copy.event.time) copies
+old_times settings old [] after = tt
+old_times settings old (copy ∷ before) after = (old_time settings copy.event.time old after.0, old_times settings old before after.1)
+
+-- ---- so the new ones of those that count are forwarded
+
+forwarded_if : (settings : Settings) (frames : List Forwarded) (past : List Event) (a : Arrival) (new : Bool) → settings.redundancy ≡ true → passes settings past a ≡ true
+    → is_first_copy settings.skew_max frames (sequence_number_of a.frame) a.time ≡ new → is_forwarded_after settings frames past a ≡ new
+forwarded_if settings frames past a true on pass first = rw (pass, on, first) refl
+forwarded_if settings frames past a false on pass first = rw (pass, on, first) refl
+
+refused : (settings : Settings) (past : List Event) (a : Arrival) → passes settings past a ≡ false → is_forwarded settings past a ≡ false
+refused settings past a fails = rw fails refl
+
+-- what is asked of those that count
+abbrev AreSound : Settings → Numbering → List Event → List Copy → Type 0
+AreSound settings numbering old some =
+    HaveNumbers numbering some × EachCopy (λ before copy. greatest_time (forwarded settings old) ≤ copy.event.time) some × EachCopy (ComesInTime numbering settings.skew_max) some
+
+module _ (settings : Settings) (numbering : Numbering) (old : List Event) (on : settings.redundancy ≡ true) (small : numbering.first ≤ 255) where
+  -- after some that count, one that passes is forwarded exactly if it is new
+  new_is_forwarded : (copy : Copy) (before : List Copy) (one : Copy) (some : List Copy) → forwarded_since settings old before ≡ new_copies (one ∷ some) → AreSound settings numbering old (copy ∷ one ∷ some)
+      → passes settings (events_since before old) (arrival_of copy.event) ≡ true → is_forwarded settings (events_since before old) (arrival_of copy.event) ≡ is_new copy.index (one ∷ some)
+  new_is_forwarded copy before one some rest sound pass =
+      let (numbers, after, in_time) = sound in
+      let found = newest_of numbering one some numbers.1 in
+      let frames : forwarded settings (events_since before old) ≡ as_forwarded (new_copies (one ∷ some)) ++ forwarded settings old =
+      forwarded_are settings old before ∙ ap (λ (copies : List Copy). as_forwarded copies ++ forwarded settings old) rest in
+      let first : is_first_copy settings.skew_max (as_forwarded (new_copies (one ∷ some)) ++ forwarded settings old) (sequence_number_of copy.event.frame) copy.event.time ≡ is_new copy.index (one ∷ some) =
+      first_among settings.skew_max (as_forwarded (new_copies (one ∷ some))) (as_forwarded found.earlier) (forwarded settings old)
+      (record { sequence_number = sequence_number_of found.copy.event.frame; time = found.copy.event.time }) (sequence_number_of copy.event.frame) copy.event.time (ap as_forwarded found.is)
+      (newest_after (greatest_time (forwarded settings old)) one some after.1)
+      ∙ first_is_new numbering settings.skew_max (one ∷ some) copy small numbers.1 numbers.0 in_time.0 in
+      ap (λ (frames : List Forwarded). is_forwarded_after settings frames (events_since before old) (arrival_of copy.event)) frames
+      ∙ forwarded_if settings (as_forwarded (new_copies (one ∷ some)) ++ forwarded settings old) (events_since before old) (arrival_of copy.event) (is_new copy.index (one ∷ some)) on pass first
+
+  -- so a copy is forwarded exactly if it counts and is new
+  pub as_new : (copy : Copy) (before : List Copy) → forwarded_since settings old before ≡ new_copies (passing_since settings old before) → AreSound settings numbering old (passing_since settings old (copy ∷ before))
+      → is_forwarded settings (events_since before old) (arrival_of copy.event)
+      ≡ (counts settings (events_since before old) (arrival_of copy.event) (passing_since settings old before) && is_new copy.index (passing_since settings old before))
+  as_new copy before rest sound = go (passing_since settings old before) refl
+    where
+      past : List Event
+      past = events_since before old
+
+      a : Arrival
+      a = arrival_of copy.event
+
+      alone : (is : Bool) → is ≡ (is && true)
+      alone true = refl
+      alone false = refl
+
+      go : (some : List Copy) → passing_since settings old before ≡ some → is_forwarded settings past a ≡ (counts settings past a some && is_new copy.index some)
+      go [] none = alone (is_forwarded settings past a)
+      go (one ∷ some) is =
+          ⊎_elim
+          (λ (pass : passes settings past a ≡ true).
+          new_is_forwarded copy before one some (rest ∙ ap new_copies is) (rw (is, pass) at sound) pass ∙ sym (ap (λ (b : Bool). b && is_new copy.index (one ∷ some)) pass))
+          (λ (fails : passes settings past a ≡ false). refused settings past a fails ∙ sym (ap (λ (b : Bool). b && is_new copy.index (one ∷ some)) fails))
+          (cases_Bool (passes settings past a))
+
+  -- those that count before a copy are asked no more
+  sound_before : (copy : Copy) (before : List Copy) → AreSound settings numbering old (passing_since settings old (copy ∷ before)) → AreSound settings numbering old (passing_since settings old before)
+  sound_before copy before sound =
+      ⊎_elim
+      (λ (is : counts settings (events_since before old) (arrival_of copy.event) (passing_since settings old before) ≡ true).
+      let at : AreSound settings numbering old (copy ∷ passing_since settings old before) = rw is at sound in
+      (at.0.1, at.1.1, at.2.1))
+      (λ (is : counts settings (events_since before old) (arrival_of copy.event) (passing_since settings old before) ≡ false). rw is at sound)
+      (cases_Bool (counts settings (events_since before old) (arrival_of copy.event) (passing_since settings old before)))
+
+  pub new_since : (copies : List Copy) → AreSound settings numbering old (passing_since settings old copies) → forwarded_since settings old copies ≡ new_copies (passing_since settings old copies)
+  new_since [] sound = refl
+  new_since (copy ∷ before) sound =
+      let rest = new_since before (sound_before copy before sound) in
+      let is = as_new copy before rest sound in
+      ⊎_elim
+      (λ (count : counts settings (events_since before old) (arrival_of copy.event) (passing_since settings old before) ≡ true).
+      ⊎_elim
+      (λ (new : is_new copy.index (passing_since settings old before) ≡ true). rw (is ∙ and_from _ _ count new, count, new) (ap (λ (copies : List Copy). copy ∷ copies) rest))
+      (λ (not_new : is_new copy.index (passing_since settings old before) ≡ false). rw (is ∙ and_right _ _ not_new, count, not_new) rest)
+      (cases_Bool (is_new copy.index (passing_since settings old before))))
+      (λ (fails : counts settings (events_since before old) (arrival_of copy.event) (passing_since settings old before) ≡ false).
+      rw (is ∙ ap (λ (b : Bool). b && is_new copy.index (passing_since settings old before)) fails, fails) rest)
+      (cases_Bool (counts settings (events_since before old) (arrival_of copy.event) (passing_since settings old before)))
+
+-- ---- from what is asked of the sender and of the networks
+
+sound_and_apart : (settings : Settings) (numbering : Numbering) (timing : Timing) (old : List Event) (copies : List Copy) → PassTimely settings numbering timing old copies
+    → AreSound settings numbering old (passing_since settings old copies) × EachCopy IsNotOvertaken (passing_since settings old copies)
+sound_and_apart settings numbering timing old copies pass =
+    let timely = pass.timely in
+    let times = timely.times in
+    let some : List Copy = passing_since settings old copies in
+    let in_time = all_in_time numbering timing times.gaps times.pauses settings.skew_max some timely.fits (apart_not_late numbering timing times.gaps times.pauses pass.apart) pass.near times.ways times.order in
+    ((timely.numbers, old_times settings old some pass.after, in_time), none_overtaken numbering timing times.gaps times.pauses some pass.apart times.ways times.order)
+
+pub firsts_since : (settings : Settings) (numbering : Numbering) (timing : Timing) (old : List Event) (copies : List Copy) → PassTimely settings numbering timing old copies
+    → (forwarded_since settings old copies ≡ first_copies (passing_since settings old copies)) × AreInOrder (first_copies (passing_since settings old copies))
+firsts_since settings numbering timing old copies pass =
+    let (sound, apart) = sound_and_apart settings numbering timing old copies pass in
+    let timely = pass.timely in
+    let firsts : new_copies (passing_since settings old copies) ≡ first_copies (passing_since settings old copies) = new_are_first (passing_since settings old copies) apart in
+    (new_since settings numbering old timely.redundancy timely.first copies sound ∙ firsts, subst AreInOrder firsts (new_in_order (passing_since settings old copies)))
+
+-- where copies may be overtaken, the new ones are forwarded
+pub news_since : (settings : Settings) (numbering : Numbering) (timing : Timing) (old : List Event) (copies : List Copy) → ComeTimely settings numbering timing (passing_since settings old copies) → IsNeverLate timing
+    → BeginNear settings.skew_max (passing_since settings old copies) → ComeAfter settings old (passing_since settings old copies)
+    → (forwarded_since settings old copies ≡ new_copies (passing_since settings old copies)) × AreInOrder (new_copies (passing_since settings old copies))
+news_since settings numbering timing old copies timely on_time near after =
+    let times = timely.times in
+    let some : List Copy = passing_since settings old copies in
+    let in_time = all_in_time numbering timing times.gaps times.pauses settings.skew_max some timely.fits (not_late numbering timing times.gaps times.pauses on_time) near times.ways times.order in
+    (new_since settings numbering old timely.redundancy timely.first copies (timely.numbers, old_times settings old some after, in_time), new_in_order some)
+
+-- so were those before the last copy
+pub firsts_before : (settings : Settings) (numbering : Numbering) (timing : Timing) (old : List Event) (copy : Copy) (before : List Copy) → PassTimely settings numbering timing old (copy ∷ before)
+    → forwarded_since settings old before ≡ first_copies (passing_since settings old before)
+firsts_before settings numbering timing old copy before pass =
+    let (sound, apart) = sound_and_apart settings numbering timing old (copy ∷ before) pass in
+    let timely = pass.timely in
+    new_since settings numbering old timely.redundancy timely.first before (sound_before settings numbering old timely.redundancy timely.first copy before sound)
+    ∙ new_are_first (passing_since settings old before)
+    (⊎_elim
+    (λ (count : counts settings (events_since before old) (arrival_of copy.event) (passing_since settings old before) ≡ true). (rw count at apart).1)
+    (λ (fails : counts settings (events_since before old) (arrival_of copy.event) (passing_since settings old before) ≡ false). rw fails at apart)
+    (cases_Bool (counts settings (events_since before old) (arrival_of copy.event) (passing_since settings old before))))
+
+-- so a copy is forwarded exactly if it is the first of its frame that counts
+first_if : (settings : Settings) (numbering : Numbering) (timing : Timing) (old : List Event) (copy : Copy) (before : List Copy) → PassTimely settings numbering timing old (copy ∷ before)
+    → is_forwarded settings (events_since before old) (arrival_of copy.event)
+    ≡ (counts settings (events_since before old) (arrival_of copy.event) (passing_since settings old before) && not (has_come copy.index (passing_since settings old before)))
+first_if settings numbering timing old copy before pass =
+    let (sound, apart) = sound_and_apart settings numbering timing old (copy ∷ before) pass in
+    let timely = pass.timely in
+    let rest = new_since settings numbering old timely.redundancy timely.first before (sound_before settings numbering old timely.redundancy timely.first copy before sound) in
+    as_new settings numbering old timely.redundancy timely.first copy before rest sound
+    ∙ ⊎_elim
+    (λ (count : counts settings (events_since before old) (arrival_of copy.event) (passing_since settings old before) ≡ true).
+    ap (λ (b : Bool). counts settings (events_since before old) (arrival_of copy.event) (passing_since settings old before) && b) (new_is_first copy (passing_since settings old before) (rw count at apart).0))
+    (λ (fails : counts settings (events_since before old) (arrival_of copy.event) (passing_since settings old before) ≡ false). rw fails refl)
+    (cases_Bool (counts settings (events_since before old) (arrival_of copy.event) (passing_since settings old before)))
+
+pub first_since : (settings : Settings) (numbering : Numbering) (timing : Timing) (old : List Event) (copy : Copy) (before : List Copy) → PassTimely settings numbering timing old (copy ∷ before)
+    → IsFirstPassing settings old before copy → is_forwarded settings (events_since before old) (arrival_of copy.event) ≡ true
+first_since settings numbering timing old copy before pass first = first_if settings numbering timing old copy before pass ∙ and_from _ _ first.0 (ap not first.1)
+
+-- and no other copy of it
+pub other_since : (settings : Settings) (numbering : Numbering) (timing : Timing) (old : List Event) (copy : Copy) (before : List Copy) → PassTimely settings numbering timing old (copy ∷ before)
+    → has_come copy.index (passing_since settings old before) ≡ true → is_forwarded settings (events_since before old) (arrival_of copy.event) ≡ false
+other_since settings numbering timing old copy before pass come = first_if settings numbering timing old copy before pass ∙ and_right _ _ (ap not come)
+
+-- what is asked of all copies is asked of those that pass
+pub all_pass_timely : (settings : Settings) (numbering : Numbering) (timing : Timing) (old : List Event) (copies : List Copy) → ComeTimely settings numbering timing copies → HasNoOvertaking timing
+    → BeginNear settings.skew_max (passing_since settings old copies) → ComeAfter settings old copies → PassTimely settings numbering timing old copies
+all_pass_timely settings numbering timing old copies timely apart near after =
+    let times = timely.times in
+    record {
+      timely = record {
+        redundancy = timely.redundancy;
+        first = timely.first;
+        numbers = each_since (λ copy. sequence_number_of copy.event.frame ≡ number_of_frame numbering copy.index) settings old copies timely.numbers;
+        times = record {
+          gaps = times.gaps;
+          pauses = times.pauses;
+          ways = each_since (IsOnItsWay timing) settings old copies times.ways;
+          order = order_since timing.wait settings old copies times.order;
+        };
+        fits = timely.fits;
+      };
+      apart = apart;
+      near = near;
+      after = each_since (λ copy. EachForwarded settings (λ e. e.time ≤ copy.event.time) old) settings old copies after;
+    }
+
+-- ---- at the latest when SkewMax is over since each old frame that was forwarded
+
+none_forwarded : (settings : Settings) (old : List Event) (copies : List Copy) → passing_since settings old copies ≡ [] → forwarded settings (events_since copies old) ≡ forwarded settings old
+none_forwarded settings old [] none = refl
+none_forwarded settings old (copy ∷ before) none =
+    ⊎_elim
+    (λ (is : counts settings (events_since before old) (arrival_of copy.event) (passing_since settings old before) ≡ true). let e : copy ∷ passing_since settings old before ≡ [] = rw is at none in cc)
+    (λ (is : counts settings (events_since before old) (arrival_of copy.event) (passing_since settings old before) ≡ false).
+    let before_none : passing_since settings old before ≡ [] = rw is at none in
+    let not_forwarded : is_forwarded settings (events_since before old) (arrival_of copy.event) ≡ false =
+    sym (ap (counts settings (events_since before old) (arrival_of copy.event)) before_none) ∙ is in
+    rw not_forwarded (none_forwarded settings old before before_none))
+    (cases_Bool (counts settings (events_since before old) (arrival_of copy.event) (passing_since settings old before)))
+
+forwarded_first : (settings : Settings) (frames : List Forwarded) (past : List Event) (a : Arrival) → passes settings past a ≡ true
+    → (frames ≡ []) ⊎ (greatest_time frames + settings.skew_max < a.time) → is_forwarded_after settings frames past a ≡ true
+forwarded_first settings frames past a pass over = rw (pass, first_when_over settings.skew_max frames (sequence_number_of a.frame) a.time over) (go settings.redundancy)
+  where
+    go : (on : Bool) → (true && not (on && not true)) ≡ true
+    go true = refl
+    go false = refl
+
+pub counts_at_last : (settings : Settings) (old : List Event) (copy : Copy) (before : List Copy) → passes settings (events_since before old) (arrival_of copy.event) ≡ true
+    → EachForwarded settings (λ e. e.time + settings.skew_max < copy.event.time) old → passing_since settings old (copy ∷ before) ≡ copy ∷ passing_since settings old before
+counts_at_last settings old copy before pass over =
+    let is : counts settings (events_since before old) (arrival_of copy.event) (passing_since settings old before) ≡ true = go (passing_since settings old before) refl in
+    rw is refl
+  where
+    go : (some : List Copy) → passing_since settings old before ≡ some → counts settings (events_since before old) (arrival_of copy.event) some ≡ true
+    go [] none =
+        ap (λ (frames : List Forwarded). is_forwarded_after settings frames (events_since before old) (arrival_of copy.event)) (none_forwarded settings old before none)
+        ∙ forwarded_first settings (forwarded settings old) (events_since before old) (arrival_of copy.event) pass (all_over settings copy.event.time old over)
+    go (one ∷ some) is = pass
+
+-- ---- with no old past these are the copies that pass
+
+counts_alone : (settings : Settings) (copy : Copy) (before : List Copy)
+    → counts settings (events_since before []) (arrival_of copy.event) (passing_since settings [] before) ≡ passes settings (events_of_copies before) (arrival_of copy.event)
+counts_alone settings copy before = go (passing_since settings [] before) refl
+  where
+    go : (some : List Copy) → passing_since settings [] before ≡ some → counts settings (events_since before []) (arrival_of copy.event) some ≡ passes settings (events_since before []) (arrival_of copy.event)
+    go (one ∷ some) is = refl
+    go [] none =
+        ⊎_elim
+        (λ (pass : passes settings (events_since before []) (arrival_of copy.event) ≡ true).
+        ap (λ (frames : List Forwarded). is_forwarded_after settings frames (events_since before []) (arrival_of copy.event)) (none_forwarded settings [] before none)
+        ∙ forwarded_first settings [] (events_since before []) (arrival_of copy.event) pass (inl refl) ∙ sym pass)
+        (λ (fails : passes settings (events_since before []) (arrival_of copy.event) ≡ false). refused settings (events_since before []) (arrival_of copy.event) fails ∙ sym fails)
+        (cases_Bool (passes settings (events_since before []) (arrival_of copy.event)))
+
+pub passing_alone : (settings : Settings) (copies : List Copy) → passing_since settings [] copies ≡ passing_copies settings copies
+passing_alone settings [] = refl
+passing_alone settings (copy ∷ before) =
+    let same = counts_alone settings copy before in
+    ⊎_elim
+    (λ (is : passes settings (events_of_copies before) (arrival_of copy.event) ≡ true). rw (same ∙ is, is) (ap (λ (copies : List Copy). copy ∷ copies) (passing_alone settings before)))
+    (λ (is : passes settings (events_of_copies before) (arrival_of copy.event) ≡ false). rw (same ∙ is, is) (passing_alone settings before))
+    (cases_Bool (passes settings (events_of_copies before) (arrival_of copy.event)))
+
+pub each_passing : (Holds : Copy → Type 0) (settings : Settings) (copies : List Copy) → EachCopy (λ before copy. Holds copy) copies → EachCopy (λ before copy. Holds copy) (passing_copies settings copies)
+each_passing Holds settings copies each = subst (EachCopy (λ before copy. Holds copy)) (passing_alone settings copies) (each_since Holds settings [] copies each)
+
+pub order_of_passing : (wait : ℕ) (settings : Settings) (copies : List Copy) → EachCopy (λ before copy. time_of_all before ≤ copy.event.time + wait) copies
+    → EachCopy (λ before copy. time_of_all before ≤ copy.event.time + wait) (passing_copies settings copies)
+order_of_passing wait settings copies order =
+    subst (EachCopy (λ before copy. time_of_all before ≤ copy.event.time + wait)) (passing_alone settings copies) (order_since wait settings [] copies order)
+
+none_before : (settings : Settings) (copies : List Copy) → ComeAfter settings [] copies
+none_before settings [] = tt
+none_before settings (copy ∷ before) = (tt, none_before settings before)
+
+-- what is asked of those that pass
+sound_alone : (settings : Settings) (numbering : Numbering) (copies : List Copy) → HaveNumbers numbering copies → EachCopy (ComesInTime numbering settings.skew_max) (passing_copies settings copies)
+    → AreSound settings numbering [] (passing_since settings [] copies)
+sound_alone settings numbering copies numbers in_time = (
+  each_since (λ copy. sequence_number_of copy.event.frame ≡ number_of_frame numbering copy.index) settings [] copies numbers,
+  old_times settings [] (passing_since settings [] copies) (none_before settings (passing_since settings [] copies)),
+  subst (EachCopy (ComesInTime numbering settings.skew_max)) (sym (passing_alone settings copies)) in_time,
+)
+
+-- so the new ones of them are forwarded
+pub new_are_forwarded : (settings : Settings) (numbering : Numbering) (copies : List Copy) → settings.redundancy ≡ true → numbering.first ≤ 255 → HaveNumbers numbering copies
+    → EachCopy (ComesInTime numbering settings.skew_max) (passing_copies settings copies)
+    → forwarded settings (events_of_copies copies) ≡ as_forwarded (new_copies (passing_copies settings copies))
+new_are_forwarded settings numbering copies on small numbers in_time =
+    forwarded_are settings [] copies ∙ append-nil (as_forwarded (forwarded_since settings [] copies))
+    ∙ ap as_forwarded (new_since settings numbering [] on small copies (sound_alone settings numbering copies numbers in_time) ∙ ap new_copies (passing_alone settings copies))
+
+each_new : (settings : Settings) (numbering : Numbering) (copies : List Copy) → settings.redundancy ≡ true → numbering.first ≤ 255 → AreSound settings numbering [] (passing_since settings [] copies)
+    → EachCopy (IsForwardedIfNew settings) copies
+each_new settings numbering [] on small sound = tt
+each_new settings numbering (copy ∷ before) on small sound =
+    let earlier = sound_before settings numbering [] on small copy before sound in
+    let is = as_new settings numbering [] on small copy before (new_since settings numbering [] on small before earlier) sound in (
+      is
+          ∙ ap (λ (b : Bool). b && is_new copy.index (passing_since settings [] before)) (counts_alone settings copy before)
+          ∙ ap (λ (some : List Copy). passes settings (events_of_copies before) (arrival_of copy.event) && is_new copy.index some) (passing_alone settings before),
+      each_new settings numbering before on small earlier,
+    )
+
+pub copies_are_forwarded : (settings : Settings) (numbering : Numbering) (copies : List Copy) → settings.redundancy ≡ true → numbering.first ≤ 255 → HaveNumbers numbering copies
+    → EachCopy (ComesInTime numbering settings.skew_max) (passing_copies settings copies) → EachCopy (IsForwardedIfNew settings) copies
+copies_are_forwarded settings numbering copies on small numbers in_time = each_new settings numbering copies on small (sound_alone settings numbering copies numbers in_time)
+
+-- what holds of each copy holds of those that are forwarded
+pub each_forwarded : (Holds : Copy → Type 0) (settings : Settings) (old : List Event) (copies : List Copy) → EachCopy (λ before copy. Holds copy) copies → EachCopy (λ before copy. Holds copy) (forwarded_since settings old copies)
+each_forwarded Holds settings old [] each = tt
+each_forwarded Holds settings old (copy ∷ before) each =
+    ⊎_elim
+    (λ (is : is_forwarded settings (events_since before old) (arrival_of copy.event) ≡ true). rw is (each.0, each_forwarded Holds settings old before each.1))
+    (λ (is : is_forwarded settings (events_since before old) (arrival_of copy.event) ≡ false). rw is (each_forwarded Holds settings old before each.1))
+    (cases_Bool (is_forwarded settings (events_since before old) (arrival_of copy.event)))
+
+-- where exactly the first copies are forwarded, these are they
+pub firsts_are_all : (settings : Settings) (copies : List Copy) → EachCopy (IsForwardedIfFirst settings) copies → forwarded_since settings [] copies ≡ first_copies copies
+firsts_are_all settings [] each = refl
+firsts_are_all settings (copy ∷ before) each =
+    let rest = firsts_are_all settings before each.1 in
+    let same : is_forwarded settings (events_since before []) (arrival_of copy.event) ≡ not (has_come copy.index before) = each.0 in
+    ⊎_elim
+    (λ (come : has_come copy.index before ≡ true). rw (same ∙ ap not come, come) rest)
+    (λ (first : has_come copy.index before ≡ false). rw (same ∙ ap not first, first) (ap (λ (copies : List Copy). copy ∷ copies) rest))
+    (cases_Bool (has_come copy.index before))
