@@ -4,10 +4,11 @@ use Rattle.std.specs.Prelude.{◌⊎◌}
 use Rattle.std.proofs.lemmas.Bool.{false≢true}
 use Rattle.es_base.specs.Redundancy.{forwarded}
 use Rattle.frame_delivery.specs.Sending.{EachCopy, HaveNumbers, RunsOn, events_of_copies}
-use Rattle.frame_delivery.specs.Network.{BeginNear, ComeWhole, IsOnItsWay, KeepsTimes, LosesFew, time_of_all}
-use Rattle.frame_delivery.specs.Conditions.{Condition, IsMet, MeetAllBut, apart, covers, is_asked_for_all, is_asked_for_once, late, late_restart, losses, near, restarts}
+use Rattle.frame_delivery.specs.Network.{BeginNear, ComeWhole, IsOnItsWay, KeepsTimes, LosesFew, Timing, time_of_all}
+use Rattle.frame_delivery.specs.Conditions.{Condition, IsMet, MeetAllBut, covers, firsts, is_asked_for_all, is_asked_for_once, late, late_restart, losses, near, restarts}
 use Rattle.frame_delivery.specs.Examples.{after_skew_max, behind_a_restart, far_apart, far_behind, frame_at, from_57, from_one, link, numbering, overtaken, soon_restarted, timed, timing, two_lost, wide_link, with_losses}
 use Rattle.frame_delivery.proofs.Main.{short_is_near}
+use Rattle.frame_delivery.proofs.Times.{apart_not_late, short_firsts}
 
 -- ---- all is met
 
@@ -38,26 +39,31 @@ losses_met = (
 near_met : BeginNear 1000 with_losses
 near_met = (λ cut soon. omega arith, (λ cut soon. omega arith, (λ cut soon. omega arith, (λ cut soon. omega arith, (λ cut soon. omega arith, (tt, tt))))))
 
+times_met : KeepsTimes numbering timing with_losses
+times_met = record { gaps = λ index. omega arith; pauses = λ index is. absurd (false≢true is); ways = ways_met; order = order_met }
+
 pub all_met : ComeWhole (link 1000) numbering timing with_losses
 all_met = record {
   timely = record {
     redundancy = refl;
     first = omega arith;
     numbers = numbers_met;
-    times = record {
-      gaps = λ index. omega arith;
-      pauses = λ index is. absurd (false≢true is);
-      ways = ways_met;
-      order = order_met;
-    };
+    times = times_met;
     fits = record { covers = omega arith; restarts = omega arith };
   };
   near = near_met;
   losses = losses_met;
-  apart = omega arith;
+  on_time = apart_not_late timing (omega arith);
+  firsts = short_firsts numbering timing with_losses times_met (omega arith);
 }
 
 -- with a SkewMax of a second
+abbrev long_timing : Timing
+long_timing = timed 1000 2000000 100 900 100
+
+long_times : KeepsTimes numbering long_timing with_losses
+long_times = record { gaps = λ index. omega arith; pauses = λ index is. absurd (false≢true is); ways = ways_met; order = order_met }
+
 long_near : BeginNear 1000000 with_losses
 long_near = (λ cut soon. omega arith, (λ cut soon. omega arith, (λ cut soon. omega arith, (λ cut soon. omega arith, (λ cut soon. omega arith, (tt, tt))))))
 
@@ -67,17 +73,13 @@ long_met = record {
     redundancy = refl;
     first = omega arith;
     numbers = numbers_met;
-    times = record {
-      gaps = λ index. omega arith;
-      pauses = λ index is. absurd (false≢true is);
-      ways = ways_met;
-      order = order_met;
-    };
+    times = long_times;
     fits = record { covers = omega arith; restarts = omega arith };
   };
   near = long_near;
   losses = losses_met;
-  apart = omega arith;
+  on_time = apart_not_late long_timing (omega arith);
+  firsts = short_firsts numbering long_timing with_losses long_times (omega arith);
 }
 
 pub long_forwarded : forwarded (link 1000000) (events_of_copies with_losses) ≡ frame_at 2 3100 ∷ frame_at 1 2200 ∷ frame_at 255 1500 ∷ frame_at 254 100 ∷ []
@@ -96,9 +98,9 @@ after_skew_max_others covers asked differ = absurd (differ refl)
 after_skew_max_others restarts asked differ = omega arith
 after_skew_max_others near asked differ = short_is_near (link 1000) from_one (timed 2000 4000 100 1101 0) after_skew_max after_skew_max_times (omega arith)
 after_skew_max_others losses asked differ = (tt, (tt, tt))
-after_skew_max_others apart asked differ = omega arith
-after_skew_max_others late asked differ = cc
-after_skew_max_others late_restart asked differ = cc
+after_skew_max_others firsts asked differ = short_firsts from_one (timed 2000 4000 100 1101 0) after_skew_max after_skew_max_times (omega arith)
+after_skew_max_others late asked differ = omega arith
+after_skew_max_others late_restart asked differ = omega arith
 
 pub forwarded_twice : MeetAllBut is_asked_for_all covers (link 1000) from_one (timed 2000 4000 100 1101 0) after_skew_max
     × (forwarded (link 1000) (events_of_copies after_skew_max) ≡ frame_at 1 1101 ∷ frame_at 1 100 ∷ [])
@@ -115,23 +117,23 @@ forwarded_twice = (
 overtaken_times : KeepsTimes from_one (timed 1000 4000 100 1100 0) overtaken
 overtaken_times = record { gaps = λ index. omega arith; pauses = λ index is. absurd (false≢true is); ways = ((omega arith, omega arith), ((omega arith, omega arith), ((omega arith, omega arith), ((omega arith, omega arith), ((omega arith, omega arith), tt))))); order = (omega arith, (omega arith, (omega arith, (omega arith, (omega arith, tt))))) }
 
-overtaken_others : (other : Condition) → is_asked_for_all other ≡ true → (other ≡ apart → ⊥) → IsMet other (link 1000) from_one (timed 1000 4000 100 1100 0) overtaken
+overtaken_others : (other : Condition) → is_asked_for_all other ≡ true → (other ≡ firsts → ⊥) → IsMet other (link 1000) from_one (timed 1000 4000 100 1100 0) overtaken
 overtaken_others covers asked differ = omega arith
 overtaken_others restarts asked differ = omega arith
 overtaken_others near asked differ = short_is_near (link 1000) from_one (timed 1000 4000 100 1100 0) overtaken overtaken_times (omega arith)
 overtaken_others losses asked differ = ((inl (omega arith, λ index after within. refl)), ((inl (omega arith, λ index after within. refl)), ((inl (omega arith, λ index after within. refl)), (tt, (tt, tt)))))
-overtaken_others apart asked differ = absurd (differ refl)
-overtaken_others late asked differ = cc
-overtaken_others late_restart asked differ = cc
+overtaken_others firsts asked differ = absurd (differ refl)
+overtaken_others late asked differ = omega arith
+overtaken_others late_restart asked differ = omega arith
 
-pub overtaken_is_lost : MeetAllBut is_asked_for_all apart (link 1000) from_one (timed 1000 4000 100 1100 0) overtaken
+pub overtaken_is_lost : MeetAllBut is_asked_for_all firsts (link 1000) from_one (timed 1000 4000 100 1100 0) overtaken
     × (forwarded (link 1000) (events_of_copies overtaken) ≡ frame_at 3 2100 ∷ frame_at 1 100 ∷ [])
 overtaken_is_lost = (
   record {
     are = record { redundancy = refl; first = omega arith; numbers = (refl, (refl, (refl, (refl, (refl, tt))))); times = overtaken_times };
     asked = refl;
     others = overtaken_others;
-    not_met = λ is. absurd (omega (arith, is));
+    not_met = λ is. false≢true (is.1.0 refl);
   },
   refl,
 )
@@ -144,9 +146,9 @@ two_lost_others covers asked differ = omega arith
 two_lost_others restarts asked differ = omega arith
 two_lost_others near asked differ = short_is_near (link 1000) from_one timing two_lost two_lost_times (omega arith)
 two_lost_others losses asked differ = absurd (differ refl)
-two_lost_others apart asked differ = omega arith
-two_lost_others late asked differ = cc
-two_lost_others late_restart asked differ = cc
+two_lost_others firsts asked differ = short_firsts from_one timing two_lost two_lost_times (omega arith)
+two_lost_others late asked differ = omega arith
+two_lost_others late_restart asked differ = omega arith
 
 two_are_too_many : LosesFew from_one 2 two_lost → ⊥
 two_are_too_many is = go is.0
@@ -175,9 +177,9 @@ far_apart_others covers asked differ = omega arith
 far_apart_others restarts asked differ = omega arith
 far_apart_others near asked differ = absurd (differ refl)
 far_apart_others losses asked differ = (tt, (tt, tt))
-far_apart_others apart asked differ = omega arith
-far_apart_others late asked differ = cc
-far_apart_others late_restart asked differ = cc
+far_apart_others firsts asked differ = short_firsts from_one (timed 1000 200000 100 100 0) far_apart far_apart_times (omega arith)
+far_apart_others late asked differ = omega arith
+far_apart_others late_restart asked differ = omega arith
 
 pub far_is_lost : MeetAllBut is_asked_for_all near (link 128000) from_one (timed 1000 200000 100 100 0) far_apart
     × (forwarded (link 128000) (events_of_copies far_apart) ≡ frame_at 1 100 ∷ [])
@@ -199,9 +201,9 @@ soon_restarted_others covers asked differ = omega arith
 soon_restarted_others restarts asked differ = absurd (differ refl)
 soon_restarted_others near asked differ = short_is_near (link 1000) from_57 (timed 1000 1000 100 100 0) soon_restarted soon_restarted_times (omega arith)
 soon_restarted_others losses asked differ = (inr refl, (tt, tt))
-soon_restarted_others apart asked differ = omega arith
-soon_restarted_others late asked differ = cc
-soon_restarted_others late_restart asked differ = cc
+soon_restarted_others firsts asked differ = short_firsts from_57 (timed 1000 1000 100 100 0) soon_restarted soon_restarted_times (omega arith)
+soon_restarted_others late asked differ = omega arith
+soon_restarted_others late_restart asked differ = omega arith
 
 pub restart_is_lost : MeetAllBut is_asked_for_all restarts (link 1000) from_57 (timed 1000 1000 100 100 0) soon_restarted
     × (forwarded (link 1000) (events_of_copies soon_restarted) ≡ frame_at 57 100 ∷ [])
@@ -223,7 +225,7 @@ far_behind_others covers asked differ = omega arith
 far_behind_others restarts asked differ = omega arith
 far_behind_others near asked differ = ((λ cut soon. omega arith, (λ cut soon. omega arith, (λ cut soon. omega arith, (tt, tt)))), (λ cut soon. omega arith, (λ cut soon. omega arith, (λ cut soon. omega arith, (tt, tt)))))
 far_behind_others losses asked differ = cc
-far_behind_others apart asked differ = cc
+far_behind_others firsts asked differ = cc
 far_behind_others late asked differ = absurd (differ refl)
 far_behind_others late_restart asked differ = omega arith
 
@@ -247,7 +249,7 @@ behind_a_restart_others covers asked differ = omega arith
 behind_a_restart_others restarts asked differ = omega arith
 behind_a_restart_others near asked differ = short_is_near (link 1000) from_57 (timed 2000 2000 100 100 2000) behind_a_restart behind_a_restart_times (omega arith)
 behind_a_restart_others losses asked differ = cc
-behind_a_restart_others apart asked differ = cc
+behind_a_restart_others firsts asked differ = cc
 behind_a_restart_others late asked differ = omega arith
 behind_a_restart_others late_restart asked differ = absurd (differ refl)
 

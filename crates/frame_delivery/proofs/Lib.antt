@@ -9,6 +9,7 @@ pub mod Firsts
 pub mod Main
 pub mod Since
 pub mod OneNetwork
+pub mod Together
 pub mod Delivered
 pub mod DeliveredSince
 pub mod Whole

@@ -11,8 +11,8 @@ use Rattle.es_base.specs.Copies.{Forwarded, elapsed, greatest_time, is_ahead, is
 use Rattle.es_base.specs.Redundancy.{forwarded, is_forwarded, is_forwarded_after}
 use Rattle.es_base.specs.Settings.{Settings}
 use Rattle.frame_delivery.specs.Sending.{Copy, EachCopy, HaveNumbers, Numbering, events_of_copies, number_of_frame}
-use Rattle.frame_delivery.specs.Once.{AreInOrder, ComesInTime, IsForwardedIfFirst, as_forwarded, first_copies, has_come, is_new, new_copies, newest_time, passing_copies}
-use Rattle.frame_delivery.specs.Network.{BeginNear, ComeTimely, HasNoOvertaking, IsNeverLate, IsOnItsWay, Timing, time_of_all}
+use Rattle.frame_delivery.specs.Once.{AreInOrder, ComesInTime, FirstsInOrder, IsForwardedIfFirst, as_forwarded, first_copies, has_come, is_new, new_copies, newest_time, passing_copies}
+use Rattle.frame_delivery.specs.Network.{BeginNear, ComeTimely, HasNoOvertaking, IsNeverLate, IsOnItsWay, KeepsTimes, Timing, time_of_all}
 use Rattle.frame_delivery.specs.Running.{EachForwarded}
 use Rattle.frame_delivery.specs.Since.{ComeAfter, IsFirstPassing, PassTimely, counts, events_since, forwarded_since, passing_since}
 use Rattle.frame_delivery.proofs.Forwarding.{first_is_new, new_in_order, newest_of}
@@ -178,8 +178,8 @@ firsts_since settings numbering timing old copies pass =
     let timely = pass.timely in
     let times = timely.times in
     let some : List Copy = passing_since settings old copies in
-    let in_time = all_in_time numbering timing times.gaps times.pauses settings.skew_max some timely.fits (apart_not_late numbering timing times.gaps times.pauses pass.apart) pass.near times.ways times.order in
-    let firsts : new_copies some ≡ first_copies some = new_are_first some (none_overtaken numbering timing times.gaps times.pauses some pass.apart times.ways times.order) in
+    let in_time = all_in_time numbering timing times.gaps times.pauses settings.skew_max some timely.fits (not_late numbering timing times.gaps times.pauses pass.on_time) pass.near times.ways times.order in
+    let firsts : new_copies some ≡ first_copies some = new_are_first some pass.firsts in
     (new_since settings numbering old timely.redundancy timely.first copies (timely.numbers, old_times settings old some pass.after, in_time) ∙ firsts, subst AreInOrder firsts (new_in_order some))
 
 -- where copies may be overtaken, the new ones are forwarded
@@ -206,6 +206,7 @@ pass_before settings numbering timing old copy before pass =
     let timely = pass.timely in
     let near = pass.near in
     let after = pass.after in
+    let firsts = pass.firsts in
     ⊎_elim
     (λ (is : counts settings (events_since before old) (arrival_of copy.event) (passing_since settings old before) ≡ true).
     let all : ComeTimely settings numbering timing (copy ∷ passing_since settings old before) = rw is at timely in
@@ -218,11 +219,12 @@ pass_before settings numbering timing old copy before pass =
         times = record { gaps = times.gaps; pauses = times.pauses; ways = times.ways.1; order = times.order.1 };
         fits = all.fits;
       };
-      apart = pass.apart;
+      on_time = pass.on_time;
+      firsts = (rw is at firsts).1;
       near = (rw is at near).1;
       after = (rw is at after).1;
     })
-    (λ (is : counts settings (events_since before old) (arrival_of copy.event) (passing_since settings old before) ≡ false). record { timely = rw is at timely; apart = pass.apart; near = rw is at near; after = rw is at after })
+    (λ (is : counts settings (events_since before old) (arrival_of copy.event) (passing_since settings old before) ≡ false). record { timely = rw is at timely; on_time = pass.on_time; firsts = rw is at firsts; near = rw is at near; after = rw is at after })
     (cases_Bool (counts settings (events_since before old) (arrival_of copy.event) (passing_since settings old before)))
 
 pub first_since : (settings : Settings) (numbering : Numbering) (timing : Timing) (old : List Event) (copy : Copy) (before : List Copy) → PassTimely settings numbering timing old (copy ∷ before)
@@ -256,28 +258,38 @@ other_since settings numbering timing old copy before pass come =
     (λ (is : is_forwarded settings (events_since before old) (arrival_of copy.event) ≡ false). is)
     (cases_Bool (is_forwarded settings (events_since before old) (arrival_of copy.event)))
 
--- what is asked of all copies is asked of those that pass
+-- ---- what is asked of all copies is asked of those that pass
+
+pub times_since : (settings : Settings) (numbering : Numbering) (timing : Timing) (old : List Event) (copies : List Copy) → KeepsTimes numbering timing copies → KeepsTimes numbering timing (passing_since settings old copies)
+times_since settings numbering timing old copies times = record {
+  gaps = times.gaps;
+  pauses = times.pauses;
+  ways = each_since (IsOnItsWay timing) settings old copies times.ways;
+  order = order_since timing.wait settings old copies times.order;
+}
+
+-- where no copy overtakes, the first copies of those that pass come in order
+pub short_in_order : (settings : Settings) (numbering : Numbering) (timing : Timing) (old : List Event) (copies : List Copy) → KeepsTimes numbering timing copies → HasNoOvertaking timing
+    → FirstsInOrder (passing_since settings old copies)
+short_in_order settings numbering timing old copies times apart =
+    let some = times_since settings numbering timing old copies times in
+    none_overtaken numbering timing some.gaps some.pauses (passing_since settings old copies) apart some.ways some.order
+
 pub all_pass_timely : (settings : Settings) (numbering : Numbering) (timing : Timing) (old : List Event) (copies : List Copy) → ComeTimely settings numbering timing copies → HasNoOvertaking timing
     → BeginNear settings.skew_max (passing_since settings old copies) → ComeAfter settings old copies → PassTimely settings numbering timing old copies
-all_pass_timely settings numbering timing old copies timely apart near after =
-    let times = timely.times in
-    record {
-      timely = record {
-        redundancy = timely.redundancy;
-        first = timely.first;
-        numbers = each_since (λ copy. sequence_number_of copy.event.frame ≡ number_of_frame numbering copy.index) settings old copies timely.numbers;
-        times = record {
-          gaps = times.gaps;
-          pauses = times.pauses;
-          ways = each_since (IsOnItsWay timing) settings old copies times.ways;
-          order = order_since timing.wait settings old copies times.order;
-        };
-        fits = timely.fits;
-      };
-      apart = apart;
-      near = near;
-      after = each_since (λ copy. EachForwarded settings (λ e. e.time ≤ copy.event.time) old) settings old copies after;
-    }
+all_pass_timely settings numbering timing old copies timely apart near after = record {
+  timely = record {
+    redundancy = timely.redundancy;
+    first = timely.first;
+    numbers = each_since (λ copy. sequence_number_of copy.event.frame ≡ number_of_frame numbering copy.index) settings old copies timely.numbers;
+    times = times_since settings numbering timing old copies timely.times;
+    fits = timely.fits;
+  };
+  on_time = apart_not_late timing apart;
+  firsts = short_in_order settings numbering timing old copies timely.times apart;
+  near = near;
+  after = each_since (λ copy. EachForwarded settings (λ e. e.time ≤ copy.event.time) old) settings old copies after;
+}
 
 -- ---- at the latest when SkewMax is over since each old frame that was forwarded
 

@@ -15,11 +15,11 @@ ghost use Rattle.es_base.specs.Redundancy.{forwarded, is_forwarded};
 ghost use Rattle.es_base.specs.Outcome.{Payload};
 ghost use Rattle.es_base.specs.Deliveries.{deliveries, number_delivered};
 ghost use Rattle.frame_delivery.specs.Sending.{Copy, EachCopy, HaveNumbers, Numbering, RunsOn, events_of_copies, number_of_frame};
-ghost use Rattle.frame_delivery.specs.Once.{AreInOrder, ComesInTime, IsForwardedIfFirst, IsForwardedIfNew, IsOvertaken, as_forwarded, first_copies, has_come, new_copies, passing_copies};
+ghost use Rattle.frame_delivery.specs.Once.{AreInOrder, ComesInTime, FirstsInOrder, IsForwardedIfFirst, IsForwardedIfNew, IsOvertaken, as_forwarded, first_copies, has_come, new_copies, passing_copies};
 ghost use Rattle.frame_delivery.specs.Running.{EachForwarded, SomeForwarded};
 ghost use Rattle.frame_delivery.specs.Since.{ComeAfter, IsFirstPassing, PassTimely, events_since, forwarded_since, passing_since};
-ghost use Rattle.frame_delivery.specs.Network.{BeginNear, BringsInRow, ComeTimely, ComeWhole, IsNeverLate, HasAge, HasNoOvertaking, IsOverSoon, KeepsOrder, KeepsTimes, LosesFew, MayFollow, Timing, copies_on, indices_on};
-ghost use Rattle.frame_delivery.specs.Conditions.{MeetAll, MeetAllBut, apart, covers, is_asked_for_all, is_asked_for_once, late, late_restart, losses, near, restarts};
+ghost use Rattle.frame_delivery.specs.Network.{BeginNear, BringsInRow, ComeTimely, ComeWhole, Delays, HasAge, HasNoOvertaking, IsNeverLate, IsOverSoon, KeepOrderTogether, KeepsOrder, KeepsTimes, LosesFew, MayFollow, Timing, copies_on, indices_on};
+ghost use Rattle.frame_delivery.specs.Conditions.{MeetAll, MeetAllBut, covers, firsts, is_asked_for_all, is_asked_for_once, late, late_restart, losses, near, restarts};
 ghost use Rattle.frame_delivery.specs.Messages.{AllCame, CarryWhole, HaveRoom, messages_of, octets_of_messages, octets_sent};
 ghost use Rattle.frame_delivery.specs.Examples.{after_skew_max, after_strange, behind_a_restart, far_apart, far_behind, frame_at, from_57, from_one, from_ten, link, numbering, of_later_time, one_network_out, overtaken, received, restarted, soon_restarted, strange, stranger_passes, timed, timing, two_lost, wide_link, with_losses};
 
@@ -84,7 +84,7 @@ pub fn a_frame_is_lost_only_if_it_is_overtaken()
 /// If the networks lose more in a row, each frame of which a copy passes integrity checking is still forwarded, with
 /// the first that passes, and no other.
 pub fn no_frame_that_passes_is_lost()
-    ensures { (settings : Settings) (numbering : Numbering) (timing : Timing) (copies : List Copy) → ComeTimely settings numbering timing copies → HasNoOvertaking timing
+    ensures { (settings : Settings) (numbering : Numbering) (timing : Timing) (copies : List Copy) → ComeTimely settings numbering timing copies → IsNeverLate timing → FirstsInOrder (passing_copies settings copies)
         → BeginNear settings.skew_max (passing_copies settings copies) → forwarded settings (events_of_copies copies) ≡ as_forwarded (first_copies (passing_copies settings copies)) }
 {}
 
@@ -133,6 +133,18 @@ pub fn a_link_recovers_within_skew_max()
     ensures heals { (settings : Settings) (numbering : Numbering) (old : List Event) (copy : Copy) (before : List Copy) (last : ℕ) → HaveNumbers numbering (copies_on copy.event.net (copy ∷ before))
         → latest (indices_on before copy.event.net) ≡ Some last → last < copy.index → MayFollow numbering settings.window (Some last) copy.index
         → EachForwarded settings (λ e. e.time + settings.skew_max < copy.event.time) old → passing_since settings old (copy ∷ before) ≡ copy ∷ passing_since settings old before }
+{}
+
+/// The first copies come in order, and none is late, if the times on the way, with the wait, differ by less than the gap.
+/// Times on one network may differ by more if each network keeps the order, and if, of the two, the greatest time on one
+/// less the least on the other, with the wait, is below the gap, or that other loses no frame that the one brings. What
+/// a network keeps of its copies it keeps of those that pass.
+pub fn first_copies_come_in_order()
+    ensures all { (numbering : Numbering) (timing : Timing) (copies : List Copy) → KeepsTimes numbering timing copies → HasNoOvertaking timing → IsNeverLate timing × FirstsInOrder copies }
+    ensures passing { (settings : Settings) (numbering : Numbering) (timing : Timing) (old : List Event) (copies : List Copy) → KeepsTimes numbering timing copies → HasNoOvertaking timing
+        → FirstsInOrder (passing_since settings old copies) }
+    ensures each_network_keeps_the_order { (timing : Timing) (delays : Delays) (copies : List Copy) → KeepOrderTogether timing delays copies → FirstsInOrder copies }
+    ensures order_of_passing { (settings : Settings) (old : List Event) (copies : List Copy) → KeepsOrder copies → KeepsOrder (passing_since settings old copies) }
 {}
 
 /// Networks begin near each other if SkewMax is over before 128 frames more are sent. So it is only for a longer
@@ -215,7 +227,7 @@ pub fn a_link_recovers_in_examples()
     ensures after_strange_frames { PassTimely (link 1500) from_ten (timed 1000 3000 100 900 100) strange after_strange
         × (passing_since (link 1500) strange after_strange ≡ received nets.A 2 12 2100 ∷ received nets.B 1 11 1900 ∷ [])
         × (forwarded (link 1500) (events_since after_strange strange) ≡ frame_at 12 2100 ∷ frame_at 11 1900 ∷ frame_at 50 60 ∷ frame_at 200 50 ∷ []) }
-    ensures after_a_later_time { ComeTimely (link 1000) from_57 (timed 3000 3000 100 100 0) restarted × HasNoOvertaking (timed 3000 3000 100 100 0) × BeginNear 1000 (passing_since (link 1000) of_later_time restarted)
+    ensures after_a_later_time { ComeTimely (link 1000) from_57 (timed 3000 3000 100 100 0) restarted × IsNeverLate (timed 3000 3000 100 100 0) × FirstsInOrder (passing_since (link 1000) of_later_time restarted) × BeginNear 1000 (passing_since (link 1000) of_later_time restarted)
         × (passing_since (link 1000) of_later_time restarted ≡ restarted) × (ComeAfter (link 1000) of_later_time restarted → ⊥)
         × (forwarded (link 1000) (events_since restarted of_later_time) ≡ frame_at 57 100 ∷ frame_at 50 5000 ∷ []) }
     ensures while_a_stranger_passes { BringsInRow from_one 2 nets.A stranger_passes × (passing_copies (link 1000) stranger_passes ≡ stranger_passes)
@@ -228,7 +240,7 @@ pub fn a_link_recovers_in_examples()
 pub fn each_condition_is_needed()
     ensures second_copy_after_skew_max { MeetAllBut is_asked_for_all covers (link 1000) from_one (timed 2000 4000 100 1101 0) after_skew_max
         × (forwarded (link 1000) (events_of_copies after_skew_max) ≡ frame_at 1 1101 ∷ frame_at 1 100 ∷ []) }
-    ensures overtaken_though_one_network_loses_nothing { MeetAllBut is_asked_for_all apart (link 1000) from_one (timed 1000 4000 100 1100 0) overtaken
+    ensures overtaken_though_one_network_loses_nothing { MeetAllBut is_asked_for_all firsts (link 1000) from_one (timed 1000 4000 100 1100 0) overtaken
         × (forwarded (link 1000) (events_of_copies overtaken) ≡ frame_at 3 2100 ∷ frame_at 1 100 ∷ []) }
     ensures window_lost_on_both_networks { MeetAllBut is_asked_for_all losses (link 1000) from_one timing two_lost × (forwarded (link 1000) (events_of_copies two_lost) ≡ frame_at 1 100 ∷ []) }
     ensures begun_far_apart { MeetAllBut is_asked_for_all near (link 128000) from_one (timed 1000 200000 100 100 0) far_apart × (forwarded (link 128000) (events_of_copies far_apart) ≡ frame_at 1 100 ∷ []) }
