@@ -12,8 +12,9 @@ use Rattle.es_base.specs.Deliveries.{deliveries}
 use Rattle.es_base.specs.Groups.{fate, groups_after, held, place_of}
 use Rattle.frame_delivery.specs.Sending.{HaveNumbers, events_of_copies}
 use Rattle.frame_delivery.specs.Once.{first_copies}
-use Rattle.frame_delivery.specs.Network.{ComeWhole}
+use Rattle.frame_delivery.specs.Network.{ComeWhole, KeepsTimes}
 use Rattle.frame_delivery.specs.Examples.{numbering, timing}
+use Rattle.frame_delivery.proofs.Times.{apart_not_late, short_firsts}
 use Rattle.datagram_delivery.specs.Splitting.{AreFronts, IsLastFragment, LeavesRoom, groups_after_offers, is_of, pieces_of}
 use Rattle.datagram_delivery.specs.Datagrams.{AreSent, CarryPackets, all_offers, messages_by, offers_of}
 use Rattle.datagram_delivery.specs.Interleaved.{AreInterleaved, SendsOn, SendsNext, carried_offers}
@@ -26,23 +27,27 @@ use Rattle.datagram_delivery.proofs.Messages.{datagrams_delivered}
 numbers_split : HaveNumbers numbering in_two_fragments
 numbers_split = (refl, (refl, tt))
 
+split_times : KeepsTimes numbering timing in_two_fragments
+split_times = record {
+  gaps = λ index. omega arith;
+  pauses = λ index is. absurd (false≢true is);
+  ways = ((omega arith, omega arith), ((omega arith, omega arith), tt));
+  order = (omega arith, (omega arith, tt));
+}
+
 pub split_met : ComeWhole link_with_queue numbering timing in_two_fragments
 split_met = record {
   timely = record {
     redundancy = refl;
     first = omega arith;
     numbers = numbers_split;
-    times = record {
-      gaps = λ index. omega arith;
-      pauses = λ index is. absurd (false≢true is);
-      ways = ((omega arith, omega arith), ((omega arith, omega arith), tt));
-      order = (omega arith, (omega arith, tt));
-    };
+    times = split_times;
     fits = record { covers = omega arith; restarts = omega arith };
   };
   near = (λ cut soon. omega arith, (tt, tt));
   losses = (tt, (tt, tt));
-  apart = omega arith;
+  on_time = apart_not_late timing (omega arith);
+  firsts = short_firsts numbering timing in_two_fragments split_times (omega arith);
 }
 
 pub split_carries : CarryPackets packet_sent in_two_fragments

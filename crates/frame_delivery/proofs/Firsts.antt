@@ -2,7 +2,7 @@
 use Rattle.std.proofs.Common.{◌≡◌, ◌∙◌, sym, ap, ℕ, ◌<◌, ◌≤◌, Bool, true, false, not, List, [], ◌∷◌, refl, ⊎_elim, arith}
 use Rattle.std.specs.Prelude.{◌==◌, ◌||◌, max}
 use Rattle.std.proofs.lemmas.Bool.{cases_Bool, cases_lt, lt-ltb, le-ltb, ltb-true, ltb-false, eqb-true, eqb-false, eq-eqb, or_cases, or_left, or_parts, both_ways}
-use Rattle.frame_delivery.specs.Sending.{Copy, EachCopy}
+use Rattle.frame_delivery.specs.Sending.{Copy}
 use Rattle.frame_delivery.specs.Once.{FirstsInOrder, IsNotOvertaken, IsOvertaken, first_copies, greatest_index, has_come, is_new, new_copies}
 
 pub come_at_most : (index : ℕ) (copies : List Copy) → has_come index copies ≡ true → index ≤ greatest_index copies

@@ -8,7 +8,7 @@ use Rattle.es_base.specs.declared.event.Event.{Event}
 use Rattle.es_base.specs.Past.{arrival_of}
 use Rattle.es_base.specs.Integrity.{is_same_net, latest}
 use Rattle.es_base.specs.Settings.{Settings}
-use Rattle.frame_delivery.specs.Sending.{Copy, Numbering}
+use Rattle.frame_delivery.specs.Sending.{Copy}
 use Rattle.frame_delivery.specs.Once.{FirstsInOrder, IsNotOvertaken, greatest_index, has_come}
 use Rattle.frame_delivery.specs.Network.{Delays, IsLater, KeepOrderTogether, KeepsBefore, KeepsDelays, KeepsGap, KeepsOrder, LosesNoneOf, Timing, copies_on, indices_on, time_of_all}
 use Rattle.frame_delivery.specs.Since.{counts, events_since, passing_since}
