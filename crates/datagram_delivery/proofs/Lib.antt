@@ -11,6 +11,7 @@ pub mod Slices
 pub mod Origins
 pub mod Parts
 pub mod WholeParts
+pub mod Counting
 pub mod Few
 pub mod Interleaved
 pub mod Bringing

@@ -17,7 +17,7 @@ ghost use Rattle.es_base.specs.Outcome.{Payload, brings, outcome};
 ghost use Rattle.es_base.specs.Deliveries.{deliveries};
 ghost use Rattle.frame_delivery.specs.Sending.{Copy, Numbering, events_of_copies};
 ghost use Rattle.frame_delivery.specs.Once.{first_copies, has_come, passing_copies};
-ghost use Rattle.frame_delivery.specs.Network.{ComeWhole, Timing};
+ghost use Rattle.frame_delivery.specs.Network.{ComeWhole, KeepsGap, KeepsPause, KeepsTimes, Timing};
 ghost use Rattle.frame_delivery.specs.Since.{IsFirstPassing, PassTimely, events_since, forwarded_since, passing_since};
 ghost use Rattle.datagram_delivery.specs.Splitting.{AreFronts, IsLastFragment, Offer, LeavesRoom, groups_after_offers, is_of, joined, other_keys, pieces_of};
 ghost use Rattle.datagram_delivery.specs.Datagrams.{AreSent, CarryPackets, IsSplitAmong, IsSplitInOrder, Sent, all_offers, messages_by, messages_sent, offers_of};
@@ -25,6 +25,7 @@ ghost use Rattle.datagram_delivery.specs.Offers.{offered_in};
 ghost use Rattle.datagram_delivery.specs.Arriving.{Arrives, IsOneOf};
 ghost use Rattle.datagram_delivery.specs.Interleaved.{AreInterleaved, Carried, SendsOn, SendsNext, carried_offers, messages_ended};
 ghost use Rattle.datagram_delivery.specs.Parts.{AreWhole, HaveParts, HavePartsSince, IsMessageOfDatagram, WereSentIn};
+ghost use Rattle.datagram_delivery.specs.Counting.{AreCounted, Counting, CountsUp, IsOverBefore, KeepsCount, TurnsOverLate};
 ghost use Rattle.frame_delivery.specs.Examples.{numbering, timing};
 ghost use Rattle.datagram_delivery.specs.Examples.{a_part_before, after_a_part, among_one_another, datagram_at, datagram_octets, eight, first_key, five_begun, four_begun, four_in_parts, fragment, in_two_fragments, link_of_100, link_with_queue, sixteen_octets, message_sent, one_identification, packet_sent, part_sent, payload_sent};
 
@@ -151,6 +152,17 @@ pub fn each_message_was_sent_after_any_past()
         → outcome settings (past ++ old) (arrival_of e) ≡ brings payload → IsMessageOfDatagram settings e.frame (datagram e) payload }
     ensures delivered { (settings : Settings) (datagram : Event → List ℕ) (old past : List Event) (port : PortNo) → HavePartsSince settings datagram old past
         → (more : List Message) × (deliveries settings (past ++ old) port ≡ deliveries settings old port ++ more) × WereSentIn settings datagram port past more }
+{}
+
+/// A sender may count identifications, if the count turns over late: no sooner than the reassembly limit, and what the
+/// times on the way differ by, after it was sent. It may begin the count anew at a restart, if it pauses for longer than
+/// that before; a count that goes on over restarts needs no pause. A count of datagrams one after another turns over after
+/// 65,536 frames at the soonest.
+pub fn a_count_of_identifications_mixes_nothing()
+    ensures parts { (limit : ℕ) (numbering : Numbering) (timing : Timing) (counting : Counting) (datagram : Event → List ℕ) (copies : List Copy) → KeepsTimes numbering timing copies
+        → AreCounted counting datagram copies → KeepsCount limit numbering timing counting → HaveParts limit datagram (events_of_copies copies) }
+    ensures turns_over { (limit : ℕ) (numbering : Numbering) (timing : Timing) (counting : Counting) → KeepsGap timing → KeepsPause numbering timing → CountsUp counting → IsOverBefore limit timing
+        → TurnsOverLate limit timing counting }
 {}
 
 /// The conditions can be met: by four frames that two networks bring, each with a loss, over the end of the sequence

@@ -32,7 +32,7 @@ apart_not_late timing apart = record { frames = omega (arith, apart); restarts =
 
 module _ (numbering : Numbering) (timing : Timing) (gaps : KeepsGap timing) (pauses : KeepsPause numbering timing) where
   -- d frames take d gaps at least
-  sent_after : (index d : ℕ) → timing.sent index + d * timing.gap ≤ timing.sent (index + d)
+  pub sent_after : (index d : ℕ) → timing.sent index + d * timing.gap ≤ timing.sent (index + d)
   sent_after index zero = let e : index + 0 ≡ index = omega arith in rw e (omega arith)
   sent_after index (suc d) =
       let e : index + suc d ≡ suc (index + d) = omega arith in
@@ -40,7 +40,7 @@ module _ (numbering : Numbering) (timing : Timing) (gaps : KeepsGap timing) (pau
       let gap = gaps (index + d) in
       rw e (omega (arith, before, gap))
 
-  sent_in_order : (one two : ℕ) → one ≤ two → timing.sent one ≤ timing.sent two
+  pub sent_in_order : (one two : ℕ) → one ≤ two → timing.sent one ≤ timing.sent two
   sent_in_order one two order =
       let e : one + (two - one) ≡ two = omega arith in
       let after = rw e at (sent_after one (two - one)) in
@@ -59,7 +59,7 @@ module _ (numbering : Numbering) (timing : Timing) (gaps : KeepsGap timing) (pau
       omega (arith, after, gap)
 
   -- between two frames with a restart after the one and up to the other the sender paused
-  sent_around : (one again two : ℕ) → one < again → again ≤ two → numbering.restarts again ≡ true → timing.sent one + timing.pause ≤ timing.sent two
+  pub sent_around : (one again two : ℕ) → one < again → again ≤ two → numbering.restarts again ≡ true → timing.sent one + timing.pause ≤ timing.sent two
   sent_around one zero two after within is = absurd (omega arith)
   sent_around one (suc again) two after within is =
       let before = sent_in_order one again (omega arith) in
