@@ -14,10 +14,10 @@ use Rattle.es_base.specs.Deliveries.{delivered, deliveries, is_same_port, number
 use Rattle.es_base.specs.Settings.{Settings}
 use Rattle.frame_delivery.specs.Messages.{has_room}
 use Rattle.frame_delivery.specs.Once.{first_copies}
-use Rattle.frame_delivery.specs.Since.{events_since, passing_since}
+use Rattle.frame_delivery.specs.Since.{passing_since}
 use Rattle.frame_delivery.proofs.Delivered.{takes}
 use Rattle.frame_delivery.proofs.Since.{first_since}
-use Rattle.datagram_delivery.specs.Arriving.{Arrives, IsOneOf, IsSplitAfter}
+use Rattle.datagram_delivery.specs.Arriving.{Arrives, IsSplitAfter, past_before}
 use Rattle.datagram_delivery.specs.Datagrams.{IsSentWhole, offers_of}
 use Rattle.datagram_delivery.specs.Offers.{offered_in}
 use Rattle.datagram_delivery.specs.Splitting.{Offer}
@@ -58,9 +58,9 @@ whole_is_brought settings groups offer payload is admits = rw (is, admits) refl
 -- ---- so a message that arrives is delivered
 
 pub arriving_brings : (settings : Settings) (past : List Event) (payload : Payload) (time : ℕ) → (one : Arrives settings past payload time)
-    → outcome settings (events_since one.before one.old) (arrival_of one.copy.event) ≡ brings payload
+    → outcome settings (past_before one) (arrival_of one.copy.event) ≡ brings payload
 arriving_brings settings past payload time one =
-    let before : List Event = events_since one.before one.old in
+    let before : List Event = past_before one in
     let offer : Offer = record { packet = one.packet one.copy.index; time = one.copy.event.time; room = one.copy.event.room } in
     let is = first_since settings one.numbering one.timing one.old one.copy one.before one.pass one.first in
     let offered = packets_before settings one.numbering one.timing one.packet one.old one.copy one.before one.pass one.carry one.first in
@@ -75,10 +75,10 @@ arriving_brings settings past payload time one =
     one.completes
 
 -- right after what was delivered before
-pub arriving_in_order : (settings : Settings) (past : List Event) (payload : Payload) (time : ℕ) → (one : Arrives settings past payload time)
-    → (later : List Message) × (deliveries settings past payload.port ≡ deliveries settings (events_since one.before one.old) payload.port ++ record { time = time; octets = payload.octets } ∷ later)
-arriving_in_order settings past payload time one =
-    let before : List Event = events_since one.before one.old in
+pub arriving_is_delivered : (settings : Settings) (past : List Event) (payload : Payload) (time : ℕ) → (one : Arrives settings past payload time)
+    → (later : List Message) × (deliveries settings past payload.port ≡ deliveries settings (past_before one) payload.port ++ record { time = time; octets = payload.octets } ∷ later)
+arriving_is_delivered settings past payload time one =
+    let before : List Event = past_before one in
     let message : Message = record { time = one.copy.event.time; octets = payload.octets } in
     let here : deliveries settings (one.copy.event ∷ before) payload.port ≡ deliveries settings before payload.port ++ message ∷ [] =
     brings_message settings before one.copy.event payload (arriving_brings settings past payload time one) one.room one.few in
@@ -87,9 +87,3 @@ arriving_in_order settings past payload time one =
     ap (λ (past : List Event). deliveries settings past payload.port) one.is ∙ after ∙ ap (λ (messages : List Message). messages ++ more) here
     ∙ append_assoc (deliveries settings before payload.port) (message ∷ []) more in
     (more, subst (λ (at : ℕ). deliveries settings past payload.port ≡ deliveries settings before payload.port ++ record { time = at; octets = payload.octets } ∷ more) (sym one.at) all)
-
-pub arriving_is_delivered : (settings : Settings) (past : List Event) (payload : Payload) (time : ℕ) → Arrives settings past payload time
-    → IsOneOf (record { time = time; octets = payload.octets }) (deliveries settings past payload.port)
-arriving_is_delivered settings past payload time one =
-    let (later, is) = arriving_in_order settings past payload time one in
-    (deliveries settings (events_since one.before one.old) payload.port, later, is)

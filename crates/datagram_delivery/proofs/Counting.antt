@@ -1,11 +1,9 @@
 -- A sender that counts its identifications has no two datagrams in fragments with one within the limit.
-use Rattle.std.proofs.Common.{◌≡◌, ◌∙◌, sym, ap, ℕ, zero, suc, ◌+◌, ◌-◌, ◌*◌, ◌<◌, ◌≤◌, Bool, true, false, List, [], ◌∷◌, inl, inr, refl, ⊎_elim, arith, Ok}
-use Rattle.std.specs.Prelude.{◌⊎◌, ◌==◌, max}
+use Rattle.std.proofs.Common.{◌≡◌, ◌∙◌, sym, ap, ℕ, zero, suc, ◌+◌, ◌-◌, ◌<◌, ◌≤◌, true, false, List, [], ◌∷◌, inl, inr, refl, ⊎_elim, arith}
+use Rattle.std.specs.Prelude.{◌⊎◌, ◌==◌}
 use Rattle.std.proofs.lemmas.Bool.{cases_Bool, cases_lt, eqb-true}
 use Rattle.es_base.specs.declared.event.Event.{Event}
-use Rattle.es_base.specs.Packet.{PacketParts}
-use Rattle.es_base.specs.Fragments.{is_whole, key_of}
-use Rattle.es_base.specs.Groups.{is_same_key}
+use Rattle.es_base.specs.Fragments.{key_of}
 use Rattle.es_base.proofs.Keys.{same_key}
 use Rattle.frame_delivery.specs.Sending.{Copy, EachCopy, Numbering, events_of_copies}
 use Rattle.frame_delivery.specs.Network.{IsOnItsWay, KeepsGap, KeepsPause, KeepsTimes, Timing, time_of_all}

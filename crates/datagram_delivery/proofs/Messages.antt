@@ -1,7 +1,6 @@
 -- The theorems on messages that come in datagrams, whole or in fragments.
-use Rattle.std.proofs.Common.{◌≡◌, ◌∙◌, ap, sym, append-nil, ℕ, ◌≤◌, false, not, List, [], ◌∷◌, ◌++◌, length, Ok}
+use Rattle.std.proofs.Common.{◌≡◌, ◌∙◌, ap, append-nil, ℕ, ◌≤◌, false, not, List, [], ◌∷◌, ◌++◌, length, Ok}
 use Rattle.es_base.specs.declared.place.PortNo.{PortNo}
-use Rattle.es_base.specs.declared.event.Event.{Event}
 use Rattle.es_base.specs.Limits.{most_samples}
 use Rattle.es_base.specs.Past.{arrival_of}
 use Rattle.es_base.specs.Packet.{PacketParts}
@@ -9,12 +8,12 @@ use Rattle.es_base.specs.Reassembly.{packet_in}
 use Rattle.es_base.specs.Outcome.{Payload, brings, outcome}
 use Rattle.es_base.specs.Deliveries.{deliveries}
 use Rattle.es_base.specs.Settings.{Settings}
-use Rattle.frame_delivery.specs.Sending.{Copy, EachCopy, Numbering, events_of_copies}
+use Rattle.frame_delivery.specs.Sending.{Copy, EachCopy, Numbering, events_of_copies, events_since}
 use Rattle.frame_delivery.specs.Once.{IsForwardedIfFirst, first_copies, has_come}
 use Rattle.frame_delivery.specs.Network.{ComeWhole, Timing}
-use Rattle.frame_delivery.specs.Since.{events_since, forwarded_since}
+use Rattle.frame_delivery.specs.Since.{forwarded_since}
 use Rattle.frame_delivery.proofs.Main.{each_first_is_forwarded}
-use Rattle.frame_delivery.proofs.Since.{each_forwarded, events_alone, firsts_are_all}
+use Rattle.frame_delivery.proofs.Since.{each_forwarded, firsts_are_all}
 use Rattle.datagram_delivery.specs.Splitting.{Offer}
 use Rattle.datagram_delivery.specs.Datagrams.{AreSent, CarryPackets, IsSplitAmong, Sent, all_offers, messages_by, messages_sent, offers_of}
 use Rattle.datagram_delivery.specs.Offers.{offered_in}
@@ -36,8 +35,7 @@ pub packets_offered : (settings : Settings) (numbering : Numbering) (timing : Ti
     → CarryPackets packet copies
     → deliveries settings (events_of_copies copies) port ≡ messages_by settings (offers_of packet (first_copies copies)) port
 packets_offered settings numbering timing packet copies port come carry =
-    ap (λ (past : List Event). deliveries settings past port) (sym (events_alone copies))
-    ∙ deliveries_by_offers settings (events_since copies []) port
+    deliveries_by_offers settings (events_since copies []) port
     ∙ ap (λ (offers : List Offer). messages_by settings offers port) (whole_offers settings packet copies (each_first_is_forwarded settings numbering timing copies come) carry)
 
 -- ---- datagrams one after another
@@ -61,7 +59,7 @@ pub split_delivered : (settings : Settings) (numbering : Numbering) (timing : Ti
 split_delivered settings numbering timing packet copy before first during earlier payload come carry is_first same split =
     let each = each_first_is_forwarded settings numbering timing (copy ∷ before) come in
     split_in_any_past settings (events_of_copies before) (arrival_of copy.event) copy.event.room (packet copy.index) first during earlier payload (each.0 ∙ ap not is_first) carry.0
-    (ap (offered_in settings) (sym (events_alone before)) ∙ whole_offers settings packet before each.1 carry.1 ∙ same) split
+    (whole_offers settings packet before each.1 carry.1 ∙ same) split
 
 -- ---- datagrams among one another
 

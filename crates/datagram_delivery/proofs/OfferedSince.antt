@@ -20,12 +20,12 @@ use Rattle.es_base.specs.Outcome.{Payload, brings, brought, datagram_payload, fr
 use Rattle.es_base.specs.Deliveries.{delivered, deliveries, number_delivered}
 use Rattle.es_base.specs.Settings.{Settings}
 use Rattle.es_base.proofs.Keys.{key_itself}
-use Rattle.frame_delivery.specs.Sending.{Copy, Numbering, events_of_copies}
+use Rattle.frame_delivery.specs.Sending.{Copy, Numbering, events_of_copies, events_since}
 use Rattle.frame_delivery.specs.Once.{first_copies, passing_copies}
 use Rattle.frame_delivery.specs.Network.{Timing}
-use Rattle.frame_delivery.specs.Since.{IsFirstPassing, PassTimely, events_since, forwarded_since, passing_since}
+use Rattle.frame_delivery.specs.Since.{IsFirstPassing, PassTimely, forwarded_since, passing_since}
 use Rattle.frame_delivery.proofs.Delivered.{nothing_delivered}
-use Rattle.frame_delivery.proofs.Since.{events_alone, first_since, firsts_since, pass_before, passing_alone}
+use Rattle.frame_delivery.proofs.Since.{first_since, firsts_since, pass_before, passing_alone}
 use Rattle.datagram_delivery.specs.Splitting.{Offer, groups_after_offers, joined, pieces_of}
 use Rattle.datagram_delivery.specs.Datagrams.{CarryPackets, IsSplitAmong, messages_by, offers_of}
 use Rattle.datagram_delivery.specs.Offers.{offer_with, offered_in}
@@ -104,7 +104,7 @@ packets_since settings numbering timing packet old copies pass carry =
 pub packets_alone : (settings : Settings) (numbering : Numbering) (timing : Timing) (packet : ℕ → PacketParts) (copies : List Copy) (port : PortNo) → PassTimely settings numbering timing [] copies
     → CarryPackets packet (forwarded_since settings [] copies) → deliveries settings (events_of_copies copies) port ≡ messages_by settings (offers_of packet (first_copies (passing_copies settings copies))) port
 packets_alone settings numbering timing packet copies port pass carry =
-    ap (λ (past : List Event). deliveries settings past port) (sym (events_alone copies)) ∙ deliveries_by_offers settings (events_since copies []) port
+    deliveries_by_offers settings (events_since copies []) port
     ∙ ap (λ (offers : List Offer). messages_by settings offers port) (packets_since settings numbering timing packet [] copies pass carry ∙ append-nil (offers_of packet (first_copies (passing_since settings [] copies))))
     ∙ ap (λ (some : List Copy). messages_by settings (offers_of packet (first_copies some)) port) (passing_alone settings copies)
 

@@ -7,10 +7,10 @@ use Rattle.es_base.specs.Packet as packets
 use Rattle.es_base.specs.Outcome as outcomes
 use Rattle.es_base.specs.Deliveries.{deliveries}
 use Rattle.es_base.specs.Groups.{fate, groups_after}
-use Rattle.frame_delivery.specs.Sending.{Copy}
+use Rattle.frame_delivery.specs.Sending.{Copy, events_since}
 use Rattle.frame_delivery.specs.Once.{first_copies}
 use Rattle.frame_delivery.specs.Network.{KeepsTimes}
-use Rattle.frame_delivery.specs.Since.{PassTimely, events_since, passing_since}
+use Rattle.frame_delivery.specs.Since.{PassTimely, passing_since}
 use Rattle.frame_delivery.specs.Examples.{numbering}
 use Rattle.frame_delivery.proofs.Main.{short_is_near}
 use Rattle.frame_delivery.proofs.Times.{apart_not_late, short_firsts}

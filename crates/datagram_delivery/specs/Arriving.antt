@@ -1,7 +1,6 @@
 -- A message that arrives at a link: whatever came before its sender's copies, and whatever comes after it.
 use Rattle.std.specs.Prelude.{◌≡◌, ◌<◌, ◌⊎◌, ℕ, true, List, ◌∷◌, ◌++◌}
 use Rattle.es_base.specs.declared.event.Event.{Event}
-use Rattle.es_base.specs.declared.event.Message.{Message}
 use Rattle.es_base.specs.Deliveries.{number_delivered}
 use Rattle.es_base.specs.Limits.{most_samples}
 use Rattle.es_base.specs.Outcome.{Payload}
@@ -10,13 +9,14 @@ use Rattle.es_base.specs.Settings.{Settings}
 use Rattle.frame_delivery.specs.Messages.{has_room}
 use Rattle.frame_delivery.specs.Network.{Timing}
 use Rattle.frame_delivery.specs.Once.{first_copies}
-use Rattle.frame_delivery.specs.Sending.{Copy, Numbering}
-use Rattle.frame_delivery.specs.Since.{IsFirstPassing, PassTimely, events_since, forwarded_since, passing_since}
+use Rattle.frame_delivery.specs.Sending.{Copy, Numbering, events_since}
+use Rattle.frame_delivery.specs.Since.{IsFirstPassing, PassTimely, forwarded_since, passing_since}
 use Rattle.datagram_delivery.specs.Datagrams.{CarryPackets, IsSentWhole, IsSplitAmong, offers_of}
 use Rattle.datagram_delivery.specs.Offers.{offered_in}
 use Rattle.datagram_delivery.specs.Splitting.{Offer}
 
 -- a datagram in fragments, of which this is the last, was offered among these
+-- rule: DELIV-12
 pub record IsSplitAfter (settings : Settings) (payload : Payload) (offers : List Offer) (last : Offer) : Type 0 where
   pub first : Offer
   pub during : List Offer
@@ -48,6 +48,6 @@ pub record Arrives (settings : Settings) (past : List Event) (payload : Payload)
   pub few : number_delivered settings (events_since before old) payload.port < most_samples
   pub at : time ≡ copy.event.time
 
--- a message is one of some messages
-abbrev pub IsOneOf : Message → List Message → Type 0
-IsOneOf message messages = (earlier : List Message) × (later : List Message) × (messages ≡ earlier ++ message ∷ later)
+-- the events that came before the copy with which it arrives
+abbrev pub past_before : {settings : Settings} {past : List Event} {payload : Payload} {time : ℕ} → Arrives settings past payload time → List Event
+past_before one = events_since one.before one.old

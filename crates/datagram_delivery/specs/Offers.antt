@@ -14,6 +14,7 @@ offer_with None e before = before
 offer_with (Some packet) e before = record { packet = packet; time = e.time; room = e.room } ∷ before
 
 -- the packets of the frames that were forwarded, but for those whose header has a fault
+-- rule: DELIV-7
 abbrev pub offered_in : Settings → List Event → List Offer
 offered_in settings [] = []
 offered_in settings (e ∷ past) = offer_with (offered (is_forwarded settings past (arrival_of e)) e.frame) e (offered_in settings past)

@@ -58,6 +58,7 @@ abbrev pub IsUnusedIn : ℕ → List Offer → Event → Type 0
 IsUnusedIn limit old e = (packet : PacketParts) → packet_in e.frame ≡ Ok packet → is_whole packet ≡ false → IsUnused limit (key_of packet) e.time old
 
 -- the same of the frames that come after an old past, which may have anything but these keys within the limit
+-- rule: DELIV-2
 abbrev pub HavePartsSince : Settings → (Event → List ℕ) → List Event → List Event → Type 0
 HavePartsSince settings datagram old [] = Unit {0}
 HavePartsSince settings datagram old (e ∷ past) =

@@ -15,14 +15,14 @@ ghost use Rattle.es_base.specs.Reassembly.{groups_in, packet_in};
 ghost use Rattle.es_base.specs.Redundancy.{is_forwarded};
 ghost use Rattle.es_base.specs.Outcome.{Payload, brings, outcome};
 ghost use Rattle.es_base.specs.Deliveries.{deliveries};
-ghost use Rattle.frame_delivery.specs.Sending.{Copy, Numbering, events_of_copies};
+ghost use Rattle.frame_delivery.specs.Sending.{Copy, Numbering, events_of_copies, events_since};
 ghost use Rattle.frame_delivery.specs.Once.{first_copies, has_come, passing_copies};
 ghost use Rattle.frame_delivery.specs.Network.{ComeWhole, KeepsGap, KeepsPause, KeepsTimes, Timing};
-ghost use Rattle.frame_delivery.specs.Since.{IsFirstPassing, PassTimely, events_since, forwarded_since, passing_since};
+ghost use Rattle.frame_delivery.specs.Since.{IsFirstPassing, PassTimely, forwarded_since, passing_since};
 ghost use Rattle.datagram_delivery.specs.Splitting.{AreFronts, IsLastFragment, Offer, LeavesRoom, groups_after_offers, is_of, joined, other_keys, pieces_of};
 ghost use Rattle.datagram_delivery.specs.Datagrams.{AreSent, CarryPackets, IsSplitAmong, IsSplitInOrder, Sent, all_offers, messages_by, messages_sent, offers_of};
 ghost use Rattle.datagram_delivery.specs.Offers.{offered_in};
-ghost use Rattle.datagram_delivery.specs.Arriving.{Arrives, IsOneOf};
+ghost use Rattle.datagram_delivery.specs.Arriving.{Arrives, past_before};
 ghost use Rattle.datagram_delivery.specs.Interleaved.{AreInterleaved, Carried, SendsOn, SendsNext, carried_offers, messages_ended};
 ghost use Rattle.datagram_delivery.specs.Parts.{AreWhole, HaveParts, HavePartsSince, IsMessageOfDatagram, WereSentIn};
 ghost use Rattle.datagram_delivery.specs.Counting.{AreCounted, Counting, CountsUp, IsOverBefore, KeepsCount, TurnsOverLate};
@@ -88,7 +88,8 @@ pub fn a_split_message_is_delivered()
 {}
 
 /// What a port gets is what it would get if the packets of the frames that were forwarded were offered one by one, in any
-/// past of a link: this asks nothing of senders and of networks, and no fault voids it. So do the groups stand.
+/// past of a link: this asks nothing of senders and of networks, and no fault voids it. The groups stand as after these
+/// offers.
 pub fn deliveries_are_of_what_was_offered()
     ensures messages { (settings : Settings) (past : List Event) (port : PortNo) → deliveries settings past port ≡ messages_by settings (offered_in settings past) port }
     ensures groups { (settings : Settings) (past : List Event) → groups_in settings past ≡ groups_after_offers settings.reassembly [] (offered_in settings past) }
@@ -124,12 +125,11 @@ pub fn a_split_message_is_delivered_after_any_past()
 
 /// So a message that arrives is delivered to its port: whatever came before its sender's copies, whatever was lost of
 /// others, and whatever comes after it. No fault of a sender or a network, once it is over, voids this. It stands right
-/// after what was delivered before it.
+/// after what was delivered before it: so each that arrives has a place of its own.
 pub fn each_message_that_arrives_is_delivered()
-    ensures brings { (settings : Settings) (past : List Event) (payload : Payload) (time : ℕ) → (one : Arrives settings past payload time) → outcome settings (events_since one.before one.old) (arrival_of one.copy.event) ≡ brings payload }
-    ensures in_order { (settings : Settings) (past : List Event) (payload : Payload) (time : ℕ) → (one : Arrives settings past payload time)
-        → (later : List Message) × (deliveries settings past payload.port ≡ deliveries settings (events_since one.before one.old) payload.port ++ record { time = time; octets = payload.octets } ∷ later) }
-    ensures delivered { (settings : Settings) (past : List Event) (payload : Payload) (time : ℕ) → Arrives settings past payload time → IsOneOf (record { time = time; octets = payload.octets }) (deliveries settings past payload.port) }
+    ensures brings { (settings : Settings) (past : List Event) (payload : Payload) (time : ℕ) → (one : Arrives settings past payload time) → outcome settings (past_before one) (arrival_of one.copy.event) ≡ brings payload }
+    ensures delivered { (settings : Settings) (past : List Event) (payload : Payload) (time : ℕ) → (one : Arrives settings past payload time)
+        → (later : List Message) × (deliveries settings past payload.port ≡ deliveries settings (past_before one) payload.port ++ record { time = time; octets = payload.octets } ∷ later) }
 {}
 
 /// Nothing is made up, mixed or cut, whatever is lost, brought twice or out of order: a message that a port gets is

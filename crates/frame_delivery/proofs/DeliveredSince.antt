@@ -11,11 +11,11 @@ use Rattle.es_base.specs.Redundancy.{is_forwarded}
 use Rattle.es_base.specs.Outcome.{Payload}
 use Rattle.es_base.specs.Deliveries.{delivered, deliveries, number_delivered}
 use Rattle.es_base.specs.Settings.{Settings}
-use Rattle.frame_delivery.specs.Sending.{Copy, Numbering}
+use Rattle.frame_delivery.specs.Sending.{Copy, Numbering, events_since}
 use Rattle.frame_delivery.specs.Once.{first_copies}
 use Rattle.frame_delivery.specs.Network.{Timing}
 use Rattle.frame_delivery.specs.Messages.{CarryWhole, goes_to, messages_of}
-use Rattle.frame_delivery.specs.Since.{PassTimely, events_since, forwarded_since, passing_since}
+use Rattle.frame_delivery.specs.Since.{PassTimely, forwarded_since, passing_since}
 use Rattle.frame_delivery.proofs.Delivered.{forwarded_outcome, nothing_delivered, takes}
 use Rattle.frame_delivery.proofs.Since.{firsts_since}
 

@@ -1,17 +1,12 @@
 -- Redundancy management forwards the copies that are new.
-use Rattle.std.proofs.Common.{◌≡◌, ◌∙◌, sym, ap, ℕ, ◌+◌, ◌<◌, ◌≤◌, Bool, true, false, List, [], ◌∷◌, refl, ⊎_elim, arith}
-use Rattle.std.specs.Prelude.{◌&&◌, ◌||◌, nat_lt, max}
+use Rattle.std.proofs.Common.{◌≡◌, ◌∙◌, sym, ap, ℕ, ◌+◌, ◌<◌, ◌≤◌, true, false, List, [], ◌∷◌, refl, ⊎_elim, arith}
+use Rattle.std.specs.Prelude.{◌||◌, nat_lt, max}
 use Rattle.std.proofs.lemmas.Bool.{cases_Bool, cases_lt, lt-ltb, le-ltb, or_left, or_right, or_from}
 use Rattle.es_base.specs.Frame.{sequence_number_of}
-use Rattle.es_base.specs.Past.{arrival_of}
-use Rattle.es_base.specs.Integrity.{passes}
-use Rattle.es_base.specs.Copies.{Forwarded, is_ahead, elapsed, greatest_time, is_first_copy}
-use Rattle.es_base.specs.Redundancy.{forwarded, is_forwarded, is_forwarded_after}
-use Rattle.es_base.specs.Settings.{Settings}
-use Rattle.frame_delivery.specs.Sending.{Copy, EachCopy, HaveNumbers, Numbering, events_of_copies, number_of_frame}
-use Rattle.frame_delivery.specs.Once.{AreInOrder, ComesInTime, IsForwardedIfNew, as_forwarded, greatest_index, is_new, new_copies, newest_time, passing_copies}
+use Rattle.es_base.specs.Copies.{is_ahead, elapsed, greatest_time, is_first_copy}
+use Rattle.frame_delivery.specs.Sending.{Copy, HaveNumbers, Numbering, number_of_frame}
+use Rattle.frame_delivery.specs.Once.{AreInOrder, ComesInTime, as_forwarded, greatest_index, is_new, new_copies, newest_time}
 use Rattle.frame_delivery.proofs.Numbers.{ahead_of_earlier, not_ahead_of_later}
-use Rattle.frame_delivery.proofs.Kept.{each_passing}
 
 -- ---- the newest of some copies
 
@@ -77,63 +72,6 @@ first_is_new numbering skew_max (other ∷ before) copy small numbers number in_
     or_from _ _ (le-ltb skew_max (elapsed copy.event.time time) (omega arith)) (not_ahead_of_later numbering (greatest_index all) copy.index small old (in_time.behind soon).0 (in_time.behind soon).1)
     ∙ sym not_new)
     (cases_lt (greatest_index all) copy.index)
-
--- ---- so the new copies are forwarded
-
-forwarded_if : (settings : Settings) (earlier : List Forwarded) (copy : Copy) (before : List Copy) (new : Bool) → settings.redundancy ≡ true
-    → passes settings (events_of_copies before) (arrival_of copy.event) ≡ true
-    → is_first_copy settings.skew_max earlier (sequence_number_of copy.event.frame) copy.event.time ≡ new
-    → is_forwarded_after settings earlier (events_of_copies before) (arrival_of copy.event) ≡ new
-forwarded_if settings earlier copy before true on pass first = rw (pass, on, first) refl
-forwarded_if settings earlier copy before false on pass first = rw (pass, on, first) refl
-
-pub new_are_forwarded : (settings : Settings) (numbering : Numbering) (copies : List Copy) → settings.redundancy ≡ true → numbering.first ≤ 255 → HaveNumbers numbering copies
-    → EachCopy (ComesInTime numbering settings.skew_max) (passing_copies settings copies)
-    → forwarded settings (events_of_copies copies) ≡ as_forwarded (new_copies (passing_copies settings copies))
-new_are_forwarded settings numbering [] on small numbers in_time = refl
-new_are_forwarded settings numbering (copy ∷ before) on small numbers in_time =
-    ⊎_elim
-    (λ (pass : passes settings (events_of_copies before) (arrival_of copy.event) ≡ true).
-    let at = rw pass at in_time in
-    let earlier = new_are_forwarded settings numbering before on small numbers.1 at.1 in
-    let first_one = first_is_new numbering settings.skew_max (passing_copies settings before) copy small (each_passing (λ copy. sequence_number_of copy.event.frame ≡ number_of_frame numbering copy.index) settings before numbers.1) numbers.0 at.0 in
-    let is = forwarded_if settings (as_forwarded (new_copies (passing_copies settings before))) copy before (is_new copy.index (passing_copies settings before)) on pass first_one in
-    ⊎_elim
-    (λ (new : is_new copy.index (passing_copies settings before) ≡ true). rw (earlier, is ∙ new, pass, new) refl)
-    (λ (old : is_new copy.index (passing_copies settings before) ≡ false). rw (earlier, is ∙ old, pass, old) refl)
-    (cases_Bool (is_new copy.index (passing_copies settings before))))
-    (λ (refused : passes settings (events_of_copies before) (arrival_of copy.event) ≡ false).
-    let at = rw refused at in_time in
-    rw refused (new_are_forwarded settings numbering before on small numbers.1 at))
-    (cases_Bool (passes settings (events_of_copies before) (arrival_of copy.event)))
-
--- a copy is forwarded exactly if it passes and is new
-pub copy_is_forwarded : (settings : Settings) (numbering : Numbering) (copy : Copy) (before : List Copy) → settings.redundancy ≡ true → numbering.first ≤ 255 → HaveNumbers numbering (copy ∷ before)
-    → EachCopy (ComesInTime numbering settings.skew_max) (passing_copies settings (copy ∷ before))
-    → is_forwarded settings (events_of_copies before) (arrival_of copy.event) ≡ (passes settings (events_of_copies before) (arrival_of copy.event) && is_new copy.index (passing_copies settings before))
-copy_is_forwarded settings numbering copy before on small numbers in_time =
-    ⊎_elim
-    (λ (pass : passes settings (events_of_copies before) (arrival_of copy.event) ≡ true).
-    let at = rw pass at in_time in
-    let earlier = new_are_forwarded settings numbering before on small numbers.1 at.1 in
-    let first_one = first_is_new numbering settings.skew_max (passing_copies settings before) copy small (each_passing (λ copy. sequence_number_of copy.event.frame ≡ number_of_frame numbering copy.index) settings before numbers.1) numbers.0 at.0 in
-    let is = forwarded_if settings (as_forwarded (new_copies (passing_copies settings before))) copy before (is_new copy.index (passing_copies settings before)) on pass first_one in
-    ap (λ frames. is_forwarded_after settings frames (events_of_copies before) (arrival_of copy.event)) earlier ∙ is ∙ sym (ap (λ (b : Bool). b && is_new copy.index (passing_copies settings before)) pass))
-    (λ (refused : passes settings (events_of_copies before) (arrival_of copy.event) ≡ false). rw refused refl)
-    (cases_Bool (passes settings (events_of_copies before) (arrival_of copy.event)))
-
-pub copies_are_forwarded : (settings : Settings) (numbering : Numbering) (copies : List Copy) → settings.redundancy ≡ true → numbering.first ≤ 255 → HaveNumbers numbering copies
-    → EachCopy (ComesInTime numbering settings.skew_max) (passing_copies settings copies) → EachCopy (IsForwardedIfNew settings) copies
-copies_are_forwarded settings numbering [] on small numbers in_time = tt
-copies_are_forwarded settings numbering (copy ∷ before) on small numbers in_time =
-    (copy_is_forwarded settings numbering copy before on small numbers in_time, copies_are_forwarded settings numbering before on small numbers.1 (fewer settings numbering copy before in_time))
-  where
-    fewer : (settings : Settings) (numbering : Numbering) (copy : Copy) (before : List Copy) → EachCopy (ComesInTime numbering settings.skew_max) (passing_copies settings (copy ∷ before)) → EachCopy (ComesInTime numbering settings.skew_max) (passing_copies settings before)
-    fewer settings numbering copy before in_time =
-        ⊎_elim
-        (λ (pass : passes settings (events_of_copies before) (arrival_of copy.event) ≡ true). let at = rw pass at in_time in at.1)
-        (λ (refused : passes settings (events_of_copies before) (arrival_of copy.event) ≡ false). rw refused at in_time)
-        (cases_Bool (passes settings (events_of_copies before) (arrival_of copy.event)))
 
 -- ---- in order
 

@@ -1,13 +1,12 @@
 pub mod Numbers
 pub mod Running
-pub mod Kept
 pub mod Forwarding
 pub mod Passing
 pub mod Near
 pub mod Times
 pub mod Firsts
-pub mod Main
 pub mod Since
+pub mod Main
 pub mod OneNetwork
 pub mod Together
 pub mod Delivered

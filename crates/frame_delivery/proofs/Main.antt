@@ -9,10 +9,10 @@ use Rattle.es_base.specs.Redundancy.{forwarded}
 use Rattle.es_base.specs.Settings.{Settings}
 use Rattle.frame_delivery.specs.Sending.{Copy, EachCopy, HaveNumbers, Numbering, events_of_copies}
 use Rattle.frame_delivery.specs.Once.{AreInOrder, ComesInTime, FirstsInOrder, IsForwardedIfFirst, IsForwardedIfNew, as_forwarded, first_copies, greatest_index, has_come, is_new, new_copies, newest_time, passing_copies}
-use Rattle.frame_delivery.specs.Network.{BeginNear, BeginsNear, ComeTimely, ComeWhole, IsNeverLate, HasAge, IsOnItsWay, IsOverSoon, KeepsOrder, KeepsTimes, LosesFew, Timing}
-use Rattle.frame_delivery.proofs.Kept.{each_passing, order_of_passing}
-use Rattle.frame_delivery.proofs.Forwarding.{copies_are_forwarded, new_are_forwarded, new_in_order, same_greatest}
+use Rattle.frame_delivery.specs.Network.{BeginNear, BeginsNear, ComeTimely, ComeWhole, HasAge, IsNeverLate, IsOnItsWay, IsOverSoon, KeepsOrder, KeepsTimes, LosesFew, Timing}
+use Rattle.frame_delivery.proofs.Forwarding.{new_in_order, same_greatest}
 use Rattle.frame_delivery.proofs.Near.{near_the_newest}
+use Rattle.frame_delivery.proofs.Since.{copies_are_forwarded, each_passing, new_are_forwarded, order_of_passing}
 use Rattle.frame_delivery.proofs.Passing.{all_pass, new_passes}
 use Rattle.frame_delivery.proofs.Times.{AreNotLate, all_in_time, begin_near, not_late}
 use Rattle.frame_delivery.proofs.Firsts.{new_are_first, new_has_not_come, new_is_first}

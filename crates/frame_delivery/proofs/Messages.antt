@@ -1,7 +1,6 @@
 -- The theorems on messages that come whole in a frame.
-use Rattle.std.proofs.Common.{◌≡◌, ◌∙◌, ap, sym, ℕ, ◌≤◌, List, [], length, arith}
+use Rattle.std.proofs.Common.{◌≡◌, ◌∙◌, ap, ℕ, ◌≤◌, List, [], length, arith}
 use Rattle.es_base.specs.declared.place.PortNo.{PortNo}
-use Rattle.es_base.specs.declared.event.Event.{Event}
 use Rattle.es_base.specs.Limits.{most_samples}
 use Rattle.es_base.specs.Outcome.{Payload}
 use Rattle.es_base.specs.Deliveries.{deliveries}
@@ -12,14 +11,13 @@ use Rattle.frame_delivery.specs.Network.{ComeWhole, Timing}
 use Rattle.frame_delivery.specs.Messages.{AllCame, CarriesWhole, CarryWhole, HaveRoom, messages_of, octets_of_messages, octets_sent}
 use Rattle.frame_delivery.proofs.Main.{each_first_is_forwarded, firsts_are_forwarded}
 use Rattle.frame_delivery.proofs.DeliveredSince.{delivered_since}
-use Rattle.frame_delivery.proofs.Since.{each_forwarded, events_alone, firsts_are_all}
+use Rattle.frame_delivery.proofs.Since.{each_forwarded, firsts_are_all}
 use Rattle.frame_delivery.proofs.Whole.{all_first_octets}
 
 pub messages_delivered : (settings : Settings) (numbering : Numbering) (timing : Timing) (payload : ℕ → Payload) (copies : List Copy) (port : PortNo) → ComeWhole settings numbering timing copies
     → CarryWhole settings payload copies → length copies ≤ most_samples → deliveries settings (events_of_copies copies) port ≡ messages_of payload port (first_copies copies)
 messages_delivered settings numbering timing payload copies port come carry few =
-    ap (λ (past : List Event). deliveries settings past port) (sym (events_alone copies))
-    ∙ delivered_since settings payload port [] copies (each_forwarded (λ copy. CarriesWhole settings (payload copy.index) copy.event.frame) settings [] copies carry) (omega (arith, few))
+    delivered_since settings payload port [] copies (each_forwarded (λ copy. CarriesWhole settings (payload copy.index) copy.event.frame) settings [] copies carry) (omega (arith, few))
     ∙ ap (messages_of payload port) (firsts_are_all settings copies (each_first_is_forwarded settings numbering timing copies come))
 
 pub all_delivered : (settings : Settings) (numbering : Numbering) (timing : Timing) (payload : ℕ → Payload) (copies : List Copy) (port : PortNo) (n : ℕ) → ComeWhole settings numbering timing copies

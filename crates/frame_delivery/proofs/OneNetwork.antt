@@ -10,14 +10,14 @@ use Rattle.es_base.specs.Frame.{sequence_number_of}
 use Rattle.es_base.specs.Past.{arrival_of}
 use Rattle.es_base.specs.Integrity.{is_same_net, latest, may_follow, passes, sequence_numbers_on}
 use Rattle.es_base.specs.Settings.{Settings}
-use Rattle.frame_delivery.specs.Sending.{Copy, HaveNumbers, Numbering, events_of_copies, number_of_frame}
+use Rattle.frame_delivery.specs.Sending.{Copy, HaveNumbers, Numbering, events_of_copies, events_since, number_of_frame}
 use Rattle.frame_delivery.specs.Once.{AreInOrder, first_copies, has_come, passing_copies}
 use Rattle.frame_delivery.specs.Network.{BringsInRow, IsLater, KeepsOrder, LosesFew, MayFollow, Timing, copies_on, indices_on}
 use Rattle.frame_delivery.specs.Running.{EachForwarded}
-use Rattle.frame_delivery.specs.Since.{PassTimely, events_since, forwarded_since, passing_since}
+use Rattle.frame_delivery.specs.Since.{PassTimely, forwarded_since, passing_since}
 use Rattle.frame_delivery.proofs.Passing.{may_follow_too}
 use Rattle.frame_delivery.proofs.Firsts.{all_have_first}
-use Rattle.frame_delivery.proofs.Since.{counts_at_last, events_alone, firsts_since, passing_alone}
+use Rattle.frame_delivery.proofs.Since.{counts_at_last, firsts_since, passing_alone}
 
 -- ---- the copies of one network
 
@@ -112,8 +112,7 @@ row_passes settings numbering net copy before row is =
         → MayFollow numbering settings.window (latest (indices_on before copy.event.net)) copy.index → passes settings (events_of_copies before) (arrival_of copy.event) ≡ true
     go None none numbers later may = ap (λ (one : Option ℕ). may_follow settings.window one (sequence_number_of copy.event.frame)) (no_number copy.event.net before none)
     go (Some last) is_last numbers later may =
-        ap (λ (past : List Event). passes settings past (arrival_of copy.event)) (sym (events_alone before))
-        ∙ passes_again settings numbering [] copy before last numbers is_last (rw is_last at later) (rw is_last at may)
+        passes_again settings numbering [] copy before last numbers is_last (rw is_last at later) (rw is_last at may)
 
 -- ---- so each frame of which it brings a copy is forwarded
 

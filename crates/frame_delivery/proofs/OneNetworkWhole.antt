@@ -4,7 +4,6 @@ use Rattle.std.specs.Prelude.{◌==◌, ◌||◌}
 use Rattle.std.proofs.lemmas.Bool.{both_ways, cases_Bool, cases_lt, le-ltb, lt-ltb, or_cases, or_left, or_right}
 use Rattle.es_base.specs.declared.place.PortNo.{PortNo}
 use Rattle.es_base.specs.declared.place.Net.{Net}
-use Rattle.es_base.specs.declared.event.Event.{Event}
 use Rattle.es_base.specs.Deliveries.{deliveries}
 use Rattle.es_base.specs.Limits.{most_samples}
 use Rattle.es_base.specs.Outcome.{Payload}
@@ -17,9 +16,8 @@ use Rattle.frame_delivery.specs.Once.{has_come, passing_copies}
 use Rattle.frame_delivery.specs.Sending.{Copy, Numbering, events_of_copies}
 use Rattle.frame_delivery.specs.Since.{PassTimely}
 use Rattle.frame_delivery.proofs.DeliveredSince.{delivered_since}
-use Rattle.frame_delivery.proofs.Kept.{each_passing}
 use Rattle.frame_delivery.proofs.OneNetwork.{firsts_alone, row_come}
-use Rattle.frame_delivery.proofs.Since.{each_forwarded, events_alone}
+use Rattle.frame_delivery.proofs.Since.{each_forwarded, each_passing}
 use Rattle.frame_delivery.proofs.Whole.{all_first_octets}
 
 -- a frame of which a copy passes came
@@ -53,8 +51,7 @@ pub all_by_one : (settings : Settings) (numbering : Numbering) (timing : Timing)
     → octets_of_messages (deliveries settings (events_of_copies copies) port) ≡ octets_sent payload port n
 all_by_one settings numbering timing payload copies port net n pass row all all_on carry few room =
     let firsts = firsts_alone settings numbering timing copies pass in
-    ap (λ (past : List Event). octets_of_messages (deliveries settings past port)) (sym (events_alone copies))
-    ∙ ap octets_of_messages (delivered_since settings payload port [] copies (each_forwarded (λ copy. CarriesWhole settings (payload copy.index) copy.event.frame) settings [] copies carry) (omega (arith, few)))
+    ap octets_of_messages (delivered_since settings payload port [] copies (each_forwarded (λ copy. CarriesWhole settings (payload copy.index) copy.event.frame) settings [] copies carry) (omega (arith, few)))
     ∙ ap (λ (some : List Copy). octets_of_messages (messages_of payload port some)) firsts.0
     ∙ all_first_octets payload port n (passing_copies settings copies) firsts.1 (each_passing (λ copy. has_room (payload copy.index).kind copy.event.room ≡ true) settings copies room)
     (all_pass_of_one settings numbering copies net n row all all_on)

@@ -1,7 +1,7 @@
 -- After any past, from the first copy on that is forwarded, the first copy of each frame that passes is forwarded.
-use Rattle.std.proofs.Common.{◌≡◌, ◌∙◌, sym, ap, subst, ℕ, ◌+◌, ◌<◌, ◌≤◌, Bool, true, false, not, List, [], ◌∷◌, ◌++◌, length, suc, inl, refl, ⊎_elim, arith}
+use Rattle.std.proofs.Common.{◌≡◌, ◌∙◌, sym, ap, subst, ℕ, ◌+◌, ◌<◌, ◌≤◌, Bool, true, false, not, List, [], ◌∷◌, ◌++◌, append-nil, inl, refl, ⊎_elim, arith}
 use Rattle.std.specs.Prelude.{◌&&◌, ◌||◌, ◌⊎◌, nat_lt, max}
-use Rattle.std.proofs.lemmas.Bool.{cases_Bool}
+use Rattle.std.proofs.lemmas.Bool.{and_from, and_right, cases_Bool}
 use Rattle.es_base.specs.declared.event.Arrival.{Arrival}
 use Rattle.es_base.specs.declared.event.Event.{Event}
 use Rattle.es_base.specs.Frame.{sequence_number_of}
@@ -10,13 +10,13 @@ use Rattle.es_base.specs.Integrity.{passes}
 use Rattle.es_base.specs.Copies.{Forwarded, elapsed, greatest_time, is_ahead, is_first_copy}
 use Rattle.es_base.specs.Redundancy.{forwarded, is_forwarded, is_forwarded_after}
 use Rattle.es_base.specs.Settings.{Settings}
-use Rattle.frame_delivery.specs.Sending.{Copy, EachCopy, HaveNumbers, Numbering, events_of_copies, number_of_frame}
-use Rattle.frame_delivery.specs.Once.{AreInOrder, ComesInTime, FirstsInOrder, IsForwardedIfFirst, as_forwarded, first_copies, has_come, is_new, new_copies, newest_time, passing_copies}
+use Rattle.frame_delivery.specs.Sending.{Copy, EachCopy, HaveNumbers, Numbering, events_of_copies, events_since, number_of_frame}
+use Rattle.frame_delivery.specs.Once.{AreInOrder, ComesInTime, FirstsInOrder, IsForwardedIfFirst, IsForwardedIfNew, as_forwarded, first_copies, has_come, is_new, new_copies, newest_time, passing_copies}
 use Rattle.frame_delivery.specs.Network.{BeginNear, ComeTimely, HasNoOvertaking, IsNeverLate, IsOnItsWay, KeepsTimes, Timing, time_of_all}
 use Rattle.frame_delivery.specs.Running.{EachForwarded}
-use Rattle.frame_delivery.specs.Since.{ComeAfter, IsFirstPassing, PassTimely, counts, events_since, forwarded_since, passing_since}
+use Rattle.frame_delivery.specs.Since.{ComeAfter, IsFirstPassing, PassTimely, counts, forwarded_since, passing_since}
 use Rattle.frame_delivery.proofs.Forwarding.{first_is_new, new_in_order, newest_of}
-use Rattle.frame_delivery.proofs.Firsts.{new_are_first}
+use Rattle.frame_delivery.proofs.Firsts.{new_are_first, new_is_first}
 use Rattle.frame_delivery.proofs.Running.{all_over, first_when_over}
 use Rattle.frame_delivery.proofs.Times.{all_in_time, apart_not_late, none_overtaken, not_late}
 
@@ -131,30 +131,30 @@ module _ (settings : Settings) (numbering : Numbering) (old : List Event) (on : 
       ap (λ (frames : List Forwarded). is_forwarded_after settings frames (events_since before old) (arrival_of copy.event)) frames
       ∙ forwarded_if settings (as_forwarded (new_copies (one ∷ some)) ++ forwarded settings old) (events_since before old) (arrival_of copy.event) (is_new copy.index (one ∷ some)) on pass first
 
-  new_step : (copy : Copy) (before : List Copy) → (AreSound settings numbering old (passing_since settings old before) → forwarded_since settings old before ≡ new_copies (passing_since settings old before))
-      → AreSound settings numbering old (passing_since settings old (copy ∷ before))
-      → (some : List Copy) → passing_since settings old before ≡ some → forwarded_since settings old (copy ∷ before) ≡ new_copies (passing_since settings old (copy ∷ before))
-  new_step copy before earlier sound [] none =
-      let rest : forwarded_since settings old before ≡ [] = earlier (subst (AreSound settings numbering old) (sym none) (tt, tt, tt)) ∙ ap new_copies none in
-      ⊎_elim
-      (λ (is : is_forwarded settings (events_since before old) (arrival_of copy.event) ≡ true). rw (none, is) (ap (λ (copies : List Copy). copy ∷ copies) rest))
-      (λ (is : is_forwarded settings (events_since before old) (arrival_of copy.event) ≡ false). rw (none, is) rest)
-      (cases_Bool (is_forwarded settings (events_since before old) (arrival_of copy.event)))
-  new_step copy before earlier sound (one ∷ some) is =
-      ⊎_elim
-      (λ (pass : passes settings (events_since before old) (arrival_of copy.event) ≡ true).
-      let at : AreSound settings numbering old (copy ∷ one ∷ some) = rw (is, pass) at sound in
-      let rest : forwarded_since settings old before ≡ new_copies (one ∷ some) = earlier (subst (AreSound settings numbering old) (sym is) (at.0.1, at.1.1, at.2.1)) ∙ ap new_copies is in
-      let same = new_is_forwarded copy before one some rest at pass in
-      ⊎_elim
-      (λ (new : is_new copy.index (one ∷ some) ≡ true). rw (same ∙ new, is, pass, new) (ap (λ (copies : List Copy). copy ∷ copies) rest))
-      (λ (not_new : is_new copy.index (one ∷ some) ≡ false). rw (same ∙ not_new, is, pass, not_new) rest)
-      (cases_Bool (is_new copy.index (one ∷ some))))
-      (λ (fails : passes settings (events_since before old) (arrival_of copy.event) ≡ false).
-      let at : AreSound settings numbering old (one ∷ some) = rw (is, fails) at sound in
-      let rest : forwarded_since settings old before ≡ new_copies (one ∷ some) = earlier (subst (AreSound settings numbering old) (sym is) at) ∙ ap new_copies is in
-      rw (refused settings (events_since before old) (arrival_of copy.event) fails, is, fails) rest)
-      (cases_Bool (passes settings (events_since before old) (arrival_of copy.event)))
+  -- so a copy is forwarded exactly if it counts and is new
+  pub as_new : (copy : Copy) (before : List Copy) → forwarded_since settings old before ≡ new_copies (passing_since settings old before) → AreSound settings numbering old (passing_since settings old (copy ∷ before))
+      → is_forwarded settings (events_since before old) (arrival_of copy.event)
+      ≡ (counts settings (events_since before old) (arrival_of copy.event) (passing_since settings old before) && is_new copy.index (passing_since settings old before))
+  as_new copy before rest sound = go (passing_since settings old before) refl
+    where
+      past : List Event
+      past = events_since before old
+
+      a : Arrival
+      a = arrival_of copy.event
+
+      alone : (is : Bool) → is ≡ (is && true)
+      alone true = refl
+      alone false = refl
+
+      go : (some : List Copy) → passing_since settings old before ≡ some → is_forwarded settings past a ≡ (counts settings past a some && is_new copy.index some)
+      go [] none = alone (is_forwarded settings past a)
+      go (one ∷ some) is =
+          ⊎_elim
+          (λ (pass : passes settings past a ≡ true).
+          new_is_forwarded copy before one some (rest ∙ ap new_copies is) (rw (is, pass) at sound) pass ∙ sym (ap (λ (b : Bool). b && is_new copy.index (one ∷ some)) pass))
+          (λ (fails : passes settings past a ≡ false). refused settings past a fails ∙ sym (ap (λ (b : Bool). b && is_new copy.index (one ∷ some)) fails))
+          (cases_Bool (passes settings past a))
 
   -- those that count before a copy are asked no more
   sound_before : (copy : Copy) (before : List Copy) → AreSound settings numbering old (passing_since settings old (copy ∷ before)) → AreSound settings numbering old (passing_since settings old before)
@@ -168,19 +168,39 @@ module _ (settings : Settings) (numbering : Numbering) (old : List Event) (on : 
 
   pub new_since : (copies : List Copy) → AreSound settings numbering old (passing_since settings old copies) → forwarded_since settings old copies ≡ new_copies (passing_since settings old copies)
   new_since [] sound = refl
-  new_since (copy ∷ before) sound = new_step copy before (new_since before) sound (passing_since settings old before) refl
+  new_since (copy ∷ before) sound =
+      let rest = new_since before (sound_before copy before sound) in
+      let is = as_new copy before rest sound in
+      ⊎_elim
+      (λ (count : counts settings (events_since before old) (arrival_of copy.event) (passing_since settings old before) ≡ true).
+      ⊎_elim
+      (λ (new : is_new copy.index (passing_since settings old before) ≡ true). rw (is ∙ and_from _ _ count new, count, new) (ap (λ (copies : List Copy). copy ∷ copies) rest))
+      (λ (not_new : is_new copy.index (passing_since settings old before) ≡ false). rw (is ∙ and_right _ _ not_new, count, not_new) rest)
+      (cases_Bool (is_new copy.index (passing_since settings old before))))
+      (λ (fails : counts settings (events_since before old) (arrival_of copy.event) (passing_since settings old before) ≡ false).
+      rw (is ∙ ap (λ (b : Bool). b && is_new copy.index (passing_since settings old before)) fails, fails) rest)
+      (cases_Bool (counts settings (events_since before old) (arrival_of copy.event) (passing_since settings old before)))
 
 -- ---- from what is asked of the sender and of the networks
+
+sound_pass : (settings : Settings) (numbering : Numbering) (timing : Timing) (old : List Event) (copies : List Copy) → PassTimely settings numbering timing old copies
+    → AreSound settings numbering old (passing_since settings old copies)
+sound_pass settings numbering timing old copies pass =
+    let timely = pass.timely in
+    let times = timely.times in
+    let some : List Copy = passing_since settings old copies in
+    let in_time = all_in_time numbering timing times.gaps times.pauses settings.skew_max some timely.fits (not_late numbering timing times.gaps times.pauses pass.on_time) pass.near times.ways times.order in
+    (timely.numbers, old_times settings old some pass.after, in_time)
 
 pub firsts_since : (settings : Settings) (numbering : Numbering) (timing : Timing) (old : List Event) (copies : List Copy) → PassTimely settings numbering timing old copies
     → (forwarded_since settings old copies ≡ first_copies (passing_since settings old copies)) × AreInOrder (first_copies (passing_since settings old copies))
 firsts_since settings numbering timing old copies pass =
     let timely = pass.timely in
-    let times = timely.times in
-    let some : List Copy = passing_since settings old copies in
-    let in_time = all_in_time numbering timing times.gaps times.pauses settings.skew_max some timely.fits (not_late numbering timing times.gaps times.pauses pass.on_time) pass.near times.ways times.order in
-    let firsts : new_copies some ≡ first_copies some = new_are_first some pass.firsts in
-    (new_since settings numbering old timely.redundancy timely.first copies (timely.numbers, old_times settings old some pass.after, in_time) ∙ firsts, subst AreInOrder firsts (new_in_order some))
+    let firsts : new_copies (passing_since settings old copies) ≡ first_copies (passing_since settings old copies) = new_are_first (passing_since settings old copies) pass.firsts in
+    (
+      new_since settings numbering old timely.redundancy timely.first copies (sound_pass settings numbering timing old copies pass) ∙ firsts,
+      subst AreInOrder firsts (new_in_order (passing_since settings old copies)),
+    )
 
 -- where copies may be overtaken, the new ones are forwarded
 pub news_since : (settings : Settings) (numbering : Numbering) (timing : Timing) (old : List Event) (copies : List Copy) → ComeTimely settings numbering timing (passing_since settings old copies) → IsNeverLate timing
@@ -191,13 +211,6 @@ news_since settings numbering timing old copies timely on_time near after =
     let some : List Copy = passing_since settings old copies in
     let in_time = all_in_time numbering timing times.gaps times.pauses settings.skew_max some timely.fits (not_late numbering timing times.gaps times.pauses on_time) near times.ways times.order in
     (new_since settings numbering old timely.redundancy timely.first copies (timely.numbers, old_times settings old some after, in_time), new_in_order some)
-
--- so is the first copy of a frame that counts
-not_more : (copy : Copy) (copies : List Copy) → copies ≡ copy ∷ copies → ⊥
-not_more copy copies e = longer (length copies) (ap length e)
-  where
-    longer : (n : ℕ) → n ≡ suc n → ⊥
-    longer n e = absurd (omega (arith, e))
 
 -- what is asked of all is asked of those before the last
 pub pass_before : (settings : Settings) (numbering : Numbering) (timing : Timing) (old : List Event) (copy : Copy) (before : List Copy) → PassTimely settings numbering timing old (copy ∷ before)
@@ -227,36 +240,30 @@ pass_before settings numbering timing old copy before pass =
     (λ (is : counts settings (events_since before old) (arrival_of copy.event) (passing_since settings old before) ≡ false). record { timely = rw is at timely; on_time = pass.on_time; firsts = rw is at firsts; near = rw is at near; after = rw is at after })
     (cases_Bool (counts settings (events_since before old) (arrival_of copy.event) (passing_since settings old before)))
 
+-- so a copy is forwarded exactly if it is the first of its frame that counts
+first_if : (settings : Settings) (numbering : Numbering) (timing : Timing) (old : List Event) (copy : Copy) (before : List Copy) → PassTimely settings numbering timing old (copy ∷ before)
+    → is_forwarded settings (events_since before old) (arrival_of copy.event)
+    ≡ (counts settings (events_since before old) (arrival_of copy.event) (passing_since settings old before) && not (has_come copy.index (passing_since settings old before)))
+first_if settings numbering timing old copy before pass =
+    let sound = sound_pass settings numbering timing old (copy ∷ before) pass in
+    let firsts = pass.firsts in
+    let timely = pass.timely in
+    let rest = new_since settings numbering old timely.redundancy timely.first before (sound_before settings numbering old timely.redundancy timely.first copy before sound) in
+    as_new settings numbering old timely.redundancy timely.first copy before rest sound
+    ∙ ⊎_elim
+    (λ (count : counts settings (events_since before old) (arrival_of copy.event) (passing_since settings old before) ≡ true).
+    ap (λ (b : Bool). counts settings (events_since before old) (arrival_of copy.event) (passing_since settings old before) && b) (new_is_first copy (passing_since settings old before) (rw count at firsts).0))
+    (λ (fails : counts settings (events_since before old) (arrival_of copy.event) (passing_since settings old before) ≡ false). rw fails refl)
+    (cases_Bool (counts settings (events_since before old) (arrival_of copy.event) (passing_since settings old before)))
+
 pub first_since : (settings : Settings) (numbering : Numbering) (timing : Timing) (old : List Event) (copy : Copy) (before : List Copy) → PassTimely settings numbering timing old (copy ∷ before)
     → IsFirstPassing settings old before copy → is_forwarded settings (events_since before old) (arrival_of copy.event) ≡ true
-first_since settings numbering timing old copy before pass first =
-    let all : forwarded_since settings old (copy ∷ before) ≡ first_copies (passing_since settings old (copy ∷ before)) = (firsts_since settings numbering timing old (copy ∷ before) pass).0 in
-    let here : forwarded_since settings old (copy ∷ before) ≡ copy ∷ first_copies (passing_since settings old before) = all ∙ rw (first.0, first.1) refl in
-    let rest : forwarded_since settings old before ≡ first_copies (passing_since settings old before) = (firsts_since settings numbering timing old before (pass_before settings numbering timing old copy before pass)).0 in
-    ⊎_elim
-    (λ (is : is_forwarded settings (events_since before old) (arrival_of copy.event) ≡ true). is)
-    (λ (is : is_forwarded settings (events_since before old) (arrival_of copy.event) ≡ false).
-    let none : forwarded_since settings old (copy ∷ before) ≡ forwarded_since settings old before = rw is refl in
-    absurd (not_more copy (first_copies (passing_since settings old before)) (sym rest ∙ sym none ∙ here)))
-    (cases_Bool (is_forwarded settings (events_since before old) (arrival_of copy.event)))
+first_since settings numbering timing old copy before pass first = first_if settings numbering timing old copy before pass ∙ and_from _ _ first.0 (ap not first.1)
 
 -- and no other copy of it
 pub other_since : (settings : Settings) (numbering : Numbering) (timing : Timing) (old : List Event) (copy : Copy) (before : List Copy) → PassTimely settings numbering timing old (copy ∷ before)
     → has_come copy.index (passing_since settings old before) ≡ true → is_forwarded settings (events_since before old) (arrival_of copy.event) ≡ false
-other_since settings numbering timing old copy before pass come =
-    let all : forwarded_since settings old (copy ∷ before) ≡ first_copies (passing_since settings old (copy ∷ before)) = (firsts_since settings numbering timing old (copy ∷ before) pass).0 in
-    let rest : forwarded_since settings old before ≡ first_copies (passing_since settings old before) = (firsts_since settings numbering timing old before (pass_before settings numbering timing old copy before pass)).0 in
-    let same : first_copies (passing_since settings old (copy ∷ before)) ≡ first_copies (passing_since settings old before) =
-    ⊎_elim
-    (λ (is : counts settings (events_since before old) (arrival_of copy.event) (passing_since settings old before) ≡ true). rw (is, come) refl)
-    (λ (is : counts settings (events_since before old) (arrival_of copy.event) (passing_since settings old before) ≡ false). rw is refl)
-    (cases_Bool (counts settings (events_since before old) (arrival_of copy.event) (passing_since settings old before))) in
-    ⊎_elim
-    (λ (is : is_forwarded settings (events_since before old) (arrival_of copy.event) ≡ true).
-    let more : forwarded_since settings old (copy ∷ before) ≡ copy ∷ forwarded_since settings old before = rw is refl in
-    absurd (not_more copy (forwarded_since settings old before) (rest ∙ sym same ∙ sym all ∙ more)))
-    (λ (is : is_forwarded settings (events_since before old) (arrival_of copy.event) ≡ false). is)
-    (cases_Bool (is_forwarded settings (events_since before old) (arrival_of copy.event)))
+other_since settings numbering timing old copy before pass come = first_if settings numbering timing old copy before pass ∙ and_right _ _ (ap not come)
 
 -- ---- what is asked of all copies is asked of those that pass
 
@@ -327,19 +334,9 @@ counts_at_last settings old copy before pass over =
 
 -- ---- with no old past these are the copies that pass
 
-pub events_alone : (copies : List Copy) → events_since copies [] ≡ events_of_copies copies
-events_alone [] = refl
-events_alone (copy ∷ before) = ap (λ (events : List Event). copy.event ∷ events) (events_alone before)
-
-pub passing_alone : (settings : Settings) (copies : List Copy) → passing_since settings [] copies ≡ passing_copies settings copies
-passing_alone settings [] = refl
-passing_alone settings (copy ∷ before) =
-    let same : counts settings (events_since before []) (arrival_of copy.event) (passing_since settings [] before) ≡ passes settings (events_of_copies before) (arrival_of copy.event) =
-    go (passing_since settings [] before) refl ∙ ap (λ (past : List Event). passes settings past (arrival_of copy.event)) (events_alone before) in
-    ⊎_elim
-    (λ (is : passes settings (events_of_copies before) (arrival_of copy.event) ≡ true). rw (same ∙ is, is) (ap (λ (copies : List Copy). copy ∷ copies) (passing_alone settings before)))
-    (λ (is : passes settings (events_of_copies before) (arrival_of copy.event) ≡ false). rw (same ∙ is, is) (passing_alone settings before))
-    (cases_Bool (passes settings (events_of_copies before) (arrival_of copy.event)))
+counts_alone : (settings : Settings) (copy : Copy) (before : List Copy)
+    → counts settings (events_since before []) (arrival_of copy.event) (passing_since settings [] before) ≡ passes settings (events_of_copies before) (arrival_of copy.event)
+counts_alone settings copy before = go (passing_since settings [] before) refl
   where
     go : (some : List Copy) → passing_since settings [] before ≡ some → counts settings (events_since before []) (arrival_of copy.event) some ≡ passes settings (events_since before []) (arrival_of copy.event)
     go (one ∷ some) is = refl
@@ -350,6 +347,60 @@ passing_alone settings (copy ∷ before) =
         ∙ forwarded_first settings [] (events_since before []) (arrival_of copy.event) pass (inl refl) ∙ sym pass)
         (λ (fails : passes settings (events_since before []) (arrival_of copy.event) ≡ false). refused settings (events_since before []) (arrival_of copy.event) fails ∙ sym fails)
         (cases_Bool (passes settings (events_since before []) (arrival_of copy.event)))
+
+pub passing_alone : (settings : Settings) (copies : List Copy) → passing_since settings [] copies ≡ passing_copies settings copies
+passing_alone settings [] = refl
+passing_alone settings (copy ∷ before) =
+    let same = counts_alone settings copy before in
+    ⊎_elim
+    (λ (is : passes settings (events_of_copies before) (arrival_of copy.event) ≡ true). rw (same ∙ is, is) (ap (λ (copies : List Copy). copy ∷ copies) (passing_alone settings before)))
+    (λ (is : passes settings (events_of_copies before) (arrival_of copy.event) ≡ false). rw (same ∙ is, is) (passing_alone settings before))
+    (cases_Bool (passes settings (events_of_copies before) (arrival_of copy.event)))
+
+pub each_passing : (Holds : Copy → Type 0) (settings : Settings) (copies : List Copy) → EachCopy (λ before copy. Holds copy) copies → EachCopy (λ before copy. Holds copy) (passing_copies settings copies)
+each_passing Holds settings copies each = subst (EachCopy (λ before copy. Holds copy)) (passing_alone settings copies) (each_since Holds settings [] copies each)
+
+pub order_of_passing : (wait : ℕ) (settings : Settings) (copies : List Copy) → EachCopy (λ before copy. time_of_all before ≤ copy.event.time + wait) copies
+    → EachCopy (λ before copy. time_of_all before ≤ copy.event.time + wait) (passing_copies settings copies)
+order_of_passing wait settings copies order =
+    subst (EachCopy (λ before copy. time_of_all before ≤ copy.event.time + wait)) (passing_alone settings copies) (order_since wait settings [] copies order)
+
+none_before : (settings : Settings) (copies : List Copy) → ComeAfter settings [] copies
+none_before settings [] = tt
+none_before settings (copy ∷ before) = (tt, none_before settings before)
+
+-- what is asked of those that pass
+sound_alone : (settings : Settings) (numbering : Numbering) (copies : List Copy) → HaveNumbers numbering copies → EachCopy (ComesInTime numbering settings.skew_max) (passing_copies settings copies)
+    → AreSound settings numbering [] (passing_since settings [] copies)
+sound_alone settings numbering copies numbers in_time = (
+  each_since (λ copy. sequence_number_of copy.event.frame ≡ number_of_frame numbering copy.index) settings [] copies numbers,
+  old_times settings [] (passing_since settings [] copies) (none_before settings (passing_since settings [] copies)),
+  subst (EachCopy (ComesInTime numbering settings.skew_max)) (sym (passing_alone settings copies)) in_time,
+)
+
+-- so the new ones of them are forwarded
+pub new_are_forwarded : (settings : Settings) (numbering : Numbering) (copies : List Copy) → settings.redundancy ≡ true → numbering.first ≤ 255 → HaveNumbers numbering copies
+    → EachCopy (ComesInTime numbering settings.skew_max) (passing_copies settings copies)
+    → forwarded settings (events_of_copies copies) ≡ as_forwarded (new_copies (passing_copies settings copies))
+new_are_forwarded settings numbering copies on small numbers in_time =
+    forwarded_are settings [] copies ∙ append-nil (as_forwarded (forwarded_since settings [] copies))
+    ∙ ap as_forwarded (new_since settings numbering [] on small copies (sound_alone settings numbering copies numbers in_time) ∙ ap new_copies (passing_alone settings copies))
+
+each_new : (settings : Settings) (numbering : Numbering) (copies : List Copy) → settings.redundancy ≡ true → numbering.first ≤ 255 → AreSound settings numbering [] (passing_since settings [] copies)
+    → EachCopy (IsForwardedIfNew settings) copies
+each_new settings numbering [] on small sound = tt
+each_new settings numbering (copy ∷ before) on small sound =
+    let earlier = sound_before settings numbering [] on small copy before sound in
+    let is = as_new settings numbering [] on small copy before (new_since settings numbering [] on small before earlier) sound in (
+      is
+          ∙ ap (λ (b : Bool). b && is_new copy.index (passing_since settings [] before)) (counts_alone settings copy before)
+          ∙ ap (λ (some : List Copy). passes settings (events_of_copies before) (arrival_of copy.event) && is_new copy.index some) (passing_alone settings before),
+      each_new settings numbering before on small earlier,
+    )
+
+pub copies_are_forwarded : (settings : Settings) (numbering : Numbering) (copies : List Copy) → settings.redundancy ≡ true → numbering.first ≤ 255 → HaveNumbers numbering copies
+    → EachCopy (ComesInTime numbering settings.skew_max) (passing_copies settings copies) → EachCopy (IsForwardedIfNew settings) copies
+copies_are_forwarded settings numbering copies on small numbers in_time = each_new settings numbering copies on small (sound_alone settings numbering copies numbers in_time)
 
 -- what holds of each copy holds of those that are forwarded
 pub each_forwarded : (Holds : Copy → Type 0) (settings : Settings) (old : List Event) (copies : List Copy) → EachCopy (λ before copy. Holds copy) copies → EachCopy (λ before copy. Holds copy) (forwarded_since settings old copies)
@@ -365,8 +416,7 @@ pub firsts_are_all : (settings : Settings) (copies : List Copy) → EachCopy (Is
 firsts_are_all settings [] each = refl
 firsts_are_all settings (copy ∷ before) each =
     let rest = firsts_are_all settings before each.1 in
-    let same : is_forwarded settings (events_since before []) (arrival_of copy.event) ≡ not (has_come copy.index before) =
-    ap (λ (past : List Event). is_forwarded settings past (arrival_of copy.event)) (events_alone before) ∙ each.0 in
+    let same : is_forwarded settings (events_since before []) (arrival_of copy.event) ≡ not (has_come copy.index before) = each.0 in
     ⊎_elim
     (λ (come : has_come copy.index before ≡ true). rw (same ∙ ap not come, come) rest)
     (λ (first : has_come copy.index before ≡ false). rw (same ∙ ap not first, first) (ap (λ (copies : List Copy). copy ∷ copies) rest))

@@ -6,10 +6,10 @@ use Rattle.es_base.specs.declared.event.Event.{Event}
 use Rattle.es_base.specs.declared.place.Net.TheVariants as nets
 use Rattle.es_base.specs.Redundancy.{forwarded}
 use Rattle.es_base.specs.Settings.{Settings}
-use Rattle.frame_delivery.specs.Sending.{Copy, Numbering, RunsOn, events_of_copies}
+use Rattle.frame_delivery.specs.Sending.{Copy, Numbering, RunsOn, events_of_copies, events_since}
 use Rattle.frame_delivery.specs.Network.{BeginNear, BringsInRow, ComeTimely, IsNeverLate, IsOnItsWay, IsOverSoon, KeepsTimes, LosesFew, Timing}
 use Rattle.frame_delivery.specs.Once.{FirstsInOrder, passing_copies}
-use Rattle.frame_delivery.specs.Since.{ComeAfter, PassTimely, events_since, passing_since}
+use Rattle.frame_delivery.specs.Since.{ComeAfter, PassTimely, passing_since}
 use Rattle.frame_delivery.specs.Conditions.{Condition, IsMet, MeetAllBut, covers, firsts, is_asked_for_all, late, late_restart, losses, near, restarts}
 use Rattle.frame_delivery.specs.Examples.{after_skew_max, after_strange, far_apart, frame_at, from_57, from_one, from_ten, link, of_later_time, one_network_out, overtaken, received, restarted, soon_restarted, strange, stranger_passes, timed, timing}
 use Rattle.frame_delivery.proofs.Main.{short_is_near}

@@ -8,10 +8,10 @@ use Rattle.es_base.specs.declared.event.Event.{Event}
 use Rattle.es_base.specs.Past.{arrival_of}
 use Rattle.es_base.specs.Integrity.{is_same_net, latest}
 use Rattle.es_base.specs.Settings.{Settings}
-use Rattle.frame_delivery.specs.Sending.{Copy}
+use Rattle.frame_delivery.specs.Sending.{Copy, events_since}
 use Rattle.frame_delivery.specs.Once.{FirstsInOrder, IsNotOvertaken, greatest_index, has_come}
 use Rattle.frame_delivery.specs.Network.{Delays, IsLater, KeepOrderTogether, KeepsBefore, KeepsDelays, KeepsGap, KeepsOrder, LosesNoneOf, Timing, copies_on, indices_on, time_of_all}
-use Rattle.frame_delivery.specs.Since.{counts, events_since, passing_since}
+use Rattle.frame_delivery.specs.Since.{counts, passing_since}
 use Rattle.frame_delivery.proofs.OneNetwork.{itself, same_net}
 use Rattle.frame_delivery.proofs.Times.{latest_has_come, sent_apart}
 

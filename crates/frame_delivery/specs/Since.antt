@@ -6,17 +6,10 @@ use Rattle.es_base.specs.Past.{arrival_of}
 use Rattle.es_base.specs.Integrity.{passes}
 use Rattle.es_base.specs.Redundancy.{is_forwarded}
 use Rattle.es_base.specs.Settings.{Settings}
-use Rattle.frame_delivery.specs.Sending.{Copy, EachCopy, Numbering}
+use Rattle.frame_delivery.specs.Sending.{Copy, EachCopy, Numbering, events_since}
 use Rattle.frame_delivery.specs.Once.{FirstsInOrder, has_come}
 use Rattle.frame_delivery.specs.Running.{EachForwarded}
 use Rattle.frame_delivery.specs.Network.{BeginNear, ComeTimely, IsNeverLate, Timing}
-
--- ---- a past, and copies after it
-
--- the events of a link: an old past, whatever came in it, and then these copies
-abbrev pub events_since : List Copy → List Event → List Event
-events_since [] old = old
-events_since (copy ∷ before) old = copy.event ∷ events_since before old
 
 -- ---- what the receiver makes of them
 
@@ -32,6 +25,7 @@ counts settings past a [] = is_forwarded settings past a
 counts settings past a (one ∷ some) = passes settings past a
 
 -- the copies that pass integrity checking, from the first on that is forwarded
+-- rule: DELIV-5
 abbrev pub passing_since : Settings → List Event → List Copy → List Copy
 passing_since settings old [] = []
 passing_since settings old (copy ∷ before) =

@@ -14,10 +14,10 @@ ghost use Rattle.es_base.specs.Copies.{Forwarded, is_ahead};
 ghost use Rattle.es_base.specs.Redundancy.{forwarded, is_forwarded};
 ghost use Rattle.es_base.specs.Outcome.{Payload};
 ghost use Rattle.es_base.specs.Deliveries.{deliveries, number_delivered};
-ghost use Rattle.frame_delivery.specs.Sending.{Copy, EachCopy, HaveNumbers, Numbering, RunsOn, events_of_copies, number_of_frame};
+ghost use Rattle.frame_delivery.specs.Sending.{Copy, EachCopy, HaveNumbers, Numbering, RunsOn, events_of_copies, events_since, number_of_frame};
 ghost use Rattle.frame_delivery.specs.Once.{AreInOrder, ComesInTime, FirstsInOrder, IsForwardedIfFirst, IsForwardedIfNew, IsOvertaken, as_forwarded, first_copies, has_come, new_copies, passing_copies};
 ghost use Rattle.frame_delivery.specs.Running.{EachForwarded, SomeForwarded};
-ghost use Rattle.frame_delivery.specs.Since.{ComeAfter, IsFirstPassing, PassTimely, events_since, forwarded_since, passing_since};
+ghost use Rattle.frame_delivery.specs.Since.{ComeAfter, IsFirstPassing, PassTimely, forwarded_since, passing_since};
 ghost use Rattle.frame_delivery.specs.Network.{BeginNear, BringsInRow, ComeTimely, ComeWhole, Delays, HasAge, HasNoOvertaking, IsNeverLate, IsOverSoon, KeepOrderTogether, KeepsOrder, KeepsTimes, LosesFew, MayFollow, Timing, copies_on, indices_on};
 ghost use Rattle.frame_delivery.specs.Conditions.{MeetAll, MeetAllBut, covers, firsts, is_asked_for_all, is_asked_for_once, late, late_restart, losses, near, restarts};
 ghost use Rattle.frame_delivery.specs.Messages.{AllCame, CarryWhole, HaveRoom, messages_of, octets_of_messages, octets_sent};
@@ -88,8 +88,9 @@ pub fn no_frame_that_passes_is_lost()
 {}
 
 /// One network is enough. If it keeps the order of the frames, and loses fewer than the window in a row, each of its
-/// copies passes, whatever the other network brings, and when it is out; and each frame of which it brings a copy is
-/// forwarded, once, in order. After an outage a network's copies pass again from the second on.
+/// copies passes, whatever the other network brings; and each frame of which it brings a copy is forwarded, once, in
+/// order, if no other sender's frame passes on the other. After an outage a network's copies pass again from the second
+/// on.
 pub fn one_network_is_enough()
     ensures passes { (settings : Settings) (numbering : Numbering) (net : Net) (copy : Copy) (before : List Copy) → BringsInRow numbering settings.window net (copy ∷ before)
         → is_same_net copy.event.net net ≡ true → passes settings (events_of_copies before) (arrival_of copy.event) ≡ true }
@@ -120,9 +121,9 @@ pub fn forwarding_recovers()
     ensures nothing_before { (settings : Settings) (copies : List Copy) → passing_since settings [] copies ≡ passing_copies settings copies }
 {}
 
-/// That is so at the latest with the first copy that passes once SkewMax is over since all that was forwarded before; so
-/// each frame of which a copy passes then is forwarded. And a copy passes then whose network brought one of the `window`
-/// frames before it just before.
+/// A link has recovered at the latest with the first copy that passes once SkewMax is over since all that was forwarded
+/// before: each frame of which a copy passes from then on is forwarded. A copy passes if the one before it on its network
+/// is of one of the `window` frames before.
 pub fn a_link_recovers_within_skew_max()
     ensures at_the_latest { (settings : Settings) (old : List Event) (copy : Copy) (before : List Copy) → passes settings (events_since before old) (arrival_of copy.event) ≡ true
         → EachForwarded settings (λ e. e.time + settings.skew_max < copy.event.time) old → passing_since settings old (copy ∷ before) ≡ copy ∷ passing_since settings old before }

@@ -18,8 +18,9 @@ ghost use Rattle.live_system_delivery.specs.Delivery.{DeliversEach};
 /// time.
 ///
 /// And whatever came to a link: its ports were given what the packets of the forwarded frames bring, each offered once,
-/// and no other message. So a message was given to its port if a copy passed of its frame, or of the frame of each of its
-/// fragments, since any fault was over (`Arrives`): whatever was lost of others, and whatever came later.
+/// and no other message. So each message that arrives (`Arrives`) was given to its port, at a place of its own: a copy
+/// passed of its frame, or of the frame of each of its fragments, since any fault was over, and its queue had room. What
+/// was lost of others doesn't matter, nor what came later.
 pub fn each_message_is_given_once()
     ensures { (readers : Port → ℕ) (system : System) (first last : Passes) (ends : List (LinkEnds PartitionEnd)) (steps : List (Net × Step)) (links : List LiveLink) (a b : KnownCounts) →
         AreOpened readers system first ends → Ran system first steps last → HasSettled system last links a b → DeliversEach readers system steps ends links }

@@ -21,13 +21,13 @@ use Rattle.output_lines.specs.Report.{all_count_lines, all_link_lines, filtered_
 use Rattle.trace_player.specs.Histories.{past_after}
 use Rattle.trace_player.specs.Merge.{merged}
 use Rattle.trace_player.specs.Output.{lines_of, output_of, report_time_of}
-use Rattle.datagram_delivery.specs.Arriving.{Arrives}
+use Rattle.datagram_delivery.specs.Arriving.{Arrives, past_before}
 use Rattle.datagram_delivery.specs.Bringing.{BringDatagrams}
 use Rattle.datagram_delivery.specs.Interleaved.{Carried}
 use Rattle.datagram_delivery.proofs.Arriving.{arriving_is_delivered}
 use Rattle.datagram_delivery.proofs.Bringing.{brought}
 use Rattle.datagram_delivery.proofs.OfferedSince.{deliveries_by_offers}
-use Rattle.player_delivery.specs.Reported.{AreWritten, IsWritten, StandsIn, lines_offered, lines_sent}
+use Rattle.player_delivery.specs.Reported.{AreWritten, IsReported, StandsIn, lines_offered, lines_sent}
 
 pub lines_are : (constant : List ℕ) (link : Settings) (frames : List Arrival) (carried : List Carried) (at : ℕ) → BringDatagrams link (past_after constant link frames) carried
     → link_lines at link (past_after constant link frames) ≡ lines_sent link carried at
@@ -115,20 +115,20 @@ are_written c a b asked place link carried there bring =
     subst (λ (piece : List ℕ). StandsIn piece (output_of c a b asked)) (lines_are c.constant link (reverse (merged a b)) carried (report_time_of asked (reverse (merged a b))) bring)
     (link_is_written c a b asked place link there)
 
-pub is_written : (c : Configuration) (a b : List TimedFrame) (asked : Option ℕ) (place : ℕ) (link : Settings) (port : Port) (payload : Payload) (time : ℕ) → slice_get c.links place ≡ Some link
-    → slice_get link.ports payload.port.0 ≡ Some port → Arrives link (past_after c.constant link (reverse (merged a b))) payload time → IsWritten c a b asked port payload time
-is_written c a b asked place link port payload time there at_port arrives =
+pub is_reported : (c : Configuration) (a b : List TimedFrame) (asked : Option ℕ) (place : ℕ) (link : Settings) (port : Port) (payload : Payload) (time : ℕ) → slice_get c.links place ≡ Some link
+    → slice_get link.ports payload.port.0 ≡ Some port → (one : Arrives link (past_after c.constant link (reverse (merged a b))) payload time) → IsReported c a b asked link port payload time one
+is_reported c a b asked place link port payload time there at_port one =
     let past : List Event = past_after c.constant link (reverse (merged a b)) in
     let at : ℕ = report_time_of asked (reverse (merged a b)) in
     let message : Message = record { time = time; octets = payload.octets } in
-    let (earlier, later, delivered) = arriving_is_delivered link past payload time arrives in
+    let earlier : List Message = deliveries link (past_before one) payload.port in
+    let (later, delivered) = arriving_is_delivered link past payload time one in
     let lines : List ℕ = port_lines at port (earlier ++ message ∷ later) in
     let in_link : StandsIn lines (link_lines at link past) =
     subst (λ (messages : List Message). StandsIn (port_lines at port messages) (link_lines at link past)) delivered
-    (port_stands at (λ port. deliveries link past port) 0 link.ports payload.port.0 payload.port.0 port refl at_port) in
+    (port_stands at (λ port. deliveries link past port) 0 link.ports payload.port.0 payload.port.0 port (omega arith) at_port) in
     let all : StandsIn lines (output_of c a b asked) = stands_within lines (link_lines at link past) (output_of c a b asked) in_link (link_is_written c a b asked place link there) in
     record {
-      earlier = earlier;
       later = later;
       lines = all;
       queued = λ depth is. stands_within (line (message_text port.name time payload.octets)) lines (output_of c a b asked) (queue_stands at port depth earlier message later is) all;

@@ -12,7 +12,7 @@ ghost use Rattle.trace_player.specs.Merge.{merged};
 ghost use Rattle.datagram_delivery.specs.Arriving.{Arrives};
 ghost use Rattle.datagram_delivery.specs.Bringing.{BringDatagrams};
 ghost use Rattle.datagram_delivery.specs.Interleaved.{Carried};
-ghost use Rattle.player_delivery.specs.Reported.{AreWritten, IsWritten, lines_offered, lines_sent};
+ghost use Rattle.player_delivery.specs.Reported.{AreWritten, IsReported, lines_offered, lines_sent};
 
 /// The report's lines on a link's ports are those of the messages sent to them, each once and whole, if copies of it
 /// came and its queue had room; and of no other. They stand in the order in which their sending ended. This asks of the
@@ -20,9 +20,10 @@ ghost use Rattle.player_delivery.specs.Reported.{AreWritten, IsWritten, lines_of
 /// networks that keep what is asked of them. At most four of its datagrams may be in parts at a time. Nobody takes a
 /// message from a queue of the player. These lines are in the output of the traces, which `trace_player::play` writes.
 ///
-/// And whatever came, the lines are those of the packets of the forwarded frames, each offered once. So a message is
-/// written if a copy passed of its frame, or of the frame of each of its fragments, since any fault was over (`Arrives`).
-/// Of a queuing port each has its line; of a sampling port the newest.
+/// And whatever came, the lines are those of the packets of the forwarded frames, each offered once. So each message that
+/// arrives (`Arrives`) is among those that are written for its port: a copy passed of its frame, or of the frame of each of
+/// its fragments, since any fault was over, and its queue had room. A queuing port's messages have a line each; of a
+/// sampling port's the newest has one.
 pub fn each_message_is_reported_once()
     ensures offered { (constant : List ℕ) (link : Settings) (frames : List Arrival) (at : ℕ) → link_lines at link (past_after constant link frames) ≡ lines_offered link (past_after constant link frames) at }
     ensures lines { (constant : List ℕ) (link : Settings) (frames : List Arrival) (carried : List Carried) (at : ℕ) → BringDatagrams link (past_after constant link frames) carried
@@ -30,5 +31,5 @@ pub fn each_message_is_reported_once()
     ensures written { (c : Configuration) (a b : List TimedFrame) (asked : Option ℕ) (place : ℕ) (link : Settings) (carried : List Carried) → slice_get c.links place ≡ Some link
         → BringDatagrams link (past_after c.constant link (reverse (merged a b))) carried → AreWritten c a b asked link carried }
     ensures arrived { (c : Configuration) (a b : List TimedFrame) (asked : Option ℕ) (place : ℕ) (link : Settings) (port : Port) (payload : Payload) (time : ℕ) → slice_get c.links place ≡ Some link
-        → slice_get link.ports payload.port.0 ≡ Some port → Arrives link (past_after c.constant link (reverse (merged a b))) payload time → IsWritten c a b asked port payload time }
+        → slice_get link.ports payload.port.0 ≡ Some port → (one : Arrives link (past_after c.constant link (reverse (merged a b))) payload time) → IsReported c a b asked link port payload time one }
 {}

@@ -1,5 +1,5 @@
-use Rattle.datagram_delivery.proofs.Arriving.{arriving_brings, arriving_in_order, arriving_is_delivered}
+use Rattle.datagram_delivery.proofs.Arriving.{arriving_brings, arriving_is_delivered}
 use Rattle.datagram_delivery.proofs.laws.each_message_that_arrives_is_delivered.Goals as goal
 
 pub returns : goal.returns
-returns c = record { brings = arriving_brings; in_order = arriving_in_order; delivered = arriving_is_delivered }
+returns c = record { brings = arriving_brings; delivered = arriving_is_delivered }

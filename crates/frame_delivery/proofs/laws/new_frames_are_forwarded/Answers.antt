@@ -1,4 +1,4 @@
-use Rattle.frame_delivery.proofs.Forwarding.{copies_are_forwarded}
+use Rattle.frame_delivery.proofs.Since.{copies_are_forwarded}
 use Rattle.frame_delivery.proofs.laws.new_frames_are_forwarded.Goals as goal
 
 pub returns : goal.returns
