@@ -20,3 +20,4 @@ pub mod Arriving
 pub mod Messages
 pub mod Examples
 pub mod SinceExamples
+pub mod CountingExample

@@ -27,7 +27,7 @@ ghost use Rattle.datagram_delivery.specs.Interleaved.{AreInterleaved, Carried, S
 ghost use Rattle.datagram_delivery.specs.Parts.{AreWhole, HaveParts, HavePartsSince, IsMessageOfDatagram, WereSentIn};
 ghost use Rattle.datagram_delivery.specs.Counting.{AreCounted, Counting, CountsUp, IsOverBefore, KeepsCount, TurnsOverLate};
 ghost use Rattle.frame_delivery.specs.Examples.{numbering, timing};
-ghost use Rattle.datagram_delivery.specs.Examples.{a_part_before, after_a_part, among_one_another, datagram_at, datagram_octets, eight, first_key, five_begun, four_begun, four_in_parts, fragment, in_two_fragments, link_of_100, link_with_queue, sixteen_octets, message_sent, one_identification, packet_sent, part_sent, payload_sent};
+ghost use Rattle.datagram_delivery.specs.Examples.{a_part_before, after_a_part, among_one_another, counted_anew, counting_anew, datagram_at, datagram_before_restart, datagram_octets, eight, first_key, five_begun, four_begun, four_in_parts, fragment, in_two_fragments, link_of_100, link_with_queue, sixteen_octets, message_sent, one_identification, packet_sent, part_sent, payload_sent, restarting, timing_with_pause};
 
 /// A datagram that is split into fragments is joined whole: each fragment but the last is held, and the last brings
 /// exactly the octets of all, one after the other. They come in order and within the limit of time, none is missing,
@@ -181,7 +181,8 @@ pub fn the_conditions_can_be_met()
 
 /// Counterexamples with one condition not met, and all others met: with a fifth datagram in parts the first isn't
 /// completed, so its message isn't delivered; and within the limit of time, to the microsecond, one identification for
-/// two datagrams mixes them.
+/// two datagrams mixes them. So does a count of identifications that a restart begins anew, with a limit of 50,000 and a
+/// pause of 10,000, which is long enough for a limit of 9,999: one fragment is lost on both networks.
 pub fn each_condition_is_needed()
     ensures fifth_group { (place_of first_key [] ≡ None) × (is_of first_key (fragment 1 8 false 1) ≡ true) × AreFronts 50000 first_key five_begun × IsLastFragment 50000 (pieces_of first_key five_begun) (fragment 1 8 false 1) × LeavesRoom 50000 [] first_key four_begun × (LeavesRoom 50000 [] first_key five_begun → ⊥)
         × (fate 50000 (groups_after_offers 50000 [] five_begun) (fragment 1 8 false 1).packet 100 ≡ held) }
@@ -190,4 +191,7 @@ pub fn each_condition_is_needed()
         × (messages_by link_with_queue (carried_offers (part_sent 1 1 600 ∷ part_sent 5 0 500 ∷ four_in_parts)) (record { 0 = 0 }) ≡ []) }
     ensures identification_again { HaveParts 99 datagram_at (events_of_copies one_identification) × (HaveParts 100 datagram_at (events_of_copies one_identification) → ⊥)
         × (deliveries link_of_100 (events_of_copies one_identification) (record { 0 = 0 }) ≡ record { time = 200; octets = eight 1 ++ eight 2 } ∷ []) }
+    ensures counted_anew_too_soon { ComeWhole link_with_queue restarting timing_with_pause counted_anew × AreCounted counting_anew datagram_before_restart counted_anew × TurnsOverLate 50000 timing_with_pause counting_anew
+        × (KeepsCount 50000 restarting timing_with_pause counting_anew → ⊥) × KeepsCount 9999 restarting timing_with_pause counting_anew
+        × (deliveries link_with_queue (events_of_copies counted_anew) (record { 0 = 0 }) ≡ record { time = 13100; octets = eight 1 ++ eight 2 } ∷ []) }
 {}
