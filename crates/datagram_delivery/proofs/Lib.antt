@@ -10,6 +10,7 @@ pub mod Unused
 pub mod Slices
 pub mod Origins
 pub mod Parts
+pub mod LimitOver
 pub mod WholeParts
 pub mod Counting
 pub mod Few

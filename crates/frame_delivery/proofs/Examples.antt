@@ -5,7 +5,7 @@ use Rattle.std.proofs.lemmas.Bool.{false≢true}
 use Rattle.es_base.specs.declared.place.Net.TheVariants as nets
 use Rattle.es_base.specs.Redundancy.{forwarded}
 use Rattle.frame_delivery.specs.Sending.{EachCopy, HaveNumbers, RunsOn, events_of_copies}
-use Rattle.frame_delivery.specs.Network.{BeginNear, ComeWhole, HasNoOvertaking, IsOnItsWay, KeepOrderTogether, KeepsTimes, LosesNoneOf, LosesFew, Timing, time_of_all, copies_on}
+use Rattle.frame_delivery.specs.Network.{BeginNear, ComeWhole, HasNoOvertaking, IsOnItsWay, KeepOrderTogether, KeepsOrder, KeepsTimes, LosesNoneOf, LosesFew, Timing, time_of_all, copies_on}
 use Rattle.frame_delivery.specs.Conditions.{Condition, IsMet, MeetAllBut, covers, firsts, is_asked_for_all, late, late_restart, losses, near, restarts}
 use Rattle.frame_delivery.specs.Examples.{after_skew_max, behind_a_restart, far_apart, far_behind, frame_at, from_57, from_one, link, numbering, overtaken, slower_network, slower_on_b, soon_restarted, timed, timing, two_lost, wide_link, with_losses}
 use Rattle.frame_delivery.proofs.Main.{short_is_near}
@@ -172,7 +172,7 @@ overtaken_others firsts asked differ = absurd (differ refl)
 overtaken_others late asked differ = omega arith
 overtaken_others late_restart asked differ = omega arith
 
-pub overtaken_is_lost : MeetAllBut is_asked_for_all firsts (link 1000) from_one (timed 1000 4000 100 1100 0) overtaken
+pub overtaken_is_lost : MeetAllBut is_asked_for_all firsts (link 1000) from_one (timed 1000 4000 100 1100 0) overtaken × KeepsOrder overtaken
     × (forwarded (link 1000) (events_of_copies overtaken) ≡ frame_at 3 2100 ∷ frame_at 1 100 ∷ [])
 overtaken_is_lost = (
   record {
@@ -181,6 +181,7 @@ overtaken_is_lost = (
     others = overtaken_others;
     not_met = λ is. false≢true (is.1.0 refl);
   },
+  (omega arith, (omega arith, (omega arith, (tt, (tt, tt))))),
   refl,
 )
 

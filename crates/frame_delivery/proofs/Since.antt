@@ -196,8 +196,7 @@ pub firsts_since : (settings : Settings) (numbering : Numbering) (timing : Timin
     → (forwarded_since settings old copies ≡ first_copies (passing_since settings old copies)) × AreInOrder (first_copies (passing_since settings old copies))
 firsts_since settings numbering timing old copies pass =
     let timely = pass.timely in
-    let firsts : new_copies (passing_since settings old copies) ≡ first_copies (passing_since settings old copies) = new_are_first (passing_since settings old copies) pass.firsts in
-    (
+    let firsts : new_copies (passing_since settings old copies) ≡ first_copies (passing_since settings old copies) = new_are_first (passing_since settings old copies) pass.firsts in (
       new_since settings numbering old timely.redundancy timely.first copies (sound_pass settings numbering timing old copies pass) ∙ firsts,
       subst AreInOrder firsts (new_in_order (passing_since settings old copies)),
     )

@@ -121,7 +121,7 @@ brought_before : (timing : Timing) (delays : Delays) (copy : Copy) (before : Lis
     → has_come later (copies_on net before) ≡ true → timing.sent later + delays.least net ≤ time_of_all before → has_come copy.index before ≡ true
 brought_before timing delays copy before net later gaps ways taken keeps differ less on time =
     ⊎_elim
-    (λ (near : delays.greatest copy.event.net + timing.wait < delays.least net + timing.gap).
+    (λ near.
     let sent = sent_apart (record { first = 0; restarts = λ index. false }) timing gaps (λ index is. absurd (false≢true is)) copy.index later less in
     let (soonest, latest) = ways.0 in
     absurd (omega (arith, near, sent, latest, taken, time)))

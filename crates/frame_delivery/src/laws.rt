@@ -244,7 +244,7 @@ pub fn a_link_recovers_in_examples()
 pub fn each_condition_is_needed()
     ensures second_copy_after_skew_max { MeetAllBut is_asked_for_all covers (link 1000) from_one (timed 2000 4000 100 1101 0) after_skew_max
         × (forwarded (link 1000) (events_of_copies after_skew_max) ≡ frame_at 1 1101 ∷ frame_at 1 100 ∷ []) }
-    ensures overtaken_though_one_network_loses_nothing { MeetAllBut is_asked_for_all firsts (link 1000) from_one (timed 1000 4000 100 1100 0) overtaken
+    ensures overtaken_though_one_network_loses_nothing { MeetAllBut is_asked_for_all firsts (link 1000) from_one (timed 1000 4000 100 1100 0) overtaken × KeepsOrder overtaken
         × (forwarded (link 1000) (events_of_copies overtaken) ≡ frame_at 3 2100 ∷ frame_at 1 100 ∷ []) }
     ensures window_lost_on_both_networks { MeetAllBut is_asked_for_all losses (link 1000) from_one timing two_lost × (forwarded (link 1000) (events_of_copies two_lost) ≡ frame_at 1 100 ∷ []) }
     ensures begun_far_apart { MeetAllBut is_asked_for_all near (link 128000) from_one (timed 1000 200000 100 100 0) far_apart × (forwarded (link 128000) (events_of_copies far_apart) ≡ frame_at 1 100 ∷ []) }
