@@ -1,5 +1,5 @@
 -- A message that arrives is delivered.
-use Rattle.std.proofs.Common.{◌≡◌, ◌∙◌, ap, sym, subst, append_assoc, ℕ, ◌<◌, Bool, true, false, List, [], ◌∷◌, ◌++◌, Ok, refl, ⊎_elim}
+use Rattle.std.proofs.Common.{◌≡◌, ◌∙◌, ap, sym, subst, append-nil, append_assoc, ℕ, ◌<◌, Bool, true, false, List, [], ◌∷◌, ◌++◌, refl, ⊎_elim}
 use Rattle.std.specs.Prelude.{◌&&◌, if◌then◌else◌}
 use Rattle.std.proofs.lemmas.Bool.{eq-eqb}
 use Rattle.es_base.specs.declared.place.PortNo.{PortNo}
@@ -7,9 +7,8 @@ use Rattle.es_base.specs.declared.event.Event.{Event}
 use Rattle.es_base.specs.declared.event.Message.{Message}
 use Rattle.es_base.specs.Limits.{most_samples}
 use Rattle.es_base.specs.Past.{arrival_of}
-use Rattle.es_base.specs.Groups.{Group, fate, whole}
 use Rattle.es_base.specs.Reassembly.{groups_in}
-use Rattle.es_base.specs.Outcome.{Payload, brings, brought, datagram_payload, outcome, packet_payload}
+use Rattle.es_base.specs.Outcome.{Payload, brings, outcome}
 use Rattle.es_base.specs.Deliveries.{delivered, deliveries, is_same_port, number_delivered, takes_one_more}
 use Rattle.es_base.specs.Settings.{Settings}
 use Rattle.frame_delivery.specs.Messages.{has_room}
@@ -22,17 +21,12 @@ use Rattle.datagram_delivery.specs.Datagrams.{IsSentWhole, offers_of}
 use Rattle.datagram_delivery.specs.Offers.{offered_in}
 use Rattle.datagram_delivery.specs.Splitting.{Offer}
 use Rattle.datagram_delivery.proofs.Datagrams.{whole_fate}
-use Rattle.datagram_delivery.proofs.Offered.{forwarded_brings}
-use Rattle.datagram_delivery.proofs.OfferedSince.{packets_before, split_in_any_past}
+use Rattle.datagram_delivery.proofs.Offered.{packet_brings, packets_before, split_in_any_past, whole_brings}
 
 -- ---- what is delivered stays
 
 later_messages : (settings : Settings) (later past : List Event) (port : PortNo) → (more : List Message) × (deliveries settings (later ++ past) port ≡ deliveries settings past port ++ more)
-later_messages settings [] past port = ([], sym_nil (deliveries settings past port))
-  where
-    sym_nil : (messages : List Message) → messages ≡ messages ++ []
-    sym_nil [] = refl
-    sym_nil (message ∷ messages) = ap (λ (all : List Message). message ∷ all) (sym_nil messages)
+later_messages settings [] past port = ([], sym (append-nil (deliveries settings past port)))
 later_messages settings (e ∷ later) past port =
     let (more, is) = later_messages settings later past port in
     let one : List Message = delivered (outcome settings (later ++ past) (arrival_of e)) e.room e.time port (number_delivered settings (later ++ past) port) in
@@ -50,11 +44,6 @@ brings_message settings past e payload is room few =
     ∙ ap (λ (b : Bool). deliveries settings past payload.port ++ (if b && takes_one_more payload.kind e.room (number_delivered settings past payload.port) then record { time = e.time; octets = payload.octets } ∷ [] else [])) same
     ∙ ap (λ (b : Bool). deliveries settings past payload.port ++ (if b then record { time = e.time; octets = payload.octets } ∷ [] else [])) taken
 
-whole_is_brought : (settings : Settings) (groups : List Group) (offer : Offer) (payload : Payload) → fate settings.reassembly groups offer.packet offer.time ≡ whole offer.packet.octets false
-    → datagram_payload settings.ports (record { destination = offer.packet.destination; joined = false; octets = offer.packet.octets }) ≡ Ok payload
-    → brought (packet_payload settings.ports settings.reassembly groups offer.packet offer.time) ≡ brings payload
-whole_is_brought settings groups offer payload is admits = rw (is, admits) refl
-
 -- ---- so a message that arrives is delivered
 
 pub arriving_brings : (settings : Settings) (past : List Event) (payload : Payload) (time : ℕ) → (one : Arrives settings past payload time)
@@ -68,8 +57,8 @@ arriving_brings settings past payload time one =
     let offers = offered.1 in
     ⊎_elim
     (λ (all : IsSentWhole settings payload offer).
-    forwarded_brings settings before (arrival_of one.copy.event) (one.packet one.copy.index) is carries
-    ∙ whole_is_brought settings (groups_in settings before) offer payload (whole_fate settings.reassembly (groups_in settings before) offer.packet offer.time all.whole) all.admits)
+    packet_brings settings before (arrival_of one.copy.event) (one.packet one.copy.index) is carries
+    ∙ whole_brings settings (groups_in settings before) offer offer.packet.octets false payload (whole_fate settings.reassembly (groups_in settings before) offer.packet offer.time all.whole) all.admits)
     (λ (split : IsSplitAfter settings payload (offers_of one.packet (first_copies (passing_since settings one.old one.before)) ++ offered_in settings one.old) offer).
     split_in_any_past settings before (arrival_of one.copy.event) one.copy.event.room (one.packet one.copy.index) split.first split.during split.earlier payload is carries (offers ∙ split.is) split.among)
     one.completes

@@ -3,10 +3,10 @@ pub mod Each
 pub mod Standing
 pub mod Rows
 pub mod Splits
-pub mod Offered
 pub mod Datagrams
 pub mod Open
 pub mod Unused
+pub mod Offered
 pub mod Slices
 pub mod Origins
 pub mod Parts
@@ -16,7 +16,6 @@ pub mod Counting
 pub mod Few
 pub mod Interleaved
 pub mod Bringing
-pub mod OfferedSince
 pub mod Arriving
 pub mod Messages
 pub mod Examples

@@ -18,7 +18,7 @@ use Rattle.datagram_delivery.specs.Splitting.{Offer}
 use Rattle.datagram_delivery.specs.Datagrams.{AreSent, CarryPackets, IsSplitAmong, Sent, all_offers, messages_by, messages_sent, offers_of}
 use Rattle.datagram_delivery.specs.Offers.{offered_in}
 use Rattle.datagram_delivery.specs.Interleaved.{AreInterleaved, Carried, carried_offers, messages_ended}
-use Rattle.datagram_delivery.proofs.OfferedSince.{deliveries_by_offers, offers_since, split_in_any_past}
+use Rattle.datagram_delivery.proofs.Offered.{deliveries_by_offers, offers_since, split_in_any_past}
 use Rattle.datagram_delivery.proofs.Datagrams.{all_sent_are_delivered}
 use Rattle.datagram_delivery.proofs.Interleaved.{all_ended_are_delivered}
 

@@ -23,7 +23,7 @@ use Rattle.datagram_delivery.specs.Splitting.{Offer, groups_after_offers}
 use Rattle.datagram_delivery.specs.Offers.{offered_in}
 use Rattle.datagram_delivery.specs.Parts.{AreOfOne, AreOfOneWith, HaveParts, HavePartsSince, IsMessageOfDatagram, IsPart, IsUnusedIn, WereSentIn}
 use Rattle.datagram_delivery.proofs.Origins.{Agree, AreParts, AreUnused, Part, handed_on_is_sent, offers_in}
-use Rattle.datagram_delivery.proofs.OfferedSince.{groups_by_offers}
+use Rattle.datagram_delivery.proofs.Offered.{groups_by_offers}
 
 -- ---- the parts that reassembly is offered
 

@@ -1,5 +1,5 @@
 -- After any past, the messages of the copies that are forwarded are delivered, each once.
-use Rattle.std.proofs.Common.{◌≡◌, ◌∙◌, ap, ℕ, ◌+◌, ◌<◌, ◌≤◌, Bool, true, false, cond, List, [], ◌∷◌, ◌++◌, length, refl, arith, ⊎_elim, append_assoc, append-nil, length-append}
+use Rattle.std.proofs.Common.{◌≡◌, ◌∙◌, ap, sym, ℕ, ◌+◌, ◌<◌, ◌≤◌, Bool, true, false, cond, List, [], ◌∷◌, ◌++◌, length, arith, ⊎_elim, append_assoc, append-nil, length-append}
 use Rattle.std.proofs.lemmas.Bool.{cases_Bool}
 use Rattle.es_base.specs.declared.place.PortNo.{PortNo}
 use Rattle.es_base.specs.declared.event.Arrival.{Arrival}
@@ -40,11 +40,7 @@ added false old messages message = append-nil (old ++ messages)
 pub delivered_since : (settings : Settings) (payload : ℕ → Payload) (port : PortNo) (old : List Event) (copies : List Copy) → CarryWhole settings payload (forwarded_since settings old copies)
     → number_delivered settings old port + length copies ≤ most_samples
     → deliveries settings (events_since copies old) port ≡ deliveries settings old port ++ messages_of payload port (forwarded_since settings old copies)
-delivered_since settings payload port old [] carry few = sym_nil (deliveries settings old port)
-  where
-    sym_nil : (messages : List Message) → messages ≡ messages ++ []
-    sym_nil [] = refl
-    sym_nil (message ∷ messages) = ap (λ (all : List Message). message ∷ all) (sym_nil messages)
+delivered_since settings payload port old [] carry few = sym (append-nil (deliveries settings old port))
 delivered_since settings payload port old (copy ∷ before) carry few =
     let before_few : number_delivered settings old port + length before ≤ most_samples = omega (arith, few) in
     let number = number_since settings payload port old before in

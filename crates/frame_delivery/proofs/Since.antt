@@ -211,33 +211,19 @@ news_since settings numbering timing old copies timely on_time near after =
     let in_time = all_in_time numbering timing times.gaps times.pauses settings.skew_max some timely.fits (not_late numbering timing times.gaps times.pauses on_time) near times.ways times.order in
     (new_since settings numbering old timely.redundancy timely.first copies (timely.numbers, old_times settings old some after, in_time), new_in_order some)
 
--- what is asked of all is asked of those before the last
-pub pass_before : (settings : Settings) (numbering : Numbering) (timing : Timing) (old : List Event) (copy : Copy) (before : List Copy) → PassTimely settings numbering timing old (copy ∷ before)
-    → PassTimely settings numbering timing old before
-pass_before settings numbering timing old copy before pass =
-    let timely = pass.timely in
-    let near = pass.near in
-    let after = pass.after in
+-- so were those before the last copy
+pub firsts_before : (settings : Settings) (numbering : Numbering) (timing : Timing) (old : List Event) (copy : Copy) (before : List Copy) → PassTimely settings numbering timing old (copy ∷ before)
+    → forwarded_since settings old before ≡ first_copies (passing_since settings old before)
+firsts_before settings numbering timing old copy before pass =
+    let sound = sound_pass settings numbering timing old (copy ∷ before) pass in
     let firsts = pass.firsts in
-    ⊎_elim
-    (λ (is : counts settings (events_since before old) (arrival_of copy.event) (passing_since settings old before) ≡ true).
-    let all : ComeTimely settings numbering timing (copy ∷ passing_since settings old before) = rw is at timely in
-    let times = all.times in
-    record {
-      timely = record {
-        redundancy = all.redundancy;
-        first = all.first;
-        numbers = all.numbers.1;
-        times = record { gaps = times.gaps; pauses = times.pauses; ways = times.ways.1; order = times.order.1 };
-        fits = all.fits;
-      };
-      on_time = pass.on_time;
-      firsts = (rw is at firsts).1;
-      near = (rw is at near).1;
-      after = (rw is at after).1;
-    })
-    (λ (is : counts settings (events_since before old) (arrival_of copy.event) (passing_since settings old before) ≡ false). record { timely = rw is at timely; on_time = pass.on_time; firsts = rw is at firsts; near = rw is at near; after = rw is at after })
-    (cases_Bool (counts settings (events_since before old) (arrival_of copy.event) (passing_since settings old before)))
+    let timely = pass.timely in
+    new_since settings numbering old timely.redundancy timely.first before (sound_before settings numbering old timely.redundancy timely.first copy before sound)
+    ∙ new_are_first (passing_since settings old before)
+    (⊎_elim
+    (λ (count : counts settings (events_since before old) (arrival_of copy.event) (passing_since settings old before) ≡ true). (rw count at firsts).1)
+    (λ (fails : counts settings (events_since before old) (arrival_of copy.event) (passing_since settings old before) ≡ false). rw fails at firsts)
+    (cases_Bool (counts settings (events_since before old) (arrival_of copy.event) (passing_since settings old before))))
 
 -- so a copy is forwarded exactly if it is the first of its frame that counts
 first_if : (settings : Settings) (numbering : Numbering) (timing : Timing) (old : List Event) (copy : Copy) (before : List Copy) → PassTimely settings numbering timing old (copy ∷ before)

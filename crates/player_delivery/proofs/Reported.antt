@@ -26,7 +26,7 @@ use Rattle.datagram_delivery.specs.Bringing.{BringDatagrams}
 use Rattle.datagram_delivery.specs.Interleaved.{Carried}
 use Rattle.datagram_delivery.proofs.Arriving.{arriving_is_delivered}
 use Rattle.datagram_delivery.proofs.Bringing.{brought}
-use Rattle.datagram_delivery.proofs.OfferedSince.{deliveries_by_offers}
+use Rattle.datagram_delivery.proofs.Offered.{deliveries_by_offers}
 use Rattle.player_delivery.specs.Reported.{AreWritten, IsReported, StandsIn, lines_offered, lines_sent}
 
 pub lines_are : (constant : List ℕ) (link : Settings) (frames : List Arrival) (carried : List Carried) (at : ℕ) → BringDatagrams link (past_after constant link frames) carried

@@ -1,4 +1,4 @@
-use Rattle.datagram_delivery.proofs.OfferedSince.{split_in_any_past, split_since}
+use Rattle.datagram_delivery.proofs.Offered.{split_in_any_past, split_since}
 use Rattle.datagram_delivery.proofs.laws.a_split_message_is_delivered_after_any_past.Goals as goal
 
 pub returns : goal.returns

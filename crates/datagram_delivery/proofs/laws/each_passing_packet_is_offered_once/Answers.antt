@@ -1,4 +1,4 @@
-use Rattle.datagram_delivery.proofs.OfferedSince.{packets_alone, packets_since}
+use Rattle.datagram_delivery.proofs.Offered.{packets_alone, packets_since}
 use Rattle.datagram_delivery.proofs.laws.each_passing_packet_is_offered_once.Goals as goal
 
 pub returns : goal.returns
