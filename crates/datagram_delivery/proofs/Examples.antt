@@ -12,8 +12,9 @@ use Rattle.es_base.specs.Deliveries.{deliveries}
 use Rattle.es_base.specs.Groups.{fate, groups_after, held, place_of}
 use Rattle.frame_delivery.specs.Sending.{HaveNumbers, events_of_copies}
 use Rattle.frame_delivery.specs.Once.{first_copies}
-use Rattle.frame_delivery.specs.Network.{ComeWhole}
+use Rattle.frame_delivery.specs.Network.{ComeWhole, KeepsTimes}
 use Rattle.frame_delivery.specs.Examples.{numbering, timing}
+use Rattle.frame_delivery.proofs.Times.{apart_not_late, short_firsts}
 use Rattle.datagram_delivery.specs.Splitting.{AreFronts, IsLastFragment, LeavesRoom, groups_after_offers, is_of, pieces_of}
 use Rattle.datagram_delivery.specs.Datagrams.{AreSent, CarryPackets, all_offers, messages_by, offers_of}
 use Rattle.datagram_delivery.specs.Interleaved.{AreInterleaved, SendsOn, SendsNext, carried_offers}
@@ -26,23 +27,27 @@ use Rattle.datagram_delivery.proofs.Messages.{datagrams_delivered}
 numbers_split : HaveNumbers numbering in_two_fragments
 numbers_split = (refl, (refl, tt))
 
+split_times : KeepsTimes numbering timing in_two_fragments
+split_times = record {
+  gaps = λ index. omega arith;
+  pauses = λ index is. absurd (false≢true is);
+  ways = ((omega arith, omega arith), ((omega arith, omega arith), tt));
+  order = (omega arith, (omega arith, tt));
+}
+
 pub split_met : ComeWhole link_with_queue numbering timing in_two_fragments
 split_met = record {
   timely = record {
     redundancy = refl;
     first = omega arith;
     numbers = numbers_split;
-    times = record {
-      gaps = λ index. omega arith;
-      pauses = λ index is. absurd (false≢true is);
-      ways = ((omega arith, omega arith), ((omega arith, omega arith), tt));
-      order = (omega arith, (omega arith, tt));
-    };
+    times = split_times;
     fits = record { covers = omega arith; restarts = omega arith };
   };
   near = (λ cut soon. omega arith, (tt, tt));
   losses = (tt, (tt, tt));
-  apart = omega arith;
+  on_time = apart_not_late timing (omega arith);
+  firsts = short_firsts numbering timing in_two_fragments split_times (omega arith);
 }
 
 pub split_carries : CarryPackets packet_sent in_two_fragments
@@ -72,7 +77,7 @@ split_message_delivered =
 abbrev read_as : PacketParts → Result PacketParts PacketFault
 read_as packet = Ok packet
 
-same_packet : (one two : PacketParts) → read_as one ≡ read_as two → one ≡ two
+pub same_packet : (one two : PacketParts) → read_as one ≡ read_as two → one ≡ two
 same_packet one two is = cc
 
 pub parts_met : HaveParts 50000 (λ e. datagram_octets) (events_of_copies in_two_fragments)
@@ -164,30 +169,29 @@ fifth_in_parts = (four_interleaved, fifth_goes_on, first_ends, fifth_is_one_too_
 
 -- two datagrams of one identification
 
-third : ℕ → Bool → List ℕ → PacketParts
+abbrev pub third : ℕ → Bool → List ℕ → PacketParts
 third offset more octets = record { source = 167837953; destination = 3772776465; ident = 1; more = more; offset = offset; octets = octets }
 
-head_of_both : List ℕ
+abbrev pub head_of_both : List ℕ
 head_of_both = 19 ∷ 136 ∷ 19 ∷ 138 ∷ 0 ∷ 24 ∷ 0 ∷ 0 ∷ []
 
 reads_old_first : packet_in (first_third 254) ≡ Ok (third 0 true head_of_both)
-unfolding packets.ones_sum words.u16_at words.u32_at third head_of_both
+unfolding packets.ones_sum words.u16_at words.u32_at
 reads_old_first = refl
 
 reads_old_second : packet_in (second_third 1 255) ≡ Ok (third 8 true (eight 1))
-unfolding packets.ones_sum words.u16_at words.u32_at third
+unfolding packets.ones_sum words.u16_at words.u32_at
 reads_old_second = refl
 
 reads_new_first : packet_in (first_third 2) ≡ Ok (third 0 true head_of_both)
-unfolding packets.ones_sum words.u16_at words.u32_at third head_of_both
+unfolding packets.ones_sum words.u16_at words.u32_at
 reads_new_first = refl
 
 reads_new_last : packet_in (last_third 2 4) ≡ Ok (third 16 false (eight 2))
-unfolding packets.ones_sum words.u16_at words.u32_at third
+unfolding packets.ones_sum words.u16_at words.u32_at
 reads_new_last = refl
 
 pub parts_of_two : HaveParts 99 datagram_at (events_of_copies one_identification)
-unfolding third head_of_both
 parts_of_two = (
   λ packet read. subst (IsPartOf (datagram_of 2)) (same_packet (third 16 false (eight 2)) packet (sym reads_new_last ∙ read)) (record { within = omega arith; octets = refl; ends = λ last. refl }),
   (λ one other read read_too fragment part same soon. refl, (λ one other read read_too fragment part same soon. absurd (omega (arith, soon)), (λ one other read read_too fragment part same soon. absurd (omega (arith, soon)), tt))),
@@ -207,7 +211,6 @@ parts_of_two = (
 )
 
 pub not_of_one : HaveParts 100 datagram_at (events_of_copies one_identification) → ⊥
-unfolding third
 not_of_one have = let same : datagram_of 1 ≡ datagram_of 2 = have.1.1.0 (third 16 false (eight 2)) (third 8 true (eight 1)) reads_new_last reads_old_second refl refl refl (omega arith) in cc
 
 mixed : deliveries link_of_100 (events_of_copies one_identification) (record { 0 = 0 }) ≡ record { time = 200; octets = eight 1 ++ eight 2 } ∷ []

@@ -10,7 +10,9 @@ pub mod Offered
 pub mod Slices
 pub mod Origins
 pub mod Parts
+pub mod LimitOver
 pub mod WholeParts
+pub mod Counting
 pub mod Few
 pub mod Interleaved
 pub mod Bringing
@@ -18,3 +20,4 @@ pub mod Arriving
 pub mod Messages
 pub mod Examples
 pub mod SinceExamples
+pub mod CountingExample

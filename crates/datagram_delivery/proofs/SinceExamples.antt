@@ -13,6 +13,7 @@ use Rattle.frame_delivery.specs.Network.{KeepsTimes}
 use Rattle.frame_delivery.specs.Since.{PassTimely, passing_since}
 use Rattle.frame_delivery.specs.Examples.{numbering}
 use Rattle.frame_delivery.proofs.Main.{short_is_near}
+use Rattle.frame_delivery.proofs.Times.{apart_not_late, short_firsts}
 use Rattle.datagram_delivery.specs.Arriving.{Arrives}
 use Rattle.datagram_delivery.specs.Datagrams.{CarryPackets, IsSplitAmong, offers_of}
 use Rattle.datagram_delivery.specs.Offers.{offered_in}
@@ -51,7 +52,8 @@ part_passes = record {
     times = part_times;
     fits = record { covers = omega arith; restarts = omega arith };
   };
-  apart = omega arith;
+  on_time = apart_not_late timing_after_a_part (omega arith);
+  firsts = short_firsts numbering timing_after_a_part after_a_part part_times (omega arith);
   near = (short_is_near link_with_queue numbering timing_after_a_part after_a_part part_times (omega arith)).0;
   after = ((λ is. omega arith, (λ is. omega arith, tt)), ((λ is. omega arith, (λ is. omega arith, tt)), tt));
 }

@@ -1,6 +1,6 @@
 -- A message in two fragments of which each network loses one, two messages among one another, and fragments that meet
 -- all that is asked but one thing, of which a datagram isn't completed or is mixed. Times are in microseconds.
-use Rattle.std.specs.Prelude.{ℕ, ◌+◌, ◌*◌, zero, suc, nat_lt, Bool, true, false, List, [], ◌∷◌, ◌++◌, if◌then◌else◌}
+use Rattle.std.specs.Prelude.{ℕ, ◌+◌, ◌*◌, zero, suc, ◌==◌, nat_lt, Bool, true, false, List, [], ◌∷◌, ◌++◌, if◌then◌else◌}
 use Rattle.es_base.specs.declared.place.Net.{Net}
 use Rattle.es_base.specs.declared.place.Net.TheVariants as nets
 use Rattle.es_base.specs.declared.verdict.Verdict.TheVariants as verdicts
@@ -12,8 +12,9 @@ use Rattle.es_base.specs.Packet.{PacketParts}
 use Rattle.es_base.specs.Settings.{Settings}
 use Rattle.es_base.specs.Outcome.{Payload}
 use Rattle.frame_delivery.specs.Network.{Timing}
-use Rattle.frame_delivery.specs.Sending.{Copy}
+use Rattle.frame_delivery.specs.Sending.{Copy, Numbering}
 use Rattle.datagram_delivery.specs.Splitting.{Offer}
+use Rattle.datagram_delivery.specs.Counting.{Counting}
 use Rattle.datagram_delivery.specs.Datagrams.{Sent}
 use Rattle.datagram_delivery.specs.Interleaved.{Carried}
 
@@ -180,3 +181,39 @@ one_identification =
 -- the datagram of which a frame has a part: the first until 199 microseconds, and then the second
 abbrev pub datagram_at : Event → List ℕ
 datagram_at e = if nat_lt e.time 200 then datagram_of 1 else datagram_of 2
+
+-- ---- a count of identifications that begins anew too soon
+
+-- The sender restarts in the midst of a message in three fragments, of which it sent two. Some 10,000 microseconds later
+-- it sends another with the same identification, the first of its count, and both networks lose the second fragment.
+abbrev pub counted_anew : List Copy
+counted_anew =
+    came_with nets.A 4 (last_third 2 2) 13100 ∷ came_with nets.A 2 (first_third 0) 11100
+    ∷ came_with nets.A 1 (second_third 1 255) 1100
+    ∷ came_with nets.A 0 (first_third 254) 100
+    ∷ []
+
+-- the frame with index 2 is the first after the restart
+abbrev pub restarting : Numbering
+restarting = record { first = 254; restarts = λ index. index == 2 }
+
+-- a frame each millisecond, and the pause before the restart
+abbrev pub sent_with_pause : ℕ → ℕ
+sent_with_pause zero = 0
+sent_with_pause (suc zero) = 1000
+sent_with_pause (suc (suc index)) = 11000 + 1000 * index
+
+abbrev pub timing_with_pause : Timing
+timing_with_pause = record { sent = sent_with_pause; gap = 1000; pause = 10000; least = 100; greatest = 100; wait = 0 }
+
+-- the datagram of a frame: the first before the restart, and then the second
+abbrev pub datagram_of_frame : ℕ → ℕ
+datagram_of_frame zero = 1
+datagram_of_frame (suc zero) = 1
+datagram_of_frame (suc (suc index)) = 2
+
+abbrev pub counting_anew : Counting
+counting_anew = record { datagram = datagram_of_frame; octets = datagram_of; ident = λ index. 1; anew = λ index. index == 2 }
+
+abbrev pub datagram_before_restart : Event → List ℕ
+datagram_before_restart e = if nat_lt e.time 11000 then datagram_of 1 else datagram_of 2

@@ -3,6 +3,7 @@ pub mod Datagrams
 pub mod Offers
 pub mod Interleaved
 pub mod Parts
+pub mod Counting
 pub mod Bringing
 pub mod Arriving
 pub mod Examples

@@ -2,7 +2,7 @@
 --
 -- Parts are lost, and come twice or in another order; only how late they may come is asked of the networks
 -- (`AreOfOne`).
-use Rattle.std.specs.Prelude.{◌≡◌, ◌⊎◌, ℕ, ◌+◌, ◌≤◌, Bool, true, false, List, [], ◌∷◌, length, take, drop, Ok}
+use Rattle.std.specs.Prelude.{◌≡◌, ◌⊎◌, ℕ, ◌+◌, ◌≤◌, ◌<◌, Bool, true, false, List, [], ◌∷◌, length, take, drop, Ok}
 use Rattle.es_base.specs.declared.place.PortNo.{PortNo}
 use Rattle.es_base.specs.declared.event.Event.{Event}
 use Rattle.es_base.specs.declared.event.Message.{Message}
@@ -13,6 +13,7 @@ use Rattle.es_base.specs.Groups.{is_same_key}
 use Rattle.es_base.specs.Outcome.{Payload, datagram_payload}
 use Rattle.es_base.specs.Reassembly.{packet_in}
 use Rattle.es_base.specs.Settings.{Settings}
+use Rattle.frame_delivery.specs.Running.{EachForwarded}
 use Rattle.datagram_delivery.specs.Datagrams.{IsUnused}
 use Rattle.datagram_delivery.specs.Offers.{offered_in}
 use Rattle.datagram_delivery.specs.Splitting.{Offer}
@@ -63,6 +64,11 @@ abbrev pub HavePartsSince : Settings → (Event → List ℕ) → List Event →
 HavePartsSince settings datagram old [] = Unit {0}
 HavePartsSince settings datagram old (e ∷ past) =
     IsPart datagram e × AreOfOneWith settings.reassembly datagram e past × IsUnusedIn settings.reassembly (offered_in settings old) e × HavePartsSince settings datagram old past
+
+-- the frames come once the limit is over since each frame that was forwarded in an old past
+abbrev pub ComeAfterLimit : Settings → List Event → List Event → Type 0
+ComeAfterLimit settings old [] = Unit {0}
+ComeAfterLimit settings old (e ∷ past) = EachForwarded settings (λ earlier. earlier.time + settings.reassembly < e.time) old × ComeAfterLimit settings old past
 
 -- a message is the message of a datagram for a port of the link, where this frame has the datagram or a part of it
 -- rule: DELIV-2

@@ -17,16 +17,17 @@ ghost use Rattle.es_base.specs.Outcome.{Payload, brings, outcome};
 ghost use Rattle.es_base.specs.Deliveries.{deliveries};
 ghost use Rattle.frame_delivery.specs.Sending.{Copy, Numbering, events_of_copies, events_since};
 ghost use Rattle.frame_delivery.specs.Once.{first_copies, has_come, passing_copies};
-ghost use Rattle.frame_delivery.specs.Network.{ComeWhole, Timing};
+ghost use Rattle.frame_delivery.specs.Network.{ComeWhole, KeepsGap, KeepsPause, KeepsTimes, Timing};
 ghost use Rattle.frame_delivery.specs.Since.{IsFirstPassing, PassTimely, forwarded_since, passing_since};
 ghost use Rattle.datagram_delivery.specs.Splitting.{AreFronts, IsLastFragment, Offer, LeavesRoom, groups_after_offers, is_of, joined, other_keys, pieces_of};
 ghost use Rattle.datagram_delivery.specs.Datagrams.{AreSent, CarryPackets, IsSplitAmong, IsSplitInOrder, Sent, all_offers, messages_by, messages_sent, offers_of};
 ghost use Rattle.datagram_delivery.specs.Offers.{offered_in};
 ghost use Rattle.datagram_delivery.specs.Arriving.{Arrives, past_before};
 ghost use Rattle.datagram_delivery.specs.Interleaved.{AreInterleaved, Carried, SendsOn, SendsNext, carried_offers, messages_ended};
-ghost use Rattle.datagram_delivery.specs.Parts.{AreWhole, HaveParts, HavePartsSince, IsMessageOfDatagram, WereSentIn};
+ghost use Rattle.datagram_delivery.specs.Parts.{AreWhole, ComeAfterLimit, HaveParts, HavePartsSince, IsMessageOfDatagram, WereSentIn};
+ghost use Rattle.datagram_delivery.specs.Counting.{AreCounted, Counting, CountsUp, IsOverBefore, KeepsCount, TurnsOverLate};
 ghost use Rattle.frame_delivery.specs.Examples.{numbering, timing};
-ghost use Rattle.datagram_delivery.specs.Examples.{a_part_before, after_a_part, among_one_another, datagram_at, datagram_octets, eight, first_key, five_begun, four_begun, four_in_parts, fragment, in_two_fragments, link_of_100, link_with_queue, sixteen_octets, message_sent, one_identification, packet_sent, part_sent, payload_sent};
+ghost use Rattle.datagram_delivery.specs.Examples.{a_part_before, after_a_part, among_one_another, counted_anew, counting_anew, datagram_at, datagram_before_restart, datagram_octets, eight, first_key, five_begun, four_begun, four_in_parts, fragment, in_two_fragments, link_of_100, link_with_queue, sixteen_octets, message_sent, one_identification, packet_sent, part_sent, payload_sent, restarting, timing_with_pause};
 
 /// A datagram that is split into fragments is joined whole: each fragment but the last is held, and the last brings
 /// exactly the octets of all, one after the other. They come in order and within the limit of time, none is missing,
@@ -144,13 +145,26 @@ pub fn each_message_was_sent()
 {}
 
 /// The same of the frames that come after any old past, whatever came in it, and whatever groups stand: it is only asked
-/// besides that the identifications of fragments weren't used there within the limit of time. So strange frames, once
-/// they are over, mix no message.
+/// besides that the identifications of fragments weren't used there within the limit of time: they may be any once the
+/// limit is over since all that was forwarded there. So strange frames, once they are over, mix no message.
 pub fn each_message_was_sent_after_any_past()
     ensures brought { (settings : Settings) (datagram : Event → List ℕ) (old : List Event) (e : Event) (past : List Event) (payload : Payload) → HavePartsSince settings datagram old (e ∷ past)
         → outcome settings (past ++ old) (arrival_of e) ≡ brings payload → IsMessageOfDatagram settings e.frame (datagram e) payload }
     ensures delivered { (settings : Settings) (datagram : Event → List ℕ) (old past : List Event) (port : PortNo) → HavePartsSince settings datagram old past
         → (more : List Message) × (deliveries settings (past ++ old) port ≡ deliveries settings old port ++ more) × WereSentIn settings datagram port past more }
+    ensures limit_over { (settings : Settings) (datagram : Event → List ℕ) (old past : List Event) → HaveParts settings.reassembly datagram past → ComeAfterLimit settings old past
+        → HavePartsSince settings datagram old past }
+{}
+
+/// A sender may count identifications, if the count turns over late: no sooner than the reassembly limit, and what the
+/// times on the way differ by, after it was sent. It may begin the count anew at a restart, if it pauses for longer than
+/// that before; a count that goes on over restarts needs no pause. A count of datagrams one after another turns over after
+/// 65,536 frames at the soonest.
+pub fn a_count_of_identifications_mixes_nothing()
+    ensures parts { (limit : ℕ) (numbering : Numbering) (timing : Timing) (counting : Counting) (datagram : Event → List ℕ) (copies : List Copy) → KeepsTimes numbering timing copies
+        → AreCounted counting datagram copies → KeepsCount limit numbering timing counting → HaveParts limit datagram (events_of_copies copies) }
+    ensures turns_over { (limit : ℕ) (numbering : Numbering) (timing : Timing) (counting : Counting) → KeepsGap timing → KeepsPause numbering timing → CountsUp counting → IsOverBefore limit timing
+        → TurnsOverLate limit timing counting }
 {}
 
 /// The conditions can be met: by four frames that two networks bring, each with a loss, over the end of the sequence
@@ -169,7 +183,8 @@ pub fn the_conditions_can_be_met()
 
 /// Counterexamples with one condition not met, and all others met: with a fifth datagram in parts the first isn't
 /// completed, so its message isn't delivered; and within the limit of time, to the microsecond, one identification for
-/// two datagrams mixes them.
+/// two datagrams mixes them. So does a count of identifications that a restart begins anew, with a limit of 50,000 and a
+/// pause of 10,000, which is long enough for a limit of 9,999: one fragment is lost on both networks.
 pub fn each_condition_is_needed()
     ensures fifth_group { (place_of first_key [] ≡ None) × (is_of first_key (fragment 1 8 false 1) ≡ true) × AreFronts 50000 first_key five_begun × IsLastFragment 50000 (pieces_of first_key five_begun) (fragment 1 8 false 1) × LeavesRoom 50000 [] first_key four_begun × (LeavesRoom 50000 [] first_key five_begun → ⊥)
         × (fate 50000 (groups_after_offers 50000 [] five_begun) (fragment 1 8 false 1).packet 100 ≡ held) }
@@ -178,4 +193,7 @@ pub fn each_condition_is_needed()
         × (messages_by link_with_queue (carried_offers (part_sent 1 1 600 ∷ part_sent 5 0 500 ∷ four_in_parts)) (record { 0 = 0 }) ≡ []) }
     ensures identification_again { HaveParts 99 datagram_at (events_of_copies one_identification) × (HaveParts 100 datagram_at (events_of_copies one_identification) → ⊥)
         × (deliveries link_of_100 (events_of_copies one_identification) (record { 0 = 0 }) ≡ record { time = 200; octets = eight 1 ++ eight 2 } ∷ []) }
+    ensures counted_anew_too_soon { ComeWhole link_with_queue restarting timing_with_pause counted_anew × AreCounted counting_anew datagram_before_restart counted_anew × TurnsOverLate 50000 timing_with_pause counting_anew
+        × (KeepsCount 50000 restarting timing_with_pause counting_anew → ⊥) × KeepsCount 9999 restarting timing_with_pause counting_anew
+        × (deliveries link_with_queue (events_of_copies counted_anew) (record { 0 = 0 }) ≡ record { time = 13100; octets = eight 1 ++ eight 2 } ∷ []) }
 {}

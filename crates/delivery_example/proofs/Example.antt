@@ -11,8 +11,9 @@ use Rattle.es_base.specs.Outcome as outcomes
 use Rattle.es_base.specs.Packet as packets
 use Rattle.es_base.specs.Past.{AreFramesOf}
 use Rattle.es_base.specs.Run.{IsRun}
-use Rattle.frame_delivery.specs.Network.{ComeWhole}
+use Rattle.frame_delivery.specs.Network.{ComeWhole, KeepsTimes}
 use Rattle.frame_delivery.specs.Examples.{numbering}
+use Rattle.frame_delivery.proofs.Times.{apart_not_late, short_firsts}
 use Rattle.datagram_delivery.specs.Bringing.{BringDatagrams, copies_of}
 use Rattle.datagram_delivery.specs.Datagrams.{CarryPackets}
 use Rattle.datagram_delivery.specs.Examples.{packet_sent}
@@ -32,6 +33,14 @@ events_if_b_is_first one two third = three first_arrival_on_b arrival_on_a secon
 abbrev indices : List ℕ
 indices = 1 ∷ 0 ∷ 0 ∷ []
 
+times : (one two third : Verdict) → KeepsTimes numbering timing_of_sender (copies_of indices (events one two third))
+times one two third = record {
+  gaps = λ index. omega arith;
+  pauses = λ index is. absurd (false≢true is);
+  ways = ((omega arith, omega arith), ((omega arith, omega arith), ((omega arith, omega arith), tt)));
+  order = (omega arith, (omega arith, (omega arith, tt)));
+}
+
 whole : (one two third : Verdict) → ComeWhole link_with_nav numbering timing_of_sender (copies_of indices (events one two third))
 unfolding first_on_a first_on_b second_on_b
 whole one two third = record {
@@ -39,17 +48,21 @@ whole one two third = record {
     redundancy = refl;
     first = omega arith;
     numbers = (refl, (refl, (refl, tt)));
-    times = record {
-      gaps = λ index. omega arith;
-      pauses = λ index is. absurd (false≢true is);
-      ways = ((omega arith, omega arith), ((omega arith, omega arith), ((omega arith, omega arith), tt)));
-      order = (omega arith, (omega arith, (omega arith, tt)));
-    };
+    times = times one two third;
     fits = record { covers = omega arith; restarts = omega arith };
   };
   near = (λ cut soon. omega arith, (λ cut soon. omega arith, (tt, tt)));
   losses = (inl (omega arith, λ index after until. refl), (tt, (tt, tt)));
-  apart = omega arith;
+  on_time = apart_not_late timing_of_sender (omega arith);
+  firsts = short_firsts numbering timing_of_sender (copies_of indices (events one two third)) (times one two third) (omega arith);
+}
+
+times_if_b_is_first : (one two third : Verdict) → KeepsTimes numbering timing_of_sender (copies_of indices (events_if_b_is_first one two third))
+times_if_b_is_first one two third = record {
+  gaps = λ index. omega arith;
+  pauses = λ index is. absurd (false≢true is);
+  ways = ((omega arith, omega arith), ((omega arith, omega arith), ((omega arith, omega arith), tt)));
+  order = (omega arith, (omega arith, (omega arith, tt)));
 }
 
 whole_if_b_is_first : (one two third : Verdict) → ComeWhole link_with_nav numbering timing_of_sender (copies_of indices (events_if_b_is_first one two third))
@@ -59,17 +72,13 @@ whole_if_b_is_first one two third = record {
     redundancy = refl;
     first = omega arith;
     numbers = (refl, (refl, (refl, tt)));
-    times = record {
-      gaps = λ index. omega arith;
-      pauses = λ index is. absurd (false≢true is);
-      ways = ((omega arith, omega arith), ((omega arith, omega arith), ((omega arith, omega arith), tt)));
-      order = (omega arith, (omega arith, (omega arith, tt)));
-    };
+    times = times_if_b_is_first one two third;
     fits = record { covers = omega arith; restarts = omega arith };
   };
   near = (λ cut soon. omega arith, (λ cut soon. omega arith, (tt, tt)));
   losses = (inl (omega arith, λ index after until. refl), (tt, (tt, tt)));
-  apart = omega arith;
+  on_time = apart_not_late timing_of_sender (omega arith);
+  firsts = short_firsts numbering timing_of_sender (copies_of indices (events_if_b_is_first one two third)) (times_if_b_is_first one two third) (omega arith);
 }
 
 carry : (one two third : Verdict) → CarryPackets packet_sent (copies_of indices (events one two third))

@@ -4,7 +4,7 @@ use Rattle.es_base.specs.Settings.{Settings}
 use Rattle.frame_delivery.specs.Sending.{Copy, Numbering}
 use Rattle.frame_delivery.specs.Once.{passing_copies}
 use Rattle.frame_delivery.specs.Network.{BeginNear, ComeTimely, ComeWhole, IsNeverLate, Timing}
-use Rattle.frame_delivery.specs.Conditions.{MeetAll, apart, covers, is_asked_for_all, is_asked_for_once, late, late_restart, losses, near, restarts}
+use Rattle.frame_delivery.specs.Conditions.{MeetAll, firsts, covers, is_asked_for_all, is_asked_for_once, late, late_restart, losses, near, restarts}
 
 pub come_whole : (settings : Settings) (numbering : Numbering) (timing : Timing) (copies : List Copy) → MeetAll is_asked_for_all settings numbering timing copies → ComeWhole settings numbering timing copies
 come_whole settings numbering timing copies meet =
@@ -19,7 +19,8 @@ come_whole settings numbering timing copies meet =
       };
       near = (met near refl).0;
       losses = met losses refl;
-      apart = met apart refl;
+      on_time = record { frames = met late refl; restarts = met late_restart refl };
+      firsts = met firsts refl;
     }
 
 pub come_once : (settings : Settings) (numbering : Numbering) (timing : Timing) (copies : List Copy) → MeetAll is_asked_for_once settings numbering timing copies

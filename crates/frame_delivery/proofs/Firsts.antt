@@ -2,8 +2,8 @@
 use Rattle.std.proofs.Common.{◌≡◌, ◌∙◌, sym, ap, ℕ, ◌<◌, ◌≤◌, Bool, true, false, not, List, [], ◌∷◌, refl, ⊎_elim, arith}
 use Rattle.std.specs.Prelude.{◌==◌, ◌||◌, max}
 use Rattle.std.proofs.lemmas.Bool.{cases_Bool, cases_lt, lt-ltb, le-ltb, ltb-true, ltb-false, eqb-true, eqb-false, eq-eqb, or_cases, or_left, or_parts, both_ways}
-use Rattle.frame_delivery.specs.Sending.{Copy, EachCopy}
-use Rattle.frame_delivery.specs.Once.{IsNotOvertaken, IsOvertaken, first_copies, greatest_index, has_come, is_new, new_copies}
+use Rattle.frame_delivery.specs.Sending.{Copy}
+use Rattle.frame_delivery.specs.Once.{FirstsInOrder, IsNotOvertaken, IsOvertaken, first_copies, greatest_index, has_come, is_new, new_copies}
 
 pub come_at_most : (index : ℕ) (copies : List Copy) → has_come index copies ≡ true → index ≤ greatest_index copies
 come_at_most index [] come = cc
@@ -23,7 +23,7 @@ new_has_not_come index (copy ∷ before) new =
     (λ (is : has_come index (copy ∷ before) ≡ false). is)
     (cases_Bool (has_come index (copy ∷ before)))
 
-pub new_are_first : (copies : List Copy) → EachCopy IsNotOvertaken copies → new_copies copies ≡ first_copies copies
+pub new_are_first : (copies : List Copy) → FirstsInOrder copies → new_copies copies ≡ first_copies copies
 new_are_first [] each = refl
 new_are_first (copy ∷ before) each =
     let rest = new_are_first before each.1 in

@@ -8,6 +8,7 @@ pub mod Firsts
 pub mod Since
 pub mod Main
 pub mod OneNetwork
+pub mod Together
 pub mod Delivered
 pub mod DeliveredSince
 pub mod Whole

@@ -8,13 +8,13 @@ use Rattle.es_base.specs.Copies.{greatest_time}
 use Rattle.es_base.specs.Redundancy.{forwarded}
 use Rattle.es_base.specs.Settings.{Settings}
 use Rattle.frame_delivery.specs.Sending.{Copy, EachCopy, HaveNumbers, Numbering, events_of_copies}
-use Rattle.frame_delivery.specs.Once.{AreInOrder, ComesInTime, IsForwardedIfFirst, IsForwardedIfNew, IsNotOvertaken, as_forwarded, first_copies, greatest_index, has_come, is_new, new_copies, newest_time, passing_copies}
-use Rattle.frame_delivery.specs.Network.{BeginNear, BeginsNear, ComeTimely, ComeWhole, IsNeverLate, HasAge, HasNoOvertaking, IsOnItsWay, IsOverSoon, KeepsOrder, KeepsTimes, LosesFew, Timing}
+use Rattle.frame_delivery.specs.Once.{AreInOrder, ComesInTime, FirstsInOrder, IsForwardedIfFirst, IsForwardedIfNew, as_forwarded, first_copies, greatest_index, has_come, is_new, new_copies, newest_time, passing_copies}
+use Rattle.frame_delivery.specs.Network.{BeginNear, BeginsNear, ComeTimely, ComeWhole, HasAge, IsNeverLate, IsOnItsWay, IsOverSoon, KeepsOrder, KeepsTimes, LosesFew, Timing}
 use Rattle.frame_delivery.proofs.Forwarding.{new_in_order, same_greatest}
 use Rattle.frame_delivery.proofs.Near.{near_the_newest}
 use Rattle.frame_delivery.proofs.Since.{copies_are_forwarded, each_passing, new_are_forwarded, order_of_passing}
 use Rattle.frame_delivery.proofs.Passing.{all_pass, new_passes}
-use Rattle.frame_delivery.proofs.Times.{AreNotLate, all_in_time, apart_not_late, begin_near, none_overtaken, not_late}
+use Rattle.frame_delivery.proofs.Times.{AreNotLate, all_in_time, begin_near, not_late}
 use Rattle.frame_delivery.proofs.Firsts.{new_are_first, new_has_not_come, new_is_first}
 
 -- ---- at most once, in order
@@ -43,7 +43,7 @@ abbrev IsNewIfFirst : Settings → List Copy → Copy → Type 0
 IsNewIfFirst settings before copy =
     has_come copy.index before ≡ false → (is_new copy.index before ≡ true) × (passes settings (events_of_copies before) (arrival_of copy.event) ≡ true)
 
-firsts_are_new : (settings : Settings) (numbering : Numbering) (copies : List Copy) → HaveNumbers numbering copies → LosesFew numbering settings.window copies → EachCopy IsNotOvertaken copies
+firsts_are_new : (settings : Settings) (numbering : Numbering) (copies : List Copy) → HaveNumbers numbering copies → LosesFew numbering settings.window copies → FirstsInOrder copies
     → EachCopy (IsNewIfFirst settings) copies
 firsts_are_new settings numbering [] numbers losses apart = tt
 firsts_are_new settings numbering (copy ∷ before) numbers losses apart = (
@@ -136,15 +136,13 @@ passing_are_first settings (copy ∷ before) each =
     (cases_Bool (has_come copy.index before))
 
 whole_firsts : (settings : Settings) (numbering : Numbering) (timing : Timing) (copies : List Copy) → ComeWhole settings numbering timing copies → EachCopy (IsNewIfFirst settings) copies
-whole_firsts settings numbering timing copies come =
-    let times = come.timely.times in
-    firsts_are_new settings numbering copies come.timely.numbers come.losses (none_overtaken numbering timing times.gaps times.pauses copies come.apart times.ways times.order)
+whole_firsts settings numbering timing copies come = firsts_are_new settings numbering copies come.timely.numbers come.losses come.firsts
 
 -- where few are lost, the copies that pass are as near as all
-newest_passing : (settings : Settings) (copies : List Copy) → EachCopy (IsNewIfFirst settings) copies → EachCopy IsNotOvertaken copies → new_copies (passing_copies settings copies) ≡ new_copies copies
+newest_passing : (settings : Settings) (copies : List Copy) → EachCopy (IsNewIfFirst settings) copies → FirstsInOrder copies → new_copies (passing_copies settings copies) ≡ new_copies copies
 newest_passing settings copies firsts apart = passing_are_first settings copies firsts ∙ sym (new_are_first copies apart)
 
-passing_near : (settings : Settings) (copies : List Copy) → EachCopy (IsNewIfFirst settings) copies → EachCopy IsNotOvertaken copies → BeginNear settings.skew_max copies
+passing_near : (settings : Settings) (copies : List Copy) → EachCopy (IsNewIfFirst settings) copies → FirstsInOrder copies → BeginNear settings.skew_max copies
     → BeginNear settings.skew_max (passing_copies settings copies)
 passing_near settings [] firsts apart near = tt
 passing_near settings (copy ∷ before) firsts apart near =
@@ -154,7 +152,7 @@ passing_near settings (copy ∷ before) firsts apart near =
     (λ (is : passes settings (events_of_copies before) (arrival_of copy.event) ≡ false). rw is rest)
     (cases_Bool (passes settings (events_of_copies before) (arrival_of copy.event)))
   where
-    begins : (copy : Copy) (before some : List Copy) → passing_copies settings before ≡ some → EachCopy (IsNewIfFirst settings) before → EachCopy IsNotOvertaken before → BeginsNear settings.skew_max before copy
+    begins : (copy : Copy) (before some : List Copy) → passing_copies settings before ≡ some → EachCopy (IsNewIfFirst settings) before → FirstsInOrder before → BeginsNear settings.skew_max before copy
         → BeginsNear settings.skew_max some copy
     begins copy before [] is firsts apart near = tt
     begins copy [] (one ∷ some) is firsts apart near = cc
@@ -167,11 +165,10 @@ passing_near settings (copy ∷ before) firsts apart near =
 
 whole_near : (settings : Settings) (numbering : Numbering) (timing : Timing) (copies : List Copy) → ComeWhole settings numbering timing copies → BeginNear settings.skew_max (passing_copies settings copies)
 whole_near settings numbering timing copies come =
-    let times = come.timely.times in
-    passing_near settings copies (whole_firsts settings numbering timing copies come) (none_overtaken numbering timing times.gaps times.pauses copies come.apart times.ways times.order) come.near
+    passing_near settings copies (whole_firsts settings numbering timing copies come) come.firsts come.near
 
 whole_on_time : (settings : Settings) (numbering : Numbering) (timing : Timing) (copies : List Copy) → ComeWhole settings numbering timing copies → AreNotLate numbering timing
-whole_on_time settings numbering timing copies come = apart_not_late numbering timing come.timely.times.gaps come.timely.times.pauses come.apart
+whole_on_time settings numbering timing copies come = not_late numbering timing come.timely.times.gaps come.timely.times.pauses come.on_time
 
 pub each_first_is_forwarded : (settings : Settings) (numbering : Numbering) (timing : Timing) (copies : List Copy) → ComeWhole settings numbering timing copies
     → EachCopy (IsForwardedIfFirst settings) copies
@@ -198,13 +195,10 @@ new_ones_forwarded settings numbering timing copies timely on_time near keeps lo
 
 -- ---- where more are lost
 
-pub passing_forwarded : (settings : Settings) (numbering : Numbering) (timing : Timing) (copies : List Copy) → ComeTimely settings numbering timing copies → HasNoOvertaking timing
-    → BeginNear settings.skew_max (passing_copies settings copies) → forwarded settings (events_of_copies copies) ≡ as_forwarded (first_copies (passing_copies settings copies))
-passing_forwarded settings numbering timing copies timely apart near =
-    let times = timely.times in
-    (forwarded_once settings numbering timing copies timely (apart_not_late numbering timing times.gaps times.pauses apart) near).0
-    ∙ ap as_forwarded (new_are_first (passing_copies settings copies)
-    (none_overtaken numbering timing times.gaps times.pauses (passing_copies settings copies) apart (each_passing (IsOnItsWay timing) settings copies times.ways) (order_of_passing timing.wait settings copies times.order)))
+pub passing_forwarded : (settings : Settings) (numbering : Numbering) (timing : Timing) (copies : List Copy) → ComeTimely settings numbering timing copies → IsNeverLate timing
+    → FirstsInOrder (passing_copies settings copies) → BeginNear settings.skew_max (passing_copies settings copies) → forwarded settings (events_of_copies copies) ≡ as_forwarded (first_copies (passing_copies settings copies))
+passing_forwarded settings numbering timing copies timely on_time firsts near =
+    forwarded_at_most_once settings numbering timing copies timely on_time near ∙ ap as_forwarded (new_are_first (passing_copies settings copies) firsts)
 
 -- ---- where SkewMax is short
 

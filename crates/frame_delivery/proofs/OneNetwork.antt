@@ -21,11 +21,11 @@ use Rattle.frame_delivery.proofs.Since.{counts_at_last, firsts_since, passing_al
 
 -- ---- the copies of one network
 
-itself : (net : Net) → is_same_net net net ≡ true
+pub itself : (net : Net) → is_same_net net net ≡ true
 itself nets.A = refl
 itself nets.B = refl
 
-same_net : (one two : Net) → is_same_net one two ≡ true → one ≡ two
+pub same_net : (one two : Net) → is_same_net one two ≡ true → one ≡ two
 same_net nets.A nets.A is = refl
 same_net nets.A nets.B is = cc
 same_net nets.B nets.A is = cc

@@ -11,8 +11,8 @@ use Rattle.es_base.specs.Copies.{Forwarded, elapsed, greatest_time, is_ahead, is
 use Rattle.es_base.specs.Redundancy.{forwarded, is_forwarded, is_forwarded_after}
 use Rattle.es_base.specs.Settings.{Settings}
 use Rattle.frame_delivery.specs.Sending.{Copy, EachCopy, HaveNumbers, Numbering, events_of_copies, events_since, number_of_frame}
-use Rattle.frame_delivery.specs.Once.{AreInOrder, ComesInTime, IsForwardedIfFirst, IsForwardedIfNew, IsNotOvertaken, as_forwarded, first_copies, has_come, is_new, new_copies, newest_time, passing_copies}
-use Rattle.frame_delivery.specs.Network.{BeginNear, ComeTimely, HasNoOvertaking, IsNeverLate, IsOnItsWay, Timing, time_of_all}
+use Rattle.frame_delivery.specs.Once.{AreInOrder, ComesInTime, FirstsInOrder, IsForwardedIfFirst, IsForwardedIfNew, as_forwarded, first_copies, has_come, is_new, new_copies, newest_time, passing_copies}
+use Rattle.frame_delivery.specs.Network.{BeginNear, ComeTimely, HasNoOvertaking, IsNeverLate, IsOnItsWay, KeepsTimes, Timing, time_of_all}
 use Rattle.frame_delivery.specs.Running.{EachForwarded}
 use Rattle.frame_delivery.specs.Since.{ComeAfter, IsFirstPassing, PassTimely, counts, forwarded_since, passing_since}
 use Rattle.frame_delivery.proofs.Forwarding.{first_is_new, new_in_order, newest_of}
@@ -183,22 +183,23 @@ module _ (settings : Settings) (numbering : Numbering) (old : List Event) (on : 
 
 -- ---- from what is asked of the sender and of the networks
 
-sound_and_apart : (settings : Settings) (numbering : Numbering) (timing : Timing) (old : List Event) (copies : List Copy) → PassTimely settings numbering timing old copies
-    → AreSound settings numbering old (passing_since settings old copies) × EachCopy IsNotOvertaken (passing_since settings old copies)
-sound_and_apart settings numbering timing old copies pass =
+sound_pass : (settings : Settings) (numbering : Numbering) (timing : Timing) (old : List Event) (copies : List Copy) → PassTimely settings numbering timing old copies
+    → AreSound settings numbering old (passing_since settings old copies)
+sound_pass settings numbering timing old copies pass =
     let timely = pass.timely in
     let times = timely.times in
     let some : List Copy = passing_since settings old copies in
-    let in_time = all_in_time numbering timing times.gaps times.pauses settings.skew_max some timely.fits (apart_not_late numbering timing times.gaps times.pauses pass.apart) pass.near times.ways times.order in
-    ((timely.numbers, old_times settings old some pass.after, in_time), none_overtaken numbering timing times.gaps times.pauses some pass.apart times.ways times.order)
+    let in_time = all_in_time numbering timing times.gaps times.pauses settings.skew_max some timely.fits (not_late numbering timing times.gaps times.pauses pass.on_time) pass.near times.ways times.order in
+    (timely.numbers, old_times settings old some pass.after, in_time)
 
 pub firsts_since : (settings : Settings) (numbering : Numbering) (timing : Timing) (old : List Event) (copies : List Copy) → PassTimely settings numbering timing old copies
     → (forwarded_since settings old copies ≡ first_copies (passing_since settings old copies)) × AreInOrder (first_copies (passing_since settings old copies))
 firsts_since settings numbering timing old copies pass =
-    let (sound, apart) = sound_and_apart settings numbering timing old copies pass in
     let timely = pass.timely in
-    let firsts : new_copies (passing_since settings old copies) ≡ first_copies (passing_since settings old copies) = new_are_first (passing_since settings old copies) apart in
-    (new_since settings numbering old timely.redundancy timely.first copies sound ∙ firsts, subst AreInOrder firsts (new_in_order (passing_since settings old copies)))
+    let firsts : new_copies (passing_since settings old copies) ≡ first_copies (passing_since settings old copies) = new_are_first (passing_since settings old copies) pass.firsts in (
+      new_since settings numbering old timely.redundancy timely.first copies (sound_pass settings numbering timing old copies pass) ∙ firsts,
+      subst AreInOrder firsts (new_in_order (passing_since settings old copies)),
+    )
 
 -- where copies may be overtaken, the new ones are forwarded
 pub news_since : (settings : Settings) (numbering : Numbering) (timing : Timing) (old : List Event) (copies : List Copy) → ComeTimely settings numbering timing (passing_since settings old copies) → IsNeverLate timing
@@ -214,13 +215,14 @@ news_since settings numbering timing old copies timely on_time near after =
 pub firsts_before : (settings : Settings) (numbering : Numbering) (timing : Timing) (old : List Event) (copy : Copy) (before : List Copy) → PassTimely settings numbering timing old (copy ∷ before)
     → forwarded_since settings old before ≡ first_copies (passing_since settings old before)
 firsts_before settings numbering timing old copy before pass =
-    let (sound, apart) = sound_and_apart settings numbering timing old (copy ∷ before) pass in
+    let sound = sound_pass settings numbering timing old (copy ∷ before) pass in
+    let firsts = pass.firsts in
     let timely = pass.timely in
     new_since settings numbering old timely.redundancy timely.first before (sound_before settings numbering old timely.redundancy timely.first copy before sound)
     ∙ new_are_first (passing_since settings old before)
     (⊎_elim
-    (λ (count : counts settings (events_since before old) (arrival_of copy.event) (passing_since settings old before) ≡ true). (rw count at apart).1)
-    (λ (fails : counts settings (events_since before old) (arrival_of copy.event) (passing_since settings old before) ≡ false). rw fails at apart)
+    (λ (count : counts settings (events_since before old) (arrival_of copy.event) (passing_since settings old before) ≡ true). (rw count at firsts).1)
+    (λ (fails : counts settings (events_since before old) (arrival_of copy.event) (passing_since settings old before) ≡ false). rw fails at firsts)
     (cases_Bool (counts settings (events_since before old) (arrival_of copy.event) (passing_since settings old before))))
 
 -- so a copy is forwarded exactly if it is the first of its frame that counts
@@ -228,13 +230,14 @@ first_if : (settings : Settings) (numbering : Numbering) (timing : Timing) (old 
     → is_forwarded settings (events_since before old) (arrival_of copy.event)
     ≡ (counts settings (events_since before old) (arrival_of copy.event) (passing_since settings old before) && not (has_come copy.index (passing_since settings old before)))
 first_if settings numbering timing old copy before pass =
-    let (sound, apart) = sound_and_apart settings numbering timing old (copy ∷ before) pass in
+    let sound = sound_pass settings numbering timing old (copy ∷ before) pass in
+    let firsts = pass.firsts in
     let timely = pass.timely in
     let rest = new_since settings numbering old timely.redundancy timely.first before (sound_before settings numbering old timely.redundancy timely.first copy before sound) in
     as_new settings numbering old timely.redundancy timely.first copy before rest sound
     ∙ ⊎_elim
     (λ (count : counts settings (events_since before old) (arrival_of copy.event) (passing_since settings old before) ≡ true).
-    ap (λ (b : Bool). counts settings (events_since before old) (arrival_of copy.event) (passing_since settings old before) && b) (new_is_first copy (passing_since settings old before) (rw count at apart).0))
+    ap (λ (b : Bool). counts settings (events_since before old) (arrival_of copy.event) (passing_since settings old before) && b) (new_is_first copy (passing_since settings old before) (rw count at firsts).0))
     (λ (fails : counts settings (events_since before old) (arrival_of copy.event) (passing_since settings old before) ≡ false). rw fails refl)
     (cases_Bool (counts settings (events_since before old) (arrival_of copy.event) (passing_since settings old before)))
 
@@ -247,28 +250,38 @@ pub other_since : (settings : Settings) (numbering : Numbering) (timing : Timing
     → has_come copy.index (passing_since settings old before) ≡ true → is_forwarded settings (events_since before old) (arrival_of copy.event) ≡ false
 other_since settings numbering timing old copy before pass come = first_if settings numbering timing old copy before pass ∙ and_right _ _ (ap not come)
 
--- what is asked of all copies is asked of those that pass
+-- ---- what is asked of all copies is asked of those that pass
+
+pub times_since : (settings : Settings) (numbering : Numbering) (timing : Timing) (old : List Event) (copies : List Copy) → KeepsTimes numbering timing copies → KeepsTimes numbering timing (passing_since settings old copies)
+times_since settings numbering timing old copies times = record {
+  gaps = times.gaps;
+  pauses = times.pauses;
+  ways = each_since (IsOnItsWay timing) settings old copies times.ways;
+  order = order_since timing.wait settings old copies times.order;
+}
+
+-- where no copy overtakes, the first copies of those that pass come in order
+pub short_in_order : (settings : Settings) (numbering : Numbering) (timing : Timing) (old : List Event) (copies : List Copy) → KeepsTimes numbering timing copies → HasNoOvertaking timing
+    → FirstsInOrder (passing_since settings old copies)
+short_in_order settings numbering timing old copies times apart =
+    let some = times_since settings numbering timing old copies times in
+    none_overtaken numbering timing some.gaps some.pauses (passing_since settings old copies) apart some.ways some.order
+
 pub all_pass_timely : (settings : Settings) (numbering : Numbering) (timing : Timing) (old : List Event) (copies : List Copy) → ComeTimely settings numbering timing copies → HasNoOvertaking timing
     → BeginNear settings.skew_max (passing_since settings old copies) → ComeAfter settings old copies → PassTimely settings numbering timing old copies
-all_pass_timely settings numbering timing old copies timely apart near after =
-    let times = timely.times in
-    record {
-      timely = record {
-        redundancy = timely.redundancy;
-        first = timely.first;
-        numbers = each_since (λ copy. sequence_number_of copy.event.frame ≡ number_of_frame numbering copy.index) settings old copies timely.numbers;
-        times = record {
-          gaps = times.gaps;
-          pauses = times.pauses;
-          ways = each_since (IsOnItsWay timing) settings old copies times.ways;
-          order = order_since timing.wait settings old copies times.order;
-        };
-        fits = timely.fits;
-      };
-      apart = apart;
-      near = near;
-      after = each_since (λ copy. EachForwarded settings (λ e. e.time ≤ copy.event.time) old) settings old copies after;
-    }
+all_pass_timely settings numbering timing old copies timely apart near after = record {
+  timely = record {
+    redundancy = timely.redundancy;
+    first = timely.first;
+    numbers = each_since (λ copy. sequence_number_of copy.event.frame ≡ number_of_frame numbering copy.index) settings old copies timely.numbers;
+    times = times_since settings numbering timing old copies timely.times;
+    fits = timely.fits;
+  };
+  on_time = apart_not_late timing apart;
+  firsts = short_in_order settings numbering timing old copies timely.times apart;
+  near = near;
+  after = each_since (λ copy. EachForwarded settings (λ e. e.time ≤ copy.event.time) old) settings old copies after;
+}
 
 -- ---- at the latest when SkewMax is over since each old frame that was forwarded
 

@@ -7,14 +7,14 @@ use Rattle.es_base.specs.declared.place.Net.TheVariants as nets
 use Rattle.es_base.specs.Redundancy.{forwarded}
 use Rattle.es_base.specs.Settings.{Settings}
 use Rattle.frame_delivery.specs.Sending.{Copy, Numbering, RunsOn, events_of_copies, events_since}
-use Rattle.frame_delivery.specs.Network.{BeginNear, BringsInRow, ComeTimely, HasNoOvertaking, IsOnItsWay, IsOverSoon, KeepsTimes, LosesFew, Timing}
-use Rattle.frame_delivery.specs.Once.{passing_copies}
+use Rattle.frame_delivery.specs.Network.{BeginNear, BringsInRow, ComeTimely, IsNeverLate, IsOnItsWay, IsOverSoon, KeepsTimes, LosesFew, Timing}
+use Rattle.frame_delivery.specs.Once.{FirstsInOrder, passing_copies}
 use Rattle.frame_delivery.specs.Since.{ComeAfter, PassTimely, passing_since}
-use Rattle.frame_delivery.specs.Conditions.{Condition, IsMet, MeetAllBut, apart, covers, is_asked_for_all, late, late_restart, losses, near, restarts}
+use Rattle.frame_delivery.specs.Conditions.{Condition, IsMet, MeetAllBut, covers, firsts, is_asked_for_all, late, late_restart, losses, near, restarts}
 use Rattle.frame_delivery.specs.Examples.{after_skew_max, after_strange, far_apart, frame_at, from_57, from_one, from_ten, link, of_later_time, one_network_out, overtaken, received, restarted, soon_restarted, strange, stranger_passes, timed, timing}
 use Rattle.frame_delivery.proofs.Main.{short_is_near}
-use Rattle.frame_delivery.proofs.Times.{begin_near}
-use Rattle.frame_delivery.proofs.Since.{each_since}
+use Rattle.frame_delivery.proofs.Times.{apart_not_late, begin_near, short_firsts}
+use Rattle.frame_delivery.proofs.Since.{each_since, short_in_order}
 
 -- ---- where SkewMax is short
 
@@ -38,9 +38,9 @@ out_others covers asked differ = omega arith
 out_others restarts asked differ = omega arith
 out_others near asked differ = short_is_near (link 1000) from_one timing one_network_out out_times (omega arith)
 out_others losses asked differ = absurd (differ refl)
-out_others apart asked differ = omega arith
-out_others late asked differ = cc
-out_others late_restart asked differ = cc
+out_others firsts asked differ = short_firsts from_one timing one_network_out out_times (omega arith)
+out_others late asked differ = omega arith
+out_others late_restart asked differ = omega arith
 
 three_are_too_many : LosesFew from_one 2 one_network_out → ⊥
 three_are_too_many is = go is.0
@@ -94,7 +94,8 @@ strange_pass = record {
     times = strange_times;
     fits = record { covers = omega arith; restarts = omega arith };
   };
-  apart = omega arith;
+  on_time = apart_not_late slow (omega arith);
+  firsts = short_firsts from_ten slow (received nets.A 2 12 2100 ∷ received nets.B 1 11 1900 ∷ []) strange_times (omega arith);
   near = (short_is_near (link 1500) from_ten slow (received nets.A 2 12 2100 ∷ received nets.B 1 11 1900 ∷ []) strange_times (omega arith)).0;
   after = ((λ is. omega arith, (λ is. omega arith, tt)), ((λ is. omega arith, (λ is. omega arith, tt)), tt));
 }
@@ -115,12 +116,13 @@ later_timely = record {
   fits = record { covers = omega arith; restarts = omega arith };
 }
 
-pub later_is_lost : ComeTimely (link 1000) from_57 (timed 3000 3000 100 100 0) restarted × HasNoOvertaking (timed 3000 3000 100 100 0) × BeginNear 1000 (passing_since (link 1000) of_later_time restarted)
+pub later_is_lost : ComeTimely (link 1000) from_57 (timed 3000 3000 100 100 0) restarted × IsNeverLate (timed 3000 3000 100 100 0) × FirstsInOrder (passing_since (link 1000) of_later_time restarted) × BeginNear 1000 (passing_since (link 1000) of_later_time restarted)
     × (passing_since (link 1000) of_later_time restarted ≡ restarted) × (ComeAfter (link 1000) of_later_time restarted → ⊥)
     × (forwarded (link 1000) (events_since restarted of_later_time) ≡ frame_at 57 100 ∷ frame_at 50 5000 ∷ [])
 later_is_lost = (
   later_timely,
-  omega arith,
+  apart_not_late (timed 3000 3000 100 100 0) (omega arith),
+  short_in_order (link 1000) from_57 (timed 3000 3000 100 100 0) of_later_time restarted later_timely.times (omega arith),
   since_is_near (link 1000) from_57 (timed 3000 3000 100 100 0) of_later_time restarted later_timely.times (omega arith),
   refl,
   λ after. let soon = after.0.0 refl in absurd (omega (arith, soon)),

@@ -3,8 +3,8 @@ use Rattle.std.proofs.Common.{◌≡◌, ◌∙◌, ap, ℕ, zero, suc, ◌+◌,
 use Rattle.std.specs.Prelude.{max}
 use Rattle.std.proofs.lemmas.Bool.{cases_Bool, cases_lt, lt-ltb, le-ltb, ltb-false, eq-eqb, or_left, or_right}
 use Rattle.frame_delivery.specs.Sending.{Copy, EachCopy, Numbering, RunsOn}
-use Rattle.frame_delivery.specs.Once.{ComesInTime, IsInTime, IsNotOvertaken, greatest_index, has_come, newest_time}
-use Rattle.frame_delivery.specs.Network.{BeginNear, BeginsNear, IsNeverLate, FitsSkew, HasNoOvertaking, IsOnItsWay, IsOverSoon, KeepsGap, KeepsPause, Timing, time_of_all}
+use Rattle.frame_delivery.specs.Once.{ComesInTime, FirstsInOrder, IsInTime, IsNotOvertaken, greatest_index, has_come, newest_time}
+use Rattle.frame_delivery.specs.Network.{BeginNear, BeginsNear, IsNeverLate, FitsSkew, HasNoOvertaking, IsOnItsWay, IsOverSoon, KeepsGap, KeepsPause, KeepsTimes, Timing, time_of_all}
 use Rattle.frame_delivery.proofs.Near.{near_the_newest}
 
 -- a frame of which a copy may be taken after one of another is at most 127 before that, with no restart between
@@ -12,11 +12,27 @@ abbrev pub AreNotLate : Numbering → Timing → Type 0
 AreNotLate numbering timing =
     (index other : ℕ) → timing.sent other + timing.least ≤ timing.sent index + timing.greatest + timing.wait → (other ≤ index + 127) × RunsOn numbering index other
 
+-- a copy of the latest frame came
+pub latest_has_come : (copy : Copy) (before : List Copy) → has_come (greatest_index (copy ∷ before)) (copy ∷ before) ≡ true
+latest_has_come copy [] = or_left _ _ (eq-eqb copy.index (max copy.index 0) (omega arith))
+latest_has_come copy (other ∷ before) =
+    let greatest : ℕ = greatest_index (other ∷ before) in
+    ⊎_elim
+    (λ (less : greatest < copy.index). or_left _ _ (eq-eqb copy.index (max copy.index greatest) (omega arith)))
+    (λ (more : copy.index ≤ greatest).
+    let e : max copy.index greatest ≡ greatest = omega arith in
+    or_right _ _ (ap (λ (index : ℕ). has_come index (other ∷ before)) e ∙ latest_has_come other before))
+    (cases_lt greatest copy.index)
+
+-- where no copy overtakes, none is late
+pub apart_not_late : (timing : Timing) → HasNoOvertaking timing → IsNeverLate timing
+apart_not_late timing apart = record { frames = omega (arith, apart); restarts = omega (arith, apart) }
+
 -- ---- the times of sending
 
 module _ (numbering : Numbering) (timing : Timing) (gaps : KeepsGap timing) (pauses : KeepsPause numbering timing) where
   -- d frames take d gaps at least
-  sent_after : (index d : ℕ) → timing.sent index + d * timing.gap ≤ timing.sent (index + d)
+  pub sent_after : (index d : ℕ) → timing.sent index + d * timing.gap ≤ timing.sent (index + d)
   sent_after index zero = let e : index + 0 ≡ index = omega arith in rw e (omega arith)
   sent_after index (suc d) =
       let e : index + suc d ≡ suc (index + d) = omega arith in
@@ -24,13 +40,13 @@ module _ (numbering : Numbering) (timing : Timing) (gaps : KeepsGap timing) (pau
       let gap = gaps (index + d) in
       rw e (omega (arith, before, gap))
 
-  sent_in_order : (one two : ℕ) → one ≤ two → timing.sent one ≤ timing.sent two
+  pub sent_in_order : (one two : ℕ) → one ≤ two → timing.sent one ≤ timing.sent two
   sent_in_order one two order =
       let e : one + (two - one) ≡ two = omega arith in
       let after = rw e at (sent_after one (two - one)) in
       omega (arith, after)
 
-  sent_apart : (one two : ℕ) → one < two → timing.sent one + timing.gap ≤ timing.sent two
+  pub sent_apart : (one two : ℕ) → one < two → timing.sent one + timing.gap ≤ timing.sent two
   sent_apart one two order =
       let after = sent_in_order (suc one) two (omega arith) in
       let gap = gaps one in
@@ -43,7 +59,7 @@ module _ (numbering : Numbering) (timing : Timing) (gaps : KeepsGap timing) (pau
       omega (arith, after, gap)
 
   -- between two frames with a restart after the one and up to the other the sender paused
-  sent_around : (one again two : ℕ) → one < again → again ≤ two → numbering.restarts again ≡ true → timing.sent one + timing.pause ≤ timing.sent two
+  pub sent_around : (one again two : ℕ) → one < again → again ≤ two → numbering.restarts again ≡ true → timing.sent one + timing.pause ≤ timing.sent two
   sent_around one zero two after within is = absurd (omega arith)
   sent_around one (suc again) two after within is =
       let before = sent_in_order one again (omega arith) in
@@ -51,10 +67,13 @@ module _ (numbering : Numbering) (timing : Timing) (gaps : KeepsGap timing) (pau
       let later = sent_in_order (suc again) two within in
       omega (arith, before, pause, later)
 
-  runs_on : (one two : ℕ) → timing.sent two < timing.sent one + timing.pause → RunsOn numbering one two
+  runs_on : (one two : ℕ) → timing.sent two < timing.sent one + max timing.gap timing.pause → RunsOn numbering one two
   runs_on one two soon index after within =
       ⊎_elim
-      (λ (again : numbering.restarts index ≡ true). let paused = sent_around one index two after within again in absurd (omega (arith, paused)))
+      (λ (again : numbering.restarts index ≡ true).
+      let paused = sent_around one index two after within again in
+      let apart = sent_apart one two (omega (arith, after, within)) in
+      absurd (omega (arith, paused, apart, soon)))
       (λ (on : numbering.restarts index ≡ false). on)
       (cases_Bool (numbering.restarts index))
 
@@ -72,15 +91,6 @@ module _ (numbering : Numbering) (timing : Timing) (gaps : KeepsGap timing) (pau
             (cases_lt (index + 127) other),
         runs_on index other (omega (arith, near, restarts)),
       )
-
-  pub apart_not_late : HasNoOvertaking timing → AreNotLate numbering timing
-  apart_not_late apart index other near =
-      ⊎_elim
-      (λ (later : index < other).
-      let sent = sent_apart index other later in
-      absurd (omega (arith, near, sent, apart)))
-      (λ (earlier : other ≤ index). (omega (arith, earlier), λ again after within. absurd (omega (arith, earlier, after, within))))
-      (cases_lt index other)
 
   -- ---- the times of copies
 
@@ -156,18 +166,6 @@ module _ (numbering : Numbering) (timing : Timing) (gaps : KeepsGap timing) (pau
 
   -- ---- no copy overtakes
 
-  -- a copy of the latest frame came
-  latest_has_come : (copy : Copy) (before : List Copy) → has_come (greatest_index (copy ∷ before)) (copy ∷ before) ≡ true
-  latest_has_come copy [] = or_left _ _ (eq-eqb copy.index (max copy.index 0) (omega arith))
-  latest_has_come copy (other ∷ before) =
-      let greatest : ℕ = greatest_index (other ∷ before) in
-      ⊎_elim
-      (λ (less : greatest < copy.index). or_left _ _ (eq-eqb copy.index (max copy.index greatest) (omega arith)))
-      (λ (more : copy.index ≤ greatest).
-      let e : max copy.index greatest ≡ greatest = omega arith in
-      or_right _ _ (ap (λ (index : ℕ). has_come index (other ∷ before)) e ∙ latest_has_come other before))
-      (cases_lt greatest copy.index)
-
   not_overtaken : (copy : Copy) (before : List Copy) → HasNoOvertaking timing → EachCopy (λ before copy. IsOnItsWay timing copy) before → IsOnItsWay timing copy
       → time_of_all before ≤ copy.event.time + timing.wait → IsNotOvertaken before copy
   not_overtaken copy [] apart ways way order = λ old. cc
@@ -185,6 +183,9 @@ module _ (numbering : Numbering) (timing : Timing) (gaps : KeepsGap timing) (pau
       (cases_lt copy.index greatest)
 
   pub none_overtaken : (copies : List Copy) → HasNoOvertaking timing → EachCopy (λ before copy. IsOnItsWay timing copy) copies
-      → EachCopy (λ before copy. time_of_all before ≤ copy.event.time + timing.wait) copies → EachCopy IsNotOvertaken copies
+      → EachCopy (λ before copy. time_of_all before ≤ copy.event.time + timing.wait) copies → FirstsInOrder copies
   none_overtaken [] apart ways order = tt
   none_overtaken (copy ∷ before) apart ways order = (not_overtaken copy before apart ways.1 ways.0 order.0, none_overtaken before apart ways.1 order.1)
+
+pub short_firsts : (numbering : Numbering) (timing : Timing) (copies : List Copy) → KeepsTimes numbering timing copies → HasNoOvertaking timing → FirstsInOrder copies
+short_firsts numbering timing copies times apart = none_overtaken numbering timing times.gaps times.pauses copies apart times.ways times.order

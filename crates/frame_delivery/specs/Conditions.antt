@@ -1,9 +1,9 @@
 -- The conditions on the sender and the networks, each with a name, and copies that meet all that a law asks but one.
-use Rattle.std.specs.Prelude.{◌≡◌, ◌+◌, ◌*◌, ◌≤◌, ◌<◌, Bool, true, false, List}
+use Rattle.std.specs.Prelude.{◌≡◌, ◌+◌, ◌*◌, ◌≤◌, ◌<◌, max, Bool, true, false, List}
 use Rattle.es_base.specs.Settings.{Settings}
 use Rattle.frame_delivery.specs.Sending.{Copy, HaveNumbers, Numbering}
-use Rattle.frame_delivery.specs.Once.{passing_copies}
-use Rattle.frame_delivery.specs.Network.{BeginNear, HasNoOvertaking, KeepsTimes, LosesFew, Timing}
+use Rattle.frame_delivery.specs.Once.{FirstsInOrder, passing_copies}
+use Rattle.frame_delivery.specs.Network.{BeginNear, KeepsTimes, LosesFew, Timing}
 
 pub data Condition : Type 0 where
   -- SkewMax covers what the times on the way differ by
@@ -14,8 +14,8 @@ pub data Condition : Type 0 where
   near : Condition
   -- each network loses few in a row
   losses : Condition
-  -- no copy of a frame comes after one of a later frame
-  apart : Condition
+  -- the first copy of a frame comes before those of later frames
+  firsts : Condition
   -- no copy is taken so late that 128 frames more came before it
   late : Condition
   -- nor the first after a restart
@@ -27,9 +27,9 @@ IsMet covers settings numbering timing copies = timing.greatest ≤ timing.least
 IsMet restarts settings numbering timing copies = timing.greatest + settings.skew_max < timing.least + timing.pause
 IsMet near settings numbering timing copies = BeginNear settings.skew_max copies × BeginNear settings.skew_max (passing_copies settings copies)
 IsMet losses settings numbering timing copies = LosesFew numbering settings.window copies
-IsMet apart settings numbering timing copies = HasNoOvertaking timing
+IsMet firsts settings numbering timing copies = FirstsInOrder copies
 IsMet late settings numbering timing copies = timing.greatest + timing.wait < timing.least + 128 * timing.gap
-IsMet late_restart settings numbering timing copies = timing.greatest + timing.wait < timing.least + timing.pause
+IsMet late_restart settings numbering timing copies = timing.greatest + timing.wait < timing.least + max timing.gap timing.pause
 
 -- those that `no_frame_is_lost` asks
 abbrev pub is_asked_for_all : Condition → Bool
@@ -37,9 +37,9 @@ is_asked_for_all covers = true
 is_asked_for_all restarts = true
 is_asked_for_all near = true
 is_asked_for_all losses = true
-is_asked_for_all apart = true
-is_asked_for_all late = false
-is_asked_for_all late_restart = false
+is_asked_for_all firsts = true
+is_asked_for_all late = true
+is_asked_for_all late_restart = true
 
 -- those that `no_frame_is_forwarded_twice` asks
 abbrev pub is_asked_for_once : Condition → Bool
@@ -47,7 +47,7 @@ is_asked_for_once covers = true
 is_asked_for_once restarts = true
 is_asked_for_once near = true
 is_asked_for_once losses = false
-is_asked_for_once apart = false
+is_asked_for_once firsts = false
 is_asked_for_once late = true
 is_asked_for_once late_restart = true
 

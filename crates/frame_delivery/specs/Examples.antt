@@ -8,7 +8,7 @@ use Rattle.es_base.specs.declared.verdict.Verdict.TheVariants as verdicts
 use Rattle.es_base.specs.Copies.{Forwarded}
 use Rattle.es_base.specs.Settings.{Settings}
 use Rattle.frame_delivery.specs.Sending.{Copy, Numbering}
-use Rattle.frame_delivery.specs.Network.{Timing}
+use Rattle.frame_delivery.specs.Network.{Delays, Timing}
 
 -- a link with this SkewMax, and a window of 2
 abbrev pub link : ℕ → Settings
@@ -40,6 +40,18 @@ timing = timed 1000 2000 100 900 100
 abbrev pub with_losses : List Copy
 with_losses =
     received nets.B 3 2 3900 ∷ received nets.A 3 2 3100 ∷ received nets.A 2 1 2200 ∷ received nets.B 1 255 1500 ∷ received nets.B 0 254 900 ∷ received nets.A 0 254 100 ∷ []
+
+-- A is 100 microseconds on its way, and B 1300
+abbrev pub slower_network : List Copy
+slower_network = received nets.B 1 2 2300 ∷ received nets.A 2 3 2100 ∷ received nets.B 0 1 1300 ∷ received nets.A 1 2 1100 ∷ received nets.A 0 1 100 ∷ []
+
+-- how long each is on its way
+abbrev pub delay_on : Net → ℕ
+delay_on nets.A = 100
+delay_on nets.B = 1300
+
+abbrev pub slower_on_b : Delays
+slower_on_b = record { least = delay_on; greatest = delay_on }
 
 -- B is out for three frames, more than the window, and its next one is out of sequence; A brings each frame
 abbrev pub one_network_out : List Copy

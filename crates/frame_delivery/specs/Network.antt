@@ -1,11 +1,12 @@
 -- What is asked of the sender and of the two networks. Times are in microseconds.
 use Rattle.std.specs.Prelude.{◌≡◌, ◌⊎◌, true, ℕ, suc, ◌+◌, ◌*◌, ◌≤◌, ◌<◌, max, List, [], ◌∷◌, Option, None, Some, if◌then◌else◌}
 use Rattle.es_base.specs.declared.place.Net.{Net}
+use Rattle.es_base.specs.declared.place.Net.TheVariants as nets
 use Rattle.es_base.specs.Copies.{elapsed}
 use Rattle.es_base.specs.Integrity.{is_same_net, latest}
 use Rattle.es_base.specs.Settings.{Settings}
 use Rattle.frame_delivery.specs.Sending.{Copy, EachCopy, HaveNumbers, Numbering, RunsOn}
-use Rattle.frame_delivery.specs.Once.{greatest_index, newest_time}
+use Rattle.frame_delivery.specs.Once.{FirstsInOrder, greatest_index, has_come, newest_time}
 
 -- ---- what comes on each network
 
@@ -102,11 +103,12 @@ pub record FitsSkew (timing : Timing) (skew_max : ℕ) : Type 0 where
   pub covers : timing.greatest ≤ timing.least + skew_max
   pub restarts : timing.greatest + skew_max < timing.least + timing.pause
 
--- no copy is taken so late that 128 frames more, or the first after a restart, came before it
+-- no copy is taken so late that 128 frames more, or the first after a restart, came before it (a sender that keeps the
+-- gap leaves it before a restart, too)
 -- rule: DELIV-3
 pub record IsNeverLate (timing : Timing) : Type 0 where
   pub frames : timing.greatest + timing.wait < timing.least + 128 * timing.gap
-  pub restarts : timing.greatest + timing.wait < timing.least + timing.pause
+  pub restarts : timing.greatest + timing.wait < timing.least + max timing.gap timing.pause
 
 -- SkewMax is over before 128 frames more are sent
 -- rule: DELIV-1
@@ -135,6 +137,36 @@ BeginNear skew_max copies = EachCopy (BeginsNear skew_max) copies
 abbrev pub HasNoOvertaking : Timing → Type 0
 HasNoOvertaking timing = timing.greatest + timing.wait < timing.least + timing.gap
 
+-- ---- where each network keeps the order
+
+-- the least and the greatest time that a copy is on its way on a network
+pub record Delays : Type 0 where
+  pub least : Net → ℕ
+  pub greatest : Net → ℕ
+
+abbrev pub KeepsDelays : Timing → Delays → List Copy → Type 0
+KeepsDelays timing delays copies =
+    EachCopy (λ before copy. (timing.sent copy.index + delays.least copy.event.net ≤ copy.event.time) × (copy.event.time ≤ timing.sent copy.index + delays.greatest copy.event.net)) copies
+
+-- a network loses no frame that another brings: it brought each of them that is earlier than one that it brought
+abbrev pub LosesNoneOf : Net → Net → List Copy → Type 0
+LosesNoneOf net other copies =
+    (index later : ℕ) → index < later → has_come index (copies_on other copies) ≡ true → has_come later (copies_on net copies) ≡ true → has_come index (copies_on net copies) ≡ true
+
+-- no first copy on a network comes after a copy of a later frame on another: that one loses none of its frames, or isn't
+-- faster by the gap
+abbrev pub KeepsBefore : Timing → Delays → Net → Net → List Copy → Type 0
+KeepsBefore timing delays net other copies = (delays.greatest net + timing.wait < delays.least other + timing.gap) ⊎ LosesNoneOf other net copies
+
+-- the networks keep the order, each by itself, and each before the other
+pub record KeepOrderTogether (timing : Timing) (delays : Delays) (copies : List Copy) : Type 0 where
+  pub gaps : KeepsGap timing
+  pub order : KeepsOrder copies
+  pub ways : KeepsDelays timing delays copies
+  pub taken : EachCopy (λ before copy. time_of_all before ≤ copy.event.time + timing.wait) copies
+  pub a : KeepsBefore timing delays nets.A nets.B copies
+  pub b : KeepsBefore timing delays nets.B nets.A copies
+
 -- ---- altogether
 
 -- copies of a sender's frames come at times that fit the settings of their link
@@ -146,10 +178,12 @@ pub record ComeTimely (settings : Settings) (numbering : Numbering) (timing : Ti
   pub times : KeepsTimes numbering timing copies
   pub fits : FitsSkew timing settings.skew_max
 
--- and on networks that begin near each other and lose few in a row, with no overtaking
+-- and on networks that begin near each other and lose few in a row; no copy is too late, and the first copies come in
+-- order
 -- rule: DELIV-6
 pub record ComeWhole (settings : Settings) (numbering : Numbering) (timing : Timing) (copies : List Copy) : Type 0 where
   pub timely : ComeTimely settings numbering timing copies
   pub near : BeginNear settings.skew_max copies
   pub losses : LosesFew numbering settings.window copies
-  pub apart : HasNoOvertaking timing
+  pub on_time : IsNeverLate timing
+  pub firsts : FirstsInOrder copies

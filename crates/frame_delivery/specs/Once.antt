@@ -84,9 +84,15 @@ abbrev pub ComesInTime : Numbering → ℕ → List Copy → Copy → Type 0
 ComesInTime numbering skew_max [] copy = Unit {0}
 ComesInTime numbering skew_max (other ∷ before) copy = IsInTime numbering skew_max (other ∷ before) copy
 
--- no copy of a frame comes first after a copy of a later frame
+-- a copy that comes after one of a later frame isn't the first of its own
 abbrev pub IsNotOvertaken : List Copy → Copy → Type 0
 IsNotOvertaken before copy = is_new copy.index before ≡ false → has_come copy.index before ≡ true
+
+-- Of each frame the first copy comes before all copies of later frames. A further copy may come after one of a later
+-- frame: it is redundant.
+-- rule: DELIV-5
+abbrev pub FirstsInOrder : List Copy → Type 0
+FirstsInOrder copies = EachCopy IsNotOvertaken copies
 
 -- each copy of a frame came after a copy of a later frame
 -- rule: DELIV-4

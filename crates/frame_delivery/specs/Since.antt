@@ -7,9 +7,9 @@ use Rattle.es_base.specs.Integrity.{passes}
 use Rattle.es_base.specs.Redundancy.{is_forwarded}
 use Rattle.es_base.specs.Settings.{Settings}
 use Rattle.frame_delivery.specs.Sending.{Copy, EachCopy, Numbering, events_since}
-use Rattle.frame_delivery.specs.Once.{has_come}
+use Rattle.frame_delivery.specs.Once.{FirstsInOrder, has_come}
 use Rattle.frame_delivery.specs.Running.{EachForwarded}
-use Rattle.frame_delivery.specs.Network.{BeginNear, ComeTimely, HasNoOvertaking, Timing}
+use Rattle.frame_delivery.specs.Network.{BeginNear, ComeTimely, IsNeverLate, Timing}
 
 -- ---- what the receiver makes of them
 
@@ -44,10 +44,11 @@ abbrev pub ComeAfter : Settings → List Event → List Copy → Type 0
 ComeAfter settings old copies = EachCopy (λ before copy. EachForwarded settings (λ e. e.time ≤ copy.event.time) old) copies
 
 -- The copies that pass, from the first on that is forwarded after an old past, are of a sender's frames: they come at
--- times that fit, with no overtaking, and on networks that begin near each other. Nothing is asked of the old past but
--- that its times aren't later, and nothing of frames that integrity checking refuses.
+-- times that fit, none too late, the first of each frame in order, and on networks that begin near each other. Nothing is
+-- asked of the old past but that its times aren't later, and nothing of frames that integrity checking refuses.
 pub record PassTimely (settings : Settings) (numbering : Numbering) (timing : Timing) (old : List Event) (copies : List Copy) : Type 0 where
   pub timely : ComeTimely settings numbering timing (passing_since settings old copies)
-  pub apart : HasNoOvertaking timing
+  pub on_time : IsNeverLate timing
+  pub firsts : FirstsInOrder (passing_since settings old copies)
   pub near : BeginNear settings.skew_max (passing_since settings old copies)
   pub after : ComeAfter settings old (passing_since settings old copies)

@@ -15,13 +15,13 @@ ghost use Rattle.es_base.specs.Redundancy.{forwarded, is_forwarded};
 ghost use Rattle.es_base.specs.Outcome.{Payload};
 ghost use Rattle.es_base.specs.Deliveries.{deliveries, number_delivered};
 ghost use Rattle.frame_delivery.specs.Sending.{Copy, EachCopy, HaveNumbers, Numbering, RunsOn, events_of_copies, events_since, number_of_frame};
-ghost use Rattle.frame_delivery.specs.Once.{AreInOrder, ComesInTime, IsForwardedIfFirst, IsForwardedIfNew, IsOvertaken, as_forwarded, first_copies, has_come, new_copies, passing_copies};
+ghost use Rattle.frame_delivery.specs.Once.{AreInOrder, ComesInTime, FirstsInOrder, IsForwardedIfFirst, IsForwardedIfNew, IsOvertaken, as_forwarded, first_copies, has_come, new_copies, passing_copies};
 ghost use Rattle.frame_delivery.specs.Running.{EachForwarded, SomeForwarded};
 ghost use Rattle.frame_delivery.specs.Since.{ComeAfter, IsFirstPassing, PassTimely, forwarded_since, passing_since};
-ghost use Rattle.frame_delivery.specs.Network.{BeginNear, BringsInRow, ComeTimely, ComeWhole, IsNeverLate, HasAge, HasNoOvertaking, IsOverSoon, KeepsOrder, KeepsTimes, LosesFew, MayFollow, Timing, copies_on, indices_on};
-ghost use Rattle.frame_delivery.specs.Conditions.{MeetAll, MeetAllBut, apart, covers, is_asked_for_all, is_asked_for_once, late, late_restart, losses, near, restarts};
+ghost use Rattle.frame_delivery.specs.Network.{BeginNear, BringsInRow, ComeTimely, ComeWhole, Delays, HasAge, HasNoOvertaking, IsNeverLate, IsOverSoon, KeepOrderTogether, KeepsOrder, KeepsTimes, LosesFew, MayFollow, Timing, copies_on, indices_on};
+ghost use Rattle.frame_delivery.specs.Conditions.{MeetAll, MeetAllBut, covers, firsts, is_asked_for_all, is_asked_for_once, late, late_restart, losses, near, restarts};
 ghost use Rattle.frame_delivery.specs.Messages.{AllCame, CarryWhole, HaveRoom, messages_of, octets_of_messages, octets_sent};
-ghost use Rattle.frame_delivery.specs.Examples.{after_skew_max, after_strange, behind_a_restart, far_apart, far_behind, frame_at, from_57, from_one, from_ten, link, numbering, of_later_time, one_network_out, overtaken, received, restarted, soon_restarted, strange, stranger_passes, timed, timing, two_lost, wide_link, with_losses};
+ghost use Rattle.frame_delivery.specs.Examples.{after_skew_max, after_strange, behind_a_restart, far_apart, far_behind, frame_at, from_57, from_one, from_ten, link, numbering, of_later_time, one_network_out, overtaken, received, restarted, slower_network, slower_on_b, soon_restarted, strange, stranger_passes, timed, timing, two_lost, wide_link, with_losses};
 
 /// The sequence number of a frame is ahead of those of the 127 frames before it, and of no later one up to 127.
 pub fn a_later_frame_is_ahead()
@@ -61,8 +61,7 @@ pub fn no_frame_is_forwarded_twice()
 {}
 
 /// And none is lost of which a copy comes: the first copy of each frame is forwarded, and no other, if each network
-/// also loses fewer than the window in a row, and the times on the way, with the wait, differ by less than the gap.
-/// (Then none is too late.)
+/// also loses fewer than the window in a row, and the first copies come in order (`first_copies_come_in_order`).
 pub fn no_frame_is_lost()
     ensures first { (settings : Settings) (numbering : Numbering) (timing : Timing) (copies : List Copy) → ComeWhole settings numbering timing copies
         → EachCopy (IsForwardedIfFirst settings) copies }
@@ -73,8 +72,7 @@ pub fn no_frame_is_lost()
     ensures all { (copies : List Copy) (index : ℕ) → has_come index (first_copies copies) ≡ has_come index copies }
 {}
 
-/// If the times on the way differ by more, a frame is still lost only if each of its copies comes after a copy of a
-/// later frame.
+/// If they don't come in order, a frame is still lost only if each of its copies comes after a copy of a later frame.
 pub fn a_frame_is_lost_only_if_it_is_overtaken()
     ensures forwarded { (settings : Settings) (numbering : Numbering) (timing : Timing) (copies : List Copy) → ComeTimely settings numbering timing copies → IsNeverLate timing
         → BeginNear settings.skew_max copies → KeepsOrder copies → LosesFew numbering settings.window copies → forwarded settings (events_of_copies copies) ≡ as_forwarded (new_copies copies) }
@@ -82,9 +80,10 @@ pub fn a_frame_is_lost_only_if_it_is_overtaken()
 {}
 
 /// If the networks lose more in a row, each frame of which a copy passes integrity checking is still forwarded, with
-/// the first that passes, and no other.
+/// the first that passes, and no other. It is only asked of the copies that pass that the first of each frame comes
+/// before those of later frames: a further copy may come late.
 pub fn no_frame_that_passes_is_lost()
-    ensures { (settings : Settings) (numbering : Numbering) (timing : Timing) (copies : List Copy) → ComeTimely settings numbering timing copies → HasNoOvertaking timing
+    ensures { (settings : Settings) (numbering : Numbering) (timing : Timing) (copies : List Copy) → ComeTimely settings numbering timing copies → IsNeverLate timing → FirstsInOrder (passing_copies settings copies)
         → BeginNear settings.skew_max (passing_copies settings copies) → forwarded settings (events_of_copies copies) ≡ as_forwarded (first_copies (passing_copies settings copies)) }
 {}
 
@@ -105,8 +104,8 @@ pub fn one_network_is_enough()
 {}
 
 /// Whatever came before on the link, frames of a stranger or numbers that don't follow: from the first copy on that is
-/// forwarded then, the first copy of each frame that passes is forwarded, and no other, in order. If copies may be
-/// overtaken, those are forwarded that are of a later frame than all before. With nothing before these are all that pass.
+/// forwarded then, the first copy of each frame that passes is forwarded, and no other, in order. If first copies may
+/// be overtaken, those are forwarded that are of a later frame than all before. With nothing before these are all that pass.
 pub fn forwarding_recovers()
     ensures forwarded { (settings : Settings) (numbering : Numbering) (timing : Timing) (old : List Event) (copies : List Copy) → PassTimely settings numbering timing old copies
         → (forwarded_since settings old copies ≡ first_copies (passing_since settings old copies)) × AreInOrder (first_copies (passing_since settings old copies)) }
@@ -134,6 +133,18 @@ pub fn a_link_recovers_within_skew_max()
     ensures heals { (settings : Settings) (numbering : Numbering) (old : List Event) (copy : Copy) (before : List Copy) (last : ℕ) → HaveNumbers numbering (copies_on copy.event.net (copy ∷ before))
         → latest (indices_on before copy.event.net) ≡ Some last → last < copy.index → MayFollow numbering settings.window (Some last) copy.index
         → EachForwarded settings (λ e. e.time + settings.skew_max < copy.event.time) old → passing_since settings old (copy ∷ before) ≡ copy ∷ passing_since settings old before }
+{}
+
+/// The first copies come in order, and none is late, if the times on the way, with the wait, differ by less than the gap.
+/// Times on one network may differ by more if each network keeps the order, and if, of the two, the greatest time on one
+/// less the least on the other, with the wait, is below the gap, or that other loses no frame that the one brings. What
+/// a network keeps of its copies it keeps of those that pass.
+pub fn first_copies_come_in_order()
+    ensures all { (numbering : Numbering) (timing : Timing) (copies : List Copy) → KeepsTimes numbering timing copies → HasNoOvertaking timing → IsNeverLate timing × FirstsInOrder copies }
+    ensures passing { (settings : Settings) (numbering : Numbering) (timing : Timing) (old : List Event) (copies : List Copy) → KeepsTimes numbering timing copies → HasNoOvertaking timing
+        → FirstsInOrder (passing_since settings old copies) }
+    ensures each_network_keeps_the_order { (timing : Timing) (delays : Delays) (copies : List Copy) → KeepOrderTogether timing delays copies → FirstsInOrder copies }
+    ensures order_of_passing { (settings : Settings) (old : List Event) (copies : List Copy) → KeepsOrder copies → KeepsOrder (passing_since settings old copies) }
 {}
 
 /// Networks begin near each other if SkewMax is over before 128 frames more are sent. So it is only for a longer
@@ -194,10 +205,14 @@ pub fn these_are_the_conditions()
 {}
 
 /// The conditions can be met: by four frames that two networks bring, each with a loss, over the end of the sequence
-/// numbers, and all four are forwarded; and with a SkewMax of a second, a thousand gaps, as well as with one of a gap.
+/// numbers, and all four are forwarded; and with a SkewMax of a second, a thousand gaps, as well as with one of a gap. And by
+/// a network that is slower than the other by more than a gap: its copies come after those of later frames, but none of
+/// them is the first of its frame.
 pub fn the_conditions_can_be_met()
     ensures met { ComeWhole (link 1000) numbering timing with_losses }
     ensures with_a_long_skew_max { ComeWhole (link 1000000) numbering (timed 1000 2000000 100 900 100) with_losses }
+    ensures with_a_slower_network { ComeWhole (link 1200) from_one (timed 1000 4000 100 1300 0) slower_network × KeepOrderTogether (timed 1000 4000 100 1300 0) slower_on_b slower_network
+        × (HasNoOvertaking (timed 1000 4000 100 1300 0) → ⊥) × (forwarded (link 1200) (events_of_copies slower_network) ≡ frame_at 3 2100 ∷ frame_at 2 1100 ∷ frame_at 1 100 ∷ []) }
     ensures forwarded { forwarded (link 1000) (events_of_copies with_losses) ≡ frame_at 2 3100 ∷ frame_at 1 2200 ∷ frame_at 255 1500 ∷ frame_at 254 100 ∷ [] }
     ensures forwarded_with_it { forwarded (link 1000000) (events_of_copies with_losses) ≡ frame_at 2 3100 ∷ frame_at 1 2200 ∷ frame_at 255 1500 ∷ frame_at 254 100 ∷ [] }
 {}
@@ -208,7 +223,7 @@ pub fn the_conditions_can_be_met()
 /// `forwarding_recovers` says, though one more strange frame comes meanwhile, which is out of sequence. But a frame of
 /// which a copy passes can be lost if one was forwarded before with a later time than the copies have that come; or while
 /// SkewMax runs since a stranger's frame that passes, though on the other network. And the copies of
-/// `each_condition_is_needed` all pass where SkewMax is too short or too long, a copy overtakes, or networks begin far
+/// `each_condition_is_needed` all pass where SkewMax is too short or too long, a first copy is overtaken, or networks begin far
 /// apart: so each of these conditions is needed of copies that pass, too.
 pub fn a_link_recovers_in_examples()
     ensures one_network_out { MeetAllBut is_asked_for_all losses (link 1000) from_one timing one_network_out × BringsInRow from_one 2 nets.A one_network_out
@@ -216,7 +231,7 @@ pub fn a_link_recovers_in_examples()
     ensures after_strange_frames { PassTimely (link 1500) from_ten (timed 1000 3000 100 900 100) strange after_strange
         × (passing_since (link 1500) strange after_strange ≡ received nets.A 2 12 2100 ∷ received nets.B 1 11 1900 ∷ [])
         × (forwarded (link 1500) (events_since after_strange strange) ≡ frame_at 12 2100 ∷ frame_at 11 1900 ∷ frame_at 50 60 ∷ frame_at 200 50 ∷ []) }
-    ensures after_a_later_time { ComeTimely (link 1000) from_57 (timed 3000 3000 100 100 0) restarted × HasNoOvertaking (timed 3000 3000 100 100 0) × BeginNear 1000 (passing_since (link 1000) of_later_time restarted)
+    ensures after_a_later_time { ComeTimely (link 1000) from_57 (timed 3000 3000 100 100 0) restarted × IsNeverLate (timed 3000 3000 100 100 0) × FirstsInOrder (passing_since (link 1000) of_later_time restarted) × BeginNear 1000 (passing_since (link 1000) of_later_time restarted)
         × (passing_since (link 1000) of_later_time restarted ≡ restarted) × (ComeAfter (link 1000) of_later_time restarted → ⊥)
         × (forwarded (link 1000) (events_since restarted of_later_time) ≡ frame_at 57 100 ∷ frame_at 50 5000 ∷ []) }
     ensures while_a_stranger_passes { BringsInRow from_one 2 nets.A stranger_passes × (passing_copies (link 1000) stranger_passes ≡ stranger_passes)
@@ -229,14 +244,14 @@ pub fn a_link_recovers_in_examples()
 pub fn each_condition_is_needed()
     ensures second_copy_after_skew_max { MeetAllBut is_asked_for_all covers (link 1000) from_one (timed 2000 4000 100 1101 0) after_skew_max
         × (forwarded (link 1000) (events_of_copies after_skew_max) ≡ frame_at 1 1101 ∷ frame_at 1 100 ∷ []) }
-    ensures overtaken_though_one_network_loses_nothing { MeetAllBut is_asked_for_all apart (link 1000) from_one (timed 1000 4000 100 1100 0) overtaken
+    ensures overtaken_though_one_network_loses_nothing { MeetAllBut is_asked_for_all firsts (link 1000) from_one (timed 1000 4000 100 1100 0) overtaken × KeepsOrder overtaken
         × (forwarded (link 1000) (events_of_copies overtaken) ≡ frame_at 3 2100 ∷ frame_at 1 100 ∷ []) }
     ensures window_lost_on_both_networks { MeetAllBut is_asked_for_all losses (link 1000) from_one timing two_lost × (forwarded (link 1000) (events_of_copies two_lost) ≡ frame_at 1 100 ∷ []) }
     ensures begun_far_apart { MeetAllBut is_asked_for_all near (link 128000) from_one (timed 1000 200000 100 100 0) far_apart × (forwarded (link 128000) (events_of_copies far_apart) ≡ frame_at 1 100 ∷ []) }
     ensures restart_in_skew_max { MeetAllBut is_asked_for_all restarts (link 1000) from_57 (timed 1000 1000 100 100 0) soon_restarted
         × (forwarded (link 1000) (events_of_copies soon_restarted) ≡ frame_at 57 100 ∷ []) }
-    ensures late_by_128_frames { MeetAllBut is_asked_for_once late wide_link from_one (timed 1000 300000 100 128100 0) far_behind
+    ensures late_by_128_frames { MeetAllBut is_asked_for_all late wide_link from_one (timed 1000 300000 100 128100 0) far_behind
         × (forwarded wide_link (events_of_copies far_behind) ≡ frame_at 1 128100 ∷ frame_at 129 128100 ∷ frame_at 65 64100 ∷ frame_at 1 100 ∷ []) }
-    ensures late_by_a_restart { MeetAllBut is_asked_for_once late_restart (link 1000) from_57 (timed 2000 2000 100 100 2000) behind_a_restart
+    ensures late_by_a_restart { MeetAllBut is_asked_for_all late_restart (link 1000) from_57 (timed 2000 2000 100 100 2000) behind_a_restart
         × (forwarded (link 1000) (events_of_copies behind_a_restart) ≡ frame_at 57 100 ∷ frame_at 0 2100 ∷ frame_at 57 100 ∷ []) }
 {}
