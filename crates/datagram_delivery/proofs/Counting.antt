@@ -9,7 +9,7 @@ use Rattle.frame_delivery.specs.Sending.{Copy, EachCopy, Numbering, events_of_co
 use Rattle.frame_delivery.specs.Network.{IsOnItsWay, KeepsGap, KeepsPause, KeepsTimes, Timing, time_of_all}
 use Rattle.frame_delivery.proofs.Times.{sent_after, sent_around, sent_in_order}
 use Rattle.datagram_delivery.specs.Parts.{AreOfOne, AreOfOneWith, HaveParts}
-use Rattle.datagram_delivery.specs.Counting.{AreCounted, Counting, CountsOn, CountsUp, IsCounted, IsOverBefore, IsSoonAfter, KeepsCount, TurnsOverLate, next_ident}
+use Rattle.datagram_delivery.specs.Counting.{CarryParts, Counting, CountsOn, CountsUp, CarriesPart, IsOverBefore, IsSoonAfter, KeepsCount, TurnsOverLate, next_ident}
 
 -- ---- a count that turns over after 65,536 frames at the soonest
 
@@ -98,7 +98,7 @@ module _ (limit : ℕ) (numbering : Numbering) (timing : Timing) (counting : Cou
   soon_is_one : (index later : ℕ) → index ≤ later → IsSoonAfter limit timing index later → counting.ident index ≡ counting.ident later → counting.datagram index ≡ counting.datagram later
   soon_is_one index later order soon same = keeps.turns index later order (counts_on index later soon) soon same
 
-  of_one : (datagram : Event → List ℕ) (copy other : Copy) → IsCounted counting datagram copy → IsCounted counting datagram other → IsOnItsWay timing copy → IsOnItsWay timing other
+  of_one : (datagram : Event → List ℕ) (copy other : Copy) → CarriesPart counting datagram copy → CarriesPart counting datagram other → IsOnItsWay timing copy → IsOnItsWay timing other
       → other.event.time ≤ copy.event.time + timing.wait → AreOfOne limit datagram copy.event other.event
   of_one datagram copy other here there way other_way taken = λ one two read read_too fragment part same within.
       let key : key_of two ≡ key_of one = same_key (key_of two) (key_of one) same in
@@ -112,7 +112,7 @@ module _ (limit : ℕ) (numbering : Numbering) (timing : Timing) (counting : Cou
       (cases_lt copy.index other.index) in
       there.of ∙ ap counting.octets number ∙ sym here.of
 
-  of_one_with : (datagram : Event → List ℕ) (copy : Copy) (before : List Copy) → IsCounted counting datagram copy → AreCounted counting datagram before → IsOnItsWay timing copy
+  of_one_with : (datagram : Event → List ℕ) (copy : Copy) (before : List Copy) → CarriesPart counting datagram copy → CarryParts counting datagram before → IsOnItsWay timing copy
       → EachCopy (λ before copy. IsOnItsWay timing copy) before → time_of_all before ≤ copy.event.time + timing.wait → AreOfOneWith limit datagram copy.event (events_of_copies before)
   of_one_with datagram copy [] here others way ways taken = tt
   of_one_with datagram copy (other ∷ before) here others way ways taken = (
@@ -120,12 +120,12 @@ module _ (limit : ℕ) (numbering : Numbering) (timing : Timing) (counting : Cou
     of_one_with datagram copy before here others.1 way ways.1 (omega (arith, taken)),
   )
 
-  parts_counted : (datagram : Event → List ℕ) (copies : List Copy) → AreCounted counting datagram copies → EachCopy (λ before copy. IsOnItsWay timing copy) copies
+  parts_counted : (datagram : Event → List ℕ) (copies : List Copy) → CarryParts counting datagram copies → EachCopy (λ before copy. IsOnItsWay timing copy) copies
       → EachCopy (λ before copy. time_of_all before ≤ copy.event.time + timing.wait) copies → HaveParts limit datagram (events_of_copies copies)
   parts_counted datagram [] are ways order = tt
   parts_counted datagram (copy ∷ before) are ways order = (are.0.part, of_one_with datagram copy before are.0 are.1 ways.0 ways.1 order.0, parts_counted datagram before are.1 ways.1 order.1)
 
 pub counted_have_parts : (limit : ℕ) (numbering : Numbering) (timing : Timing) (counting : Counting) (datagram : Event → List ℕ) (copies : List Copy) → KeepsTimes numbering timing copies
-    → AreCounted counting datagram copies → KeepsCount limit numbering timing counting → HaveParts limit datagram (events_of_copies copies)
+    → CarryParts counting datagram copies → KeepsCount limit numbering timing counting → HaveParts limit datagram (events_of_copies copies)
 counted_have_parts limit numbering timing counting datagram copies times are keeps =
     parts_counted limit numbering timing counting times.gaps times.pauses keeps datagram copies are times.ways times.order

@@ -16,7 +16,7 @@ use Rattle.frame_delivery.specs.Network.{ComeWhole, KeepsTimes}
 use Rattle.frame_delivery.proofs.Main.{short_is_near}
 use Rattle.frame_delivery.proofs.Times.{apart_not_late, short_firsts}
 use Rattle.datagram_delivery.specs.Parts.{IsPartOf}
-use Rattle.datagram_delivery.specs.Counting.{AreCounted, CountsUp, IsCounted, KeepsCount, TurnsOverLate}
+use Rattle.datagram_delivery.specs.Counting.{CarryParts, CountsUp, CarriesPart, KeepsCount, TurnsOverLate}
 use Rattle.datagram_delivery.specs.Examples.{came_with, counted_anew, counting_anew, datagram_before_restart, datagram_of, datagram_of_frame, eight, first_third, last_third, link_with_queue, restarting, second_third, sent_with_pause, timing_with_pause}
 use Rattle.datagram_delivery.proofs.Counting.{turns_over_late}
 use Rattle.datagram_delivery.proofs.Examples.{head_of_both, same_packet, third}
@@ -76,14 +76,14 @@ unfolding packets.ones_sum words.u16_at words.u32_at
 reads_4 = refl
 
 counted_as : (copy : Copy) (value : ℕ) (packet : PacketParts) → packet_in copy.event.frame ≡ Ok packet → datagram_before_restart copy.event ≡ datagram_of value
-    → datagram_of (datagram_of_frame copy.index) ≡ datagram_of value → IsPartOf (datagram_of value) packet → packet.ident ≡ 1 → IsCounted counting_anew datagram_before_restart copy
+    → datagram_of (datagram_of_frame copy.index) ≡ datagram_of value → IsPartOf (datagram_of value) packet → packet.ident ≡ 1 → CarriesPart counting_anew datagram_before_restart copy
 counted_as copy value packet reads named counted part ident = record {
   of = named ∙ sym counted;
   part = λ other read. subst (IsPartOf (datagram_before_restart copy.event)) (same_packet packet other (sym reads ∙ read)) (subst (λ octets. IsPartOf octets packet) (sym named) part);
   ident = λ other read fragment. subst (λ (one : PacketParts). one.ident ≡ 1) (same_packet packet other (sym reads ∙ read)) ident;
 }
 
-anew_counted : AreCounted counting_anew datagram_before_restart counted_anew
+anew_counted : CarryParts counting_anew datagram_before_restart counted_anew
 anew_counted = (
   counted_as (came_with nets.A 4 (last_third 2 2) 13100) 2 (third 16 false (eight 2)) reads_4 refl refl (record { within = omega arith; octets = refl; ends = λ last. refl }) refl,
   (
@@ -119,7 +119,7 @@ anew_mixed : deliveries link_with_queue (events_of_copies counted_anew) (record 
 unfolding fate groups_after fragments.octets_below packets.ones_sum words.u16_at words.u32_at outcomes.outcome outcomes.frame_payload outcomes.datagram_payload
 anew_mixed = refl
 
-pub anew_too_soon : ComeWhole link_with_queue restarting timing_with_pause counted_anew × AreCounted counting_anew datagram_before_restart counted_anew × TurnsOverLate 50000 timing_with_pause counting_anew
+pub anew_too_soon : ComeWhole link_with_queue restarting timing_with_pause counted_anew × CarryParts counting_anew datagram_before_restart counted_anew × TurnsOverLate 50000 timing_with_pause counting_anew
     × (KeepsCount 50000 restarting timing_with_pause counting_anew → ⊥) × KeepsCount 9999 restarting timing_with_pause counting_anew
     × (deliveries link_with_queue (events_of_copies counted_anew) (record { 0 = 0 }) ≡ record { time = 13100; octets = eight 1 ++ eight 2 } ∷ [])
 anew_too_soon = (anew_whole, anew_counted, anew_turns 50000 (omega arith), pause_too_short, short_kept, anew_mixed)

@@ -23,13 +23,13 @@ pub record Counting : Type 0 where
   pub anew : ℕ → Bool
 
 -- a copy has a part of its frame's datagram, and with its identification if it is a fragment
-pub record IsCounted (counting : Counting) (datagram : Event → List ℕ) (copy : Copy) : Type 0 where
+pub record CarriesPart (counting : Counting) (datagram : Event → List ℕ) (copy : Copy) : Type 0 where
   pub of : datagram copy.event ≡ counting.octets (counting.datagram copy.index)
   pub part : IsPart datagram copy.event
   pub ident : (packet : PacketParts) → packet_in copy.event.frame ≡ Ok packet → is_whole packet ≡ false → packet.ident ≡ counting.ident copy.index
 
-abbrev pub AreCounted : Counting → (Event → List ℕ) → List Copy → Type 0
-AreCounted counting datagram copies = EachCopy (λ before copy. IsCounted counting datagram copy) copies
+abbrev pub CarryParts : Counting → (Event → List ℕ) → List Copy → Type 0
+CarryParts counting datagram copies = EachCopy (λ before copy. CarriesPart counting datagram copy) copies
 
 -- ---- how soon an identification may come again
 

@@ -1,5 +1,5 @@
 -- Where no copy of a frame is overtaken, the new copies are the first copies.
-use Rattle.std.proofs.Common.{◌≡◌, ◌∙◌, sym, ap, ℕ, ◌<◌, ◌≤◌, Bool, true, false, not, List, [], ◌∷◌, refl, ⊎_elim, arith}
+use Rattle.std.proofs.Common.{◌≡◌, ◌∙◌, sym, ap, ℕ, ◌<◌, ◌≤◌, Bool, true, false, not, List, [], ◌∷◌, refl, ⊎_elim, arith, suc, length, drop}
 use Rattle.std.specs.Prelude.{◌==◌, ◌||◌, max}
 use Rattle.std.proofs.lemmas.Bool.{cases_Bool, cases_lt, lt-ltb, le-ltb, ltb-true, ltb-false, eqb-true, eqb-false, eq-eqb, or_cases, or_left, or_parts, both_ways}
 use Rattle.frame_delivery.specs.Sending.{Copy}
@@ -30,6 +30,39 @@ new_are_first (copy ∷ before) each =
     ⊎_elim
     (λ (new : is_new copy.index before ≡ true). rw (new, new_has_not_come copy.index before new) (ap (λ copies. copy ∷ copies) rest))
     (λ (old : is_new copy.index before ≡ false). rw (old, each.0 old) rest)
+    (cases_Bool (is_new copy.index before))
+
+-- and they are the first copies only there
+fewer_new : (copies : List Copy) → length (new_copies copies) ≤ length (first_copies copies)
+fewer_new [] = omega arith
+fewer_new (copy ∷ before) =
+    let rest = fewer_new before in
+    ⊎_elim
+    (λ (new : is_new copy.index before ≡ true). rw (new, new_has_not_come copy.index before new) (omega (arith, rest)))
+    (λ (old : is_new copy.index before ≡ false).
+    ⊎_elim
+    (λ (come : has_come copy.index before ≡ true). rw (old, come) rest)
+    (λ (first : has_come copy.index before ≡ false). rw (old, first) (omega (arith, rest)))
+    (cases_Bool (has_come copy.index before)))
+    (cases_Bool (is_new copy.index before))
+
+longer : (one two : ℕ) → one ≤ two → one ≡ suc two → ⊥
+longer one two most e = absurd (omega (arith, most, e))
+
+pub first_are_new : (copies : List Copy) → new_copies copies ≡ first_copies copies → FirstsInOrder copies
+first_are_new [] same = tt
+first_are_new (copy ∷ before) same =
+    ⊎_elim
+    (λ (new : is_new copy.index before ≡ true).
+    let both : copy ∷ new_copies before ≡ copy ∷ first_copies before = rw (new, new_has_not_come copy.index before new) at same in
+    ((λ old. absurd (both_ways (is_new copy.index before) old new)), first_are_new before (ap (drop 1) both)))
+    (λ (old : is_new copy.index before ≡ false).
+    ⊎_elim
+    (λ (come : has_come copy.index before ≡ true). ((λ is. come), first_are_new before (rw (old, come) at same)))
+    (λ (first : has_come copy.index before ≡ false).
+    let more : new_copies before ≡ copy ∷ first_copies before = rw (old, first) at same in
+    absurd (longer (length (new_copies before)) (length (first_copies before)) (fewer_new before) (ap length more)))
+    (cases_Bool (has_come copy.index before)))
     (cases_Bool (is_new copy.index before))
 
 -- each frame of which a copy came has a first copy, and no other frame has one

@@ -16,7 +16,7 @@ use Rattle.frame_delivery.specs.Network.{BeginNear, ComeTimely, HasNoOvertaking,
 use Rattle.frame_delivery.specs.Running.{EachForwarded}
 use Rattle.frame_delivery.specs.Since.{ComeAfter, IsFirstPassing, PassTimely, counts, forwarded_since, passing_since}
 use Rattle.frame_delivery.proofs.Forwarding.{first_is_new, new_in_order, newest_of}
-use Rattle.frame_delivery.proofs.Firsts.{new_are_first, new_is_first}
+use Rattle.frame_delivery.proofs.Firsts.{first_are_new, new_are_first, new_is_first}
 use Rattle.frame_delivery.proofs.Running.{all_over, first_when_over}
 use Rattle.frame_delivery.proofs.Times.{all_in_time, apart_not_late, none_overtaken, not_late}
 
@@ -210,6 +210,13 @@ news_since settings numbering timing old copies timely on_time near after =
     let some : List Copy = passing_since settings old copies in
     let in_time = all_in_time numbering timing times.gaps times.pauses settings.skew_max some timely.fits (not_late numbering timing times.gaps times.pauses on_time) near times.ways times.order in
     (new_since settings numbering old timely.redundancy timely.first copies (timely.numbers, old_times settings old some after, in_time), new_in_order some)
+
+-- so they are the first copies only if these come in order
+pub order_is_needed : (settings : Settings) (numbering : Numbering) (timing : Timing) (old : List Event) (copies : List Copy) → ComeTimely settings numbering timing (passing_since settings old copies) → IsNeverLate timing
+    → BeginNear settings.skew_max (passing_since settings old copies) → ComeAfter settings old (passing_since settings old copies) → forwarded_since settings old copies ≡ first_copies (passing_since settings old copies)
+    → FirstsInOrder (passing_since settings old copies)
+order_is_needed settings numbering timing old copies timely on_time near after same =
+    first_are_new (passing_since settings old copies) (sym (news_since settings numbering timing old copies timely on_time near after).0 ∙ same)
 
 -- so were those before the last copy
 pub firsts_before : (settings : Settings) (numbering : Numbering) (timing : Timing) (old : List Event) (copy : Copy) (before : List Copy) → PassTimely settings numbering timing old (copy ∷ before)

@@ -138,12 +138,16 @@ pub fn a_link_recovers_within_skew_max()
 /// The first copies come in order, and none is late, if the times on the way, with the wait, differ by less than the gap.
 /// Times on one network may differ by more if each network keeps the order, and if, of the two, the greatest time on one
 /// less the least on the other, with the wait, is below the gap, or that other loses no frame that the one brings. What
-/// a network keeps of its copies it keeps of those that pass.
+/// a network keeps of its copies it keeps of those that pass. No less would do: where all else is met, the first copies are
+/// forwarded only if they come in order.
 pub fn first_copies_come_in_order()
     ensures all { (numbering : Numbering) (timing : Timing) (copies : List Copy) → KeepsTimes numbering timing copies → HasNoOvertaking timing → IsNeverLate timing × FirstsInOrder copies }
     ensures passing { (settings : Settings) (numbering : Numbering) (timing : Timing) (old : List Event) (copies : List Copy) → KeepsTimes numbering timing copies → HasNoOvertaking timing
         → FirstsInOrder (passing_since settings old copies) }
     ensures each_network_keeps_the_order { (timing : Timing) (delays : Delays) (copies : List Copy) → KeepOrderTogether timing delays copies → FirstsInOrder copies }
+    ensures no_less_would_do { (settings : Settings) (numbering : Numbering) (timing : Timing) (old : List Event) (copies : List Copy) → ComeTimely settings numbering timing (passing_since settings old copies) → IsNeverLate timing
+        → BeginNear settings.skew_max (passing_since settings old copies) → ComeAfter settings old (passing_since settings old copies) → forwarded_since settings old copies ≡ first_copies (passing_since settings old copies)
+        → FirstsInOrder (passing_since settings old copies) }
     ensures order_of_passing { (settings : Settings) (old : List Event) (copies : List Copy) → KeepsOrder copies → KeepsOrder (passing_since settings old copies) }
 {}
 
