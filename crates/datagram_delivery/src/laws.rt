@@ -156,10 +156,10 @@ pub fn each_message_was_sent_after_any_past()
         → HavePartsSince settings datagram old past }
 {}
 
-/// A sender may count identifications, if the count turns over late: no sooner than the reassembly limit, and what the
-/// times on the way differ by, after it was sent. It may begin the count anew at a restart, if it pauses for longer than
-/// that before; a count that goes on over restarts needs no pause. A count of datagrams one after another turns over after
-/// 65,536 frames at the soonest.
+/// A sender may count identifications if one comes again only after longer than the reassembly limit and what the times on
+/// the way differ by. It may begin the count anew at a restart if its pause is longer than that. A count that goes on over
+/// restarts needs no pause. Where datagrams are sent one after another, a count turns over after 65,536 frames at the
+/// soonest.
 pub fn a_count_of_identifications_mixes_nothing()
     ensures parts { (limit : ℕ) (numbering : Numbering) (timing : Timing) (counting : Counting) (datagram : Event → List ℕ) (copies : List Copy) → KeepsTimes numbering timing copies
         → CarryParts counting datagram copies → KeepsCount limit numbering timing counting → HaveParts limit datagram (events_of_copies copies) }

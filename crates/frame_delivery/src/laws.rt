@@ -136,20 +136,20 @@ pub fn a_link_recovers_within_skew_max()
 {}
 
 /// The first copies come in order, and none is late, if the times on the way, with the wait, differ by less than the gap.
-/// Times on one network may differ by more if each network keeps the order, and if, of the two, the greatest time on one
-/// less the least on the other, with the wait, is below the gap, or that other loses no frame that the one brings. So it
-/// is of the copies that pass, where a frame of which none passes counts as lost. No less would do: where all else is met,
-/// the first copies are forwarded only if they come in order.
+/// They come in order, too, if each network keeps the order, and of each one of this holds: its greatest time on the way less
+/// the other's least, with the wait, is below the gap; or the other loses no frame that it brings. Times on one network may
+/// then differ by more. The same holds of the copies that pass, where a frame counts as lost on a network of which no copy
+/// passes there. No less would do: where all else is met, the first copies are forwarded only if they come in order.
 pub fn first_copies_come_in_order()
     ensures all { (numbering : Numbering) (timing : Timing) (copies : List Copy) → KeepsTimes numbering timing copies → HasNoOvertaking timing → IsNeverLate timing × FirstsInOrder copies }
     ensures passing { (settings : Settings) (numbering : Numbering) (timing : Timing) (old : List Event) (copies : List Copy) → KeepsTimes numbering timing copies → HasNoOvertaking timing
         → FirstsInOrder (passing_since settings old copies) }
     ensures each_network_keeps_the_order { (timing : Timing) (delays : Delays) (copies : List Copy) → KeepOrderTogether timing delays copies → FirstsInOrder copies }
-    ensures no_less_would_do { (settings : Settings) (numbering : Numbering) (timing : Timing) (old : List Event) (copies : List Copy) → ComeTimely settings numbering timing (passing_since settings old copies) → IsNeverLate timing
-        → BeginNear settings.skew_max (passing_since settings old copies) → ComeAfter settings old (passing_since settings old copies) → forwarded_since settings old copies ≡ first_copies (passing_since settings old copies)
-        → FirstsInOrder (passing_since settings old copies) }
     ensures each_network_of_passing { (settings : Settings) (numbering : Numbering) (timing : Timing) (delays : Delays) (old : List Event) (copies : List Copy) → KeepsTimes numbering timing copies → KeepsOrder copies
         → KeepsDelays timing delays copies → KeepsBefore timing delays nets.A nets.B (passing_since settings old copies) → KeepsBefore timing delays nets.B nets.A (passing_since settings old copies)
+        → FirstsInOrder (passing_since settings old copies) }
+    ensures no_less_would_do { (settings : Settings) (numbering : Numbering) (timing : Timing) (old : List Event) (copies : List Copy) → ComeTimely settings numbering timing (passing_since settings old copies) → IsNeverLate timing
+        → BeginNear settings.skew_max (passing_since settings old copies) → ComeAfter settings old (passing_since settings old copies) → forwarded_since settings old copies ≡ first_copies (passing_since settings old copies)
         → FirstsInOrder (passing_since settings old copies) }
 {}
 

@@ -8,6 +8,6 @@ returns c = record {
   all = λ numbering timing copies times apart. (apart_not_late timing apart, short_firsts numbering timing copies times apart);
   passing = short_in_order;
   each_network_keeps_the_order = firsts_together;
-  no_less_would_do = order_is_needed;
   each_network_of_passing = passing_together;
+  no_less_would_do = order_is_needed;
 }
