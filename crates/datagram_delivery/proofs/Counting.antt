@@ -1,7 +1,7 @@
 -- A sender that counts its identifications has no two datagrams in fragments with one within the limit.
 use Rattle.std.proofs.Common.{◌≡◌, ◌∙◌, sym, ap, ℕ, zero, suc, ◌+◌, ◌-◌, ◌<◌, ◌≤◌, true, false, List, [], ◌∷◌, inl, inr, refl, ⊎_elim, arith}
 use Rattle.std.specs.Prelude.{◌⊎◌, ◌==◌}
-use Rattle.std.proofs.lemmas.Bool.{cases_Bool, cases_lt, eqb-true}
+use Rattle.std.proofs.lemmas.Bool.{both_ways, cases_Bool, cases_lt, eqb-true}
 use Rattle.es_base.specs.declared.event.Event.{Event}
 use Rattle.es_base.specs.Fragments.{key_of}
 use Rattle.es_base.proofs.Keys.{same_key}
@@ -129,3 +129,8 @@ pub counted_have_parts : (limit : ℕ) (numbering : Numbering) (timing : Timing)
     → CarryParts counting datagram copies → KeepsCount limit numbering timing counting → HaveParts limit datagram (events_of_copies copies)
 counted_have_parts limit numbering timing counting datagram copies times are keeps =
     parts_counted limit numbering timing counting times.gaps times.pauses keeps datagram copies are times.ways times.order
+
+-- a count that goes on over restarts needs no pause
+pub count_goes_on : (limit : ℕ) (numbering : Numbering) (timing : Timing) (counting : Counting) → ((index : ℕ) → counting.anew index ≡ false) → TurnsOverLate limit timing counting
+    → KeepsCount limit numbering timing counting
+count_goes_on limit numbering timing counting on turns = record { turns = turns; pauses = λ index anew. absurd (both_ways (counting.anew (suc index)) (on (suc index)) anew) }

@@ -119,7 +119,12 @@ anew_mixed : deliveries link_with_queue (events_of_copies counted_anew) (record 
 unfolding fate groups_after fragments.octets_below packets.ones_sum words.u16_at words.u32_at outcomes.outcome outcomes.frame_payload outcomes.datagram_payload
 anew_mixed = refl
 
+not_mixed : deliveries (record link_with_queue { reassembly = 9999 }) (events_of_copies counted_anew) (record { 0 = 0 }) ≡ []
+unfolding fate groups_after fragments.octets_below packets.ones_sum words.u16_at words.u32_at outcomes.outcome outcomes.frame_payload outcomes.datagram_payload
+not_mixed = refl
+
 pub anew_too_soon : ComeWhole link_with_queue restarting timing_with_pause counted_anew × CarryParts counting_anew datagram_before_restart counted_anew × TurnsOverLate 50000 timing_with_pause counting_anew
     × (KeepsCount 50000 restarting timing_with_pause counting_anew → ⊥) × KeepsCount 9999 restarting timing_with_pause counting_anew
     × (deliveries link_with_queue (events_of_copies counted_anew) (record { 0 = 0 }) ≡ record { time = 13100; octets = eight 1 ++ eight 2 } ∷ [])
-anew_too_soon = (anew_whole, anew_counted, anew_turns 50000 (omega arith), pause_too_short, short_kept, anew_mixed)
+    × (deliveries (record link_with_queue { reassembly = 9999 }) (events_of_copies counted_anew) (record { 0 = 0 }) ≡ [])
+anew_too_soon = (anew_whole, anew_counted, anew_turns 50000 (omega arith), pause_too_short, short_kept, anew_mixed, not_mixed)

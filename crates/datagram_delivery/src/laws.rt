@@ -156,15 +156,17 @@ pub fn each_message_was_sent_after_any_past()
         → HavePartsSince settings datagram old past }
 {}
 
-/// A sender may count identifications, if the count turns over late: no sooner than the reassembly limit, and what the
-/// times on the way differ by, after it was sent. It may begin the count anew at a restart, if it pauses for longer than
-/// that before; a count that goes on over restarts needs no pause. A count of datagrams one after another turns over after
-/// 65,536 frames at the soonest.
+/// A sender may count identifications if one comes again only after longer than the reassembly limit and what the times on
+/// the way differ by. It may begin the count anew at a restart if its pause is longer than that. A count that goes on over
+/// restarts needs no pause. Where datagrams are sent one after another, a count turns over after 65,536 frames at the
+/// soonest.
 pub fn a_count_of_identifications_mixes_nothing()
     ensures parts { (limit : ℕ) (numbering : Numbering) (timing : Timing) (counting : Counting) (datagram : Event → List ℕ) (copies : List Copy) → KeepsTimes numbering timing copies
         → CarryParts counting datagram copies → KeepsCount limit numbering timing counting → HaveParts limit datagram (events_of_copies copies) }
     ensures turns_over { (limit : ℕ) (numbering : Numbering) (timing : Timing) (counting : Counting) → KeepsGap timing → KeepsPause numbering timing → CountsUp counting → IsOverBefore limit timing
         → TurnsOverLate limit timing counting }
+    ensures goes_on { (limit : ℕ) (numbering : Numbering) (timing : Timing) (counting : Counting) → ((index : ℕ) → counting.anew index ≡ false) → TurnsOverLate limit timing counting
+        → KeepsCount limit numbering timing counting }
 {}
 
 /// The conditions can be met: by four frames that two networks bring, each with a loss, over the end of the sequence
@@ -184,7 +186,8 @@ pub fn the_conditions_can_be_met()
 /// Counterexamples with one condition not met, and all others met: with a fifth datagram in parts the first isn't
 /// completed, so its message isn't delivered; and within the limit of time, to the microsecond, one identification for
 /// two datagrams mixes them. So does a count of identifications that a restart begins anew, with a limit of 50,000 and a
-/// pause of 10,000, which is long enough for a limit of 9,999: one fragment is lost on both networks.
+/// pause of 10,000: one fragment is lost on both networks. That pause is long enough for a limit of 9,999, with which no
+/// message is delivered.
 pub fn each_condition_is_needed()
     ensures fifth_group { (place_of first_key [] ≡ None) × (is_of first_key (fragment 1 8 false 1) ≡ true) × AreFronts 50000 first_key five_begun × IsLastFragment 50000 (pieces_of first_key five_begun) (fragment 1 8 false 1) × LeavesRoom 50000 [] first_key four_begun × (LeavesRoom 50000 [] first_key five_begun → ⊥)
         × (fate 50000 (groups_after_offers 50000 [] five_begun) (fragment 1 8 false 1).packet 100 ≡ held) }
@@ -195,5 +198,6 @@ pub fn each_condition_is_needed()
         × (deliveries link_of_100 (events_of_copies one_identification) (record { 0 = 0 }) ≡ record { time = 200; octets = eight 1 ++ eight 2 } ∷ []) }
     ensures counted_anew_too_soon { ComeWhole link_with_queue restarting timing_with_pause counted_anew × CarryParts counting_anew datagram_before_restart counted_anew × TurnsOverLate 50000 timing_with_pause counting_anew
         × (KeepsCount 50000 restarting timing_with_pause counting_anew → ⊥) × KeepsCount 9999 restarting timing_with_pause counting_anew
-        × (deliveries link_with_queue (events_of_copies counted_anew) (record { 0 = 0 }) ≡ record { time = 13100; octets = eight 1 ++ eight 2 } ∷ []) }
+        × (deliveries link_with_queue (events_of_copies counted_anew) (record { 0 = 0 }) ≡ record { time = 13100; octets = eight 1 ++ eight 2 } ∷ [])
+        × (deliveries (record link_with_queue { reassembly = 9999 }) (events_of_copies counted_anew) (record { 0 = 0 }) ≡ []) }
 {}

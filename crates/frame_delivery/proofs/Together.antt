@@ -8,11 +8,12 @@ use Rattle.es_base.specs.declared.event.Event.{Event}
 use Rattle.es_base.specs.Past.{arrival_of}
 use Rattle.es_base.specs.Integrity.{is_same_net, latest}
 use Rattle.es_base.specs.Settings.{Settings}
-use Rattle.frame_delivery.specs.Sending.{Copy, events_since}
+use Rattle.frame_delivery.specs.Sending.{Copy, Numbering, events_since}
 use Rattle.frame_delivery.specs.Once.{FirstsInOrder, IsNotOvertaken, greatest_index, has_come}
-use Rattle.frame_delivery.specs.Network.{Delays, IsLater, KeepOrderTogether, KeepsBefore, KeepsDelays, KeepsGap, KeepsOrder, LosesNoneOf, Timing, copies_on, indices_on, time_of_all}
+use Rattle.frame_delivery.specs.Network.{Delays, IsLater, KeepOrderTogether, KeepsBefore, KeepsDelays, KeepsGap, KeepsOrder, KeepsTimes, LosesNoneOf, Timing, copies_on, indices_on, time_of_all}
 use Rattle.frame_delivery.specs.Since.{counts, passing_since}
 use Rattle.frame_delivery.proofs.OneNetwork.{itself, same_net}
+use Rattle.frame_delivery.proofs.Since.{each_since, times_since}
 use Rattle.frame_delivery.proofs.Times.{latest_has_come, sent_apart}
 
 -- ---- the copies of one network
@@ -189,7 +190,7 @@ later_since settings old net (copy ∷ before) index order later =
     (cases_Bool (counts settings (events_since before old) (arrival_of copy.event) (passing_since settings old before))))
     (cases_Bool (is_same_net copy.event.net net))
 
-pub order_kept_since : (settings : Settings) (old : List Event) (copies : List Copy) → KeepsOrder copies → KeepsOrder (passing_since settings old copies)
+order_kept_since : (settings : Settings) (old : List Event) (copies : List Copy) → KeepsOrder copies → KeepsOrder (passing_since settings old copies)
 order_kept_since settings old [] order = tt
 order_kept_since settings old (copy ∷ before) order =
     let rest = order_kept_since settings old before order.1 in
@@ -197,3 +198,18 @@ order_kept_since settings old (copy ∷ before) order =
     (λ (is : counts settings (events_since before old) (arrival_of copy.event) (passing_since settings old before) ≡ true). rw is (later_since settings old copy.event.net before copy.index order.1 order.0, rest))
     (λ (is : counts settings (events_since before old) (arrival_of copy.event) (passing_since settings old before) ≡ false). rw is rest)
     (cases_Bool (counts settings (events_since before old) (arrival_of copy.event) (passing_since settings old before)))
+
+pub passing_together : (settings : Settings) (numbering : Numbering) (timing : Timing) (delays : Delays) (old : List Event) (copies : List Copy) → KeepsTimes numbering timing copies → KeepsOrder copies
+    → KeepsDelays timing delays copies → KeepsBefore timing delays nets.A nets.B (passing_since settings old copies) → KeepsBefore timing delays nets.B nets.A (passing_since settings old copies)
+    → FirstsInOrder (passing_since settings old copies)
+passing_together settings numbering timing delays old copies times order ways a b =
+    let some = times_since settings numbering timing old copies times in
+    firsts_together timing delays (passing_since settings old copies)
+    (record {
+      gaps = some.gaps;
+      order = order_kept_since settings old copies order;
+      ways = each_since (λ copy. (timing.sent copy.index + delays.least copy.event.net ≤ copy.event.time) × (copy.event.time ≤ timing.sent copy.index + delays.greatest copy.event.net)) settings old copies ways;
+      taken = some.order;
+      a = a;
+      b = b;
+    })

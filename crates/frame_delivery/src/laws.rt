@@ -18,7 +18,7 @@ ghost use Rattle.frame_delivery.specs.Sending.{Copy, EachCopy, HaveNumbers, Numb
 ghost use Rattle.frame_delivery.specs.Once.{AreInOrder, ComesInTime, FirstsInOrder, IsForwardedIfFirst, IsForwardedIfNew, IsOvertaken, as_forwarded, first_copies, has_come, new_copies, passing_copies};
 ghost use Rattle.frame_delivery.specs.Running.{EachForwarded, SomeForwarded};
 ghost use Rattle.frame_delivery.specs.Since.{ComeAfter, IsFirstPassing, PassTimely, forwarded_since, passing_since};
-ghost use Rattle.frame_delivery.specs.Network.{BeginNear, BringsInRow, ComeTimely, ComeWhole, Delays, HasAge, HasNoOvertaking, IsNeverLate, IsOverSoon, KeepOrderTogether, KeepsOrder, KeepsTimes, LosesFew, MayFollow, Timing, copies_on, indices_on};
+ghost use Rattle.frame_delivery.specs.Network.{BeginNear, BringsInRow, ComeTimely, ComeWhole, Delays, HasAge, HasNoOvertaking, IsNeverLate, IsOverSoon, KeepOrderTogether, KeepsBefore, KeepsDelays, KeepsOrder, KeepsTimes, LosesFew, MayFollow, Timing, copies_on, indices_on};
 ghost use Rattle.frame_delivery.specs.Conditions.{MeetAll, MeetAllBut, covers, firsts, is_asked_for_all, is_asked_for_once, late, late_restart, losses, near, restarts};
 ghost use Rattle.frame_delivery.specs.Messages.{AllCame, CarryWhole, HaveRoom, messages_of, octets_of_messages, octets_sent};
 ghost use Rattle.frame_delivery.specs.Examples.{after_skew_max, after_strange, behind_a_restart, far_apart, far_behind, frame_at, from_57, from_one, from_ten, link, numbering, of_later_time, one_network_out, overtaken, received, restarted, slower_network, slower_on_b, soon_restarted, strange, stranger_passes, timed, timing, two_lost, wide_link, with_losses};
@@ -136,19 +136,21 @@ pub fn a_link_recovers_within_skew_max()
 {}
 
 /// The first copies come in order, and none is late, if the times on the way, with the wait, differ by less than the gap.
-/// Times on one network may differ by more if each network keeps the order, and if, of the two, the greatest time on one
-/// less the least on the other, with the wait, is below the gap, or that other loses no frame that the one brings. What
-/// a network keeps of its copies it keeps of those that pass. No less would do: where all else is met, the first copies are
-/// forwarded only if they come in order.
+/// They come in order, too, if each network keeps the order, and of each one of this holds: its greatest time on the way less
+/// the other's least, with the wait, is below the gap; or the other loses no frame that it brings. Times on one network may
+/// then differ by more. The same holds of the copies that pass, where a frame counts as lost on a network of which no copy
+/// passes there. No less would do: where all else is met, the first copies are forwarded only if they come in order.
 pub fn first_copies_come_in_order()
     ensures all { (numbering : Numbering) (timing : Timing) (copies : List Copy) → KeepsTimes numbering timing copies → HasNoOvertaking timing → IsNeverLate timing × FirstsInOrder copies }
     ensures passing { (settings : Settings) (numbering : Numbering) (timing : Timing) (old : List Event) (copies : List Copy) → KeepsTimes numbering timing copies → HasNoOvertaking timing
         → FirstsInOrder (passing_since settings old copies) }
     ensures each_network_keeps_the_order { (timing : Timing) (delays : Delays) (copies : List Copy) → KeepOrderTogether timing delays copies → FirstsInOrder copies }
+    ensures each_network_of_passing { (settings : Settings) (numbering : Numbering) (timing : Timing) (delays : Delays) (old : List Event) (copies : List Copy) → KeepsTimes numbering timing copies → KeepsOrder copies
+        → KeepsDelays timing delays copies → KeepsBefore timing delays nets.A nets.B (passing_since settings old copies) → KeepsBefore timing delays nets.B nets.A (passing_since settings old copies)
+        → FirstsInOrder (passing_since settings old copies) }
     ensures no_less_would_do { (settings : Settings) (numbering : Numbering) (timing : Timing) (old : List Event) (copies : List Copy) → ComeTimely settings numbering timing (passing_since settings old copies) → IsNeverLate timing
         → BeginNear settings.skew_max (passing_since settings old copies) → ComeAfter settings old (passing_since settings old copies) → forwarded_since settings old copies ≡ first_copies (passing_since settings old copies)
         → FirstsInOrder (passing_since settings old copies) }
-    ensures order_of_passing { (settings : Settings) (old : List Event) (copies : List Copy) → KeepsOrder copies → KeepsOrder (passing_since settings old copies) }
 {}
 
 /// Networks begin near each other if SkewMax is over before 128 frames more are sent. So it is only for a longer
