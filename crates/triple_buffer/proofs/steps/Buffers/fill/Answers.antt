@@ -2,7 +2,7 @@ use Rattle.std.proofs.Common.{◌≡◌, ◌∙◌, ap, sym, List, [], ◌∷◌
 use Rattle.atomic_table.specs.Table.{rest}
 use Rattle.triple_buffer.specs.declared.latest.Latest.{Latest}
 use Rattle.triple_buffer.proofs.Ends.{there}
-use Rattle.triple_buffer.proofs.writer.fill.Goals as goal
+use Rattle.triple_buffer.proofs.steps.Buffers.fill.Goals as goal
 
 pub slot_mut-requires : goal.slot_mut-requires
 slot_mut-requires c = let t = c.requires.has in (c.requires.table, (Some t.0, there _ _ _ t.1))

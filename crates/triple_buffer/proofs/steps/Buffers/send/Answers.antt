@@ -1,6 +1,6 @@
 use Rattle.std.proofs.Common.{rules}
 use Rattle.triple_buffer.proofs.Ends.{may_publish, sent}
-use Rattle.triple_buffer.proofs.writer.send.Goals as goal
+use Rattle.triple_buffer.proofs.steps.Buffers.send.Goals as goal
 
 pub swap-found-requires : goal.swap-found-requires
 swap-found-requires c = (search rules, search rules, may_publish _ _ _ _ _ c.requires.sends)

@@ -6,11 +6,11 @@ use Rattle.triple_buffer.specs.Rule.{KeptTable, first_reader, first_writer}
 use Rattle.triple_buffer.specs.Plays.{At, parted, writer_again}
 use Rattle.triple_buffer.proofs.Opens.{opens_at, part_at}
 use Rattle.triple_buffer.proofs.Turns.{reader_enters_at, writer_enters_at}
-use Rattle.triple_buffer.proofs.Ends.{entered_reader, entered_writer, reader_entering, there}
-use Rattle.triple_buffer.proofs.open.open_buffer.Goals as goal
+use Rattle.triple_buffer.proofs.Ends.{entered_reader, entered_writer, reader_entering, there, writer_entering}
+use Rattle.triple_buffer.proofs.steps.open.Goals as goal
 
 pub new-requires : goal.new-requires
-new-requires c = let t = c.in_ok-slots.ensures in
+new-requires c = let t = c.requires in
     subst (λ (l : List (Option Latest)). KeptTable c.args.longest (opening (1 ∷ []) l (Meets (first_writer c.args.longest) (first_reader c.args.longest)))) (sym t.3)
     (opens_at c.args.longest t.0 t.1 t.2 t.4.0 t.5.0 t.6.0 t.6.1)
 
@@ -33,12 +33,12 @@ exchange-own-requires c =
     let t = reader_entering _ _ _ is c.load-2.ensures.2 in
     (search rules, (Some t.0, there _ _ _ t.2))
 
-pub at-requires-clause-writer : goal.at-requires-clause-writer
-at-requires-clause-writer c =
+pub returns-clause-writer : goal.returns-clause-writer
+returns-clause-writer c =
     let is : c.split_seat-writer.result.me ≡ (Writes (first_writer c.args.longest), []) = c.split_seat-writer.ensures.4 ∙ ap (λ (m : At). (writer_again m.0, [])) c.in-Ok.ensures.ok.4 in
-    entered_writer _ _ _ is c.load.ensures.2
+    (entered_writer _ _ _ is c.load.ensures.2, (writer_entering _ _ _ is c.load.ensures.2).1)
 
-pub at-requires-2-clause-reader : goal.at-requires-2-clause-reader
-at-requires-2-clause-reader c =
+pub returns-clause-reader : goal.returns-clause-reader
+returns-clause-reader c =
     let is : c.split_seat-writer.new.seat.me ≡ (Reads (first_reader c.args.longest), []) = c.split_seat-writer.ensures.2 ∙ ap (λ (m : At). (parted m.0, m.1)) c.in-Ok.ensures.ok.4 in
-    entered_reader _ _ _ _ _ is c.load-2.ensures.2 c.exchange-own.ensures.2 c.exchange-own.ensures.3
+    (entered_reader _ _ _ _ _ is c.load-2.ensures.2 c.exchange-own.ensures.2 c.exchange-own.ensures.3, ap (λ (m : At). m.0) c.exchange-own.ensures.3 ∙ (reader_entering _ _ _ is c.load-2.ensures.2).1)

@@ -1,6 +1,6 @@
 use Rattle.std.proofs.Common.{rules, Some}
 use Rattle.triple_buffer.proofs.Ends.{may_take, received, there}
-use Rattle.triple_buffer.proofs.reader.receive.Goals as goal
+use Rattle.triple_buffer.proofs.steps.Buffers.receive.Goals as goal
 
 pub swap-found-requires : goal.swap-found-requires
 swap-found-requires c = (search rules, search rules, may_take _ _ _ _ _ _ _ c.requires.newer c.exchange.ensures.3)
