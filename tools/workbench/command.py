@@ -7,6 +7,7 @@ import signal
 import sys
 
 from version import version
+from workbench import moments
 from workbench.faults import NO_MEMORY, NOT_READ, Fault, plain
 
 INPUTS = """\
@@ -69,6 +70,11 @@ CAPTURES = {
                    "help": "what tells A from B: the interface, or the source address, for a tap that joins both"},
     "--fcs": {"choices": ("auto", "yes", "no"), "default": "auto",
               "help": "whether frames end with their check sequence (default: as the capture says, or as it is seen)"},
+    "--in-a-row": flag("all FILEs are one capture of both networks, one after the other, as dumpcap's rings are"),
+    "--from": {"type": moments.moment, "metavar": "WHEN", "dest": "since", "help": "what came before isn't played: seconds "
+               "since the first packet (12.5), a time (13:05:00) or a date with a time (2026-11-29T13:05:00), in UTC"},
+    "--until": {"type": moments.moment, "metavar": "WHEN", "help": "nor what came after"},
+    "--untag": flag("takes VLAN tags off"),
     "--reorder": {"type": number_from(1, 1_000_000), "default": 1000, "metavar": "PACKETS",
                   "help": "how many later packets may stand before one (default 1000)"},
 }
@@ -124,6 +130,8 @@ COMMANDS = {
         "config": {"metavar": "C.toml", "help": "the receiver's configuration"},
         **CAPTURES, **SHIFT, "files": {**CAPTURES["files"], "nargs": "*"},
     }, ("A slip is a line FILE:LINE: TEXT. The status is 1 if there is any,\n5 if a file isn't of its form.",)),
+    "propose": ("workbench.proposing:propose", "writes a configuration by what captures show, with the evidence of each value "
+                "as a comment", {**CAPTURES, **SHIFT, **to("C.toml", default="-")}, (INPUTS,)),
     "traces": ("workbench.exporting:traces", "writes captures as hex traces, which the proved player takes: FOLDER/a.trace "
                "and FOLDER/b.trace", {**CAPTURES, **SHIFT, **to("FOLDER", required=True)}, (INPUTS,)),
 }
@@ -148,8 +156,8 @@ def look_at(parser, given):
     """Refuses words that don't go together."""
     names = getattr(given, "files", [])
     is_many = getattr(given, "workers", None) or getattr(given, "scheduler", None)
-    if not is_many and (len(names) > 2 or names.count("-") > 1):
-        parser.error("one capture or trace, or two")
+    if not is_many and not getattr(given, "in_a_row", False) and len(names) > 2 or names.count("-") > 1:
+        parser.error("one capture or trace, or two; or with --in-a-row those of one capture")
     if is_many and ("-" in names or given.json or given.link is not None):
         parser.error("many captures are files, and make a table: without --json and --link")
     if not is_many and getattr(given, "workers", 0) is None and given.to:
