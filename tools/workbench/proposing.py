@@ -11,7 +11,7 @@ from verdict_words import NETWORKS
 from workbench import files, settings, stream
 from workbench.delays import Delays
 
-HEADERS = struct.Struct("!12xHBxHHHxB2x4s4sHxxH")  # of a frame, up to the UDP header's length
+HEADERS = struct.Struct("!12xHBxHHHxB2x4s4sxxHH")  # of a frame, up to the UDP header's length
 IPV4, VERSION_AND_LENGTH, UDP, MORE, OFFSET = 0x0800, 0x45, 17, 0x2000, 0x1FFF
 KEPT = 1024  # frames whose copies are waited for, and datagrams in fragments, of a link
 LONGEST_SAMPLE, MOST_DEPTH, MOST_WINDOW, MOST_SKEW_MAX, MOST_LIMIT = 1471, 64, 4, 1_000_000, 10_000_000
@@ -144,8 +144,6 @@ class Link:
             yield "reassembly_us", GUESSED["reassembly_us"], "a guess: no datagram came in fragments"
         if self.lost > 1:
             yield "window", self.lost + 1, f"a network lost {self.lost} in a row"
-        if self.out:
-            yield "# out", self.out, f"times a network lost {MOST_WINDOW} or more in a row"
 
 
 class Seen:
@@ -180,6 +178,8 @@ def of_link(vl, link):
     yield "\n[[link]]"
     yield line("vl", vl, ", ".join(f"{count} frames of {letter}" for letter, count in zip(NETWORKS, link.frames)))
     yield from (line(*found) for found in link.keys())
+    if link.out:
+        yield f"# {link.out} times a network lost {MOST_WINDOW} or more in a row"
     ports = sorted(link.ports.items())
     for place, ((address, udp), port) in enumerate(ports[:settings.MOST_PORTS]):
         yield "\n[[link.port]]"
