@@ -64,7 +64,9 @@ def traces(given):
         found = stack.enter_context(stream.opened(given))
         clock = stream.Clock(found.is_of_captures)
         for one in found:
-            if not one.left_out and one.net in outs:
-                outs[one.net].write(b"%d %s\n" % (clock.of(one.net, one.time), one.octets.hex().encode()))
+            if not one.left_out:
+                now = clock.of(one.net, one.time)
+                if one.net in outs:
+                    outs[one.net].write(b"%d %s\n" % (now, one.octets.hex().encode()))
     found.tell_beginning()
     return found.status

@@ -126,7 +126,7 @@ class Link:
     def keys(self):
         """Each key, its value, and the evidence."""
         greatest, number, gap = self.delays.greatest, self.delays.number, self.gaps.below(FEW)
-        if bag := max((bag for bag in BAGS if gap and bag - JITTER <= gap), default=None):
+        if bag := max((bag for bag in BAGS if gap and bag - JITTER <= gap and bag <= 2 * self.gaps.least), default=None):
             yield "bag_us", bag, f"but for few, no frame came less than {gap} us after another of its network"
         if number:
             skew_max = rounded(2 * greatest, MOST_SKEW_MAX)
