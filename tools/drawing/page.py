@@ -107,7 +107,7 @@ def overview_row(link, times):
     label = (f"Link {link.label} in small: {cells[0]} frames on A, {cells[1]} on B, {cells[4]} out of sequence, "
              f"{cells[5]} refused")
     median = link.delays.median()
-    law = {"all": "all", "once": "once", "-": "not kept"}[link.conditions.law()]
+    law = link.law()
     return (f'<tr><td class="word" data-value="{link.number}"><a href="#link-{link.number}">{escape(link.label)}</a></td>'
             f"<td>{strip(label, times, link)}</td>" + "".join(map(number_cell, cells))
             + f'<td data-value="{-1 if median is None else median}">{"–" if median is None else f"{median:,}"}</td>'
@@ -118,7 +118,7 @@ def overview(gathered, times):
     rows = [overview_row(link, times) for link in gathered.links.values()]
     heads = ["frames on A", "frames on B", "forwarded", "redundant", "out of sequence", "refused", "overflow", "lost on A alone",
              "lost on B alone", "lost on both", "beyond SkewMax", "delivered twice", "given up", "restarts",
-             "median delay of B in µs", "the laws’ conditions"]
+             "median delay of B in µs", "law of delivery"]
     span = f"{gathered.bins.first:,} to {gathered.bins.last:,} µs" if gathered.frames else "no frame"
     head = (f'<th class="word">link</th><th class="word fixed">{span}: A up, B down</th>'
             + "".join(f"<th>{head}</th>" for head in heads))
@@ -225,8 +225,7 @@ def conditions_part(drawn):
     """Which conditions of the laws were kept."""
     broken = drawn.conditions.found
     if not broken:
-        return ("<p>No condition of the laws of delivery was seen broken: if all held, all that was sent was delivered, once, "
-                "whole, in order.</p>")
+        return "<p>No condition of the laws of delivery was seen broken.</p>"
     rows = [[word, CONDITIONS[word], one.count, f"{one.where}: {one.how}"] for word, one in broken.items()]
     heads = ["word", "condition", "times", "first by"]
     return "<h3>Conditions of the laws of delivery that were broken</h3>" + table(heads, rows)

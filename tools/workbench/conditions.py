@@ -7,7 +7,7 @@ CONDITIONS = {
     "sender": "all frames are one sender's, with numbers that follow",
     "skew-max": "times fit SkewMax: delays differ by no more, and a sender's pause is longer than both",
     "near": "networks begin near each other",
-    "overtaking": "no copy overtakes",
+    "overtaking": "first copies come in order",
     "losses": "few are lost: fewer in a row than the window, and never the first after a restart",
     "packets": "each frame has a datagram, whole or in fragments, for a port that admits it",
     "whole": "of each datagram in parts all fragments come, within the limit",
@@ -36,27 +36,22 @@ class Conditions:
             self.broken("redundancy", "the configuration", "it is off")
 
     def broken(self, word, where, how):
+        """Returns the word."""
         if word in self.found:
             self.found[word].count += 1
         else:
             self.found[word] = Broken(where, how)
+        return word
 
     def look_at(self, note, reply, where, steps, before, time):
         """What a frame breaks. Its place is so many steps ahead of the newest before, which came at `before`."""
         if reply.kind in REFUSED:
             self.broken(REFUSED[reply.kind], where, f"{reply.kind} {reply.cause}".rstrip())
-        if note.is_overtaken:
-            self.broken("overtaking", where, "came after a later frame")
+        if note.is_overtaken and note.what == copies.FIRST:
+            self.broken("overtaking", where, "its first copy came after one of a later frame")
         if note.what == copies.LATE:
             self.broken("sender", where, "a number that isn't waited for any more")
         elif note.what == copies.ANEW:
             self.broken("sender", where, "numbers that began anew without a 0")
         if steps > copies.HALF_TURN and time - before <= 1000 * self.link.skew_max:
             self.broken("near", where, f"{steps} frames after the newest while SkewMax runs")
-
-    def law(self):
-        """What the laws of the page say, if what wasn't seen broken held: `all` of what was sent was delivered; `once` at
-        most, whole and in order, and each message of which a copy came unless its queue was full; or nothing."""
-        if not self.found:
-            return "all"
-        return "once" if set(self.found) <= {"copies", "queues"} else "-"

@@ -38,11 +38,12 @@ class Place:
 
 class Note(NamedTuple):
     """What a frame is beside the others: how many numbers before it came on neither network, whether it came after a later
-    one, and its other copy."""
+    one, its other copy, and its place, if it has one."""
     what: str
     missing: int = 0
     is_overtaken: bool = False
     other: Optional[Copy] = None
+    index: Optional[int] = None
 
 
 class Side:
@@ -50,7 +51,7 @@ class Side:
 
     def __init__(self):
         self.began, self.newest, self.number, self.held = None, -1, None, None
-        self.lost = self.run = self.longest = self.follow = 0
+        self.lost = self.run = self.longest = self.follow = self.cost = 0
         self.overtaken = self.repeated = self.late = self.astray = 0
 
 
@@ -63,19 +64,21 @@ class Listener:
     def lost_many(self, count, net, packet):
         """So many places before this packet came on neither network."""
 
-    def run_ended(self, net, run, copy):
-        """The first copy of a network after it lost so many frames in a row."""
+    def run_ended(self, net, run, copy, cost):
+        """The first copy of a network after it lost so many frames in a row, or none; so many frames from the first of them to
+        this one weren't forwarded."""
 
 
 class Copies:
     """The places of a link's frames that are waited for, with what both networks brought of them, in bounded memory."""
 
     def __init__(self, skew_max, listener):
-        self.wait, self.listener, self.sides = max(LEAST_WAIT, 10_000 * skew_max), listener, (Side(), Side())
+        self.wait, self.skew, self.listener = max(LEAST_WAIT, 10_000 * skew_max), 1000 * skew_max, listener
+        self.sides, self.began = (Side(), Side()), 0  # the place with which the sender began anew
         self.places, self.by_number = collections.deque(), {}
         self.newest, self.number, self.latest = -1, None, None  # place, number and time
         self.rate, self.quiet = collections.deque(maxlen=RATE_OF), 0
-        self.lost_both = self.resets = 0
+        self.lost_both = self.dropped = self.resets = 0
 
     # ---- a frame
 
@@ -88,8 +91,7 @@ class Copies:
             self.judge(1 - net, other, number)
         if self.places and self.places[0].since < time - self.wait:
             self.settle(time - self.wait)
-        place = self.by_number.get(number)
-        if place and not place.copies[net] and place.copies[1 - net]:
+        if place := self.awaited(net, number, time):
             return self.come(net, place, copy, self.newest)
         ahead = self.ahead(number, time)
         if is_refused and ahead > 0:
@@ -97,14 +99,19 @@ class Copies:
             return Note(HELD, ahead - 1)
         return self.take(net, number, copy, ahead, self.newest)
 
+    def awaited(self, net, number, time):
+        """The place whose other copy came. After SkewMax a number from before a restart is that of a new frame."""
+        place = self.by_number.get(number)
+        is_so = place and not place.copies[net] and place.copies[1 - net]
+        return place if is_so and (place.index >= self.began or time - place.since <= self.skew) else None
+
     def judge(self, net, side, number):
         """Whether the refused frame before counts, by the number that comes next."""
         (held, copy, newest), side.held = side.held, None
         if number and held and (number - held) % TURN > HALF_TURN:
             side.astray += 1
             return
-        place = self.by_number.get(held)
-        if place and not place.copies[net] and place.copies[1 - net]:
+        if place := self.awaited(net, held, copy.time):
             self.come(net, place, copy, newest)
         else:
             self.take(net, held, copy, self.ahead(held, copy.time), newest)
@@ -119,7 +126,7 @@ class Copies:
         place = self.places[index - self.places[0].index]
         if place.copies[net]:
             self.sides[net].repeated += 1
-            return Note(REPEATED, 0, index < newest, place.copies[net])
+            return Note(REPEATED, 0, index < newest, place.copies[net], index)
         return self.come(net, place, copy, newest)
 
     def come(self, net, place, copy, newest):
@@ -128,7 +135,7 @@ class Copies:
         place.copies[net] = copy
         side.overtaken += place.index < side.newest
         self.go_on(side, place)
-        return Note(COPY if other else FIRST, 0, place.index < newest, other)
+        return Note(COPY if other else FIRST, 0, place.index < newest, other, place.index)
 
     def go_on(self, side, place):
         side.began = place.index if side.began is None else min(place.index, side.began)
@@ -177,11 +184,12 @@ class Copies:
         place = self.add(number, time, by)
         place.copies[net] = copy
         self.number, self.latest = number, time
+        self.began = place.index if is_reset else self.began
         self.rate.append((self.newest, time))
         self.go_on(self.sides[net], place)
         while len(self.places) > HALF_TURN + 1:
             self.end(self.places.popleft())
-        return Note((RESET if number == 0 else ANEW) if is_reset else FIRST, missing)
+        return Note((RESET if number == 0 else ANEW) if is_reset else FIRST, missing, index=place.index)
 
     def add(self, number, time, by):
         self.newest += 1
@@ -196,32 +204,42 @@ class Copies:
         while self.places and self.places[0].since < before:
             self.end(self.places.popleft())
 
+    @property
+    def cost(self):
+        """The frames that weren't forwarded: lost on both, or dropped by the receiver."""
+        return self.lost_both + self.dropped
+
     def end(self, place):
         if self.by_number.get(place.number) is place:
             del self.by_number[place.number]
-        lost = []
+        lost, before = [], self.cost
+        a, b = place.copies
+        if not a and not b:
+            self.lost_both += 1
+        elif not (a and a.is_forwarded or b and b.is_forwarded):
+            self.dropped += 1
         for net, side in enumerate(self.sides):
             if place.copies[net]:
                 if side.run:
-                    self.listener.run_ended(net, side.run, place.copies[net])
+                    self.listener.run_ended(net, side.run, place.copies[net], self.cost - side.cost)
                 side.run = 0
             elif side.began is not None and side.began < place.index:
+                side.cost = side.cost if side.run else before
                 side.run += 1
                 side.longest = max(side.longest, side.run)
                 lost.append(net)
-        if not any(place.copies):
-            self.lost_both += 1
-        elif lost:
+        if lost and (a or b):
             self.sides[lost[0]].lost += 1
         self.listener.settled(place, lost)
 
     def lose(self, count):
         """So many places of which no copy came."""
-        self.lost_both += count
-        self.newest += count
         for side in self.sides:
+            side.cost = side.cost if side.run else self.cost
             side.run += count
             side.longest = max(side.longest, side.run)
+        self.lost_both += count
+        self.newest += count
 
     def finish(self, time, skew_max):
         """At the end a copy is lost if its network brought a later one, or SkewMax is over."""
@@ -234,3 +252,6 @@ class Copies:
                 if not place.copies[net] and side.newest < place.index and time - place.since <= 1000 * skew_max:
                     side.began = None
             self.end(place)
+        for net, side in enumerate(self.sides):
+            if side.run:
+                self.listener.run_ended(net, side.run, None, self.cost - side.cost)

@@ -11,6 +11,7 @@ from workbench.conditions import Conditions
 from workbench.copies import Copies
 from workbench.delays import Delays
 from workbench.pieces import Pieces
+from workbench.spans import Spans
 
 SHOWN = 5  # places of each kind
 CODES = {kind: code for code, kind in enumerate(KINDS)}
@@ -80,6 +81,7 @@ class Link(copies.Listener):
         self.nets = tuple(Network(own.get("bag_us")) for _ in NETWORKS)
         self.copies, self.pieces = Copies(link.skew_max, self), Pieces(link.reassembly, self.given_up)
         self.conditions, self.delays, self.beyond = Conditions(link), Delays(), 0
+        self.spans, self.outages, self.free_outages = Spans(link.skew_max), Events(), 0
         self.kinds, self.hidden = tuple(Counter() for _ in NETWORKS), tuple(Counter() for _ in NETWORKS)
         self.twice, self.resets, self.unfinished, self.again = Events(), Events(), Events(), Events()
         self.least_pause, self.sender = None, None
@@ -93,47 +95,69 @@ class Link(copies.Listener):
         self.kinds[net][reply.kind] += 1
         before, newest = self.copies.latest, self.copies.newest
         note = self.copies.see(net, time, number, packet, is_forwarded, code == OUT_OF_SEQUENCE)
-        where = one.where
+        where, what, fault = one.where, note.what, None
         if octets[SENDER] != self.sender:
-            self.look_at_sender(octets[SENDER], where)
-        if note.what == copies.COPY:
-            self.pair(net, time, is_forwarded, note.other, where)
-        elif note.what in (copies.RESET, copies.ANEW):
-            self.restart(time - before, where)
+            fault = self.look_at_sender(octets[SENDER], where)
+        if what == copies.COPY:
+            fault = self.pair(net, time, is_forwarded, note.other, where) or fault
+        elif what in (copies.RESET, copies.ANEW):
+            fault = self.restart(what, time - before, where) or fault
         self.conditions.look_at(note, reply, where, self.copies.newest - newest, before, time)
-        if is_forwarded and code >= FIRST_PIECE and (note.what != copies.COPY or not note.other.is_forwarded):
-            self.pieces.see(now, octets, reply.kind, where)
+        if is_forwarded or code != OUT_OF_SEQUENCE and self.link.redundancy:
+            self.follow_law(now, octets, reply.kind, note, where, is_forwarded,
+                            "overtaking" if what == copies.FIRST and note.is_overtaken else fault)
         return note
 
+    def follow_law(self, now, octets, kind, note, where, is_forwarded, fault):
+        """Of a copy that passes integrity checking."""
+        spans, is_whole = self.spans, False
+        if is_forwarded and CODES[kind] >= FIRST_PIECE:
+            is_again = note.what == copies.COPY and note.other.is_forwarded
+            is_whole = self.pieces.see(now, octets, kind, where, is_again)
+        if self.link.redundancy:
+            is_first = spans.see(note.index, now, is_forwarded, fault)
+            if spans.fault:
+                spans.ended(where)
+            if is_first:
+                spans.take(kind, is_forwarded, is_whole)
+
     def look_at_sender(self, sender, where):
-        if self.sender is not None:
-            self.conditions.broken("sender", where, "another source address")
-        self.sender = sender
+        before, self.sender = self.sender, sender
+        return before and self.conditions.broken("sender", where, "another source address")
 
     def pair(self, net, time, is_forwarded, other, where):
+        """The condition that a second copy breaks, if it does."""
         delay = (time - other.time if net else other.time - time) // 1000
         self.delays.add(delay)
-        if abs(delay) > self.link.skew_max:
-            self.beyond += 1
-            self.conditions.broken("skew-max", where, f"{abs(delay)} us after its first copy")
         if is_forwarded and other.is_forwarded and self.link.redundancy:
             self.twice.add(where)
+        if abs(delay) <= self.link.skew_max:
+            return None
+        self.beyond += 1
+        return self.conditions.broken("skew-max", where, f"{abs(delay)} us after its first copy")
 
-    def restart(self, pause, where):
+    def restart(self, what, pause, where):
+        """The condition that a restart breaks, if it does."""
         pause //= 1000
         self.resets.add(f"{where} after {pause} us")
         self.least_pause = pause if self.least_pause is None else min(pause, self.least_pause)
         if pause <= self.link.skew_max + self.greatest_delay:
-            self.conditions.broken("skew-max", where, f"restarted after {pause} us")
+            return self.conditions.broken("skew-max", where, f"restarted after {pause} us")
+        return "sender" if what == copies.ANEW else None
 
     @property
     def greatest_delay(self):
         """The greatest of either sign: D is at least this."""
         return max(abs(self.delays.least), abs(self.delays.greatest)) if self.delays.number else 0
 
-    def run_ended(self, net, run, copy):
-        if run >= self.link.window:
-            self.conditions.broken("losses", f"{copy.packet} of {NETWORKS[net]}", f"the first after {run} were lost")
+    def run_ended(self, net, run, copy, cost):
+        """A network that loses the window's number of frames or more is out: the next one is dropped on it."""
+        if run < self.link.window:
+            return
+        where = f"{copy.packet} of {NETWORKS[net]}" if copy else f"the end of {NETWORKS[net]}"
+        self.conditions.broken("losses", where, f"the first after {run} were lost" if copy else f"{run} were lost, and no more came")
+        self.outages.add(f"{run} before {where}, " + (f"{cost} frames not forwarded" if cost else "no frame lost"))
+        self.free_outages += not cost
 
     def settled(self, place, lost):
         where = f"{place.by[1]} of {NETWORKS[place.by[0]]}"
@@ -166,6 +190,26 @@ class Link(copies.Listener):
     def of_kinds(self, *names):
         """How many frames have these verdicts."""
         return sum(kinds[name] for kinds in self.kinds for name in names)
+
+    def costs(self):
+        """What messages were lost by: frames that came on neither network, or that the receiver dropped, refused or had no room
+        for, and datagrams in parts that were given up; and those that came twice."""
+        return {"lost-both": self.copies.lost_both, "dropped": self.copies.dropped, "bad": self.of_kinds(*FAULTS),
+                "overflow": self.of_kinds("overflow"), "unfinished": self.unfinished.count, "twice": self.twice.count}
+
+    def law(self):
+        """What came of the law: `all`, its conditions held from the first frame to the last, and nothing was lost; `no loss`,
+        some were broken, or a network is out, and that cost nothing; messages came `twice`, or were `lost`; `off`, without
+        redundancy management it says nothing; and nothing came."""
+        if not any(net.frames for net in self.nets):
+            return "-"
+        if not self.link.redundancy:
+            return "off"
+        costs = self.costs()
+        if any(count for word, count in costs.items() if word != "twice") or self.spans.arrived > self.spans.delivered:
+            return "lost"
+        is_out = any(side.run >= self.link.window for side in self.copies.sides)
+        return "twice" if costs["twice"] else "no loss" if self.conditions.found or self.spans.count != 1 or is_out else "all"
 
 
 class Health:

@@ -2,7 +2,9 @@
 were given up."""
 import collections
 
-MOST_GROUPS, MOST_KEPT = 4, 1024
+from workbench.law import Offers
+
+MOST_GROUPS = 4
 IDENTIFICATION, FRAGMENT = slice(18, 20), slice(20, 22)  # octets of a frame
 ADDRESSES = slice(26, 34)
 
@@ -19,41 +21,49 @@ class Pieces:
 
     def __init__(self, limit, tell):
         self.limit, self.tell = limit, tell
-        self.groups, self.recent = collections.OrderedDict(), collections.OrderedDict()
+        self.groups, self.offers = collections.OrderedDict(), Offers(limit)
         self.has_fragments, self.joined = False, 0
 
-    def see(self, now, octets, kind, packet):
-        """A frame that was forwarded, and whose header is good."""
+    def see(self, now, octets, kind, packet, is_again):
+        """A frame that was forwarded, and whose header is good; perhaps again. Returns whether a message is whole with it by the
+        law."""
         word = int.from_bytes(octets[FRAGMENT], "big") & 0x3FFF
-        if not word and not self.has_fragments or kind == "bad-fragment":
-            return
-        key = octets[ADDRESSES] + octets[IDENTIFICATION]
-        group = self.groups.get(key)
-        if not word:
-            if group:
-                self.give_up(key, "a whole datagram", packet)
-            return
+        if not word and not self.has_fragments:
+            return True
         self.has_fragments = True
+        key, offset, more = octets[ADDRESSES] + octets[IDENTIFICATION], 8 * (word & 0x1FFF), word >> 13
+        is_bad, chain = kind == "bad-fragment", self.offers.chains.get(key)
+        is_used = chain and chain.is_joined and now - chain.latest <= self.limit
+        is_whole = self.offers.add(key, None if is_bad else offset, int.from_bytes(octets[16:18], "big") - 20, more, now)
+        if not word and key in self.groups:
+            self.give_up(key, "a whole datagram", packet)
+        elif word and not is_bad and not is_again:
+            self.add(key, now, word, kind, packet, is_used)
+        return is_whole
+
+    def add(self, key, now, word, kind, packet, is_used):
+        """A fragment. Its key may be that of a datagram that was joined within the limit."""
+        group = self.groups.get(key)
         if group and now - group.begin > self.limit:
             self.give_up(key, "limit", packet)
             group = None
         if not group:
+            if is_used:
+                self.tell("identification", packet, packet)
             group = self.begin(key, now, packet)
         elif word in group.offsets:
             self.tell("identification", group.packet, packet)
         group.offsets.add(word)
         if kind != "fragment-held":
             self.joined += 1
-            self.recent[key] = now
+            self.offers.chains[key].is_joined = True
             del self.groups[key]
 
     def begin(self, key, now, packet):
-        if key in self.recent and now - self.recent.pop(key) <= self.limit:
-            self.tell("identification", packet, packet)
         if len(self.groups) == MOST_GROUPS:
-            self.give_up(next(iter(self.groups)), "four others", packet)
-        if len(self.recent) > MOST_KEPT:
-            self.recent.popitem(last=False)
+            lost = next(iter(self.groups))
+            self.offers.lose_place(lost)
+            self.give_up(lost, "four others", packet)
         group = self.groups[key] = Group(now, packet)
         return group
 

@@ -40,6 +40,11 @@ def queue(link):
     return f"{worst['most']}/{worst['depth']}" if worst else "-"
 
 
+def law(link):
+    """What came of the law, and the conditions that were broken."""
+    return link["law"] + (f" not {','.join(link['broken'])}" if link["redundancy"] and link["broken"] else "")
+
+
 def cells(link):
     """The line of a link."""
     a, b = link["networks"].values()
@@ -47,7 +52,7 @@ def cells(link):
     label = f"{link['vl']} {link['name']}" if link["name"] else str(link["vl"])
     return (label, rate(a), rate(b), str(a["lost"]), str(b["lost"]), str(link["lost_both"]), delays(link),
             str(link["skew_max_us"]) if link["redundancy"] else "off", str(link["twice"]["count"]), age(link), queue(link),
-            link["law"] if link["law"] != "-" else "not " + ",".join(link["broken"]), ", ".join(words))
+            law(link), ", ".join(words))
 
 
 def table(heads, rows, room=None):
@@ -93,15 +98,34 @@ def lines_of_link(link):
     yield (f"B's copy came later by, in us, least/median/99 %/greatest: {delays(link)}; {found['pairs']} pairs, "
            f"{found['beyond']} beyond SkewMax")
     for key, what in (("twice", "delivered twice"), ("resets", "restarts"), ("unfinished", "datagrams given up"),
-                      ("identification_again", "identifications again")):
+                      ("identification_again", "identifications again"), ("outages", "outages of a network")):
         if link[key]["count"]:
             yield f"{what}: {link[key]['count']}, at first {', '.join(link[key]['first'])}"
     yield from map(line_of_port, link["ports"])
-    yield {"all": "No condition of docs/DELIVERY.md was seen broken: if all held, all was delivered, once, whole, in order.",
-           "once": "If the others of docs/DELIVERY.md held, each message came at most once, whole, in order. Broken:",
-           "-": "The laws of docs/DELIVERY.md don't cover it; of their conditions were broken:"}[link["law"]]
+    if link["redundancy"]:
+        yield from lines_of_law(link)
     for word, one in link["broken"].items():
         yield f"  {word}: {CONDITIONS[word]}: {one['count']} times, first by {one['first']}: {one['how']}"
+
+
+def lines_of_law(link):
+    """In which spans of time the law held, what arrived by it, and what faults cost."""
+    healed = f"; healed at {link['healed_us']} us" if link["healed_us"] is not None else ""
+    if link["fragments_healed_us"] != link["healed_us"]:
+        healed += f", for fragments at {link['fragments_healed_us']} us"
+    yield f"law of docs/DELIVERY.md: {link['law']}; its conditions held for {link['held_us']} us{healed}"
+    if link["span_count"] > len(link["spans"]):
+        yield f"  {link['span_count']} spans, the first ones and the latest:"
+    for span in link["spans"]:
+        ended = f", up to {span['packet']}: {span['ended_by']}" if span["ended_by"] else ""
+        yield f"  {span['from_us']} to {span['to_us']} us{ended}"
+    full = f"; {link['full']} found their queue full" if link["full"] else ""
+    yield f"messages that arrived by the law: {link['arrived']}, of these delivered: {link['delivered']}{full}"
+    costs = ", ".join(f"{word} {count}" for word, count in link["costs"].items() if count)
+    a, b = (net["lost"] for net in link["networks"].values())
+    yield f"what cost messages: {costs or 'nothing'}"
+    yield (f"what cost none: copies lost on A alone {a}, on B alone {b}; outages of a network {link['free_outages']} of "
+           f"{link['outages']['count']}")
 
 
 def line_of_port(port):

@@ -48,7 +48,8 @@ def of_link(link, ports, latest):
             "resets": of_events(link.resets), "least_pause_us": link.least_pause, "unfinished": of_events(link.unfinished),
             "identification_again": of_events(link.again), "bad": link.of_kinds(*FAULTS),
             "out_of_sequence": link.of_kinds("out-of-sequence"), "overflows": link.of_kinds("overflow"),
-            "law": link.conditions.law(), "broken": broken, "ports": ports}
+            "law": link.law(), **link.spans.told(settings.reassembly if link.pieces.has_fragments else 0), "costs": link.costs(),
+            "outages": of_events(link.outages), "free_outages": link.free_outages, "broken": broken, "ports": ports}
 
 
 def of_all(health, partition, now, lost=None):
@@ -73,6 +74,7 @@ AMISS = {
     "lost-a": lambda link: link["networks"]["A"]["lost"],
     "lost-b": lambda link: link["networks"]["B"]["lost"],
     "lost-both": lambda link: link["lost_both"],
+    "dropped": lambda link: link["costs"]["dropped"],
     "delay": lambda link: link["delays_us"]["beyond"],
     "twice": lambda link: link["twice"]["count"],
     "overtaken": lambda link: sum_of(link, "overtaken"),
@@ -88,7 +90,7 @@ AMISS = {
     "overflow": lambda link: link["overflows"],
     "stale": lambda link: sum(port.get("stale", 0) for port in link["ports"]),
     "silent": lambda link: sum(is_silent(net) for net in link["networks"].values()),
-    "law": lambda link: link["law"] == "-" and link["redundancy"],
+    "law": lambda link: link["law"] in ("lost", "twice"),
 }
 OF_ALL = ("filtered", "left-out", "tap")
 # A sender may restart without a fault.
