@@ -125,22 +125,23 @@ def test_a_wrong_setting_is_found(kind, key, value, fault, tmp_path):
 
 @pytest.mark.parametrize("kind", [*HOLDING, *DROPPED, *FAULTY], ids=lambda kind: kind.__name__)
 def test_what_health_says_arrived_was_delivered(kind):
-    """It knows the copies alone, and none of the sender's frames. Where no frame is lost on both, and none is strange, it finds
-    what the law finds."""
+    """It knows the copies alone. Where they tell the sender's frames, it finds what the law finds."""
     for place in range(4):
-        networks = kind(random.Random(f"test {place}"))
+        networks, forwarded = kind(random.Random(f"test {place}")), []
         with Receiver(networks.config()) as receiver:
-            link = seen(networks, receiver)
-        assert link.spans.arrived == link.spans.delivered
-        if kind in HOLDING or kind is OneOut:
-            assert link.spans.delivered == len(networks.whole())
+            spans = seen(networks, receiver, forwarded).spans
+        assert spans.arrived == spans.delivered
+        if kind in (*HOLDING, OneOut, BothOut, Losing):
+            assert spans.delivered + spans.full == len(Arrivals(networks, forwarded).places)
 
 
-def seen(networks, receiver):
+def seen(networks, receiver, forwarded):
     found = health.Health(types.SimpleNamespace(receiver=receiver, own={}))
     for number, copy in enumerate(networks.copies, 1):
         one = stream.Arrival(1000 * copy.time, "AB".index(copy.net), number, networks.octets(copy), None, 0)
-        found.see(one, copy.time, receiver.receive(one.net, copy.time, one.octets))
+        reply = receiver.receive(one.net, copy.time, one.octets)
+        forwarded.append(reply.kind not in ("out-of-sequence", "redundant"))
+        found.see(one, copy.time, reply)
     found.finish(copy.time)
     return found.links[17]
 
