@@ -4,9 +4,13 @@ import collections
 
 from workbench.law import Offers
 
-MOST_GROUPS = 4
+MOST_GROUPS, MOST_KEPT = 4, 64  # groups; whole datagrams before the first fragment
 IDENTIFICATION, FRAGMENT = slice(18, 20), slice(20, 22)  # octets of a frame
 ADDRESSES = slice(26, 34)
+
+
+def key_of(octets):
+    return octets[ADDRESSES] + octets[IDENTIFICATION]
 
 
 class Group:
@@ -22,16 +26,20 @@ class Pieces:
     def __init__(self, limit, tell):
         self.limit, self.tell = limit, tell
         self.groups, self.offers = collections.OrderedDict(), Offers(limit)
-        self.has_fragments, self.joined = False, 0
+        self.has_fragments, self.joined, self.whole = False, 0, collections.deque(maxlen=MOST_KEPT)
 
     def see(self, now, octets, kind, packet, is_again):
         """A frame that was forwarded, and whose header is good; perhaps again. Returns whether a message is whole with it by the
         law."""
         word = int.from_bytes(octets[FRAGMENT], "big") & 0x3FFF
         if not word and not self.has_fragments:
+            self.whole.append((now, octets))
             return True
-        self.has_fragments = True
-        key, offset, more = octets[ADDRESSES] + octets[IDENTIFICATION], 8 * (word & 0x1FFF), word >> 13
+        if not self.has_fragments:
+            self.has_fragments = True
+            for time, each in self.whole:
+                self.offers.add(key_of(each), 0, 0, 0, time)
+        key, offset, more = key_of(octets), 8 * (word & 0x1FFF), word >> 13
         is_bad, chain = kind == "bad-fragment", self.offers.chains.get(key)
         is_used = chain and chain.is_joined and now - chain.latest <= self.limit
         is_whole = self.offers.add(key, None if is_bad else offset, int.from_bytes(octets[16:18], "big") - 20, more, now)
