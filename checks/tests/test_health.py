@@ -196,7 +196,8 @@ def test_the_faults_of_the_example():
     assert one["twice"] == {"count": 1, "first": ["33 of B"]} and one["delays_us"]["beyond"] == 1
     assert one["resets"]["first"] == ["64 of A after 44000 us"] and one["least_pause_us"] == 44000
     assert one["delays_us"] == {"pairs": 20, "least": 200, "median": 200, "most_of_99": 1700, "greatest": 1700, "beyond": 1}
-    assert one["broken"]["losses"] == {"count": 1, "first": "60 of A", "how": "the first after 6 were lost"}
+    first = {"first": "60 of A", "how": "the first after 6 were lost"}
+    assert one["broken"]["losses"] == {"count": 1, **first, "causes": [first]}
     assert list(one["broken"]) == ["skew-max", "losses", "packets", "copies"] and one["law"] == "lost"
     assert list(two["broken"]) == ["losses"] and [two["networks"][net]["lost"] for net in "AB"] == [6, 0]
     assert [(span["from_us"], span["to_us"], span["ended_by"], span["packet"]) for span in one["spans"]] == \
@@ -277,7 +278,7 @@ def test_words_of_fail_on_that_are_none():
 def test_the_screens():
     lines = done("health", "--config", CONFIG, FAULTS, "--fail-on", "").decode().splitlines()
     assert lines[0].split()[:4] == ["link", "A/s", "B/s", "lost"] and lines[1].split()[:2] == ["17", "135"]
-    assert "lost not skew-max,losses,packets,copies" in lines[1] and "delay 1, bad 1" in lines[1]
+    assert "lost not skew-max,losses,packets,copies" in lines[1] and "delay 1, reset 1, bad 1" in lines[1]
     assert "no loss not losses" in lines[2]
     lines = done("health", "--config", CONFIG, FAULTS, "--fail-on", "", "--link", "17").decode().splitlines()
     assert "  losses: few are lost: fewer in a row than the window, and never the first after a restart: 1 times, first by " \
@@ -326,6 +327,9 @@ def test_the_bag_and_the_name_of_a_link(written):
     found = made(written, [(time, A, frame(7, number, "", 1, 8)) for number, time in enumerate([0, 4000, 7500, 9000, 16000], 1)],
                  config)
     assert (found["name"], found["bag_us"], found["networks"]["A"]["early"]) == ("ADC 1", 4000, 1)
+    config = config.replace("bag_us = 4000", "bag_us = 4000\njitter_us = 499")
+    assert made(written, [(time, A, frame(7, number, "", 1, 8)) for number, time in enumerate([0, 4000, 7500, 9000, 16000], 1)],
+                config)["networks"]["A"]["early"] == 2
     assert found["networks"]["A"]["jitter_us"] == 2500 and found["networks"]["A"]["least_gap_us"] == 1500
 
 

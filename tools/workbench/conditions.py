@@ -11,8 +11,9 @@ CONDITIONS = {
     "losses": "few are lost: fewer in a row than the window, and never the first after a restart",
     "packets": "each frame has a datagram, whole or in fragments, for a port that admits it",
     "whole": "of each datagram in parts all fragments come, within the limit",
+    "order": "the fragments of a datagram come in order",
     "parts": "at most four datagrams are in parts at a time",
-    "identification": "no identification comes again within the reassembly limit",
+    "identification": "no identification of fragments is used for two datagrams within the reassembly limit",
     "queues": "no queue is full",
     "copies": "a copy of each frame comes",
 }
@@ -20,11 +21,21 @@ REFUSED = {"bad-header": "packets", "bad-fragment": "packets", "bad-udp": "packe
            "too-long": "packets", "fragmented-sample": "packets", "overflow": "queues"}
 
 
-class Broken:
-    """How often a condition was broken, and the packet that broke it first, with how."""
+# What is known by sequence numbers alone.
+BY_NUMBERS = ("skew-max", "near", "overtaking", "losses", "copies")
+MOST_CAUSES = 5
 
-    def __init__(self, where, how):
-        self.count, self.where, self.how = 1, where, how
+
+class Broken:
+    """How often a condition was broken, and each cause with the packet that broke it so first, the first of all first."""
+
+    def __init__(self):
+        self.count, self.causes = 0, {}
+
+    def add(self, where, how):
+        self.count += 1
+        if how in self.causes or len(self.causes) < MOST_CAUSES:
+            self.causes.setdefault(how, where)
 
 
 class Conditions:
@@ -37,10 +48,7 @@ class Conditions:
 
     def broken(self, word, where, how):
         """Returns the word."""
-        if word in self.found:
-            self.found[word].count += 1
-        else:
-            self.found[word] = Broken(where, how)
+        self.found.setdefault(word, Broken()).add(where, how)
         return word
 
     def look_at(self, note, reply, where, steps, before, time):

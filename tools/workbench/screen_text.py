@@ -1,4 +1,5 @@
 """The health of links as text: a line a link, a screen for one, and the ports."""
+from verdict_words import NETWORKS
 from workbench import told
 from workbench.conditions import CONDITIONS
 
@@ -9,12 +10,17 @@ DISPENSABLE = ("queue", "age ms", "SkewMax", "A/s", "B/s")
 # Of a network of one link: how its frames come, and what it does to them. Times without a unit are in microseconds.
 COMES = ("frames", "rate", "least_gap_us", "greatest_gap_us", "usual_gap_ms", "jitter_us", "early", "silent_us")
 LOSES = ("lost", "longest_run", "overtaken", "repeated", "late", "astray")
-SHOWN_ALONE = ("lost-a", "lost-b", "lost-both", "twice", "law", "reset")
+SHOWN_ALONE = ("lost-a", "lost-b", "lost-both", "twice", "law")
 
 
 def number(value):
     """A figure as short as it can be."""
     return "-" if value is None else f"{value:.0f}" if abs(value) >= 100 or value == int(value) else f"{value:.1f}"
+
+
+def count(value):
+    """One that may be not known."""
+    return "?" if value is None else str(value)
 
 
 def rate(net, is_marked=True):
@@ -50,7 +56,7 @@ def cells(link):
     a, b = link["networks"].values()
     words = [f"{word} {count}" for word, count in told.amiss(link).items() if word not in SHOWN_ALONE]
     label = f"{link['vl']} {link['name']}" if link["name"] else str(link["vl"])
-    return (label, rate(a), rate(b), str(a["lost"]), str(b["lost"]), str(link["lost_both"]), delays(link),
+    return (label, rate(a), rate(b), count(a["lost"]), count(b["lost"]), count(link["lost_both"]), delays(link),
             str(link["skew_max_us"]) if link["redundancy"] else "off", str(link["twice"]["count"]), age(link), queue(link),
             law(link), ", ".join(words))
 
@@ -70,13 +76,21 @@ def table(heads, rows, room=None):
 def lines(found, room=None):
     """The screen of all links; in so many columns, if they are told."""
     yield from table(HEADS, [cells(link) for link in found["links"]], room)
+    yield from lines_beside(found)
+
+
+def lines_beside(found):
+    """Of what is of no link: causes, with the first packet of each."""
     for name in ("filtered", "left_out"):
         for net, counts in found[name].items():
+            firsts = found["first_packets"].get(net, {})
             if counts:
-                causes = ", ".join(f"{cause} {count}" for cause, count in counts.items())
-                yield f"{name.replace('_', ' ')} on {net}: {causes}"
+                causes = (f"{cause} {count}" + (f", first {firsts[cause]}" if cause in firsts else "")
+                          for cause, count in counts.items())
+                yield f"{name.replace('_', ' ')} on {net}: {'; '.join(causes)}"
     if found["lost_by_tap"]:
-        yield f"lost by the tap: {' '.join(map(str, found['lost_by_tap']))}"
+        lost = [f"{count} on {net}" for net, count in zip(NETWORKS, found["lost_by_tap"])]
+        yield f"lost by the tap: {', '.join(lost) if len(lost) > 1 else found['lost_by_tap'][0]}"
 
 
 def lines_of_link(link):
@@ -94,18 +108,25 @@ def lines_of_link(link):
         verdicts = ", ".join(f"{kind} {count}" for kind, count in about["verdicts"].items())
         yield f"verdicts on {net}: {verdicts or 'none'}{hidden}"
     found = link["delays_us"]
-    yield f"lost on both networks: {link['lost_both']}"
+    for net, about in link["networks"].items():
+        yield from (f"refused on {net}: {cause} {one['count']}, at first {one['first']}" for cause, one in about["refused"].items())
+    if link["sender_count"] > 1:
+        yield f"senders: {', '.join(link['senders'])}"
+    if link["nonsense"]:
+        yield f"numbers make no sense: {link['nonsense']}; what they would tell is not known"
+    yield f"lost on both networks: {count(link['lost_both'])}"
     yield (f"B's copy came later by, in us, least/median/99 %/greatest: {delays(link)}; {found['pairs']} pairs, "
            f"{found['beyond']} beyond SkewMax")
     for key, what in (("twice", "delivered twice"), ("resets", "restarts"), ("unfinished", "datagrams given up"),
-                      ("identification_again", "identifications again"), ("outages", "outages of a network")):
+                      ("identification_again", "identifications again"), ("fragments", "datagrams in fragments"), ("outages", "outages of a network")):
         if link[key]["count"]:
             yield f"{what}: {link[key]['count']}, at first {', '.join(link[key]['first'])}"
     yield from map(line_of_port, link["ports"])
     if link["redundancy"]:
         yield from lines_of_law(link)
     for word, one in link["broken"].items():
-        yield f"  {word}: {CONDITIONS[word]}: {one['count']} times, first by {one['first']}: {one['how']}"
+        causes = "; ".join(f"first by {cause['first']}: {cause['how']}" for cause in one["causes"])
+        yield f"  {word}: {CONDITIONS[word]}: {one['count']} times, {causes}"
 
 
 def lines_of_law(link):
