@@ -15,35 +15,14 @@ time that fits, on networks that begin near each other. All before a stretch is 
 What a program forwarded is looked at in the past of a stretch, and where one begins; there the law speaks of it, too.
 """
 import collections
-from typing import NamedTuple
+
+from parts.options import TOOLS  # noqa: F401  its folder is among those that are looked in
+from workbench import law
 
 MOST_GROUPS = 4
 
 
 # ---- copies that count
-
-
-class Stretch:
-    """The copies that count since one began."""
-
-    def __init__(self, skew):
-        self.skew, self.came, self.latest, self.greatest, self.newest = skew, set(), {}, 0, 0
-
-    def is_near(self, copy):
-        """Whether its network doesn't begin, or come back, too far ahead while SkewMax runs."""
-        before = self.latest.get(copy.net)
-        is_after_cut = before is None or before + 127 < copy.index
-        is_soon = copy.time <= self.newest + self.skew
-        return not self.came or not is_after_cut or not is_soon or copy.index <= self.greatest + 127
-
-    def add(self, copy):
-        """Whether it is the first copy of its frame."""
-        is_first = copy.index not in self.came
-        if not self.came or copy.index > self.greatest:
-            self.greatest, self.newest = copy.index, max(self.newest, copy.time)
-        self.came.add(copy.index)
-        self.latest[copy.net] = copy.index
-        return is_first
 
 
 def follows(number, before, window):
@@ -64,16 +43,6 @@ def keeps_times(networks):
 # ---- packets that are offered
 
 
-class Offer(NamedTuple):
-    key: tuple
-    message: int
-    offset: int
-    length: int
-    more: bool
-    time: int
-    stood: list  # the keys of the groups that stood as it began one; none if it didn't
-
-
 class Groups:
     """The groups of pieces that stand at the link, in the order in which they began."""
 
@@ -85,22 +54,21 @@ class Groups:
             each.pop(key, None)
 
     def take(self, key, frame, now):
-        """The keys of the groups that stood as this packet began one; none if it didn't."""
+        """The key of the group that a fifth gave up, if one did."""
         if frame.offset == 0 and not frame.more:
             self.drop(key)
-            return []
+            return None
         if key in self.began and now - self.began[key] > self.limit:
             self.drop(key)
-        stood = [] if key in self.began else list(self.began)
-        if len(stood) == MOST_GROUPS:
-            self.drop(stood[0])
+        lost = next(iter(self.began)) if key not in self.began and len(self.began) == MOST_GROUPS else None
+        self.drop(lost)
         self.began.setdefault(key, now)
         self.pieces.setdefault(key, []).append((frame.offset, frame.offset + len(frame.octets)))
         if not frame.more:
             self.ends[key] = frame.offset + len(frame.octets)
         if self.is_complete(key):
             self.drop(key)
-        return stood
+        return lost
 
     def is_complete(self, key):
         reached, end = 0, self.ends.get(key)
@@ -110,38 +78,18 @@ class Groups:
         return end is not None and reached >= end
 
 
-class Offers:
-    """All packets that were offered, in order."""
+class Offers(law.Offers):
+    """All packets that were offered, in order, and the groups that stand."""
 
     def __init__(self, limit):
-        self.limit, self.groups, self.all, self.places = limit, Groups(limit), [], collections.defaultdict(list)
+        super().__init__(limit)
+        self.groups = Groups(limit)
 
-    def add(self, key, frame, time):
+    def take(self, key, frame, time):
         """Whether a message is whole with this packet, by the law."""
-        offer = Offer(key, frame.message, frame.offset, len(frame.octets), frame.more, time, self.groups.take(key, frame, time))
-        is_whole = not offer.more and (offer.offset == 0 or self.is_split_in_order(offer))
-        self.places[key].append(len(self.all))
-        self.all.append(offer)
-        return is_whole
-
-    def is_split_in_order(self, last):
-        places, next_offset = list(self.places[last.key]), last.offset
-        while next_offset:
-            front = self.all[places.pop()] if places else None
-            if not front or not front.more or front.message != last.message or front.offset + front.length != next_offset:
-                return False
-            next_offset, first = front.offset, front
-        is_unused = not places or self.all[places[-1]].time + self.limit < first.time
-        return is_unused and last.time <= first.time + self.limit and self.leave_room(first)
-
-    def leave_room(self, first):
-        """Whether others that came after this one began groups only while fewer than three stood that began after its."""
-        for offer in reversed(self.all):
-            if offer is first:
-                return True
-            if first.key in offer.stood and len(offer.stood) - offer.stood.index(first.key) > 3:
-                return False
-        return True
+        if lost := self.groups.take(key, frame, time):
+            self.lose_place(lost)
+        return self.add(key, frame.offset, len(frame.octets), frame.more, time, frame.message)
 
 
 # ---- what arrives
@@ -152,31 +100,28 @@ class Arrivals:
 
     def __init__(self, networks, forwarded):
         self.networks, self.keeps_times = networks, keeps_times(networks)
-        self.numbers, self.last_forwarded, self.stretch, self.offers = {}, None, None, Offers(networks.limit)
+        self.numbers, self.stretch, self.number, self.offers = {}, law.Stretch(networks.skew), 0, Offers(networks.limit)
         # The places of the copies with which a message arrives, the stretch of each copy that counts, and wrong verdicts.
         self.places, self.stretches, self.faults = set(), {}, collections.Counter()
         for place, (copy, was_forwarded) in enumerate(zip(networks.copies, forwarded, strict=True)):
             self.take(place, copy, was_forwarded)
 
     def take(self, place, copy, was_forwarded):
-        passes, is_sent = self.passes(copy), self.is_in_time(copy)
-        if self.stretch and passes and not (is_sent and self.stretch.is_near(copy)):
-            self.stretch = None
-        if not self.stretch and passes and is_sent and (was_forwarded or self.is_skew_over(copy.time)):
-            self.stretch = Stretch(self.networks.skew)
-        is_first = bool(self.stretch) and passes and self.stretch.add(copy)
-        if self.stretch:
+        passes, stretch, is_first = self.passes(copy), self.stretch, False
+        if passes:
+            was_on = stretch.is_on
+            is_first = stretch.see(copy.index if self.is_in_time(copy) else None, copy.time, was_forwarded)
+            self.number += was_on and not stretch.is_on
+            if stretch.is_on:
+                self.stretches[place] = self.number
+        if stretch.is_on:
             self.faults["lost"] += is_first and not was_forwarded
             self.faults["twice"] += was_forwarded and not is_first
-        if self.stretch and passes:
-            self.stretches[place] = self.stretch
-        if is_first or (was_forwarded and not self.stretch):
+        if is_first or (was_forwarded and not stretch.is_on):
             frame = self.networks.frames[copy.index]
-            is_whole = self.offers.add((self.networks.source(copy.index), frame.ident), frame, copy.time)
+            is_whole = self.offers.take((self.networks.source(copy.index), frame.ident), frame, copy.time)
             if is_first and is_whole:
                 self.places.add(place)
-        if was_forwarded:
-            self.last_forwarded = copy.time
 
     def passes(self, copy):
         """Whether it passes integrity checking; it counts as the latest of its network in any case."""
@@ -190,9 +135,6 @@ class Arrivals:
         if not self.keeps_times or copy.index >= sender.count:
             return False
         return 0 <= copy.time - sender.sent[copy.index] - sender.least <= sender.spread
-
-    def is_skew_over(self, now):
-        return self.last_forwarded is None or now > self.last_forwarded + self.networks.skew
 
 
 # ---- what ports got

@@ -85,7 +85,7 @@ def test_the_window_of_order(written):
     path = written("late.pcap", head + b"".join(records[:2] + records[3:8] + [records[2]] + records[8:]))
     assert play("--reorder", "5", path) == play(CAPTURES / "a.pcap")
     late = run("play", "--config", CONFIG, "--reorder", "4", path)
-    assert late.returncode == 0 and b"left out, too late for its place: packet 8\n" in late.stderr
+    assert late.returncode == 0 and b"left out, too late for its place: packet 8" in late.stderr
 
 
 def places(pcap):
@@ -212,7 +212,7 @@ def test_a_capture_cut_anywhere(name, written):
     for size in [0, 1, 3, 4, 23, 24, 25, *sorted(rng.sample(range(len(whole)), 40))]:
         found = run("play", "--config", CONFIG, written("cut", whole[:size]))
         assert found.returncode in (0, 1, 5) and b"Traceback" not in found.stderr, (size, found.stderr)
-        assert found.returncode == 0 or found.stderr.count(b"\n") == 1
+        assert found.returncode in (0, 5) or found.stderr.count(b"\n") == 1
     assert b"cut by the end of the capture: packet 17" in \
         run("play", "--config", CONFIG, written("cut", (CAPTURES / "a.pcap").read_bytes()[:-1])).stderr
 
@@ -331,7 +331,7 @@ def test_a_file_that_grows(tmp_path):
             file.write(whole[24:1000])
             file.write(whole[1000:])
     out, told = process.communicate(timeout=60)
-    assert process.returncode == 0 and b"Traceback" not in told
+    assert process.returncode in (0, 5) and b"Traceback" not in told
     numbers = [line.split()[0] for line in out.splitlines() if line[:1].isdigit()]
     assert len(numbers) == len(set(numbers)) >= 17
 
@@ -360,7 +360,7 @@ def test_mutated_captures_are_played_or_make_one_fault(written, tmp_path, capsys
     for case in range(600):
         path = written("mutated", mutated(rng, seeds))
         given = argparse.Namespace(files=[path], interfaces=(0, 1), fcs=rng.choice([None, True]), reorder=5,
-                                   networks=rng.choice(["interface", "source"]), shift_b=rng.choice([0, -7]),
+                                   networks=rng.choice(["interface", "source"]), shift_b=(rng.choice([0, -7]), 0),
                                    to=tmp_path / "made")
         latest = [0, 0]
         try:

@@ -26,8 +26,8 @@ class Ended(copies.Listener):
     def settled(self, place, lost):
         self.places.append((place.number, tuple(lost)))
 
-    def run_ended(self, net, run, copy):
-        self.runs.append((net, run, copy.packet))
+    def run_ended(self, net, run, copy, cost):
+        self.runs.append((net, run, copy and copy.packet))
 
     def lost_many(self, count, net, packet):
         self.many += count
@@ -196,9 +196,15 @@ def test_the_faults_of_the_example():
     assert one["twice"] == {"count": 1, "first": ["33 of B"]} and one["delays_us"]["beyond"] == 1
     assert one["resets"]["first"] == ["64 of A after 44000 us"] and one["least_pause_us"] == 44000
     assert one["delays_us"] == {"pairs": 20, "least": 200, "median": 200, "most_of_99": 1700, "greatest": 1700, "beyond": 1}
-    assert one["broken"]["losses"] == {"count": 1, "first": "60 of A", "how": "the first after 6 were lost"}
-    assert list(one["broken"]) == ["skew-max", "losses", "packets", "copies"] and one["law"] == "-"
+    first = {"first": "60 of A", "how": "the first after 6 were lost"}
+    assert one["broken"]["losses"] == {"count": 1, **first, "causes": [first]}
+    assert list(one["broken"]) == ["skew-max", "losses", "packets", "copies"] and one["law"] == "lost"
     assert list(two["broken"]) == ["losses"] and [two["networks"][net]["lost"] for net in "AB"] == [6, 0]
+    assert [(span["from_us"], span["to_us"], span["ended_by"], span["packet"]) for span in one["spans"]] == \
+        [(0, 32_000, "skew-max", "33 of B"), (33_700, 148_200, None, None)] and one["healed_us"] == 33_700
+    assert [(link["arrived"], link["delivered"]) for link in (one, two)] == [(26, 26), (28, 28)]
+    assert {word: count for word, count in one["costs"].items() if count} == {"lost-both": 1, "bad": 1, "twice": 1}
+    assert two["law"] == "no loss" and two["outages"] == {"count": 1, "first": ["6 before 62 of A, no frame lost"]}
     assert told["frames"] == 97
 
 
@@ -272,7 +278,8 @@ def test_words_of_fail_on_that_are_none():
 def test_the_screens():
     lines = done("health", "--config", CONFIG, FAULTS, "--fail-on", "").decode().splitlines()
     assert lines[0].split()[:4] == ["link", "A/s", "B/s", "lost"] and lines[1].split()[:2] == ["17", "135"]
-    assert "not skew-max,losses,packets,copies" in lines[1] and "delay 1, bad 1" in lines[1]
+    assert "lost not skew-max,losses,packets,copies" in lines[1] and "delay 1, reset 1, bad 1" in lines[1]
+    assert "no loss not losses" in lines[2]
     lines = done("health", "--config", CONFIG, FAULTS, "--fail-on", "", "--link", "17").decode().splitlines()
     assert "  losses: few are lost: fewer in a row than the window, and never the first after a restart: 1 times, first by " \
         "60 of A: the first after 6 were lost" in lines
@@ -320,14 +327,20 @@ def test_the_bag_and_the_name_of_a_link(written):
     found = made(written, [(time, A, frame(7, number, "", 1, 8)) for number, time in enumerate([0, 4000, 7500, 9000, 16000], 1)],
                  config)
     assert (found["name"], found["bag_us"], found["networks"]["A"]["early"]) == ("ADC 1", 4000, 1)
+    config = config.replace("bag_us = 4000", "bag_us = 4000\njitter_us = 499")
+    assert made(written, [(time, A, frame(7, number, "", 1, 8)) for number, time in enumerate([0, 4000, 7500, 9000, 16000], 1)],
+                config)["networks"]["A"]["early"] == 2
     assert found["networks"]["A"]["jitter_us"] == 2500 and found["networks"]["A"]["least_gap_us"] == 1500
 
 
 def test_a_copy_that_overtakes_and_a_silent_network(written):
-    frames = [(1000, A, 1), (2000, A, 2), (2500, B, 1), (3000, B, 2), (3500, A, 3), (90_000, A, 4)]
+    """Only first copies have to be in order: B's number 1 comes after A's 2, and costs nothing. Its 3 never came on A."""
+    frames = [(1000, A, 1), (2000, A, 2), (2500, B, 1), (3000, B, 2), (3500, A, 4), (3600, B, 3), (90_000, A, 5)]
     found = made(written, [(time, net, frame(7, number, "", 1, 8)) for time, net, number in frames])
-    assert found["broken"]["overtaking"]["first"] == "1 of B" and found["networks"]["B"]["overtaken"] == 0
-    assert found["networks"]["B"]["silent_us"] == 87_000
+    assert found["broken"]["overtaking"]["count"] == 1 and found["broken"]["overtaking"]["first"] == "3 of B"
+    assert found["costs"]["dropped"] == 1 and found["law"] == "lost" and found["networks"]["B"]["overtaken"] == 0
+    assert [(span["from_us"], span["ended_by"]) for span in found["spans"]] == [(1000, "overtaking"), (90_000, None)]
+    assert found["networks"]["B"]["silent_us"] == 86_400
 
 
 # ---- many captures

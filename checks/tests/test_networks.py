@@ -9,7 +9,9 @@ from conftest import PROGRAM
 from parts.arrivals import Arrivals, Offers, judged
 from parts.faulty_networks import FAULTY, LONGEST_TURN, BothOut, Losing, OneOut, RestartingInParts, Strange
 from parts.network_player import played
-from parts.random_networks import Copy, Frame
+from parts.random_networks import DROPPED, HOLDING, Copy, Frame
+from receiver import Receiver
+from workbench import health, stream
 
 # ---- copies that count
 
@@ -72,7 +74,7 @@ def test_a_split_message_is_whole(text, arrives):
     offers = Offers(100)
     for ident, place, time in (each.split() for each in text.split(", ")):
         frame = Frame(int(ident), int(ident), int(place.rstrip("+")), place.endswith("+"), bytes(8))
-        is_whole = offers.add(ident, frame, int(time))
+        is_whole = offers.take(ident, frame, int(time))
     assert is_whole == arrives
 
 
@@ -119,6 +121,29 @@ WRONG = [(Losing, "window", 1, "missing"), (BothOut, "skew_max_us", 0, "twice"),
 @pytest.mark.parametrize("kind, key, value, fault", WRONG)
 def test_a_wrong_setting_is_found(kind, key, value, fault, tmp_path):
     assert fault in found(kind, tmp_path, 12, key, value)
+
+
+@pytest.mark.parametrize("kind", [*HOLDING, *DROPPED, *FAULTY], ids=lambda kind: kind.__name__)
+def test_what_health_says_arrived_was_delivered(kind):
+    """It knows the copies alone. Where they tell the sender's frames, it finds what the law finds."""
+    for place in range(4):
+        networks, forwarded = kind(random.Random(f"test {place}")), []
+        with Receiver(networks.config()) as receiver:
+            spans = seen(networks, receiver, forwarded).spans
+        assert spans.arrived == spans.delivered
+        if kind in (*HOLDING, OneOut, BothOut, Losing):
+            assert spans.delivered + spans.full == len(Arrivals(networks, forwarded).places)
+
+
+def seen(networks, receiver, forwarded):
+    found = health.Health(types.SimpleNamespace(receiver=receiver, own={}))
+    for number, copy in enumerate(networks.copies, 1):
+        one = stream.Arrival(1000 * copy.time, "AB".index(copy.net), number, networks.octets(copy), None, 0)
+        reply = receiver.receive(one.net, copy.time, one.octets)
+        forwarded.append(reply.kind not in ("out-of-sequence", "redundant"))
+        found.see(one, copy.time, reply)
+    found.finish(copy.time)
+    return found.links[17]
 
 
 def without(messages):

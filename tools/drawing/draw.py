@@ -16,10 +16,10 @@ def draw(given):
     alone = Alone(played.octets) if given.each else None
     with stream.opened(given) as packets:
         for one, now, reply in played.seen(packets):
-            gathered.see(one, now, reply)
-            faults.see(one, reply, alone and reply and alone.fault(one, now, reply))
+            note = gathered.see(one, now, reply)
+            faults.see(one, reply, alone and reply and alone.fault(one, now, reply, note))
     gathered.end(played.latest, packets)
-    faults.hint = packets.shift.hint()
+    faults.hint = packets.shift.hint() or gathered.drift.hint()
     text = page(gathered, " and ".join(dict.fromkeys(packets.source(net) for net in (0, 1))), faults)
     with files.writing(given.to) as out:
         out.write(text.encode(errors="replace"))

@@ -3,7 +3,7 @@ from html import escape
 
 from drawing.gather import LOST, RESTART, ROWS, TWICE, UNFINISHED
 from drawing.picture import (
-    CLASSES, Row, Times, age_picture, class_of, delay_picture, filtered_rows, mark, path, queue_picture, rows_picture,
+    BESIDES, CLASSES, Row, Times, age_picture, class_of, delay_picture, filtered_rows, mark, path, queue_picture, rows_picture,
     strip,
 )
 from drawing.style import PATTERNS, SCRIPT, STYLE
@@ -62,8 +62,6 @@ def sum_of(link, kinds):
     return sum(link.kinds_of(network)[kind] for network in (0, 1) for kind in kinds)
 
 
-# Rows that stand besides the verdicts.
-BESIDES = ("lost", "twice", "restart", "unfinished")
 FORWARDED_KINDS = range(FIRST_FORWARDED, len(KINDS))
 KINDS_OF = {name: [kind for kind, word in enumerate(KINDS) if class_of(word) == name] for name in CLASSES}
 
@@ -102,12 +100,12 @@ def head(gathered, source):
 def overview_row(link, times):
     cells = [link.nets[0].frames, link.nets[1].frames, sum_of(link, FORWARDED_KINDS), sum_of(link, [REDUNDANT]),
              sum_of(link, [OUT_OF_SEQUENCE]), sum_of(link, KINDS_OF["refused"]), sum_of(link, KINDS_OF["overflow"]),
-             *(side.lost for side in link.copies.sides), link.copies.lost_both, link.beyond, link.twice.count,
+             *(link.lost_on(net)["lost"] for net in (0, 1)), link.summed("lost_both"), link.beyond, link.twice.count,
              link.unfinished.count, link.resets.count]
     label = (f"Link {link.label} in small: {cells[0]} frames on A, {cells[1]} on B, {cells[4]} out of sequence, "
              f"{cells[5]} refused")
     median = link.delays.median()
-    law = {"all": "all", "once": "once", "-": "not kept"}[link.conditions.law()]
+    law = link.law()
     return (f'<tr><td class="word" data-value="{link.number}"><a href="#link-{link.number}">{escape(link.label)}</a></td>'
             f"<td>{strip(label, times, link)}</td>" + "".join(map(number_cell, cells))
             + f'<td data-value="{-1 if median is None else median}">{"–" if median is None else f"{median:,}"}</td>'
@@ -118,7 +116,7 @@ def overview(gathered, times):
     rows = [overview_row(link, times) for link in gathered.links.values()]
     heads = ["frames on A", "frames on B", "forwarded", "redundant", "out of sequence", "refused", "overflow", "lost on A alone",
              "lost on B alone", "lost on both", "beyond SkewMax", "delivered twice", "given up", "restarts",
-             "median delay of B in µs", "the laws’ conditions"]
+             "median delay of B in µs", "law of delivery"]
     span = f"{gathered.bins.first:,} to {gathered.bins.last:,} µs" if gathered.frames else "no frame"
     head = (f'<th class="word">link</th><th class="word fixed">{span}: A up, B down</th>'
             + "".join(f"<th>{head}</th>" for head in heads))
@@ -129,6 +127,8 @@ def overview(gathered, times):
 
 
 def number_cell(number):
+    if number is None:
+        return '<td data-value="-1">?</td>'
     return f'<td data-value="{number}" class="{"some" if number else "zero"}">{number:,}</td>'
 
 
@@ -157,9 +157,8 @@ by the period <code>take_us</code> of the configuration, or at once without one.
 
 def faults_part(faults, gathered, unit):
     rows = [[kind, f"{count:,}", ", ".join(faults.first[kind])] for kind, count in sorted(faults.counts.items())]
-    lost = [[link.label, net, side.lost, link.copies.lost_both, side.longest, side.overtaken, side.repeated,
-             side.late + side.astray] for link in gathered.links.values() for net, side in zip(NETWORKS, link.copies.sides)
-            if side.lost or side.longest or side.overtaken or side.repeated or side.late or side.astray]
+    lost = [[link.label, name, *counts] for link in gathered.links.values() for net, name in enumerate(NETWORKS)
+            if any(counts := losses(link, net)) or link.nonsense()]
     others = [[link.label, what, events.count, ", ".join(events.first)] for link in gathered.links.values() for what, events in
               ((TWICE, link.twice), (RESTART, link.resets), (UNFINISHED, link.unfinished), ("identification again", link.again))
               if events.count]
@@ -172,6 +171,14 @@ def faults_part(faults, gathered, unit):
         "their network, again, or far off.</p>",
         table(["link", "network", "lost on it alone", "lost on both", "in a row", "overtaken", "again", "far off"], lost),
         table(["link", "what", "times", f"first {unit}s"], others) if others else ""])
+
+
+def losses(link, net):
+    """What a network lost or had otherwise, as the columns have it; a count that isn't known is a question mark."""
+    side, both = link.lost_on(net), link.summed("lost_both")
+    if both is None:
+        return ["?"] * 6
+    return [side["lost"], both, side["longest"], side["overtaken"], side["repeated"], side["late"] + side["astray"]]
 
 
 def table(heads, rows):
@@ -202,20 +209,20 @@ def rate_of(net):
     if net.frames < 2:
         return ""
     beside = f", where the BAG allows {10**6 / net.bag:,.1f}" if net.bag else ""
-    early = f"; {plural(net.early, 'frame')} came within half the BAG" if net.early else ""
+    early = f"; {plural(net.early, 'frame')} came before their BAG was over" if net.early else ""
     return f" {net.rate:,.1f} frames a second{beside}; the least gap is {net.least // 1000:,} µs{early}."
 
 
 def verdicts_figure(drawn, times):
     number, said, bands, found = drawn.number, [], [], {}
     for network, name in enumerate(NETWORKS):
-        rows, side, net = rows_of(drawn, network), drawn.copies.sides[network], drawn.nets[network]
+        rows, net, shown = rows_of(drawn, network), drawn.nets[network], losses(drawn, network)
         bands.append((f"Network {name}: {plural(net.frames, 'frame')}", rows))
         counts = listed(f"{row.total:,} {row.name}" for row in rows if row.of_class not in BESIDES)
         lost = drawn.rows[network][LOST].total if LOST in drawn.rows[network] else 0
-        found[f"lost_{name.lower()}"] = f"{lost} {side.longest} {side.overtaken} {side.repeated} {side.late + side.astray}"
+        found[f"lost_{name.lower()}"] = " ".join(map(str, (lost, *shown[2:])))
         said.append(f"Network {name} brought {plural(net.frames, 'frame')}{': ' + counts if net.frames else ''}."
-                    f"{rate_of(net)}" + (f" {plural(lost, 'copy was', 'copies were')} lost, at most {side.longest:,} in a row."
+                    f"{rate_of(net)}" + (f" {plural(lost, 'copy was', 'copies were')} lost, at most {shown[2]} in a row."
                                          if lost else ""))
     return figure(rows_picture(f"Verdicts of link {drawn.label} over time, network A above and B below", times, bands),
                   " ".join(said), verdicts=number, **found)
@@ -223,11 +230,11 @@ def verdicts_figure(drawn, times):
 
 def conditions_part(drawn):
     """Which conditions of the laws were kept."""
-    broken = drawn.conditions.found
+    broken = drawn.broken()
     if not broken:
-        return ("<p>No condition of the laws of delivery was seen broken: if all held, all that was sent was delivered, once, "
-                "whole, in order.</p>")
-    rows = [[word, CONDITIONS[word], one.count, f"{one.where}: {one.how}"] for word, one in broken.items()]
+        return "<p>No condition of the laws of delivery was seen broken.</p>"
+    rows = [[word, CONDITIONS[word], one.count, "; ".join(f"{where}: {how}" for how, where in one.causes.items())]
+            for word, one in broken.items()]
     heads = ["word", "condition", "times", "first by"]
     return "<h3>Conditions of the laws of delivery that were broken</h3>" + table(heads, rows)
 

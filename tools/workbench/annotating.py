@@ -5,7 +5,7 @@ from workbench.faults import Fault
 from workbench.health import Alone, Health
 
 SAID = {copies.RESET: "the sender began anew", copies.ANEW: "the sender began anew without a 0",
-        copies.LATE: "far behind the newest"}
+        copies.LATE: "far behind the newest", copies.CUT: "cut on the wire"}
 
 
 def annotate(given):
@@ -26,8 +26,9 @@ def blocks(seen, packets, found, alone):
             raise Fault(f"{source}: {packets.unit} {one.number}: its time is past what a capture can have")
         told = f"left out: {one.left_out}"
         if reply:
-            why = reason(one, found.see(one, now, reply), found.links.get(reply.vl), reply)
-            fault = alone and alone.fault(one, now, reply)
+            note = found.see(one, now, reply)
+            why = reason(one, note, found.links.get(reply.vl), reply)
+            fault = alone and alone.fault(one, now, reply, note)
             told = reply.words + "".join(f", {part}" for part in why) + (f", alone {fault.words}" if fault else "")
         yield captures.written_packet(one.net, one.time, one.octets, one.length,
                                       f"{told} ({packets.unit} {one.number} of {source})")

@@ -57,6 +57,12 @@ def two_interfaces(word):
     return int(a), int(b)
 
 
+def moved(word):
+    """Microseconds, and parts per million if they stand after a comma."""
+    shift, _, rate = word.partition(",")
+    return int(shift), float(rate or 0)
+
+
 def flag(text):
     return {"action": "store_true", "help": text}
 
@@ -79,7 +85,8 @@ CAPTURES = {
     "--reorder": {"type": number_from(1, 1_000_000), "default": 1000, "metavar": "PACKETS",
                   "help": "how many later packets may stand before one (default 1000)"},
 }
-SHIFT = {"--shift-b": {"type": int, "default": 0, "metavar": "MICROSECONDS", "help": "moves the clock of B's packets"}}
+SHIFT = {"--shift-b": {"type": moved, "default": (0, 0), "metavar": "MICROSECONDS[,PPM]", "help": "moves the clock of B's packets, "
+                       "and lets it go faster by so many parts per million"}}
 PLAYED = {**CONFIG, **CAPTURES, **SHIFT}
 LINK = {"--link": {"type": number_from(0, 65535), "metavar": "VL", "help": "one link alone"}}
 EACH = {"--each": flag("besides, the faults of each network's own frames, which the other network's copies hide")}

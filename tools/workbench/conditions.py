@@ -7,12 +7,13 @@ CONDITIONS = {
     "sender": "all frames are one sender's, with numbers that follow",
     "skew-max": "times fit SkewMax: delays differ by no more, and a sender's pause is longer than both",
     "near": "networks begin near each other",
-    "overtaking": "no copy overtakes",
+    "overtaking": "first copies come in order",
     "losses": "few are lost: fewer in a row than the window, and never the first after a restart",
     "packets": "each frame has a datagram, whole or in fragments, for a port that admits it",
     "whole": "of each datagram in parts all fragments come, within the limit",
+    "order": "the fragments of a datagram come in order",
     "parts": "at most four datagrams are in parts at a time",
-    "identification": "no identification comes again within the reassembly limit",
+    "identification": "no identification of fragments is used for two datagrams within the reassembly limit",
     "queues": "no queue is full",
     "copies": "a copy of each frame comes",
 }
@@ -20,11 +21,21 @@ REFUSED = {"bad-header": "packets", "bad-fragment": "packets", "bad-udp": "packe
            "too-long": "packets", "fragmented-sample": "packets", "overflow": "queues"}
 
 
-class Broken:
-    """How often a condition was broken, and the packet that broke it first, with how."""
+# What is known by sequence numbers alone.
+BY_NUMBERS = ("skew-max", "near", "overtaking", "losses", "copies")
+MOST_CAUSES = 5
 
-    def __init__(self, where, how):
-        self.count, self.where, self.how = 1, where, how
+
+class Broken:
+    """How often a condition was broken, and each cause with the packet that broke it so first, the first of all first."""
+
+    def __init__(self):
+        self.count, self.causes = 0, {}
+
+    def add(self, where, how):
+        self.count += 1
+        if how in self.causes or len(self.causes) < MOST_CAUSES:
+            self.causes.setdefault(how, where)
 
 
 class Conditions:
@@ -36,27 +47,19 @@ class Conditions:
             self.broken("redundancy", "the configuration", "it is off")
 
     def broken(self, word, where, how):
-        if word in self.found:
-            self.found[word].count += 1
-        else:
-            self.found[word] = Broken(where, how)
+        """Returns the word."""
+        self.found.setdefault(word, Broken()).add(where, how)
+        return word
 
     def look_at(self, note, reply, where, steps, before, time):
         """What a frame breaks. Its place is so many steps ahead of the newest before, which came at `before`."""
         if reply.kind in REFUSED:
             self.broken(REFUSED[reply.kind], where, f"{reply.kind} {reply.cause}".rstrip())
-        if note.is_overtaken:
-            self.broken("overtaking", where, "came after a later frame")
+        if note.is_overtaken and note.what == copies.FIRST:
+            self.broken("overtaking", where, "its first copy came after one of a later frame")
         if note.what == copies.LATE:
             self.broken("sender", where, "a number that isn't waited for any more")
         elif note.what == copies.ANEW:
             self.broken("sender", where, "numbers that began anew without a 0")
         if steps > copies.HALF_TURN and time - before <= 1000 * self.link.skew_max:
             self.broken("near", where, f"{steps} frames after the newest while SkewMax runs")
-
-    def law(self):
-        """What the laws of the page say, if what wasn't seen broken held: `all` of what was sent was delivered; `once` at
-        most, whole and in order, and each message of which a copy came unless its queue was full; or nothing."""
-        if not self.found:
-            return "all"
-        return "once" if set(self.found) <= {"copies", "queues"} else "-"

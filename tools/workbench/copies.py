@@ -5,26 +5,32 @@ place in a row that goes on. Of the places that a number may mean it is the one 
 copy came on either network; and where both were silent for longer than ever before without a loss, nearest to where the
 sender would stand by now at its usual rate. If the next number follows, the sender paused: 255 lost frames look the same.
 
-A frame that integrity checking refuses counts once the next one of its network goes on from it; else it was astray.
+A frame that integrity checking refuses counts if it goes on from the last one of its network that did, or once the next one goes
+on from it rather than from that; else it was astray. Numbers make no sense where two series of them alternate on a network,
+or more are missing than there was time for.
 """
 import collections
 from typing import NamedTuple, Optional
 
 HALF_TURN, TURN = 127, 255
+MOST_TIME = 2**64
 LEAST_WAIT = 100_000_000  # nanoseconds that a copy is waited for, or ten times SkewMax
 RATE_OF, STEADY = 64, 8  # places by which the usual rate is known; how many it takes at least
 RENEWED = 3  # frames in turn that go on from a number which was behind: the sender has begun anew
+MOST_WINDOW, APART = 4, 16  # numbers by which a frame goes on from another; by which two series are apart at least
 
 # What a frame is: the first copy of its place, or the second; again on the same network; of a place that was given up; the
-# first one after a restart, with the number 0 or without; or refused, and what it is will be seen.
-FIRST, COPY, REPEATED, LATE, RESET, ANEW, HELD = "first", "copy", "repeated", "late", "reset", "anew", "held"
+# first one after a restart, with the number 0 or without; refused, and what it is will be seen; or cut, without a number.
+FIRST, COPY, REPEATED, LATE, RESET, ANEW, HELD, CUT = "first", "copy", "repeated", "late", "reset", "anew", "held", "cut"
 
 
 class Copy(NamedTuple):
-    """A frame that came: its time in nanoseconds, its packet, and whether redundancy management forwarded it."""
+    """A frame that came: its time in nanoseconds, its packet, whether redundancy management forwarded it, and whether it was
+    refused then."""
     time: int
     packet: int
     is_forwarded: bool
+    is_bad: bool = False
 
 
 class Place:
@@ -38,11 +44,15 @@ class Place:
 
 class Note(NamedTuple):
     """What a frame is beside the others: how many numbers before it came on neither network, whether it came after a later
-    one, and its other copy."""
+    one, its other copy, and its place, if it has one."""
     what: str
     missing: int = 0
     is_overtaken: bool = False
     other: Optional[Copy] = None
+    index: Optional[int] = None
+
+
+COUNTED = ("lost", "longest", "overtaken", "repeated", "late", "astray")
 
 
 class Side:
@@ -50,8 +60,22 @@ class Side:
 
     def __init__(self):
         self.began, self.newest, self.number, self.held = None, -1, None, None
-        self.lost = self.run = self.longest = self.follow = 0
-        self.overtaken = self.repeated = self.late = self.astray = 0
+        self.last = self.left = self.behind = None
+        self.run = self.follow = self.cost = self.mixed = 0
+        self.lost = self.longest = self.overtaken = self.repeated = self.late = self.astray = 0
+
+    def look_at_series(self, number):
+        """A refused frame: whether two series of numbers have alternated for some time."""
+        if goes_on(number, self.left) and APART < (number - self.last) % TURN < TURN - APART:
+            self.mixed += 1
+        else:
+            self.mixed = 0
+        self.left = self.last
+        return self.mixed == RENEWED
+
+
+def goes_on(number, before):
+    return before is not None and 1 <= (number - before) % TURN <= MOST_WINDOW
 
 
 class Listener:
@@ -63,48 +87,62 @@ class Listener:
     def lost_many(self, count, net, packet):
         """So many places before this packet came on neither network."""
 
-    def run_ended(self, net, run, copy):
-        """The first copy of a network after it lost so many frames in a row."""
+    def mixed(self, net, packet):
+        """Two series of numbers alternate on a network."""
+
+    def run_ended(self, net, run, copy, cost):
+        """The first copy of a network after it lost so many frames in a row, or none; so many frames from the first of them to
+        this one weren't forwarded."""
 
 
 class Copies:
     """The places of a link's frames that are waited for, with what both networks brought of them, in bounded memory."""
 
-    def __init__(self, skew_max, listener):
-        self.wait, self.listener, self.sides = max(LEAST_WAIT, 10_000 * skew_max), listener, (Side(), Side())
+    def __init__(self, skew_max, listener, bag=None):
+        self.wait, self.skew, self.listener, self.bag = max(LEAST_WAIT, 10_000 * skew_max), 1000 * skew_max, listener, bag
+        self.sides, self.began = (Side(), Side()), 0  # the place with which the sender began anew
         self.places, self.by_number = collections.deque(), {}
         self.newest, self.number, self.latest = -1, None, None  # place, number and time
         self.rate, self.quiet = collections.deque(maxlen=RATE_OF), 0
-        self.lost_both = self.resets = 0
+        self.lost_both = self.dropped = self.resets = 0
+        self.seen, self.first, self.least, self.closest = 0, None, None, None  # new frames, and their times
 
     # ---- a frame
 
-    def see(self, net, time, number, packet, is_forwarded, is_refused):
-        side, copy = self.sides[net], Copy(time, packet, is_forwarded)
+    def see(self, net, time, number, packet, is_forwarded, is_refused, is_bad=False):
+        side, copy = self.sides[net], Copy(time, packet, is_forwarded, is_bad)
         if side.held:
             self.judge(net, side, number)
+        if is_refused and side.look_at_series(number):
+            self.listener.mixed(net, packet)
+        side.last = number
         other = self.sides[1 - net]
-        if other.held and other.held[0] == number:
+        if other.held and other.held[0] == number and not is_refused:
             self.judge(1 - net, other, number)
         if self.places and self.places[0].since < time - self.wait:
             self.settle(time - self.wait)
-        place = self.by_number.get(number)
-        if place and not place.copies[net] and place.copies[1 - net]:
+        if place := self.awaited(net, number, time):
             return self.come(net, place, copy, self.newest)
         ahead = self.ahead(number, time)
-        if is_refused and ahead > 0:
+        if is_refused and ahead > 0 and not goes_on(number, side.number):
             side.held = number, copy, self.newest
             return Note(HELD, ahead - 1)
         return self.take(net, number, copy, ahead, self.newest)
 
+    def awaited(self, net, number, time):
+        """The place whose other copy came. After SkewMax a number from before a restart is that of a new frame."""
+        place = self.by_number.get(number)
+        is_so = place and not place.copies[net] and place.copies[1 - net]
+        return place if is_so and (place.index >= self.began or time - place.since <= self.skew) else None
+
     def judge(self, net, side, number):
         """Whether the refused frame before counts, by the number that comes next."""
         (held, copy, newest), side.held = side.held, None
-        if number and held and (number - held) % TURN > HALF_TURN:
+        steps = (number - held) % TURN
+        if number and held and (steps > HALF_TURN or side.number is not None and (number - side.number - 1) % TURN + 1 < steps):
             side.astray += 1
             return
-        place = self.by_number.get(held)
-        if place and not place.copies[net] and place.copies[1 - net]:
+        if place := self.awaited(net, held, copy.time):
             self.come(net, place, copy, newest)
         else:
             self.take(net, held, copy, self.ahead(held, copy.time), newest)
@@ -119,7 +157,7 @@ class Copies:
         place = self.places[index - self.places[0].index]
         if place.copies[net]:
             self.sides[net].repeated += 1
-            return Note(REPEATED, 0, index < newest, place.copies[net])
+            return Note(REPEATED, 0, index < newest, place.copies[net], index)
         return self.come(net, place, copy, newest)
 
     def come(self, net, place, copy, newest):
@@ -128,17 +166,17 @@ class Copies:
         place.copies[net] = copy
         side.overtaken += place.index < side.newest
         self.go_on(side, place)
-        return Note(COPY if other else FIRST, 0, place.index < newest, other)
+        return Note(COPY if other else FIRST, 0, place.index < newest, other, place.index)
 
     def go_on(self, side, place):
         side.began = place.index if side.began is None else min(place.index, side.began)
-        side.newest, side.number, side.follow = max(side.newest, place.index), place.number, 0
+        side.newest, side.number, side.behind, side.follow = max(side.newest, place.index), place.number, None, 0
 
     def fall_behind(self, net, number, copy):
         """It is of no place that is waited for. If others go on from it, the sender has begun anew without a 0."""
         side = self.sides[net]
-        follows = side.number is not None and (number - side.number) % TURN == 1
-        side.number, side.follow = number, side.follow + 1 if follows else 1
+        follows = side.behind is not None and (number - side.behind) % TURN == 1
+        side.behind, side.follow = number, side.follow + 1 if follows else 1
         if side.follow == RENEWED:
             return self.advance(net, number, copy, 1, is_reset=True)
         side.late += 1
@@ -153,9 +191,11 @@ class Copies:
         if steps == 1:
             return 1
         expected = 0
-        if time - self.latest > 2 * self.quiet and self.rate and self.newest - self.rate[0][0] >= STEADY:
-            index, since = self.rate[0]
-            expected = (time - self.latest) * (self.newest - index) // max(1, self.latest - since)
+        if time - self.latest > 2 * self.quiet and self.rate and self.seen - self.rate[0][0] >= STEADY:
+            seen, since = self.rate[0]
+            expected = (time - self.latest) * (self.seen - seen) // max(1, self.latest - since)
+            if self.bag:
+                expected = min(expected, (time - self.latest) // (1000 * self.bag) + 1)
         return steps + TURN * max(-1, (expected - steps + HALF_TURN) // TURN)
 
     def advance(self, net, number, copy, ahead, is_reset=False):
@@ -176,12 +216,32 @@ class Copies:
             self.add((number - back - 1) % TURN + 1, time, by)
         place = self.add(number, time, by)
         place.copies[net] = copy
+        self.count_new(time)
         self.number, self.latest = number, time
-        self.rate.append((self.newest, time))
+        self.began = place.index if is_reset else self.began
         self.go_on(self.sides[net], place)
         while len(self.places) > HALF_TURN + 1:
             self.end(self.places.popleft())
-        return Note((RESET if number == 0 else ANEW) if is_reset else FIRST, missing)
+        return Note((RESET if number == 0 else ANEW) if is_reset else FIRST, missing, index=place.index)
+
+    def count_new(self, time):
+        """By how many new frames came, how close two came, and so many in a row."""
+        self.seen += 1
+        if self.latest is None:
+            self.first = time
+        else:
+            self.least = min(time - self.latest, self.least or MOST_TIME)
+            if len(self.rate) == RATE_OF:
+                self.closest = min(time - self.rate[0][1], self.closest or MOST_TIME)
+        self.rate.append((self.seen, time))
+
+    def room(self):
+        """For how many frames there was time beside those that came: by the BAG, or by twice their greatest rate."""
+        if self.seen < 2:
+            return 0
+        elapsed, gap = self.latest - self.first, self.closest // RATE_OF if self.closest else self.least
+        by_bag = elapsed // (1000 * self.bag) + 2 - self.seen if self.bag else -1
+        return by_bag if by_bag >= 0 else 2 * elapsed // max(1, gap) + 2 - self.seen
 
     def add(self, number, time, by):
         self.newest += 1
@@ -196,32 +256,42 @@ class Copies:
         while self.places and self.places[0].since < before:
             self.end(self.places.popleft())
 
+    @property
+    def cost(self):
+        """The frames that weren't forwarded: lost on both, or dropped by the receiver."""
+        return self.lost_both + self.dropped
+
     def end(self, place):
         if self.by_number.get(place.number) is place:
             del self.by_number[place.number]
-        lost = []
+        lost, before = [], self.cost
+        a, b = place.copies
+        if not a and not b:
+            self.lost_both += 1
+        elif not (a and a.is_forwarded or b and b.is_forwarded):
+            self.dropped += 1
         for net, side in enumerate(self.sides):
             if place.copies[net]:
                 if side.run:
-                    self.listener.run_ended(net, side.run, place.copies[net])
+                    self.listener.run_ended(net, side.run, place.copies[net], self.cost - side.cost)
                 side.run = 0
             elif side.began is not None and side.began < place.index:
+                side.cost = side.cost if side.run else before
                 side.run += 1
                 side.longest = max(side.longest, side.run)
                 lost.append(net)
-        if not any(place.copies):
-            self.lost_both += 1
-        elif lost:
+        if lost and (a or b):
             self.sides[lost[0]].lost += 1
         self.listener.settled(place, lost)
 
     def lose(self, count):
         """So many places of which no copy came."""
-        self.lost_both += count
-        self.newest += count
         for side in self.sides:
+            side.cost = side.cost if side.run else self.cost
             side.run += count
             side.longest = max(side.longest, side.run)
+        self.lost_both += count
+        self.newest += count
 
     def finish(self, time, skew_max):
         """At the end a copy is lost if its network brought a later one, or SkewMax is over."""
@@ -234,3 +304,6 @@ class Copies:
                 if not place.copies[net] and side.newest < place.index and time - place.since <= 1000 * skew_max:
                     side.began = None
             self.end(place)
+        for net, side in enumerate(self.sides):
+            if side.run:
+                self.listener.run_ended(net, side.run, None, self.cost - side.cost)

@@ -2,31 +2,34 @@
 
 What is kept grows with the links and the ports, not with the frames.
 """
-import struct
 from collections import Counter, deque
 
 from verdict_words import FIRST_FORWARDED, KINDS, NETWORKS, OUT_OF_SEQUENCE
 from workbench import copies, frames, settings
-from workbench.conditions import Conditions
+from workbench.conditions import BY_NUMBERS, CONDITIONS, Conditions
 from workbench.copies import Copies
 from workbench.delays import Delays
-from workbench.pieces import Pieces
+from workbench.pieces import GIVEN_UP, ORDER, Pieces, has_wrong_sum
+from workbench.shifts import Drift
+from workbench.spans import Spans
 
 SHOWN = 5  # places of each kind
 CODES = {kind: code for code, kind in enumerate(KINDS)}
 FIRST_PIECE = CODES["bad-fragment"]  # frames of this kind and those after it have a good header
 SENDER = slice(6, 11)  # octets of a source address that both networks share
+MOST_SENDERS = 8  # addresses of a link whose frames are told apart
+JITTER = 500  # microseconds that a frame may come before its BAG is over, if `jitter_us` isn't there
 AHEAD = 128  # gaps after which a sequence number isn't ahead any more
 # The verdicts that say that a frame itself is at fault; and one that no receiver gives.
-FAULTS = ("bad-header", "bad-fragment", "bad-udp", "no-port", "too-long", "fragmented-sample", "exhausted")
+FAULTS = frozenset(("bad-header", "bad-fragment", "bad-udp", "no-port", "too-long", "fragmented-sample", "exhausted"))
 WRONG_SUM = "wrong-udp-checksum"
 
 
 class Network:
     """When frames of a link came on a network. `closest` is the least time in which 128 more came."""
 
-    def __init__(self, bag):
-        self.bag, self.frames, self.early = bag, 0, 0
+    def __init__(self, bag, jitter):
+        self.bag, self.least_wanted, self.frames, self.early = bag, 1000 * max(0, (bag or 0) - jitter), 0, 0
         self.first = self.last = self.least = self.most = None
         self.bags, self.times, self.closest = Counter(), deque(maxlen=AHEAD), None
 
@@ -45,7 +48,7 @@ class Network:
                 self.least = gap
             if self.most is None or gap > self.most:
                 self.most = gap
-            self.early += self.bag is not None and 2 * gap < 1000 * self.bag
+            self.early += gap < self.least_wanted
             self.bags[(gap * 181 // 128_000_000).bit_length()] += 1  # the nearest of 2^n milliseconds, by ratio
         self.last = time
 
@@ -77,63 +80,118 @@ class Link(copies.Listener):
 
     def __init__(self, link, own):
         self.link, self.own = link, own
-        self.nets = tuple(Network(own.get("bag_us")) for _ in NETWORKS)
-        self.copies, self.pieces = Copies(link.skew_max, self), Pieces(link.reassembly, self.given_up)
+        bag, jitter = own.get("bag_us"), own.get("jitter_us", JITTER)
+        self.nets, self.drift = tuple(Network(bag, jitter) for _ in NETWORKS), None
+        # Each sender's address with its copies; that of the latest frame, and of the latest that passed.
+        self.senders, self.sender, self.passed, self.copies = {}, None, None, Copies(link.skew_max, self, bag)
+        self.pieces, self.mixed_at = Pieces(link.reassembly, self.given_up), None
         self.conditions, self.delays, self.beyond = Conditions(link), Delays(), 0
+        self.spans, self.outages, self.free_outages = Spans(link.skew_max), Events(), 0
         self.kinds, self.hidden = tuple(Counter() for _ in NETWORKS), tuple(Counter() for _ in NETWORKS)
-        self.twice, self.resets, self.unfinished, self.again = Events(), Events(), Events(), Events()
-        self.least_pause, self.sender = None, None
+        self.refused = tuple({} for _ in NETWORKS)
+        self.twice, self.resets, self.unfinished, self.again, self.fragments = (Events() for _ in range(5))
+        self.least_pause = None
 
     def see(self, now, one, reply):
         """Returns what the frame is beside the others."""
         net, time, octets, packet = one.net, one.time, one.octets, one.number
-        code, number = CODES[reply.kind], octets[-1]
-        is_forwarded = code >= FIRST_FORWARDED
+        code, number, where = CODES[reply.kind], octets[-1], one.where
+        is_forwarded, is_bad = code >= FIRST_FORWARDED, reply.kind in FAULTS
         self.nets[net].see(time)
         self.kinds[net][reply.kind] += 1
-        before, newest = self.copies.latest, self.copies.newest
-        note = self.copies.see(net, time, number, packet, is_forwarded, code == OUT_OF_SEQUENCE)
-        where = one.where
+        if is_bad or code == OUT_OF_SEQUENCE and is_cut(octets):
+            self.refuse(net, reply, octets, where)
+            if is_cut(octets):
+                return self.see_cut(now, where, code, is_forwarded)
         if octets[SENDER] != self.sender:
-            self.look_at_sender(octets[SENDER], where)
-        if note.what == copies.COPY:
-            self.pair(net, time, is_forwarded, note.other, where)
-        elif note.what in (copies.RESET, copies.ANEW):
-            self.restart(time - before, where)
+            self.turn_to(octets[SENDER], where)
+        before, newest = self.copies.latest, self.copies.newest
+        note = self.copies.see(net, time, number, packet, is_forwarded, code == OUT_OF_SEQUENCE, is_bad)
+        what, fault = note.what, None
+        if what == copies.COPY:
+            fault = self.pair(net, time, is_forwarded, note.other, where)
+        elif what in (copies.RESET, copies.ANEW):
+            fault = self.restart(what, time - before, where)
         self.conditions.look_at(note, reply, where, self.copies.newest - newest, before, time)
-        if is_forwarded and code >= FIRST_PIECE and (note.what != copies.COPY or not note.other.is_forwarded):
-            self.pieces.see(now, octets, reply.kind, where)
+        if code != OUT_OF_SEQUENCE:
+            if self.sender != self.passed:
+                fault, self.passed = self.passed and "sender", self.sender
+            self.follow_law(now, octets, reply.kind, note, where, is_forwarded,
+                            "overtaking" if what == copies.FIRST and note.is_overtaken else fault)
         return note
 
-    def look_at_sender(self, sender, where):
+    def turn_to(self, sender, where):
+        """The frame has another source address than the one before."""
         if self.sender is not None:
-            self.conditions.broken("sender", where, "another source address")
-        self.sender = sender
+            self.conditions.broken("sender", where, f"another source address, {sender.hex(':')}")
+        if not self.senders:
+            self.senders[sender] = self.copies
+        elif sender not in self.senders and len(self.senders) < MOST_SENDERS:
+            self.senders[sender] = Copies(self.link.skew_max, self, self.own.get("bag_us"))
+        self.sender, self.copies = sender, self.senders.get(sender, self.copies)
+
+    def refuse(self, net, reply, octets, where):
+        """A frame that is at fault itself: its cause, how often, and where at first."""
+        cause = "cut on the wire" if is_cut(octets) else f"{reply.kind} {reply.cause}".rstrip()
+        count, first = self.refused[net].get(cause, (0, where))
+        self.refused[net][cause] = count + 1, first
+
+    def see_cut(self, now, where, code, is_forwarded):
+        """A frame that was cut on the wire, whose last octet is no sequence number."""
+        self.conditions.broken("packets", where, "cut on the wire")
+        note = copies.Note(copies.CUT)
+        if code != OUT_OF_SEQUENCE:
+            self.follow_law(now, b"", "bad-header", note, where, is_forwarded, "packets")
+        return note
+
+    def follow_law(self, now, octets, kind, note, where, is_forwarded, fault):
+        """Of a copy that passes integrity checking."""
+        spans, is_whole = self.spans, False
+        if is_forwarded and CODES[kind] >= FIRST_PIECE:
+            is_again = note.what == copies.COPY and note.other.is_forwarded
+            is_whole = self.pieces.see(now, octets, kind, where, is_again)
+        if self.link.redundancy:
+            is_first = spans.see(note.index, now, is_forwarded, fault)
+            if spans.fault:
+                spans.ended(where)
+            if is_first:
+                spans.take(kind, is_forwarded, is_whole)
 
     def pair(self, net, time, is_forwarded, other, where):
+        """The condition that a second copy breaks, if it does."""
         delay = (time - other.time if net else other.time - time) // 1000
         self.delays.add(delay)
-        if abs(delay) > self.link.skew_max:
-            self.beyond += 1
-            self.conditions.broken("skew-max", where, f"{abs(delay)} us after its first copy")
+        if self.drift and time >= self.drift.due:
+            self.drift.add(time, delay)
         if is_forwarded and other.is_forwarded and self.link.redundancy:
             self.twice.add(where)
+        if abs(delay) <= self.link.skew_max:
+            return None
+        self.beyond += 1
+        return self.conditions.broken("skew-max", where, f"{abs(delay)} us after its first copy")
 
-    def restart(self, pause, where):
+    def restart(self, what, pause, where):
+        """The condition that a restart breaks, if it does."""
         pause //= 1000
         self.resets.add(f"{where} after {pause} us")
         self.least_pause = pause if self.least_pause is None else min(pause, self.least_pause)
         if pause <= self.link.skew_max + self.greatest_delay:
-            self.conditions.broken("skew-max", where, f"restarted after {pause} us")
+            return self.conditions.broken("skew-max", where, f"restarted after {pause} us")
+        return "sender" if what == copies.ANEW else None
 
     @property
     def greatest_delay(self):
         """The greatest of either sign: D is at least this."""
         return max(abs(self.delays.least), abs(self.delays.greatest)) if self.delays.number else 0
 
-    def run_ended(self, net, run, copy):
-        if run >= self.link.window:
-            self.conditions.broken("losses", f"{copy.packet} of {NETWORKS[net]}", f"the first after {run} were lost")
+    def run_ended(self, net, run, copy, cost):
+        """A network that loses the window's number of frames or more is out: the next one is dropped on it."""
+        if run < self.link.window:
+            return
+        where = f"{copy.packet} of {NETWORKS[net]}" if copy else f"the end of {NETWORKS[net]}"
+        self.conditions.broken("losses", where, f"the first after {run} were lost" if copy else f"{run} were lost, and no more came")
+        self.outages.add(f"{run} before {where}, " + (f"{cost} frames not forwarded" if cost else "no frame lost"))
+        self.free_outages += not cost
 
     def settled(self, place, lost):
         where = f"{place.by[1]} of {NETWORKS[place.by[0]]}"
@@ -146,26 +204,86 @@ class Link(copies.Listener):
         self.conditions.broken("copies", f"{packet} of {NETWORKS[net]}", f"{count} frames before it came on neither network")
 
     def given_up(self, why, first, where):
+        """What is wrong with a datagram in parts."""
         if why == "identification":
             self.again.add(where)
             self.conditions.broken("identification", where, "the same identification within the limit")
-            return
-        self.unfinished.add(f"{first} ({why})")
-        if why != "four others":
-            self.conditions.broken("whole", first, f"its datagram never ended ({why})")
-        if why == "four others":
-            self.conditions.broken("parts", where, "a fifth datagram in parts")
+        elif why not in GIVEN_UP:
+            self.fragments.add(f"{where} ({why})")
+            self.conditions.broken("order" if why == ORDER else "identification", where, why)
+        else:
+            self.unfinished.add(f"{first} ({why})")
+            if why == "four others":
+                self.conditions.broken("parts", where, "a fifth datagram in parts")
+            else:
+                self.conditions.broken("whole", first, f"its datagram never ended ({why})")
+
+    def mixed(self, net, packet):
+        self.mixed_at = self.mixed_at or f"{packet} of {NETWORKS[net]}"
+        self.conditions.broken("sender", self.mixed_at, "two series of numbers")
 
     def pass_time(self, time):
-        self.copies.settle(time - self.copies.wait)
+        for each in self.senders.values():
+            each.settle(time - each.wait)
 
     def finish(self, time, now):
-        self.copies.finish(time, self.link.skew_max)
+        for each in self.senders.values():
+            each.finish(time, self.link.skew_max)
         self.pieces.finish(now)
 
     def of_kinds(self, *names):
         """How many frames have these verdicts."""
         return sum(kinds[name] for kinds in self.kinds for name in names)
+
+    def nonsense(self):
+        """Why the numbers of its frames make no sense, if they make none: then nothing is counted by them."""
+        if self.mixed_at:
+            return f"two series of numbers alternate, from {self.mixed_at} on"
+        return next((f"{one.lost_both} numbers are missing, where there was time for {max(0, one.room())} frames more"
+                     for one in self.senders.values() if one.lost_both > one.room()), None)
+
+    def sender_count(self):
+        """How many addresses it has, or series of numbers."""
+        return max(len(self.senders), 2 if self.mixed_at else 0)
+
+    def summed(self, name):
+        """A count of all senders' copies, None if it is not known."""
+        return None if self.nonsense() else sum(getattr(one, name) for one in self.senders.values())
+
+    def lost_on(self, net):
+        """What a network lost or had more than once, by the names of `copies.COUNTED`; None is not known."""
+        sides = [one.sides[net] for one in self.senders.values()]
+        is_known = not self.nonsense()
+        return {name: (max if name == "longest" else sum)([0, *(getattr(one, name) for one in sides)]) if is_known else None
+                for name in copies.COUNTED}
+
+    def broken(self):
+        """The conditions that were broken, in the page's order; those of numbers that make no sense aren't told."""
+        is_nonsense = self.nonsense()
+        return {word: self.conditions.found[word] for word in CONDITIONS if word in self.conditions.found
+                and (not is_nonsense or word not in BY_NUMBERS)}
+
+    def costs(self):
+        """What messages were lost by: frames that came on neither network, or that the receiver dropped, refused or had no room
+        for, and datagrams in parts that were given up; and those that came twice."""
+        return {"lost-both": self.summed("lost_both"), "dropped": self.summed("dropped"), "bad": self.of_kinds(*FAULTS),
+                "overflow": self.of_kinds("overflow"), "unfinished": self.unfinished.count, "twice": self.twice.count}
+
+    def law(self):
+        """What came of the law: `all`, its conditions held from the first frame to the last, and nothing was lost; `no loss`,
+        some were broken, or a network is out, and that cost nothing; messages came `twice`, or were `lost`; `not known`, where
+        numbers make no sense; `off`, without redundancy management it says nothing; and nothing came."""
+        if not any(net.frames for net in self.nets):
+            return "-"
+        if not self.link.redundancy:
+            return "off"
+        if self.nonsense():
+            return "not known"
+        costs = self.costs()
+        if any(count for word, count in costs.items() if word != "twice") or self.spans.arrived > self.spans.delivered:
+            return "lost"
+        is_out = any(side.run >= self.link.window for one in self.senders.values() for side in one.sides)
+        return "twice" if costs["twice"] else "no loss" if self.conditions.found or self.spans.count != 1 or is_out else "all"
 
 
 class Health:
@@ -175,7 +293,10 @@ class Health:
     def __init__(self, played, made=Link):
         self.links = {link.vl: made(link, played.own.get(link.vl, {})) for link in played.receiver.links}
         self.filtered, self.left_out = (tuple(Counter() for _ in NETWORKS) for _ in range(2))
-        self.interfaces = tuple(Counter() for _ in NETWORKS)
+        self.firsts = {}  # the first packet of each of these causes, by network
+        self.interfaces, self.drift = tuple(Counter() for _ in NETWORKS), Drift()
+        for link in self.links.values():
+            link.drift = self.drift
         self.frames, self.first, self.latest = 0, None, 0
 
     def see(self, one, now, reply):
@@ -185,10 +306,12 @@ class Health:
             self.first = one.time
         if not reply:
             self.left_out[one.net][one.left_out] += 1
+            self.firsts.setdefault((one.net, one.left_out), f"{one.number}{link_of(one.octets)}")
             return None
         self.frames += 1
         if reply.vl is None:
             self.filtered[one.net][reply.cause] += 1
+            self.firsts.setdefault((one.net, reply.cause), f"{one.number}{link_of(one.octets)}")
             return None
         self.interfaces[one.net][frames.interface_of(one.octets)] += 1
         return self.links[reply.vl].see(now, one, reply)
@@ -204,6 +327,16 @@ class Health:
             link.finish(self.latest, now)
 
 
+def link_of(octets):
+    """In brackets, the link of a frame that may be none of the networks'."""
+    return f" (link {int.from_bytes(octets[4:6], 'big')})" if octets[:1] == b"\x03" and len(octets) > 5 else ""
+
+
+def is_cut(octets):
+    """Whether the packet's length is more than came: the frame was cut on the wire, and its last octet is no number."""
+    return int.from_bytes(octets[16:18], "big") > len(octets) - 15 and octets[14:15] == b"E"
+
+
 # ---- each network alone
 
 class Alone:
@@ -213,21 +346,19 @@ class Alone:
     def __init__(self, octets):
         self.receivers = [settings.opened(octets) for _ in NETWORKS]
 
-    def fault(self, one, now, reply):
-        """The verdict of a frame on its network alone, if it is a fault that `reply` doesn't tell."""
+    def fault(self, one, now, reply, note):
+        """The verdict of a frame on its network alone, if it is a fault that the other network's good copy hides."""
         found = self.receivers[one.net].receive(one.net, now, one.octets)
         if found.kind in FAULTS:
-            return found if found.kind != reply.kind else None
+            other = note and note.other
+            return found if found.kind != reply.kind and other and other.is_forwarded and not other.is_bad else None
         if found.port and has_wrong_udp_sum(one.octets):
             return found._replace(kind=WRONG_SUM, port="", number=0)
         return None
 
 
 def has_wrong_udp_sum(octets):
-    """Whether the checksum of a whole UDP datagram is another than the one that it says; 0 says none (RFC 768)."""
-    length, told = struct.unpack_from("!HH", octets, 38)
-    datagram = octets[34:34 + length]
-    if int.from_bytes(octets[20:22], "big") & 0x3FFF or not told or len(datagram) < length:
-        return False
-    text = octets[26:34] + bytes((0, 17)) + octets[38:40] + datagram + bytes(length % 2)
-    return sum(struct.unpack(f"!{len(text) // 2}H", text)) % 0xFFFF != 0
+    """Whether the checksum of a whole UDP datagram is another than the one that it says."""
+    length = int.from_bytes(octets[38:40], "big")
+    is_whole = not int.from_bytes(octets[20:22], "big") & 0x3FFF and len(octets) > 34 + length
+    return is_whole and has_wrong_sum(octets[26:34], octets[34:34 + length])

@@ -34,8 +34,8 @@ class Collector:
         for net, about in link["networks"].items():
             for kind, count in about["verdicts"].items():
                 frames.add_metric([vl, net, kind], count)
-        for word, count in told.AMISS.items():
-            amiss.add_metric([vl, word], int(count(link)))
+        for word, count in told.counted(link).items():
+            amiss.add_metric([vl, word], count)
         for of in ("least", "median", "most_of_99", "greatest"):
             if link["delays_us"][of] is not None:
                 delay.add_metric([vl, of], link["delays_us"][of])

@@ -1,4 +1,5 @@
 """The health of links as text: a line a link, a screen for one, and the ports."""
+from verdict_words import NETWORKS
 from workbench import told
 from workbench.conditions import CONDITIONS
 
@@ -9,12 +10,17 @@ DISPENSABLE = ("queue", "age ms", "SkewMax", "A/s", "B/s")
 # Of a network of one link: how its frames come, and what it does to them. Times without a unit are in microseconds.
 COMES = ("frames", "rate", "least_gap_us", "greatest_gap_us", "usual_gap_ms", "jitter_us", "early", "silent_us")
 LOSES = ("lost", "longest_run", "overtaken", "repeated", "late", "astray")
-SHOWN_ALONE = ("lost-a", "lost-b", "lost-both", "twice", "law", "reset")
+SHOWN_ALONE = ("lost-a", "lost-b", "lost-both", "twice", "law")
 
 
 def number(value):
     """A figure as short as it can be."""
     return "-" if value is None else f"{value:.0f}" if abs(value) >= 100 or value == int(value) else f"{value:.1f}"
+
+
+def count(value):
+    """One that may be not known."""
+    return "?" if value is None else str(value)
 
 
 def rate(net, is_marked=True):
@@ -40,14 +46,19 @@ def queue(link):
     return f"{worst['most']}/{worst['depth']}" if worst else "-"
 
 
+def law(link):
+    """What came of the law, and the conditions that were broken."""
+    return link["law"] + (f" not {','.join(link['broken'])}" if link["redundancy"] and link["broken"] else "")
+
+
 def cells(link):
     """The line of a link."""
     a, b = link["networks"].values()
     words = [f"{word} {count}" for word, count in told.amiss(link).items() if word not in SHOWN_ALONE]
     label = f"{link['vl']} {link['name']}" if link["name"] else str(link["vl"])
-    return (label, rate(a), rate(b), str(a["lost"]), str(b["lost"]), str(link["lost_both"]), delays(link),
+    return (label, rate(a), rate(b), count(a["lost"]), count(b["lost"]), count(link["lost_both"]), delays(link),
             str(link["skew_max_us"]) if link["redundancy"] else "off", str(link["twice"]["count"]), age(link), queue(link),
-            link["law"] if link["law"] != "-" else "not " + ",".join(link["broken"]), ", ".join(words))
+            law(link), ", ".join(words))
 
 
 def table(heads, rows, room=None):
@@ -65,13 +76,21 @@ def table(heads, rows, room=None):
 def lines(found, room=None):
     """The screen of all links; in so many columns, if they are told."""
     yield from table(HEADS, [cells(link) for link in found["links"]], room)
+    yield from lines_beside(found)
+
+
+def lines_beside(found):
+    """Of what is of no link: causes, with the first packet of each."""
     for name in ("filtered", "left_out"):
         for net, counts in found[name].items():
+            firsts = found["first_packets"].get(net, {})
             if counts:
-                causes = ", ".join(f"{cause} {count}" for cause, count in counts.items())
-                yield f"{name.replace('_', ' ')} on {net}: {causes}"
+                causes = (f"{cause} {count}" + (f", first {firsts[cause]}" if cause in firsts else "")
+                          for cause, count in counts.items())
+                yield f"{name.replace('_', ' ')} on {net}: {'; '.join(causes)}"
     if found["lost_by_tap"]:
-        yield f"lost by the tap: {' '.join(map(str, found['lost_by_tap']))}"
+        lost = [f"{count} on {net}" for net, count in zip(NETWORKS, found["lost_by_tap"])]
+        yield f"lost by the tap: {', '.join(lost) if len(lost) > 1 else found['lost_by_tap'][0]}"
 
 
 def lines_of_link(link):
@@ -89,19 +108,45 @@ def lines_of_link(link):
         verdicts = ", ".join(f"{kind} {count}" for kind, count in about["verdicts"].items())
         yield f"verdicts on {net}: {verdicts or 'none'}{hidden}"
     found = link["delays_us"]
-    yield f"lost on both networks: {link['lost_both']}"
+    for net, about in link["networks"].items():
+        yield from (f"refused on {net}: {cause} {one['count']}, at first {one['first']}" for cause, one in about["refused"].items())
+    if link["sender_count"] > 1:
+        yield f"senders: {', '.join(link['senders'])}"
+    if link["nonsense"]:
+        yield f"numbers make no sense: {link['nonsense']}; what they would tell is not known"
+    yield f"lost on both networks: {count(link['lost_both'])}"
     yield (f"B's copy came later by, in us, least/median/99 %/greatest: {delays(link)}; {found['pairs']} pairs, "
            f"{found['beyond']} beyond SkewMax")
     for key, what in (("twice", "delivered twice"), ("resets", "restarts"), ("unfinished", "datagrams given up"),
-                      ("identification_again", "identifications again")):
+                      ("identification_again", "identifications again"), ("fragments", "datagrams in fragments"), ("outages", "outages of a network")):
         if link[key]["count"]:
             yield f"{what}: {link[key]['count']}, at first {', '.join(link[key]['first'])}"
     yield from map(line_of_port, link["ports"])
-    yield {"all": "No condition of docs/DELIVERY.md was seen broken: if all held, all was delivered, once, whole, in order.",
-           "once": "If the others of docs/DELIVERY.md held, each message came at most once, whole, in order. Broken:",
-           "-": "The laws of docs/DELIVERY.md don't cover it; of their conditions were broken:"}[link["law"]]
+    if link["redundancy"]:
+        yield from lines_of_law(link)
     for word, one in link["broken"].items():
-        yield f"  {word}: {CONDITIONS[word]}: {one['count']} times, first by {one['first']}: {one['how']}"
+        causes = "; ".join(f"first by {cause['first']}: {cause['how']}" for cause in one["causes"])
+        yield f"  {word}: {CONDITIONS[word]}: {one['count']} times, {causes}"
+
+
+def lines_of_law(link):
+    """In which spans of time the law held, what arrived by it, and what faults cost."""
+    healed = f"; healed at {link['healed_us']} us" if link["healed_us"] is not None else ""
+    if link["fragments_healed_us"] != link["healed_us"]:
+        healed += f", for fragments at {link['fragments_healed_us']} us"
+    yield f"law of docs/DELIVERY.md: {link['law']}; its conditions held for {link['held_us']} us{healed}"
+    if link["span_count"] > len(link["spans"]):
+        yield f"  {link['span_count']} spans, the first ones and the latest:"
+    for span in link["spans"]:
+        ended = f", up to {span['packet']}: {span['ended_by']}" if span["ended_by"] else ""
+        yield f"  {span['from_us']} to {span['to_us']} us{ended}"
+    full = f"; {link['full']} found their queue full" if link["full"] else ""
+    yield f"messages that arrived by the law: {link['arrived']}, of these delivered: {link['delivered']}{full}"
+    costs = ", ".join(f"{word} {count}" for word, count in link["costs"].items() if count)
+    a, b = (net["lost"] for net in link["networks"].values())
+    yield f"what cost messages: {costs or 'nothing'}"
+    yield (f"what cost none: copies lost on A alone {a}, on B alone {b}; outages of a network {link['free_outages']} of "
+           f"{link['outages']['count']}")
 
 
 def line_of_port(port):

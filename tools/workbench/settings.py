@@ -12,7 +12,7 @@ UNNAMED = {"link given twice": ("vl", "a number that no other link has"),
            "too many links or ports": (None, f"{MOST_LINKS} links, {MOST_PORTS} ports of a link")}
 # What a value of an own key has to be.
 PERIOD = f"a whole number of microseconds, 1 to {MOST_PERIOD}"
-OWN_KEYS = {"a link": {"name": f"a text of 1 to {LONGEST_NAME} letters", "bag_us": PERIOD},
+OWN_KEYS = {"a link": {"name": f"a text of 1 to {LONGEST_NAME} letters", "bag_us": PERIOD, "jitter_us": PERIOD.replace("1", "0", 1)},
             "a port": {"read_us": PERIOD, "take_us": PERIOD}}
 
 
@@ -48,7 +48,7 @@ def refusal(fault):
 def is_right(key, value):
     if key == "name":
         return isinstance(value, str) and 0 < len(value) <= LONGEST_NAME and plain(value) == value
-    return type(value) is int and 0 < value <= MOST_PERIOD
+    return type(value) is int and (key != "jitter_us") <= value <= MOST_PERIOD
 
 
 def wrong_keys(config):

@@ -35,7 +35,7 @@ def records(names, found):
         a, b = (link["networks"][net] for net in NETWORKS)
         delays, ports = link["delays_us"], link["ports"]
         yield (" ".join(map(plain, names)), link["vl"], link["name"], a["frames"], b["frames"], a["rate"], b["rate"],
-               *(int(count(link)) for count in told.AMISS.values()),
+               *told.counted(link).values(),
                *(delays[name] for name in ("least", "median", "most_of_99", "greatest")),
                max((port["oldest_us"] for port in ports if port["kind"] == "sampling"), default=None),
                max((port["most"] for port in ports if port["kind"] == "queuing"), default=None), " ".join(link["broken"]))

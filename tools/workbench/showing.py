@@ -3,7 +3,7 @@ import ipaddress
 
 from verdict_words import NETWORKS
 from workbench import frames, station, stream
-from workbench.health import AHEAD, Health
+from workbench.health import AHEAD, JITTER, Health
 from workbench.places import members
 
 MOST_KEPT = 1000  # constants, strange links and destinations that are counted
@@ -23,7 +23,8 @@ class Shown:
                 self.health.see(one, now, reply)
                 if reply:
                     self.see(one, reply)
-        self.packets, self.latest = packets, played.latest
+        self.packets, self.latest, self.is_timed = packets, played.latest, True
+        self.hint = packets.shift.hint() or self.health.drift.hint()
         self.health.finish(played.latest)
         self.frames = [sum(link.nets[net].frames for link in self.health.links.values()) for net in (0, 1)]
 
@@ -50,10 +51,15 @@ def count(found, thing, one):
 
 
 def slips(shown, document):
+    """What rests on times isn't told where the times are wrong."""
+    shown.is_timed = not (shown.hint or any(counts[stream.BEHIND] for counts in shown.health.left_out))
     yield from of_files(shown, bytes.fromhex(document.tables.get("constant", "03000000")))
     yield from strangers(shown)
     for path, table, level in members(document.tables):
-        found = of_link(shown, table["vl"]) if level == "a link" else of_port(shown, table)
+        if level == "a link":
+            found = of_link(shown, table["vl"])
+        else:
+            found = of_port(shown, table) if shown.is_timed else ()
         yield from (document.slip(path, told) for told in found)
 
 
@@ -78,8 +84,10 @@ def of_files(shown, constant):
             yield f"{sources[net]}: most source addresses of {letter} say interface {2 - net}, which is {NETWORKS[1 - net]}"
     if len(swapped) == len(NETWORKS):
         yield f"{sources[0]}: crossed networks: most source addresses of A say interface 2, and most of B interface 1"
-    if hint := shown.packets.shift.hint():
-        yield f"{sources[1]}: {hint}"
+    if shown.hint:
+        yield f"{sources[1]}: {shown.hint}"
+    if count := sum(counts[stream.BEHIND] for counts in shown.health.left_out):
+        yield f"{sources[0]}: {count} packets are {stream.BEHIND}{stream.HELP[stream.BEHIND]}"
 
 
 def strangers(shown):
@@ -100,16 +108,21 @@ def of_link(shown, vl):
     for letter, number, of_all in zip(NETWORKS, counts, shown.frames):
         if of_all and not number:
             yield f"no frame of it on {letter}"
-    if link.link.redundancy:
+    if shown.is_timed:
+        yield from of_times(shown, link)
+    for (of, pair), (first, number) in shown.strays.items():
+        if of == vl:
+            yield f"no port for {pair}: {number} frames, the first {shown.packets.unit} {first.where}"
+
+
+def of_times(shown, link):
+    if link.link.redundancy and not link.nonsense():
         yield from of_skew_max(shown, link)
     if link.unfinished.count and not link.pieces.joined:
         yield (f"reassembly_us {link.link.reassembly}: no datagram in parts was joined; {link.unfinished.count} times one "
                "was given up")
     if early := sum(net.early for net in link.nets):
-        yield f"bag_us {link.own['bag_us']}: {early} frames came within half of it"
-    for (of, pair), (first, number) in shown.strays.items():
-        if of == vl:
-            yield f"no port for {pair}: {number} frames, the first {shown.packets.unit} {first.where}"
+        yield f"bag_us {link.own['bag_us']}: {early} frames came before it was over, less {link.own.get('jitter_us', JITTER)} of jitter"
 
 
 def of_skew_max(shown, link):

@@ -11,15 +11,18 @@ from typing import NamedTuple, Optional
 from verdict_words import NETWORKS
 from workbench import captures, files, frames, hex_traces, moments, unpacking
 from workbench.faults import BROKEN, Broken, Fault, plain
-from workbench.shifts import Shift
+from workbench.shifts import BEHIND, Shift
 
 MOST_TIME = 2**64  # nanoseconds
 LATE, NO_TIME = "too late for its place", "no time that a trace can have"
 OTHER, TORN = "of another interface", "cut by the end of the capture"
+HELP = {reason: ": --reorder takes more packets, or a file of each network" for reason in (LATE, BEHIND)}
 SHOWN = 8
-# Nanoseconds that a packet of a pipe waits for earlier ones: dumpcap reads each quarter of a second.
+# Nanoseconds that a packet of a pipe waits for earlier ones, and by which one may be behind the other network: dumpcap reads
+# each quarter of a second.
 HOLD_OF_A_PIPE = 300_000_000
-HINTS = {b"\xfd7zX": "compressed: unxz it", b"\x28\xb5\x2f\xfd": "compressed: install zstd, or unzstd it", b"\xef\xbb\xbf": "a byte order mark: sed '1s/^\\xef\\xbb\\xbf//'",
+HINTS = {b"\xfd7zX": "compressed: unxz it", b"\x28\xb5\x2f\xfd": "compressed: install zstd, or unzstd it",
+         b"\xef\xbb\xbf": "a byte order mark: sed '1s/^\\xef\\xbb\\xbf//'",
          b"\xff\xfe": "UTF-16: iconv -f UTF-16 -t ASCII"}
 
 
@@ -45,7 +48,7 @@ class Account:
         """Of a file, or of so many in a row."""
         self.name = "standard input" if name == "-" else plain(os.path.basename(name))
         self.name += f" and {count - 1} more" if count > 1 else ""
-        self.broken, self.lost = "", collections.Counter()
+        self.broken, self.lost, self.first = "", collections.Counter(), None
         self.packets = self.whole = self.checked = self.moved = self.newest = self.untagged = 0
         self.left_out, self.counts = collections.defaultdict(list), collections.Counter()
 
@@ -67,9 +70,11 @@ class Account:
             if count:
                 yield (f"{self.name}: {count} packets were lost while it was captured, on interface {interface}: what "
                        "they were is unknown, and looks like a fault of the network")
+        if not self.packets and not self.broken and not self.counts:
+            yield f"{self.name}: it has no packet"
         for reason, numbers in self.left_out.items():
             rest = f" and {self.counts[reason] - SHOWN} more" if self.counts[reason] > SHOWN else ""
-            yield f"{self.name}: left out, {reason}: packet {', '.join(map(str, numbers))}{rest}"
+            yield f"{self.name}: left out, {reason}: packet {', '.join(map(str, numbers))}{rest}{HELP.get(reason, '')}"
         if self.broken:
             yield self.broken
 
@@ -98,7 +103,7 @@ class Clock:
 
 def arrivals(packets, net_of, given, account):
     """What comes of a capture's packets, None if it is none of a network; `net_of` tells that of an interface and octets."""
-    latest, shifts, before = 0, (0, 1000 * given.shift_b), account.packets
+    latest, (shift, rate), before = 0, given.shift_b, account.packets
     try:
         for packet in packets:
             if packet is None:
@@ -122,7 +127,10 @@ def arrivals(packets, net_of, given, account):
                 if given.untag:
                     found = untagged(found, account)
                 octets, length, reason = found, len(found), reason or frames.refusal(found)
-            if time is None or not 0 <= (time := time + shifts[net]) < MOST_TIME:
+            if net and time is not None:
+                account.first = time if account.first is None else account.first
+                time += 1000 * shift + round((time - account.first) * rate / 1e6)
+            if time is None or not 0 <= time < MOST_TIME:
                 time, reason = latest, reason or NO_TIME
             yield Arrival(time, net, number, octets, reason, length)
             latest = time
@@ -158,6 +166,7 @@ def of_trace(found, net, account):
     """The lines of a trace."""
     try:
         for number, time, octets in found:
+            account.packets += 1
             yield Arrival(1000 * time, net, number, octets, None, len(octets))
     except Broken as broken:
         account.broken = str(broken)
@@ -173,8 +182,9 @@ class Order:
         """The earliest; it is left out if it comes too late for its network."""
         one = heapq.heappop(self.heap)
         time, net, number, _, left_out, _ = one
-        if not left_out and time < self.latest[net]:
-            one, left_out = one._replace(left_out=LATE), LATE
+        if not left_out and time < max(self.latest[net], self.latest[1 - net] - HOLD_OF_A_PIPE):
+            left_out = LATE if time < self.latest[net] else BEHIND
+            one = one._replace(left_out=left_out)
         if left_out:
             self.account.leave_out(number, left_out)
         else:
@@ -237,6 +247,7 @@ class Stream:
         self.is_of_captures = True in kinds
         self.unit = "packet" if self.is_of_captures else "line"
         self.first, self.status, self.shift = None, 0, Shift()
+        self.interfaces = given.interfaces if given.networks == "interface" else ()
         self.accounts = [Account(row[0], len(row)) for row in rows]
         self.feeds = [self.feed(place, row, *one) for place, (row, one) in enumerate(zip(rows, inputs))]
 
@@ -252,6 +263,17 @@ class Stream:
     def source(self, net):
         """The name of the file that a network's packets are of."""
         return self.accounts[net % len(self.accounts)].name
+
+    def lost(self):
+        """The packets that whoever captured lost: of each network, or of both where the source address tells them; or none."""
+        found = [sum(account.lost.values()) for account in self.accounts]
+        if len(found) == 1 and self.interfaces:
+            found = [self.accounts[0].lost[one] for one in self.interfaces]
+        return found if any(found) else None
+
+    def torn(self):
+        """How many packets the end of a file cuts."""
+        return sum(account.counts[TORN] for account in self.accounts)
 
     def __iter__(self):
         merged = self.feeds[0] if len(self.feeds) == 1 else heapq.merge(*self.feeds, key=operator.itemgetter(0, 1))
@@ -285,7 +307,7 @@ def opened(given):
     with contextlib.ExitStack() as stack:
         found = Stream(given, stack)
         yield found
-    found.status = BROKEN if any(account.broken for account in found.accounts) else 0
+    found.status = BROKEN if any(account.broken or TORN in account.counts for account in found.accounts) else 0
     met = [line for account in found.accounts for line in account.lines()]
     for line in filter(None, [*met, found.shift.hint()]):
         print(f"yelunnavi: {line}", file=sys.stderr)

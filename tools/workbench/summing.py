@@ -31,12 +31,13 @@ def summed(given):
     found, alone = Health(played), Alone(played.octets) if given.each else None
     with stream.opened(given) as packets:
         for one, now, reply in played.seen(packets):
-            found.see(one, now, reply)
-            if alone and reply and reply.vl is not None and (fault := alone.fault(one, now, reply)):
+            note = found.see(one, now, reply)
+            if alone and reply and reply.vl is not None and (fault := alone.fault(one, now, reply, note)):
                 found.links[reply.vl].hidden[one.net][f"{fault.kind} {fault.cause}".rstrip()] += 1
     found.finish(played.latest)
-    lost = [sum(account.lost.values()) for account in packets.accounts]
-    return told.of_all(found, played.partition, played.latest, lost if any(lost) else None), packets.status
+    if hint := found.drift.hint():
+        print(f"yelunnavi: {hint}", file=sys.stderr)
+    return told.of_all(found, played.partition, played.latest, packets.lost(), packets.torn()), packets.status
 
 
 def shown(found, given):
@@ -48,5 +49,5 @@ def shown(found, given):
         return screen_text.lines(found, os.get_terminal_size(1).columns if os.isatty(1) else None)
     for link in found["links"]:
         if link["vl"] == given.link:
-            return screen_text.lines_of_link(link)
+            return [*screen_text.lines_of_link(link), *screen_text.lines_beside(found)]
     raise Fault(f"{given.config} has no link {given.link}", WRONG_WORDS)

@@ -2,9 +2,9 @@
 import re
 
 from verdict_words import NETWORKS
-from workbench.conditions import CONDITIONS
 from workbench.faults import WRONG_WORDS, Fault
 from workbench.health import FAULTS
+from workbench.stream import TORN
 
 
 def micro(nanoseconds):
@@ -12,15 +12,14 @@ def micro(nanoseconds):
 
 
 def of_network(link, number, latest):
-    net, side = link.nets[number], link.copies.sides[number]
-    bag = link.own.get("bag_us")
+    net, bag, counts = link.nets[number], link.own.get("bag_us"), link.lost_on(number)
+    counts["longest_run"] = counts.pop("longest")
     return {"frames": net.frames, "rate": round(net.rate, 1),
             "least_gap_us": micro(net.least), "greatest_gap_us": micro(net.most), "least_128_gaps_us": micro(net.closest),
             "usual_gap_ms": net.usual,
             "jitter_us": max(0, bag - micro(net.least)) if bag and net.least is not None else None,
-            "early": net.early, "lost": side.lost, "longest_run": side.longest, "overtaken": side.overtaken,
-            "repeated": side.repeated, "late": side.late, "astray": side.astray,
-            "silent_us": None if net.last is None else micro(latest - net.last),
+            "early": net.early, **counts, "silent_us": None if net.last is None else micro(latest - net.last),
+            "refused": {cause: {"count": count, "first": first} for cause, (count, first) in link.refused[number].items()},
             "hidden": dict(link.hidden[number]), "verdicts": dict(link.kinds[number])}
 
 
@@ -38,28 +37,35 @@ def of_events(events):
 
 def of_link(link, ports, latest):
     settings = link.link
-    broken = {word: {"count": one.count, "first": one.where, "how": one.how} for word in CONDITIONS
-              if (one := link.conditions.found.get(word))}
+    broken = {word: {"count": one.count, **causes[0], "causes": causes} for word, one in link.broken().items()
+              if (causes := [{"first": first, "how": how} for how, first in one.causes.items()])}
     return {"vl": settings.vl, "name": link.own.get("name"), "bag_us": link.own.get("bag_us"),
             "redundancy": settings.redundancy, "skew_max_us": settings.skew_max, "window": settings.window,
             "reassembly_us": settings.reassembly,
             "networks": {net: of_network(link, number, latest) for number, net in enumerate(NETWORKS)},
-            "lost_both": link.copies.lost_both, "delays_us": of_delays(link), "twice": of_events(link.twice),
+            "senders": [sender.hex(":") for sender in link.senders], "sender_count": link.sender_count(), "nonsense": link.nonsense(),
+            "lost_both": link.summed("lost_both"), "delays_us": of_delays(link), "twice": of_events(link.twice),
             "resets": of_events(link.resets), "least_pause_us": link.least_pause, "unfinished": of_events(link.unfinished),
-            "identification_again": of_events(link.again), "bad": link.of_kinds(*FAULTS),
+            "identification_again": of_events(link.again), "fragments": of_events(link.fragments), "bad": link.of_kinds(*FAULTS),
             "out_of_sequence": link.of_kinds("out-of-sequence"), "overflows": link.of_kinds("overflow"),
-            "law": link.conditions.law(), "broken": broken, "ports": ports}
+            "law": link.law(), **link.spans.told(settings.reassembly if link.pieces.has_fragments else 0), "costs": link.costs(),
+            "outages": of_events(link.outages), "free_outages": link.free_outages, "broken": broken, "ports": ports}
 
 
-def of_all(health, partition, now, lost=None):
-    """Of all links, at a moment in microseconds since the first packet. `lost` are the packets that the tap lost."""
+def of_all(health, partition, now, lost=None, torn=0):
+    """Of all links, at a moment in microseconds since the first packet. `lost` are the packets that the tap lost, `torn` those
+    that the end of a file cuts."""
     ports = [end.told(now) for end in partition.ends.values()] if partition else []
     links = [of_link(link, [port for port in ports if port["vl"] == link.link.vl], health.latest)
              for link in health.links.values()]
     counted = {name: {net: dict(counts) for net, counts in zip(NETWORKS, found)}
                for name, found in (("filtered", health.filtered), ("left_out", health.left_out))}
+    if torn:
+        counted["left_out"]["neither"] = {TORN: torn}
+    firsts = {net: {cause: first for (each, cause), first in health.firsts.items() if each == number}
+              for number, net in enumerate(NETWORKS)}
     return {"first_ns": health.first, "microseconds": now, "frames": health.frames, "links": links, **counted,
-            "lost_by_tap": lost}
+            "first_packets": firsts, "lost_by_tap": lost, "drift_ppm": health.drift.rate()}
 
 
 # ---- what is amiss
@@ -68,11 +74,12 @@ def sum_of(link, name):
     return sum(net[name] for net in link["networks"].values())
 
 
-# Each word of a link: a count that should be 0.
+# Each word of a link: a count that should be 0. Those by numbers aren't counted where these make no sense.
 AMISS = {
     "lost-a": lambda link: link["networks"]["A"]["lost"],
     "lost-b": lambda link: link["networks"]["B"]["lost"],
     "lost-both": lambda link: link["lost_both"],
+    "dropped": lambda link: link["costs"]["dropped"],
     "delay": lambda link: link["delays_us"]["beyond"],
     "twice": lambda link: link["twice"]["count"],
     "overtaken": lambda link: sum_of(link, "overtaken"),
@@ -82,15 +89,19 @@ AMISS = {
     "early": lambda link: sum_of(link, "early"),
     "unfinished": lambda link: link["unfinished"]["count"],
     "identification": lambda link: link["identification_again"]["count"],
+    "fragments": lambda link: link["fragments"]["count"],
     "bad": lambda link: link["bad"],
     "hidden": lambda link: sum(sum(net["hidden"].values()) for net in link["networks"].values()),
     "out-of-sequence": lambda link: link["out_of_sequence"],
     "overflow": lambda link: link["overflows"],
     "stale": lambda link: sum(port.get("stale", 0) for port in link["ports"]),
     "silent": lambda link: sum(is_silent(net) for net in link["networks"].values()),
-    "law": lambda link: link["law"] == "-" and link["redundancy"],
+    "senders": lambda link: link["sender_count"] if link["sender_count"] > 1 else 0,
+    "numbers": lambda link: link["nonsense"] is not None,
+    "law": lambda link: link["law"] in ("lost", "twice", "not known"),
 }
-OF_ALL = ("filtered", "left-out", "tap")
+BY_NUMBERS = {"lost-a", "lost-b", "lost-both", "dropped", "delay", "twice", "overtaken", "repeated", "astray", "reset"}
+OF_ALL = ("filtered", "left-out", "tap", "drift")
 # A sender may restart without a fault.
 NOT_BY_DEFAULT = ("reset",)
 # A network is silent if it brought nothing, or nothing for so many of its longest gaps before.
@@ -104,17 +115,21 @@ def is_silent(net):
     return net["silent_us"] > SILENT_GAPS * max(1, net["greatest_gap_us"])
 
 
+def counted(link):
+    """Each word with its count."""
+    return {word: 0 if link["nonsense"] and word in BY_NUMBERS else int(count(link)) for word, count in AMISS.items()}
+
+
 def amiss(link):
     """The words of what a link has amiss, with their counts."""
-    found = {word: int(count(link)) for word, count in AMISS.items()}
-    return {word: count for word, count in found.items() if count}
+    return {word: count for word, count in counted(link).items() if count}
 
 
 def amiss_in_all(told):
     """The same of what is of no link."""
     filtered = sum(count for counts in told["filtered"].values() for cause, count in counts.items() if cause not in HARMLESS)
     left_out = sum(sum(counts.values()) for counts in told["left_out"].values())
-    return dict(zip(OF_ALL, (filtered, left_out, sum(told["lost_by_tap"] or ()))))
+    return dict(zip(OF_ALL, (filtered, left_out, sum(told["lost_by_tap"] or ()), int(told["drift_ppm"] != 0))))
 
 
 def failures(told, most):
