@@ -10,13 +10,14 @@ import struct
 from verdict_words import NETWORKS
 from workbench import files, settings, stream
 from workbench.delays import Delays
+from workbench.health import JITTER
 
 HEADERS = struct.Struct("!12xHBxHHHxB2x4s4sxxHH")  # of a frame, up to the UDP header's length
 IPV4, VERSION_AND_LENGTH, UDP, MORE, OFFSET = 0x0800, 0x45, 17, 0x2000, 0x1FFF
 KEPT = 1024  # frames whose copies are waited for, and datagrams in fragments, of a link
 LONGEST_SAMPLE, MOST_DEPTH, MOST_WINDOW, MOST_SKEW_MAX, MOST_LIMIT = 1471, 64, 4, 1_000_000, 10_000_000
 TAKEN = 100_000  # microseconds in which the messages of a queue are counted
-FEW, EVEN, JITTER = 0.05, 2, 500  # a share of gaps; a sampling port's gaps by its usual one, but for few; of a BAG, in microseconds
+FEW, EVEN = 0.05, 2  # a share of gaps; a sampling port's gaps by its usual one, but for few
 AHEAD = 128  # gaps; SkewMax is best below
 BAGS = [1000 << power for power in range(8)]
 GUESSED = {"skew_max_us": 1000, "reassembly_us": 50_000, "depth": 4, "refresh_us": 100_000}
@@ -126,8 +127,10 @@ class Link:
     def keys(self):
         """Each key, its value, and the evidence."""
         greatest, number, gap = self.delays.greatest, self.delays.number, self.gaps.below(FEW)
-        if bag := max((bag for bag in BAGS if gap and bag - JITTER <= gap and bag <= 2 * self.gaps.least), default=None):
+        if bag := max((bag for bag in BAGS if gap and bag - JITTER <= gap), default=None):
             yield "bag_us", bag, f"but for few, no frame came less than {gap} us after another of its network"
+            if bag - self.gaps.least > JITTER:
+                yield "jitter_us", bag - self.gaps.least, f"the least was {self.gaps.least} us: see why"
         if number:
             skew_max = rounded(2 * greatest, MOST_SKEW_MAX)
             if gap and skew_max + greatest >= AHEAD * gap > 2 * greatest:
