@@ -86,6 +86,7 @@ impl RightToPut {
     }
 
     /// What each end did, where both are at hand: a meeting, and no try. Returns the number of messages in the queue.
+    #[inline(always)]
     pub(crate) fn meet<R: Wait>(&mut self, rt: &R, queue: &Queue, taker: &mut RightToTake) -> usize
         requires queue { IsPassOf queue.now self.old.pass × IsPassOf queue.now taker.old.pass }
         requires rights { ((view self.old.pass).puts ≡ true) × ((view taker.old.pass).takes ≡ true) }
