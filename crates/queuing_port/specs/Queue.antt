@@ -3,16 +3,15 @@
 use Rattle.std.specs.Prelude.{◌≡◌, ℕ, ◌+◌, List, [], ◌∷◌, ◌++◌, length}
 use Rattle.atomic_table.specs.Seated.{TableId}
 use Rattle.es_base.specs.declared.event.Message.{Message}
-use Rattle.es_base.specs.Queue.{BeginsWith}
+use Rattle.es_base.specs.Queue as base
+use Rattle.es_base.specs.Queue.{BeginsWith, KnownOf}
 
 -- tells one queue from all others
 abbrev pub QueueId : Type 0
 QueueId = TableId
 
--- What an end knows of its queue. A putter knows the whole put list and a beginning of the taken list, a taker the
--- whole taken list and a beginning of the put list. `depth` is the most messages of the queue. `tries` counts the tries
--- of this end: a putter's puts, refused or not, and a taker's takes, with a message or without. An answer that is given
--- without a try leaves this number as it was.
+-- What an end knows of its queue, and how often it tried: a putter's puts, refused or not, and a taker's takes, with a
+-- message or without. An answer that is given without a try leaves this number as it was.
 pub record Known : Type 0 where
   pub queue : QueueId
   pub depth : ℕ
@@ -20,9 +19,17 @@ pub record Known : Type 0 where
   pub taken : List Message
   pub tries : ℕ
 
+-- without the number of its tries
+abbrev pub knowledge : Known → KnownOf QueueId
+knowledge end = record { queue = end.queue; depth = end.depth; put = end.put; taken = end.taken }
+
+-- an end that knows this, after so many tries
+abbrev pub after_tries : ℕ → KnownOf QueueId → Known
+after_tries tries known = record { queue = known.queue; depth = known.depth; put = known.put; taken = known.taken; tries = tries }
+
 -- what both ends know of a new queue
 abbrev pub opened : QueueId → ℕ → Known
-opened queue depth = record { queue = queue; depth = depth; put = []; taken = []; tries = 0 }
+opened queue depth = after_tries 0 (base.opened queue depth)
 
 -- an end after one more try, by which it put or took nothing
 -- rule: PORT-17
@@ -31,17 +38,17 @@ after_try end = record end { tries = end.tries + 1 }
 
 -- a putter that put one message more, by one try
 abbrev pub with_put : Known → Message → Known
-with_put putter message = record putter { put = putter.put ++ message ∷ []; tries = putter.tries + 1 }
+with_put putter message = after_tries (putter.tries + 1) (base.with_put (knowledge putter) message putter.taken)
 
 -- a taker that took one message more, by one try
 -- rule: PORT-11
 abbrev pub with_taken : Known → Message → Known
-with_taken taker message = record taker { taken = taker.taken ++ message ∷ []; tries = taker.tries + 1 }
+with_taken taker message = after_tries (taker.tries + 1) (base.with_taken (knowledge taker) message taker.put)
 
 -- a queue whose lists are both known: it holds this many messages, put and not taken
 -- rule: PORT-18
 abbrev pub Holds : Known → ℕ → Type 0
-Holds both count = (held : List Message) × (length held ≡ count) × (both.put ≡ both.taken ++ held)
+Holds both count = base.Holds (knowledge both) count
 
 -- a putter that put these messages, and knows of these that they were taken, may find these held
 -- rule: PORT-10
