@@ -38,6 +38,7 @@ NUMBER = re.compile(r"\*\*([A-Z]+-\d+)\*\* ")
 Rule = namedtuple("Rule", "number words page line section")
 # The sum of each rule's words when somebody last compared what serves it with them.
 SUMS = ROOT / "checks" / "rules_sums.txt"
+DROPPED = re.compile(r"\b([A-Z]+-\d+) is dropped")
 # What a rule's words, or else the heading above it, name as its source; the rest is own.
 SOURCES = re.compile(r"RFC \d+(?: \d+(?:\.\d+)*)?|ARINC 664 Part 7|\bown\b")
 # What serves a rule: its part, the name, the place, and how many definitions stand between (0 where it has the tag).
@@ -61,6 +62,12 @@ def rules():
                 own = words.strip().strip("|").strip()
                 found.append(Rule(number, lead + own if is_item else own, page, line, section))
     return found
+
+
+@cache
+def dropped():
+    """The numbers of which a page says that they are dropped."""
+    return {found for page in PAGES for line in lines_of(page) for found in DROPPED.findall(line)}
 
 
 def source_of(rule):

@@ -1,5 +1,5 @@
 -- A message that arrives is delivered.
-use Rattle.std.proofs.Common.{◌≡◌, ◌∙◌, ap, sym, subst, append-nil, append_assoc, ℕ, ◌<◌, Bool, true, false, List, [], ◌∷◌, ◌++◌, refl, ⊎_elim}
+use Rattle.std.proofs.Common.{◌≡◌, ◌∙◌, ap, sym, subst, append-nil, append_assoc, ℕ, ◌<◌, Bool, true, List, [], ◌∷◌, ◌++◌, refl}
 use Rattle.std.specs.Prelude.{◌&&◌, if◌then◌else◌}
 use Rattle.std.proofs.lemmas.Bool.{eq-eqb}
 use Rattle.es_base.specs.declared.place.PortNo.{PortNo}
@@ -7,21 +7,16 @@ use Rattle.es_base.specs.declared.event.Event.{Event}
 use Rattle.es_base.specs.declared.event.Message.{Message}
 use Rattle.es_base.specs.Limits.{most_samples}
 use Rattle.es_base.specs.Past.{arrival_of}
-use Rattle.es_base.specs.Reassembly.{groups_in}
 use Rattle.es_base.specs.Outcome.{Payload, brings, outcome}
 use Rattle.es_base.specs.Deliveries.{delivered, deliveries, is_same_port, number_delivered, takes_one_more}
 use Rattle.es_base.specs.Settings.{Settings}
 use Rattle.frame_delivery.specs.Messages.{has_room}
-use Rattle.frame_delivery.specs.Once.{first_copies}
-use Rattle.frame_delivery.specs.Since.{passing_since}
 use Rattle.frame_delivery.proofs.Delivered.{takes}
 use Rattle.frame_delivery.proofs.Since.{first_since}
-use Rattle.datagram_delivery.specs.Arriving.{Arrives, IsSplitAfter, past_before}
-use Rattle.datagram_delivery.specs.Datagrams.{IsSentWhole, offers_of}
-use Rattle.datagram_delivery.specs.Offers.{offered_in}
+use Rattle.datagram_delivery.specs.Arriving.{Arrives, past_before}
+use Rattle.datagram_delivery.specs.Datagrams.{Completes}
 use Rattle.datagram_delivery.specs.Splitting.{Offer}
-use Rattle.datagram_delivery.proofs.Datagrams.{whole_fate}
-use Rattle.datagram_delivery.proofs.Offered.{packet_brings, packets_before, split_in_any_past, whole_brings}
+use Rattle.datagram_delivery.proofs.Offered.{packets_before, completed_in}
 
 -- ---- what is delivered stays
 
@@ -51,17 +46,10 @@ pub arriving_brings : (settings : Settings) (past : List Event) (payload : Paylo
 arriving_brings settings past payload time one =
     let before : List Event = past_before one in
     let offer : Offer = record { packet = one.packet one.copy.index; time = one.copy.event.time; room = one.copy.event.room } in
-    let is = first_since settings one.numbering one.timing one.old one.copy one.before one.pass one.first in
     let offered = packets_before settings one.numbering one.timing one.packet one.old one.copy one.before one.pass one.carry one.first in
-    let carries = offered.0 in
-    let offers = offered.1 in
-    ⊎_elim
-    (λ (all : IsSentWhole settings payload offer).
-    packet_brings settings before (arrival_of one.copy.event) (one.packet one.copy.index) is carries
-    ∙ whole_brings settings (groups_in settings before) offer offer.packet.octets false payload (whole_fate settings.reassembly (groups_in settings before) offer.packet offer.time all.whole) all.admits)
-    (λ (split : IsSplitAfter settings payload (offers_of one.packet (first_copies (passing_since settings one.old one.before)) ++ offered_in settings one.old) offer).
-    split_in_any_past settings before (arrival_of one.copy.event) one.copy.event.room (one.packet one.copy.index) split.first split.during split.earlier payload is carries (offers ∙ split.is) split.among)
-    one.completes
+    completed_in settings before (arrival_of one.copy.event) one.copy.event.room (one.packet one.copy.index) payload
+    (first_since settings one.numbering one.timing one.old one.copy one.before one.pass one.first) offered.0
+    (subst (λ (offers : List Offer). Completes settings payload offers offer) (sym offered.1) one.completes)
 
 -- right after what was delivered before
 pub arriving_is_delivered : (settings : Settings) (past : List Event) (payload : Payload) (time : ℕ) → (one : Arrives settings past payload time)

@@ -12,8 +12,8 @@ use Rattle.es_base.specs.Deliveries.{deliveries}
 use Rattle.es_base.specs.Groups.{fate, groups_after}
 use Rattle.es_base.specs.Reassembly.{packet_in}
 use Rattle.frame_delivery.specs.Sending.{Copy, events_of_copies}
+use Rattle.frame_delivery.proofs.Since.{short_is_near}
 use Rattle.frame_delivery.specs.Network.{ComeWhole, KeepsTimes}
-use Rattle.frame_delivery.proofs.Main.{short_is_near}
 use Rattle.frame_delivery.proofs.Times.{apart_not_late, short_firsts}
 use Rattle.datagram_delivery.specs.Parts.{IsPartOf}
 use Rattle.datagram_delivery.specs.Counting.{CarryParts, CountsUp, CarriesPart, KeepsCount, TurnsOverLate}

@@ -1,5 +1,5 @@
 -- The examples.
-use Rattle.std.proofs.Common.{◌≡◌, ℕ, Bool, true, false, List, [], ◌∷◌, ◌++◌, None, refl, arith, subst, Ok, Result, sym, ◌∙◌}
+use Rattle.std.proofs.Common.{◌≡◌, ℕ, Bool, true, false, List, [], ◌∷◌, ◌++◌, refl, arith, subst, Ok, Result, sym, ◌∙◌, inr}
 use Rattle.std.proofs.lemmas.Bool.{false≢true}
 use Rattle.es_base.specs.declared.fault.PacketFault.{PacketFault}
 use Rattle.es_base.specs.Fragments as fragments
@@ -9,18 +9,18 @@ use Rattle.es_base.specs.Outcome as outcomes
 use Rattle.es_base.specs.Packet.{PacketParts}
 use Rattle.es_base.specs.Reassembly.{packet_in}
 use Rattle.es_base.specs.Deliveries.{deliveries}
-use Rattle.es_base.specs.Groups.{fate, groups_after, held, place_of}
+use Rattle.es_base.specs.Groups.{fate, groups_after, held}
 use Rattle.frame_delivery.specs.Sending.{HaveNumbers, events_of_copies}
-use Rattle.frame_delivery.specs.Once.{first_copies}
-use Rattle.frame_delivery.specs.Network.{ComeWhole, KeepsTimes}
+use Rattle.frame_delivery.specs.Network.{KeepsTimes}
+use Rattle.frame_delivery.specs.Since.{PassTimely}
 use Rattle.frame_delivery.specs.Examples.{numbering, timing}
-use Rattle.frame_delivery.proofs.Times.{apart_not_late, short_firsts}
-use Rattle.datagram_delivery.specs.Splitting.{AreFronts, IsLastFragment, LeavesRoom, groups_after_offers, is_of, pieces_of}
-use Rattle.datagram_delivery.specs.Datagrams.{AreSent, CarryPackets, all_offers, messages_by, offers_of}
-use Rattle.datagram_delivery.specs.Interleaved.{AreInterleaved, SendsOn, SendsNext, carried_offers}
+use Rattle.datagram_delivery.specs.Splitting.{IsLastFragment, groups_after_offers, pieces_of, IsFront, Offer}
+use Rattle.datagram_delivery.specs.Datagrams.{CarryPackets, IsInParts, HasRoomInParts, IsNextFront, IsSplitAfter}
+use Rattle.datagram_delivery.specs.Interleaved.{AreInterleaved, BringDatagrams}
 use Rattle.datagram_delivery.specs.Parts.{HaveParts, IsPartOf}
-use Rattle.datagram_delivery.specs.Examples.{among_one_another, datagram_at, datagram_octets, datagram_of, eight, first_key, first_third, five_begun, four_begun, four_in_parts, fragment, in_two_fragments, last_third, link_of_100, link_with_queue, sixteen_octets, message_sent, one_identification, packet_sent, part_sent, second_third}
-use Rattle.datagram_delivery.proofs.Messages.{datagrams_delivered}
+use Rattle.datagram_delivery.specs.Examples.{among_one_another, datagram_at, datagram_octets, datagram_of, eight, first_key, first_third, five_begun, fragment, in_two_fragments, last_third, link_of_100, link_with_queue, sixteen_octets, one_identification, packet_sent, part_sent, second_third, message_in_two, three_begun, payload_sent}
+use Rattle.datagram_delivery.proofs.Interleaved.{brought_by}
+use Rattle.frame_delivery.proofs.Since.{all_pass_timely, since_is_near}
 
 -- ---- a message in two fragments
 
@@ -35,43 +35,67 @@ split_times = record {
   order = (omega arith, (omega arith, tt));
 }
 
-pub split_met : ComeWhole link_with_queue numbering timing in_two_fragments
-split_met = record {
-  timely = record {
-    redundancy = refl;
-    first = omega arith;
-    numbers = numbers_split;
-    times = split_times;
-    fits = record { covers = omega arith; restarts = omega arith };
-  };
-  near = (λ cut soon. omega arith, (tt, tt));
-  losses = (tt, (tt, tt));
-  on_time = apart_not_late timing (omega arith);
-  firsts = short_firsts numbering timing in_two_fragments split_times (omega arith);
-}
+split_passes : PassTimely link_with_queue numbering timing [] in_two_fragments
+split_passes =
+    all_pass_timely link_with_queue numbering timing [] in_two_fragments
+    (record { redundancy = refl; first = omega arith; numbers = numbers_split; times = split_times; fits = record { covers = omega arith; restarts = omega arith } })
+    (omega arith) (since_is_near link_with_queue numbering timing [] in_two_fragments split_times (omega arith)) (tt, (tt, tt))
 
-pub split_carries : CarryPackets packet_sent in_two_fragments
+split_carries : CarryPackets packet_sent in_two_fragments
 unfolding packets.ones_sum words.u16_at words.u32_at
 split_carries = (refl, (refl, tt))
 
-pub split_sent : AreSent link_with_queue (message_sent ∷ [])
+first_front : (limit : ℕ) (ident time : ℕ) → IsFront limit [] (part_sent ident 0 time).offer
+first_front limit ident time = record { next = record { begins = refl; good = refl; soon = omega arith }; more = refl }
+
+split_sent : AreInterleaved link_with_queue [] message_in_two
 unfolding outcomes.datagram_payload words.u16_at words.u32_at
 split_sent = (
   record {
-    ours = (refl, tt);
-    fronts = (λ is. record { next = record { begins = refl; good = refl; soon = omega arith }; more = refl }, tt);
-    ends = record { next = record { begins = refl; good = refl; soon = omega arith }; more = refl; after = omega arith };
-    admits = refl;
+    front = λ more. cc;
+    last = λ last. inr (record {
+      first = (part_sent 1 0 100).offer;
+      during = [];
+      earlier = [];
+      is = refl;
+      parts = record { begins = refl; free = refl; fronts = (λ is. first_front 50000 1 100, tt) };
+      room = (λ other begun. cc, tt);
+      ends = record { next = record { begins = refl; good = refl; soon = omega arith }; more = refl; after = omega arith };
+      admits = refl;
+    });
   },
-  tt,
+  (
+    record {
+      front = λ more. record {
+        first = (part_sent 1 0 100).offer;
+        during = [];
+        earlier = [];
+        is = refl;
+        parts = record { begins = refl; free = refl; fronts = (λ is. first_front 50000 1 100, tt) };
+        room = (λ other begun. cc, tt);
+      };
+      last = λ last. cc;
+    },
+    tt,
+  ),
 )
 
-pub split_offered : offers_of packet_sent (first_copies in_two_fragments) ≡ all_offers (message_sent ∷ [])
-split_offered = refl
+pub split_brings : BringDatagrams link_with_queue (events_of_copies in_two_fragments) message_in_two
+split_brings = record {
+  copies = in_two_fragments;
+  is = refl;
+  numbering = numbering;
+  timing = timing;
+  pass = split_passes;
+  packet = packet_sent;
+  carry = split_carries;
+  offered = refl;
+  sent = split_sent;
+  few = omega arith;
+}
 
 pub split_message_delivered : deliveries link_with_queue (events_of_copies in_two_fragments) (record { 0 = 0 }) ≡ record { time = 1500; octets = sixteen_octets } ∷ []
-split_message_delivered =
-    datagrams_delivered link_with_queue numbering timing packet_sent in_two_fragments (message_sent ∷ []) (record { 0 = 0 }) split_met split_carries split_offered split_sent (omega arith)
+split_message_delivered = brought_by link_with_queue (events_of_copies in_two_fragments) message_in_two (record { 0 = 0 }) split_brings
 
 -- the frames have parts of one datagram
 abbrev read_as : PacketParts → Result PacketParts PacketFault
@@ -91,35 +115,70 @@ parts_met = (
   ),
 )
 
-pub among_sent : AreInterleaved link_with_queue among_one_another
-unfolding outcomes.datagram_payload words.u16_at words.u32_at
+-- four packets, of which the first two begin datagrams and the others end them
+pub among_sent : AreInterleaved link_with_queue [] among_one_another
+unfolding outcomes.datagram_payload words.u16_at words.u32_at groups_after
 among_sent = (
-  record { on = record { next = record { begins = refl; good = refl; soon = omega arith }; first = refl; admits = λ last. refl }; few = λ more first. cc },
-  (
-    record { on = record { next = record { begins = refl; good = refl; soon = omega arith }; first = refl; admits = λ last. refl }; few = λ more first. cc },
-    (
-      record { on = record { next = record { begins = refl; good = refl; soon = omega arith }; first = refl; admits = λ last. cc }; few = λ more first. omega arith },
-      (
-        record { on = record { next = record { begins = refl; good = refl; soon = omega arith }; first = refl; admits = λ last. cc }; few = λ more first. omega arith },
-        tt,
-      ),
-    ),
-  ),
+  record { front = λ more. cc; last = λ last. inr second_ends },
+  (record { front = λ more. cc; last = λ last. inr first_ends }, (record { front = λ more. second_begins; last = λ last. cc }, (record { front = λ more. first_begins; last = λ last. cc }, tt))),
 )
+  where
+    one : Offer
+    one = (part_sent 1 0 100).offer
+
+    two : Offer
+    two = (part_sent 2 0 200).offer
+
+    one_ends : Offer
+    one_ends = (part_sent 1 1 300).offer
+
+    first_begins : IsNextFront 50000 [] one
+    first_begins = record { first = one; during = []; earlier = []; is = refl; parts = record { begins = refl; free = refl; fronts = (λ is. first_front 50000 1 100, tt) }; room = (λ other begun. cc, tt) }
+
+    second_begins : IsNextFront 50000 (one ∷ []) two
+    second_begins = record { first = two; during = []; earlier = one ∷ []; is = refl; parts = record { begins = refl; free = refl; fronts = (λ is. first_front 50000 2 200, tt) }; room = (λ other begun. cc, tt) }
+
+    first_ends : IsSplitAfter link_with_queue payload_sent (two ∷ one ∷ []) one_ends
+    first_ends = record {
+      first = one;
+      during = two ∷ [];
+      earlier = [];
+      is = refl;
+      parts = record { begins = refl; free = refl; fronts = (λ is. cc, (λ is. first_front 50000 1 100, tt)) };
+      room = (λ other begun. omega arith, (λ other begun. cc, tt));
+      ends = record { next = record { begins = refl; good = refl; soon = omega arith }; more = refl; after = omega arith };
+      admits = refl;
+    }
+
+    second_ends : IsSplitAfter link_with_queue payload_sent (one_ends ∷ two ∷ one ∷ []) (part_sent 2 1 400).offer
+    second_ends = record {
+      first = two;
+      during = one_ends ∷ [];
+      earlier = one ∷ [];
+      is = refl;
+      parts = record { begins = refl; free = refl; fronts = (λ is. cc, (λ is. first_front 50000 2 200, tt)) };
+      room = (λ other begun. cc, (λ other begun. cc, tt));
+      ends = record { next = record { begins = refl; good = refl; soon = omega arith }; more = refl; after = omega arith };
+      admits = refl;
+    }
 
 -- ---- one thing isn't met
 
-fifth_fronts : AreFronts 50000 first_key five_begun
-fifth_fronts = (λ is. cc, (λ is. cc, (λ is. cc, (λ is. cc, (λ is. record { next = record { begins = refl; good = refl; soon = omega arith }; more = refl }, tt)))))
+fifth_parts : IsInParts 50000 first_key [] (fragment 1 0 true 1) (fragment 5 0 true 5 ∷ three_begun)
+fifth_parts = record {
+  begins = refl;
+  free = refl;
+  fronts = (λ is. cc, (λ is. cc, (λ is. cc, (λ is. cc, (λ is. record { next = record { begins = refl; good = refl; soon = omega arith }; more = refl }, tt)))));
+}
 
 fifth_last : IsLastFragment 50000 (pieces_of first_key five_begun) (fragment 1 8 false 1)
 fifth_last = record { next = record { begins = refl; good = refl; soon = omega arith }; more = refl; after = omega arith }
 
-room_for_four : LeavesRoom 50000 [] first_key four_begun
+room_for_four : HasRoomInParts 50000 first_key [] (fragment 1 0 true 1) three_begun
 unfolding groups_after
 room_for_four = (λ other begun. omega arith, (λ other begun. omega arith, (λ other begun. omega arith, (λ other begun. cc, tt))))
 
-no_room_for_five : LeavesRoom 50000 [] first_key five_begun → ⊥
+no_room_for_five : HasRoomInParts 50000 first_key [] (fragment 1 0 true 1) (fragment 5 0 true 5 ∷ three_begun) → ⊥
 unfolding groups_after
 no_room_for_five room = let few = room.0 refl refl in absurd (omega (arith, few))
 
@@ -127,45 +186,10 @@ fifth_is_held : fate 50000 (groups_after_offers 50000 [] five_begun) (fragment 1
 unfolding fate groups_after fragments.octets_below
 fifth_is_held = refl
 
-pub fifth_gives_up : (place_of first_key [] ≡ None) × (is_of first_key (fragment 1 8 false 1) ≡ true) × AreFronts 50000 first_key five_begun × IsLastFragment 50000 (pieces_of first_key five_begun) (fragment 1 8 false 1) × LeavesRoom 50000 [] first_key four_begun × (LeavesRoom 50000 [] first_key five_begun → ⊥)
+pub fifth_gives_up : IsInParts 50000 first_key [] (fragment 1 0 true 1) (fragment 5 0 true 5 ∷ three_begun) × IsLastFragment 50000 (pieces_of first_key five_begun) (fragment 1 8 false 1)
+    × HasRoomInParts 50000 first_key [] (fragment 1 0 true 1) three_begun × (HasRoomInParts 50000 first_key [] (fragment 1 0 true 1) (fragment 5 0 true 5 ∷ three_begun) → ⊥)
     × (fate 50000 (groups_after_offers 50000 [] five_begun) (fragment 1 8 false 1).packet 100 ≡ held)
-fifth_gives_up = (refl, refl, fifth_fronts, fifth_last, room_for_four, no_room_for_five, fifth_is_held)
-
-four_interleaved : AreInterleaved link_with_queue four_in_parts
-unfolding outcomes.datagram_payload words.u16_at words.u32_at
-four_interleaved = (
-  record { on = record { next = record { begins = refl; good = refl; soon = omega arith }; first = refl; admits = λ last. cc }; few = λ more first. omega arith },
-  (
-    record { on = record { next = record { begins = refl; good = refl; soon = omega arith }; first = refl; admits = λ last. cc }; few = λ more first. omega arith },
-    (
-      record { on = record { next = record { begins = refl; good = refl; soon = omega arith }; first = refl; admits = λ last. cc }; few = λ more first. omega arith },
-      (
-        record { on = record { next = record { begins = refl; good = refl; soon = omega arith }; first = refl; admits = λ last. cc }; few = λ more first. omega arith },
-        tt,
-      ),
-    ),
-  ),
-)
-
-fifth_goes_on : SendsOn link_with_queue four_in_parts (part_sent 5 0 500)
-unfolding outcomes.datagram_payload words.u16_at words.u32_at
-fifth_goes_on = record { next = record { begins = refl; good = refl; soon = omega arith }; first = refl; admits = λ last. cc }
-
-fifth_is_one_too_many : SendsNext link_with_queue four_in_parts (part_sent 5 0 500) → ⊥
-fifth_is_one_too_many sends = let few = sends.few refl refl in absurd (omega (arith, few))
-
-first_ends : SendsNext link_with_queue (part_sent 5 0 500 ∷ four_in_parts) (part_sent 1 1 600)
-unfolding outcomes.datagram_payload words.u16_at words.u32_at
-first_ends = record { on = record { next = record { begins = refl; good = refl; soon = omega arith }; first = refl; admits = λ last. refl }; few = λ more first. cc }
-
-first_is_lost : messages_by link_with_queue (carried_offers (part_sent 1 1 600 ∷ part_sent 5 0 500 ∷ four_in_parts)) (record { 0 = 0 }) ≡ []
-unfolding fate groups_after fragments.octets_below outcomes.datagram_payload words.u16_at words.u32_at
-first_is_lost = refl
-
-pub fifth_in_parts : AreInterleaved link_with_queue four_in_parts × SendsOn link_with_queue four_in_parts (part_sent 5 0 500) × SendsNext link_with_queue (part_sent 5 0 500 ∷ four_in_parts) (part_sent 1 1 600)
-    × (SendsNext link_with_queue four_in_parts (part_sent 5 0 500) → ⊥)
-    × (messages_by link_with_queue (carried_offers (part_sent 1 1 600 ∷ part_sent 5 0 500 ∷ four_in_parts)) (record { 0 = 0 }) ≡ [])
-fifth_in_parts = (four_interleaved, fifth_goes_on, first_ends, fifth_is_one_too_many, first_is_lost)
+fifth_gives_up = (fifth_parts, fifth_last, room_for_four, no_room_for_five, fifth_is_held)
 
 -- two datagrams of one identification
 

@@ -1,22 +1,41 @@
 -- Where at most three other datagrams have a fragment meanwhile, a group isn't given up.
-use Rattle.std.proofs.Common.{◌≡◌, ◌∙◌, ap, sym, subst, ℕ, zero, suc, ◌<◌, ◌≤◌, inl, inr, ⊎_elim, Bool, true, false, List, [], ◌∷◌, ◌++◌, length, remove, Option, None, Some, is_some, refl, arith}
+use Rattle.std.proofs.Common.{◌≡◌, ◌∙◌, ap, sym, subst, ℕ, zero, suc, ◌<◌, ◌≤◌, inl, inr, ⊎_elim, Bool, true, false, List, [], ◌∷◌, ◌++◌, length, remove, Some, refl, arith}
 use Rattle.std.specs.Prelude.{◌&&◌, ◌||◌, not, ◌⊎◌, slice_get, slice_set, if◌then◌else◌}
 use Rattle.std.proofs.lemmas.Bool.{both_ways, cases_Bool, or_cases}
 use Rattle.std.proofs.lemmas.Option.{same_Some}
 use Rattle.es_base.specs.declared.fragment.DatagramKey.{DatagramKey}
-use Rattle.es_base.specs.Packet.{PacketParts}
 use Rattle.es_base.specs.Fragments.{Piece, is_bad, is_whole, key_of, piece_of}
-use Rattle.es_base.specs.Groups.{Found, Group, begins, datagram_with, found_for, group_with, groups_after, groups_with, has_key, is_same_key, joins, place_of, with_room, without_group}
-use Rattle.es_base.specs.Outcome.{Payload}
-use Rattle.es_base.specs.Settings.{Settings}
+use Rattle.es_base.specs.Groups.{Found, Group, begins, found_for, group_with, groups_after, has_key, is_same_key, joins, with_room}
 use Rattle.es_base.proofs.Keys.{key_itself, same_key}
-use Rattle.datagram_delivery.specs.Splitting.{LeavesRoom, Offer, begins_group, begun_meanwhile, begun_since, groups_after_offers, is_among, is_beginning, is_of, other_keys, others_in}
-use Rattle.datagram_delivery.specs.Datagrams.{IsSplitAmong, IsSplitInOrder}
-use Rattle.datagram_delivery.specs.Interleaved.{without_key}
-use Rattle.datagram_delivery.proofs.Open.{IsAmong, among_without}
+use Rattle.datagram_delivery.specs.Splitting.{Offer, begins_group, begun_meanwhile, begun_since, groups_after_offers, is_among, is_beginning, is_of, other_keys, others_in}
+use Rattle.datagram_delivery.specs.Datagrams.{HasRoomInParts, IsInParts}
 use Rattle.datagram_delivery.proofs.Each.{AreDistinct, EachGroup, HasOther, IsAbsent, distinct_remove, each_at, each_more, each_push, each_remove, each_room, each_set, room_kept}
-use Rattle.datagram_delivery.proofs.Standing.{place_absent}
-use Rattle.datagram_delivery.proofs.Unused.{AreBegun, IsFoundThere, all_begun, begun_after, first_front, found_there, same_begin, same_room, unused_begins}
+use Rattle.datagram_delivery.proofs.Splits.{first_groups}
+use Rattle.datagram_delivery.proofs.Standing.{begins_absent, begins_from, kept_after}
+use Rattle.datagram_delivery.proofs.Unused.{free_begins, distinct_all}
+
+-- ---- keys among some
+
+abbrev IsAmong : DatagramKey → List DatagramKey → Type 0
+IsAmong key [] = ⊥
+IsAmong key (other ∷ keys) = (is_same_key other key ≡ true) ⊎ IsAmong key keys
+
+-- some keys without the first that is this one
+abbrev without_key : DatagramKey → List DatagramKey → List DatagramKey
+without_key key [] = []
+without_key key (other ∷ keys) = if is_same_key other key then keys else other ∷ without_key key keys
+
+among_without : (one key : DatagramKey) (keys : List DatagramKey) → is_same_key one key ≡ false → IsAmong one keys → IsAmong one (without_key key keys)
+among_without one key [] differ among = absurd among
+among_without one key (first ∷ keys) differ (inl is) =
+    let e : first ≡ one = same_key first one is in
+    let other : is_same_key first key ≡ false = ap (λ (k : DatagramKey). is_same_key k key) e ∙ differ in
+    rw other (inl is)
+among_without one key (first ∷ keys) differ (inr later) =
+    ⊎_elim
+    (λ (same : is_same_key first key ≡ true). rw same later)
+    (λ (other : is_same_key first key ≡ false). rw other (inr (among_without one key keys differ later)))
+    (cases_Bool (is_same_key first key))
 
 -- ---- keys of groups among some
 
@@ -70,50 +89,21 @@ behind_push key keys (first ∷ groups) group behind is = (λ ours. each_push (H
 IsCounted : DatagramKey → List DatagramKey → Offer → Type 0
 IsCounted key keys offer = (is_of key offer ≡ true) ⊎ (is_whole offer.packet ≡ true) ⊎ IsAmong (key_of offer.packet) keys
 
-behind_after : (limit : ℕ) (key : DatagramKey) (keys : List DatagramKey) (offer : Offer) (before : List Offer) (groups : List Group) → AreBegun before groups → AreBehind key keys groups → IsCounted key keys offer
+behind_after : (limit : ℕ) (key : DatagramKey) (keys : List DatagramKey) (offer : Offer) (groups : List Group) → AreDistinct groups → AreBehind key keys groups → IsCounted key keys offer
     → AreBehind key keys (groups_after limit groups offer.packet offer.time)
-unfolding groups_after IsFoundThere IsCounted
-behind_after limit key keys offer before groups have behind counted = go (is_whole offer.packet) (is_bad offer.packet) refl refl
+unfolding IsCounted
+behind_after limit key keys offer groups distinct behind counted =
+    kept_after limit groups offer.packet offer.time (AreBehind key keys) distinct behind (behind_remove key keys)
+    (λ part place group ours got over. behind_set key keys groups place group (piece_of offer.packet offer.time) behind got) (behind_room key keys) (pushed counted)
   where
-    packet : PacketParts
-    packet = offer.packet
+    group : Group
+    group = record { key = key_of offer.packet; pieces = piece_of offer.packet offer.time ∷ [] }
 
-    now : ℕ
-    now = offer.time
-
-    without_it : (place : Option ℕ) → AreBehind key keys (without_group groups place)
-    without_it None = behind
-    without_it (Some place) = behind_remove key keys groups place behind
-
-    stood : (others : List Group) → ((others ≡ groups) ⊎ ((place : ℕ) × (others ≡ remove groups place))) → AreBehind key keys others
-    stood others (inl same) = subst (AreBehind key keys) (sym same) behind
-    stood others (inr (place, same)) = subst (AreBehind key keys) (sym same) (behind_remove key keys groups place behind)
-
-    pushed : (others : List Group) → AreBehind key keys others → IsAbsent (key_of packet) others → is_whole packet ≡ false
-        → AreBehind key keys (with_room others ++ record { key = key_of packet; pieces = piece_of packet now ∷ [] } ∷ [])
-    pushed others standing absent not_whole =
-        let group : Group = record { key = key_of packet; pieces = piece_of packet now ∷ [] } in
-        let roomy = behind_room key keys others standing in
-        ⊎_elim
-        (λ (ours : is_of key offer ≡ true).
-        behind_ours key keys (with_room others) group roomy (each_room (HasOther key) others (subst (λ (k : DatagramKey). IsAbsent k others) (same_key (key_of packet) key ours) absent)))
-        (λ (other : (is_whole packet ≡ true) ⊎ IsAmong (key_of packet) keys).
-        ⊎_elim
-        (λ (whole : is_whole packet ≡ true). absurd (both_ways (is_whole packet) not_whole whole))
-        (λ (among : IsAmong (key_of packet) keys). behind_push key keys (with_room others) group roomy among)
-        other)
-        counted
-
-    with_it : (found : Found) → IsFoundThere groups (key_of packet) found → is_whole packet ≡ false → (complete : Bool) → AreBehind key keys (groups_with groups (key_of packet) (piece_of packet now) found complete)
-    with_it (joins place group) found not_whole true = behind_remove key keys groups place behind
-    with_it (joins place group) found not_whole false = behind_set key keys groups place group (piece_of packet now) behind found
-    with_it (begins others) found not_whole true = behind_room key keys others (stood others found.1)
-    with_it (begins others) found not_whole false = pushed others (stood others found.1) found.0 not_whole
-
-    go : (all unfit : Bool) → is_whole packet ≡ all → is_bad packet ≡ unfit → AreBehind key keys (groups_after limit groups packet now)
-    go true unfit e f = rw e (without_it (place_of (key_of packet) groups))
-    go false true e f = rw (e, f) behind
-    go false false e f = rw (e, f) (with_it (found_for limit groups (key_of packet) now) (found_there limit groups (key_of packet) now have.1) e (is_some (datagram_with limit groups packet now)))
+    pushed : (is_of key offer ≡ true) ⊎ (is_whole offer.packet ≡ true) ⊎ IsAmong (key_of offer.packet) keys → is_whole offer.packet ≡ false → (others : List Group) → IsAbsent (key_of offer.packet) others
+        → AreBehind key keys others → AreBehind key keys (others ++ group ∷ [])
+    pushed (inl ours) part others absent standing = behind_ours key keys others group standing (subst (λ (k : DatagramKey). IsAbsent k others) (same_key (key_of offer.packet) key ours) absent)
+    pushed (inr (inl all)) part others absent standing = absurd (both_ways (is_whole offer.packet) part all)
+    pushed (inr (inr among)) part others absent standing = behind_push key keys others group standing among
 
 -- ---- the other keys
 
@@ -188,36 +178,44 @@ begun_few key keys new (group ∷ groups) behind distinct absent among =
 
 -- ---- all offers
 
--- what holds after some offers
-record IsCalm (limit : ℕ) (earlier : List Offer) (groups : List Group) (key : DatagramKey) (offers : List Offer) : Type 0 where
-  begun : AreBegun (offers ++ earlier) (groups_after_offers limit groups offers)
-  behind : AreBehind key (other_keys key offers) (groups_after_offers limit groups offers)
+behind_all : (limit : ℕ) (key : DatagramKey) (earlier : List Offer) (first : Offer) (during : List Offer) → IsInParts limit key earlier first during
+    → AreBehind key (other_keys key (during ++ first ∷ [])) (groups_after_offers limit (groups_after_offers limit [] earlier) (during ++ first ∷ []))
+behind_all limit key earlier first [] parts =
+    let begun = free_begins limit key first.time earlier parts.free in
+    let group : Group = record { key = key; pieces = piece_of first.packet first.time ∷ [] } in
+    let roomy : IsAbsent key (with_room begun.others) = each_room (HasOther key) begun.others begun.absent in
+    let is = first_groups limit key (groups_after_offers limit [] earlier) begun.others first (same_key (key_of first.packet) key parts.begins) begun.found (parts.fronts.0 parts.begins) in
+    rw parts.begins (subst (AreBehind key []) (sym is) (behind_ours key [] (with_room begun.others) group (behind_none key (with_room begun.others) roomy) roomy))
+behind_all limit key earlier first (offer ∷ during) parts =
+    let ours : List Offer = during ++ first ∷ [] in
+    let standing : List Group = groups_after_offers limit (groups_after_offers limit [] earlier) ours in
+    let added = adds key offer ours in
+    behind_after limit key (other_keys key (offer ∷ ours)) offer standing (distinct_all limit earlier ours)
+    (added.kept standing (behind_all limit key earlier first during (record { begins = parts.begins; free = parts.free; fronts = parts.fronts.1 }))) added.counted
 
-calm : (limit : ℕ) (earlier : List Offer) (groups : List Group) (key : DatagramKey) (offers : List Offer) → AreBegun earlier groups → IsAbsent key groups → IsCalm limit earlier groups key offers
-calm limit earlier groups key [] have absent = record { begun = have; behind = behind_none key groups absent }
-calm limit earlier groups key (offer ∷ before) have absent =
-    let rest = calm limit earlier groups key before have absent in
-    let standing : List Group = groups_after_offers limit groups before in
-    let added = adds key offer before in
-    record {
-      begun = begun_after limit offer (before ++ earlier) standing rest.begun;
-      behind = behind_after limit key (other_keys key (offer ∷ before)) offer (before ++ earlier) standing rest.begun (added.kept standing rest.behind) added.counted;
-    }
-
-few_leave_room : (limit : ℕ) (earlier : List Offer) (groups : List Group) (key : DatagramKey) (offers : List Offer) → AreBegun earlier groups → IsAbsent key groups → length (other_keys key offers) ≤ 3
-    → LeavesRoom limit groups key offers
-unfolding IsCounted IsFoundThere
-few_leave_room limit earlier groups key [] have absent few = tt
-few_leave_room limit earlier groups key (offer ∷ before) have absent few =
-    let added = adds key offer before in
+pub few_leave_room : (limit : ℕ) (key : DatagramKey) (earlier : List Offer) (first : Offer) (during : List Offer) → IsInParts limit key earlier first during → length (other_keys key (during ++ first ∷ [])) ≤ 3
+    → HasRoomInParts limit key earlier first during
+unfolding IsCounted
+few_leave_room limit key earlier first [] parts few = (λ other begun. absurd (both_ways (is_of key first) other parts.begins), tt)
+few_leave_room limit key earlier first (offer ∷ during) parts few =
+    let added = adds key offer ours in
     let longer = added.longer in
-    (λ other begun. room other begun added, few_leave_room limit earlier groups key before have absent (omega (arith, few, longer)))
+    (λ other begun. room other begun added, few_leave_room limit key earlier first during before (omega (arith, few, longer)))
   where
-    standing : List Group
-    standing = groups_after_offers limit groups before
+    ours : List Offer
+    ours = during ++ first ∷ []
 
-    state : IsCalm limit earlier groups key before
-    state = calm limit earlier groups key before have absent
+    before : IsInParts limit key earlier first during
+    before = record { begins = parts.begins; free = parts.free; fronts = parts.fronts.1 }
+
+    keys : List DatagramKey
+    keys = other_keys key (offer ∷ ours)
+
+    standing : List Group
+    standing = groups_after_offers limit (groups_after_offers limit [] earlier) ours
+
+    distinct : AreDistinct standing
+    distinct = distinct_all limit earlier ours
 
     not_whole : begins_group limit standing offer.packet offer.time ≡ true → is_whole offer.packet ≡ false
     not_whole begun = go (is_whole offer.packet) refl begun
@@ -226,52 +224,19 @@ few_leave_room limit earlier groups key (offer ∷ before) have absent few =
         go true e is = cc
         go false e is = e
 
-    among : is_of key offer ≡ false → is_whole offer.packet ≡ false → IsCounted key (other_keys key (offer ∷ before)) offer → IsAmong (key_of offer.packet) (other_keys key (offer ∷ before))
+    among : is_of key offer ≡ false → is_whole offer.packet ≡ false → IsCounted key keys offer → IsAmong (key_of offer.packet) keys
     among other part (inl ours) = absurd (both_ways (is_of key offer) other ours)
     among other part (inr (inl all)) = absurd (both_ways (is_whole offer.packet) part all)
     among other part (inr (inr is)) = is
 
-    counted : (found : Found) → IsFoundThere standing (key_of offer.packet) found → AreBehind key (other_keys key (offer ∷ before)) standing → IsAmong (key_of offer.packet) (other_keys key (offer ∷ before))
-        → begun_since key (others_in found) < length (other_keys key (offer ∷ before))
-    counted (joins place group) found behind is = let one = without_length (key_of offer.packet) (other_keys key (offer ∷ before)) is in omega (arith, one)
-    counted (begins others) (absent, inl same) behind is =
-        begun_few key (other_keys key (offer ∷ before)) (key_of offer.packet) others (subst (AreBehind key (other_keys key (offer ∷ before))) (sym same) behind)
-        (subst AreDistinct (sym same) state.begun.1) absent is
-    counted (begins others) (absent, inr (place, same)) behind is =
-        begun_few key (other_keys key (offer ∷ before)) (key_of offer.packet) others (subst (AreBehind key (other_keys key (offer ∷ before))) (sym same) (behind_remove key (other_keys key (offer ∷ before)) standing place behind))
-        (subst AreDistinct (sym same) (distinct_remove standing place state.begun.1)) absent is
+    counted : (found : Found) → found_for limit standing (key_of offer.packet) offer.time ≡ found → AreBehind key keys standing → IsAmong (key_of offer.packet) keys → begun_since key (others_in found) < length keys
+    counted (joins place group) found behind is = let one = without_length (key_of offer.packet) keys is in omega (arith, one)
+    counted (begins others) found behind is =
+        begun_few key keys (key_of offer.packet) others (begins_from limit standing others (key_of offer.packet) offer.time found (AreBehind key keys) behind (λ place there. behind_remove key keys standing place behind))
+        (begins_from limit standing others (key_of offer.packet) offer.time found AreDistinct distinct (λ place there. distinct_remove standing place distinct))
+        (begins_absent limit standing others (key_of offer.packet) offer.time distinct found) is
 
-    room : is_of key offer ≡ false → begins_group limit standing offer.packet offer.time ≡ true → Adds key offer (other_keys key before) (other_keys key (offer ∷ before)) → begun_meanwhile limit standing key offer.packet offer.time < 3
+    room : is_of key offer ≡ false → begins_group limit standing offer.packet offer.time ≡ true → Adds key offer (other_keys key ours) keys → begun_meanwhile limit standing key offer.packet offer.time < 3
     room other begun added =
-        let less = counted (found_for limit standing (key_of offer.packet) offer.time) (found_there limit standing (key_of offer.packet) offer.time state.begun.1) (added.kept standing state.behind)
-        (among other (not_whole begun) added.counted) in
+        let less = counted (found_for limit standing (key_of offer.packet) offer.time) refl (added.kept standing (behind_all limit key earlier first during before)) (among other (not_whole begun) added.counted) in
         omega (arith, less, few)
-
--- ---- the laws
-
-pub three_leave_room : (limit : ℕ) (key : DatagramKey) (earlier offers : List Offer) → place_of key (groups_after_offers limit [] earlier) ≡ None → length (other_keys key offers) ≤ 3
-    → LeavesRoom limit (groups_after_offers limit [] earlier) key offers
-three_leave_room limit key earlier offers none few =
-    few_leave_room limit earlier (groups_after_offers limit [] earlier) key offers (all_begun limit earlier) (place_absent key (groups_after_offers limit [] earlier) none) few
-
--- what is of the key isn't counted
-ours_not_counted : (key : DatagramKey) (first : Offer) (during : List Offer) → is_of key first ≡ true → other_keys key (during ++ first ∷ []) ≡ other_keys key during
-ours_not_counted key first [] ours = rw ours refl
-ours_not_counted key first (offer ∷ during) ours =
-    ap (λ (keys : List DatagramKey). if is_of key offer || is_whole offer.packet || is_among (key_of offer.packet) keys then keys else key_of offer.packet ∷ keys) (ours_not_counted key first during ours)
-
-pub split_among_few : (settings : Settings) (payload : Payload) (earlier : List Offer) (first : Offer) (during : List Offer) (last : Offer) → IsSplitInOrder settings payload earlier first during last
-    → length (other_keys (key_of last.packet) during) ≤ 3 → IsSplitAmong settings payload earlier first during last
-split_among_few settings payload earlier first during last parts few =
-    let limit : ℕ = settings.reassembly in
-    let key : DatagramKey = key_of last.packet in
-    let ours : List Offer = during ++ first ∷ [] in
-    let standing : List Group = groups_after_offers limit [] earlier in
-    let alone = unused_begins limit key first.time earlier standing (all_begun limit earlier) parts.unused in
-    let front = first_front limit key first during parts.fronts parts.begins in
-    let begun = same_begin limit key first standing alone.others parts.begins front alone.found alone.absent in
-    let few_too : length (other_keys key ours) ≤ 3 = subst (λ (keys : List DatagramKey). length keys ≤ 3) (sym (ours_not_counted key first during parts.begins)) few in
-    record {
-      parts = parts;
-      room = same_room limit key first during alone.others standing parts.begins (sym begun) (few_leave_room limit earlier alone.others key ours alone.begun alone.absent few_too);
-    }

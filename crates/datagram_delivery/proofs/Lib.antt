@@ -4,8 +4,8 @@ pub mod Standing
 pub mod Rows
 pub mod Splits
 pub mod Datagrams
-pub mod Open
 pub mod Unused
+pub mod InParts
 pub mod Offered
 pub mod Slices
 pub mod Origins
@@ -15,9 +15,7 @@ pub mod WholeParts
 pub mod Counting
 pub mod Few
 pub mod Interleaved
-pub mod Bringing
 pub mod Arriving
-pub mod Messages
 pub mod Examples
 pub mod SinceExamples
 pub mod CountingExample

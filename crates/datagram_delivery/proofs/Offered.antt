@@ -1,36 +1,32 @@
 -- What any past delivers, by what it offered; and what copies after it offer.
-use Rattle.std.proofs.Common.{◌≡◌, ◌∙◌, ap, sym, append_assoc, ℕ, Bool, true, false, List, [], ◌∷◌, ◌++◌, Option, None, Some, Result, Ok, Err, refl, ⊎_elim, append-nil}
+use Rattle.std.proofs.Common.{◌≡◌, ◌∙◌, ap, ℕ, Bool, true, false, List, [], ◌∷◌, ◌++◌, Option, None, Some, Result, Ok, Err, refl, ⊎_elim, append-nil, inl, inr}
 use Rattle.std.proofs.lemmas.Bool.{cases_Bool}
 use Rattle.es_base.specs.declared.place.PortNo.{PortNo}
 use Rattle.es_base.specs.declared.event.Arrival.{Arrival}
 use Rattle.es_base.specs.declared.event.Event.{Event}
 use Rattle.es_base.specs.declared.fault.PacketFault.{PacketFault}
-use Rattle.es_base.specs.declared.fragment.DatagramKey.{DatagramKey}
 use Rattle.es_base.specs.declared.verdict.Verdict.TheVariants as verdicts
 use Rattle.es_base.specs.Past.{arrival_of}
 use Rattle.es_base.specs.Packet.{PacketParts}
 use Rattle.es_base.specs.Fragments.{key_of}
-use Rattle.es_base.specs.Groups.{Group, fate, groups_after, whole}
+use Rattle.es_base.specs.Groups.{Group, groups_after}
 use Rattle.es_base.specs.Reassembly.{groups_by, groups_in, offered, packet_in}
 use Rattle.es_base.specs.Redundancy.{is_forwarded}
 use Rattle.std.specs.Result.{result_ok}
-use Rattle.es_base.specs.Outcome.{Payload, brings, brought, datagram_payload, frame_payload, outcome, packet_payload, refused}
+use Rattle.es_base.specs.Outcome.{Payload, brings, brought, frame_payload, outcome, packet_payload, refused}
 use Rattle.es_base.specs.Deliveries.{delivered, deliveries, number_delivered}
 use Rattle.es_base.specs.Settings.{Settings}
-use Rattle.es_base.proofs.Keys.{key_itself}
-use Rattle.frame_delivery.specs.Sending.{Copy, Numbering, events_of_copies, events_since}
-use Rattle.frame_delivery.specs.Once.{first_copies, passing_copies}
+use Rattle.frame_delivery.specs.Sending.{Copy, Numbering, events_since}
+use Rattle.frame_delivery.specs.Once.{first_copies}
 use Rattle.frame_delivery.specs.Network.{Timing}
 use Rattle.frame_delivery.specs.Since.{IsFirstPassing, PassTimely, forwarded_since, passing_since}
 use Rattle.frame_delivery.proofs.Delivered.{forwarded_brings, nothing_delivered}
-use Rattle.frame_delivery.proofs.Since.{first_since, firsts_before, firsts_since, passing_alone}
+use Rattle.frame_delivery.proofs.Since.{first_since, firsts_before, firsts_since}
 use Rattle.datagram_delivery.specs.Splitting.{Offer, groups_after_offers, joined, pieces_of}
-use Rattle.datagram_delivery.specs.Datagrams.{CarryPackets, IsSplitAmong, messages_by, offers_of}
+use Rattle.datagram_delivery.specs.Datagrams.{CarryPackets, messages_by, offers_of, Completes}
 use Rattle.datagram_delivery.specs.Offers.{offer_with, offered_in}
-use Rattle.datagram_delivery.proofs.Datagrams.{offers_join}
-use Rattle.datagram_delivery.proofs.Standing.{absent_place}
-use Rattle.datagram_delivery.proofs.Splits.{last_completes}
-use Rattle.datagram_delivery.proofs.Unused.{all_begun, first_front, same_begin, same_groups, same_room, unused_begins}
+use Rattle.datagram_delivery.proofs.InParts.{last_completes}
+use Rattle.datagram_delivery.proofs.Datagrams.{whole_brings, whole_fate}
 
 -- ---- any past
 
@@ -96,14 +92,6 @@ packets_since settings numbering timing packet old copies pass carry =
     offers_since settings packet old copies carry
     ∙ ap (λ (some : List Copy). offers_of packet some ++ offered_in settings old) (firsts_since settings numbering timing old copies pass).0
 
--- with no old past
-pub packets_alone : (settings : Settings) (numbering : Numbering) (timing : Timing) (packet : ℕ → PacketParts) (copies : List Copy) (port : PortNo) → PassTimely settings numbering timing [] copies
-    → CarryPackets packet (forwarded_since settings [] copies) → deliveries settings (events_of_copies copies) port ≡ messages_by settings (offers_of packet (first_copies (passing_copies settings copies))) port
-packets_alone settings numbering timing packet copies port pass carry =
-    deliveries_by_offers settings (events_since copies []) port
-    ∙ ap (λ (offers : List Offer). messages_by settings offers port) (packets_since settings numbering timing packet [] copies pass carry ∙ append-nil (offers_of packet (first_copies (passing_since settings [] copies))))
-    ∙ ap (λ (some : List Copy). messages_by settings (offers_of packet (first_copies some)) port) (passing_alone settings copies)
-
 -- before the first copy of a frame that counts, and this one is forwarded
 first_carries : (settings : Settings) (numbering : Numbering) (timing : Timing) (packet : ℕ → PacketParts) (old : List Event) (copy : Copy) (before : List Copy) → PassTimely settings numbering timing old (copy ∷ before)
     → CarryPackets packet (forwarded_since settings old (copy ∷ before)) → IsFirstPassing settings old before copy → CarryPackets packet (copy ∷ forwarded_since settings old before)
@@ -119,42 +107,23 @@ packets_before settings numbering timing packet old copy before pass carry is_fi
     let carries = first_carries settings numbering timing packet old copy before pass carry is_first in
     (carries.0, offers_since settings packet old before carries.1 ∙ ap (λ (some : List Copy). offers_of packet some ++ offered_in settings old) (firsts_before settings numbering timing old copy before pass))
 
--- ---- a message in fragments
+-- ---- a packet that completes a message
 
-pub whole_brings : (settings : Settings) (groups : List Group) (offer : Offer) (octets : List ℕ) (was_joined : Bool) (payload : Payload)
-    → fate settings.reassembly groups offer.packet offer.time ≡ whole octets was_joined
-    → datagram_payload settings.ports (record { destination = offer.packet.destination; joined = was_joined; octets = octets }) ≡ Ok payload
-    → brought (packet_payload settings.ports settings.reassembly groups offer.packet offer.time) ≡ brings payload
-whole_brings settings groups offer octets was_joined payload is admits = rw (is, admits) refl
+pub completed_by : (settings : Settings) (payload : Payload) (offers : List Offer) (last : Offer) → Completes settings payload offers last
+    → brought (packet_payload settings.ports settings.reassembly (groups_after_offers settings.reassembly [] offers) last.packet last.time) ≡ brings payload
+completed_by settings payload offers last (inl all) =
+    let groups : List Group = groups_after_offers settings.reassembly [] offers in
+    whole_brings settings groups last last.packet.octets false payload (whole_fate settings.reassembly groups last.packet last.time all.whole) all.admits
+completed_by settings payload offers last (inr split) =
+    let ours : List Offer = split.during ++ split.first ∷ [] in
+    ap (λ (offers : List Offer). brought (packet_payload settings.ports settings.reassembly (groups_after_offers settings.reassembly [] offers) last.packet last.time)) split.is
+    ∙ whole_brings settings (groups_after_offers settings.reassembly [] (split.during ++ split.first ∷ split.earlier)) last (joined (pieces_of (key_of last.packet) ours) ++ last.packet.octets) true payload
+    (last_completes settings.reassembly split.earlier split.first split.during last split.parts split.room split.ends) split.admits
 
-pub split_in_any_past : (settings : Settings) (past : List Event) (a : Arrival) (room : Bool) (packet : PacketParts) (first : Offer) (during earlier : List Offer) (payload : Payload)
-    → is_forwarded settings past a ≡ true → packet_in a.frame ≡ Ok packet → offered_in settings past ≡ during ++ first ∷ earlier
-    → IsSplitAmong settings payload earlier first during (record { packet = packet; time = a.time; room = room })
-    → outcome settings past a ≡ brings payload
-split_in_any_past settings past a has_room packet first during earlier payload is reads same split =
-    let limit : ℕ = settings.reassembly in
-    let last : Offer = record { packet = packet; time = a.time; room = has_room } in
-    let key : DatagramKey = key_of packet in
-    let standing : List Group = groups_after_offers limit [] earlier in
-    let ours : List Offer = during ++ first ∷ [] in
-    let alone = unused_begins limit key first.time earlier standing (all_begun limit earlier) split.parts.unused in
-    let front = first_front limit key first during split.parts.fronts split.parts.begins in
-    let groups : groups_in settings past ≡ groups_after_offers limit alone.others ours =
-    groups_by_offers settings past ∙ ap (groups_after_offers limit []) (same ∙ sym (append_assoc during (first ∷ []) earlier)) ∙ offers_join limit [] ours earlier
-    ∙ same_groups limit key first during standing alone.others split.parts.begins front alone.found alone.absent in
-    let begun = same_begin limit key first standing alone.others split.parts.begins front alone.found alone.absent in
-    let room = same_room limit key first during standing alone.others split.parts.begins begun split.room in
-    let completes = last_completes limit alone.others key ours last (absent_place key alone.others alone.absent) split.parts.fronts room (key_itself key) split.parts.ends in
+-- the frame that is forwarded with the packet brings it
+pub completed_in : (settings : Settings) (past : List Event) (a : Arrival) (room : Bool) (packet : PacketParts) (payload : Payload) → is_forwarded settings past a ≡ true → packet_in a.frame ≡ Ok packet
+    → Completes settings payload (offered_in settings past) (record { packet = packet; time = a.time; room = room }) → outcome settings past a ≡ brings payload
+completed_in settings past a has_room packet payload is reads completes =
     packet_brings settings past a packet is reads
-    ∙ ap (λ groups. brought (packet_payload settings.ports limit groups packet a.time)) groups
-    ∙ whole_brings settings (groups_after_offers limit alone.others ours) last (joined (pieces_of key ours) ++ last.packet.octets) true payload completes split.parts.admits
-
-pub split_since : (settings : Settings) (numbering : Numbering) (timing : Timing) (packet : ℕ → PacketParts) (old : List Event) (copy : Copy) (before : List Copy) (first : Offer) (during earlier : List Offer) (payload : Payload)
-    → PassTimely settings numbering timing old (copy ∷ before) → CarryPackets packet (forwarded_since settings old (copy ∷ before)) → IsFirstPassing settings old before copy
-    → offers_of packet (first_copies (passing_since settings old before)) ++ offered_in settings old ≡ during ++ first ∷ earlier
-    → IsSplitAmong settings payload earlier first during (record { packet = packet copy.index; time = copy.event.time; room = copy.event.room })
-    → outcome settings (events_since before old) (arrival_of copy.event) ≡ brings payload
-split_since settings numbering timing packet old copy before first during earlier payload pass carry is_first same split =
-    let offered = packets_before settings numbering timing packet old copy before pass carry is_first in
-    split_in_any_past settings (events_since before old) (arrival_of copy.event) copy.event.room (packet copy.index) first during earlier payload
-    (first_since settings numbering timing old copy before pass is_first) offered.0 (offered.1 ∙ same) split
+    ∙ ap (λ groups. brought (packet_payload settings.ports settings.reassembly groups packet a.time)) (groups_by_offers settings past)
+    ∙ completed_by settings payload (offered_in settings past) (record { packet = packet; time = a.time; room = has_room }) completes

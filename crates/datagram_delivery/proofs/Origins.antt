@@ -1,18 +1,18 @@
 -- Each group has parts of one datagram.
-use Rattle.std.proofs.Common.{◌≡◌, ◌∙◌, ap, sym, subst, ℕ, ◌+◌, ◌<◌, ◌≤◌, inl, inr, Bool, true, false, not, cond, List, [], ◌∷◌, length, take, drop, remove, Option, None, Some, is_some, refl, arith}
+use Rattle.std.proofs.Common.{◌≡◌, ◌∙◌, ap, sym, subst, ℕ, ◌+◌, ◌<◌, ◌≤◌, inl, inr, Bool, true, false, not, List, [], ◌∷◌, length, take, drop, Option, None, Some, refl, arith}
 use Rattle.std.specs.Prelude.{◌==◌, ◌&&◌, ◌⊎◌, slice_get}
 use Rattle.std.proofs.lemmas.Bool.{eqb-true, ltb-false}
 use Rattle.es_base.specs.declared.fragment.DatagramKey.{DatagramKey}
 use Rattle.es_base.specs.Packet.{PacketParts}
 use Rattle.es_base.specs.Copies.{elapsed}
-use Rattle.es_base.specs.Fragments.{is_bad, is_whole, key_of, piece_of}
-use Rattle.es_base.specs.Groups.{Found, Group, bad, begin_of, begins, datagram_with, fate, fate_if, found_at, found_for, found_if, group_with, groups_after, groups_with, has_key, is_over, is_same_key, joins, pieces_with, place_of, whole, with_room, without_group}
-use Rattle.es_base.proofs.Firsts.{found_at as found_place, passes_found}
+use Rattle.es_base.specs.Fragments.{is_bad, is_whole, key_of, piece_of, Piece}
+use Rattle.es_base.specs.Groups.{Found, Group, bad, begin_of, begins, datagram_with, fate, fate_if, found_for, group_with, groups_after, has_key, is_over, is_same_key, joins, pieces_with, whole}
 use Rattle.datagram_delivery.specs.Splitting.{Offer, are_some, groups_after_offers, is_of}
 use Rattle.datagram_delivery.specs.Datagrams.{IsUnused}
 use Rattle.datagram_delivery.specs.Parts.{IsPartOf}
-use Rattle.datagram_delivery.proofs.Each.{EachGroup, each_at, each_more, each_push, each_remove, each_room, each_set}
-use Rattle.datagram_delivery.proofs.Unused.{Begun, all_begun, begin_same, unused_at}
+use Rattle.datagram_delivery.proofs.Each.{AreDistinct, EachGroup, each_at, each_more, each_push, each_remove, each_room, each_set}
+use Rattle.datagram_delivery.proofs.Standing.{joins_from, kept_after}
+use Rattle.datagram_delivery.proofs.Unused.{Begun, all_begun, begin_same, distinct_all, unused_at}
 use Rattle.datagram_delivery.proofs.Slices.{AreSlices, IsSlice, made_is}
 use Rattle.datagram_delivery.proofs.Rows.{take_all}
 
@@ -83,28 +83,6 @@ origins_later old part before groups have = each_more (From old before) (From ol
 slice_of_part : (part : Part) → IsPartOf part.datagram part.offer.packet → IsSlice part.datagram (piece_of part.offer.packet part.offer.time)
 slice_of_part part is = record { within = is.within; octets = is.octets; ends = is.ends }
 
--- what a key finds now: a group that has it and isn't over, or these
-IsFoundNow : ℕ → List Group → DatagramKey → ℕ → Found → Type 0
-IsFoundNow limit groups key now (joins place group) = (slice_get groups place ≡ Some group) × (has_key key group ≡ true) × (is_over limit now group ≡ false)
-IsFoundNow limit groups key now (begins others) = (others ≡ groups) ⊎ ((place : ℕ) × (others ≡ remove groups place))
-
-found_now : (limit : ℕ) (groups : List Group) (key : DatagramKey) (now : ℕ) → IsFoundNow limit groups key now (found_for limit groups key now)
-unfolding IsFoundNow
-found_now limit groups key now = at (place_of key groups) refl
-  where
-    over : (place : ℕ) (group : Group) → place_of key groups ≡ Some place → slice_get groups place ≡ Some group → (is : Bool) → is_over limit now group ≡ is
-        → IsFoundNow limit groups key now (cond is (begins (remove groups place)) (joins place group))
-    over place group there got true e = inr (place, refl)
-    over place group there got false e = (got, passes_found (has_key key) groups group (found_place (has_key key) groups place there ∙ got), e)
-
-    got : (place : ℕ) → place_of key groups ≡ Some place → (group : Option Group) → slice_get groups place ≡ group → IsFoundNow limit groups key now (found_if limit groups now place group)
-    got place there None is = inl refl
-    got place there (Some group) is = over place group there is (is_over limit now group) refl
-
-    at : (place : Option ℕ) → place_of key groups ≡ place → IsFoundNow limit groups key now (found_at limit groups now place)
-    at None is = inl refl
-    at (Some place) is = got place is (slice_get groups place) refl
-
 -- the group that a part joins began with a part of its datagram
 record Joined (part : Part) (before : List Part) (group : Group) : Type 0 where
   origin : Origin before group
@@ -155,54 +133,29 @@ new_origin part before is_part fragment = record { part = part; among = inl refl
 -- ---- the groups after a part
 
 origins_after : (limit : ℕ) (old : List Offer) (part : Part) (before : List Part) (groups : List Group) → IsPartOf part.datagram part.offer.packet
-    → (is_whole part.offer.packet ≡ false → IsUnused limit (key_of part.offer.packet) part.offer.time old) → Agree limit part before → HaveOrigins old before groups
+    → (is_whole part.offer.packet ≡ false → IsUnused limit (key_of part.offer.packet) part.offer.time old) → Agree limit part before → AreDistinct groups → HaveOrigins old before groups
     → HaveOrigins old (part ∷ before) (groups_after limit groups part.offer.packet part.offer.time)
-unfolding groups_after IsFoundNow
-origins_after limit old part before groups is_part unused agree have = go (is_whole part.offer.packet) (is_bad part.offer.packet) refl refl
-  where
-    packet : PacketParts
-    packet = part.offer.packet
-
-    now : ℕ
-    now = part.offer.time
-
-    kept : HaveOrigins old (part ∷ before) groups
-    kept = origins_later old part before groups have
-
-    without_it : (place : Option ℕ) → HaveOrigins old (part ∷ before) (without_group groups place)
-    without_it None = kept
-    without_it (Some place) = each_remove (From old (part ∷ before)) groups place kept
-
-    stood : (others : List Group) → IsFoundNow limit groups (key_of packet) now (begins others) → HaveOrigins old (part ∷ before) others
-    stood others (inl same) = subst (HaveOrigins old (part ∷ before)) (sym same) kept
-    stood others (inr (place, same)) = subst (HaveOrigins old (part ∷ before)) (sym same) (each_remove (From old (part ∷ before)) groups place kept)
-
-    with_it : is_whole packet ≡ false → (found : Found) → IsFoundNow limit groups (key_of packet) now found → (complete : Bool) → HaveOrigins old (part ∷ before) (groups_with groups (key_of packet) (piece_of packet now) found complete)
-    with_it fragment (joins place group) found true = each_remove (From old (part ∷ before)) groups place kept
-    with_it fragment (joins place group) found false =
-        each_set (From old (part ∷ before)) groups place (group_with group (piece_of packet now)) kept (inr (joined_origin limit old part before groups place group is_part fragment (unused fragment) agree have found.0 found.1 found.2))
-    with_it fragment (begins others) found true = each_room (From old (part ∷ before)) others (stood others found)
-    with_it fragment (begins others) found false =
-        each_push (From old (part ∷ before)) (with_room others) (record { key = key_of packet; pieces = piece_of packet now ∷ [] }) (each_room (From old (part ∷ before)) others (stood others found)) (inr (new_origin part before is_part fragment))
-
-    go : (all unfit : Bool) → is_whole packet ≡ all → is_bad packet ≡ unfit → HaveOrigins old (part ∷ before) (groups_after limit groups packet now)
-    go true unfit e f = rw e (without_it (place_of (key_of packet) groups))
-    go false true e f = rw (e, f) kept
-    go false false e f = rw (e, f) (with_it e (found_for limit groups (key_of packet) now) (found_now limit groups (key_of packet) now) (is_some (datagram_with limit groups packet now)))
+origins_after limit old part before groups is_part unused agree distinct have =
+    let Holds : Group → Type 0 = From old (part ∷ before) in
+    let kept = origins_later old part before groups have in
+    let piece : Piece = piece_of part.offer.packet part.offer.time in
+    kept_after limit groups part.offer.packet part.offer.time (EachGroup Holds) distinct kept (each_remove Holds)
+    (λ fragment place group ours got over. each_set Holds groups place (group_with group piece) kept (inr (joined_origin limit old part before groups place group is_part fragment (unused fragment) agree have got ours over)))
+    (each_room Holds) (λ fragment others absent standing. each_push Holds others (record { key = key_of part.offer.packet; pieces = piece ∷ [] }) standing (inr (new_origin part before is_part fragment)))
 
 all_origins : (limit : ℕ) (old : List Offer) (parts : List Part) → AreParts limit parts → AreUnused limit old parts
     → HaveOrigins old parts (groups_after_offers limit (groups_after_offers limit [] old) (offers_in parts))
 all_origins limit old [] are unused = each_more (Begun old) (From old []) (groups_after_offers limit [] old) (λ group begun. inl begun) (all_begun limit old).0
 all_origins limit old (part ∷ before) are unused =
-    origins_after limit old part before (groups_after_offers limit (groups_after_offers limit [] old) (offers_in before)) are.0 unused.0 are.1 (all_origins limit old before are.2 unused.1)
+    origins_after limit old part before (groups_after_offers limit (groups_after_offers limit [] old) (offers_in before)) are.0 unused.0 are.1 (distinct_all limit old (offers_in before)) (all_origins limit old before are.2 unused.1)
 
 -- ---- what is handed on
 
 found_slices : (limit : ℕ) (old : List Offer) (part : Part) (before : List Part) (groups : List Group) (found : Found) → IsPartOf part.datagram part.offer.packet → is_whole part.offer.packet ≡ false → IsUnused limit (key_of part.offer.packet) part.offer.time old → Agree limit part before
-    → HaveOrigins old before groups → IsFoundNow limit groups (key_of part.offer.packet) part.offer.time found → AreSlices part.datagram (pieces_with (piece_of part.offer.packet part.offer.time) found)
-unfolding IsFoundNow
+    → HaveOrigins old before groups → found_for limit groups (key_of part.offer.packet) part.offer.time ≡ found → AreSlices part.datagram (pieces_with (piece_of part.offer.packet part.offer.time) found)
 found_slices limit old part before groups (joins place group) is_part fragment unused agree have found =
-    (slice_of_part part is_part, joined_slices limit old part before groups place group fragment unused agree have found.0 found.1 found.2)
+    let (ours, got, over) = joins_from limit groups group (key_of part.offer.packet) part.offer.time place found in
+    (slice_of_part part is_part, joined_slices limit old part before groups place group fragment unused agree have got ours over)
 found_slices limit old part before groups (begins others) is_part fragment unused agree have found = (slice_of_part part is_part, tt)
 
 whole_part : (datagram : List ℕ) (packet : PacketParts) → IsPartOf datagram packet → is_whole packet ≡ true → packet.octets ≡ datagram
@@ -239,7 +192,7 @@ handed_on_is_sent limit old part before octets joined are unused is = go (is_who
     made fragment (Some all) e f =
         let same : all ≡ octets = same_whole all octets true joined f in
         sym same ∙ made_is part.datagram (pieces_with (piece_of packet now) (found_for limit groups (key_of packet) now)) all
-        (found_slices limit old part before groups (found_for limit groups (key_of packet) now) are.0 fragment (unused.0 fragment) are.1 (all_origins limit old before are.2 unused.1) (found_now limit groups (key_of packet) now)) e
+        (found_slices limit old part before groups (found_for limit groups (key_of packet) now) are.0 fragment (unused.0 fragment) are.1 (all_origins limit old before are.2 unused.1) refl) e
 
     go : (all unfit : Bool) → is_whole packet ≡ all → is_bad packet ≡ unfit → octets ≡ part.datagram
     go true unfit e f = sym (same_whole packet.octets octets false joined (rw e at is)) ∙ whole_part part.datagram packet are.0 e

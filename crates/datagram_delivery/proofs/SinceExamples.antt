@@ -1,5 +1,5 @@
 -- A message in fragments arrives after a part of another with its identification.
-use Rattle.std.proofs.Common.{◌≡◌, inr, true, [], ◌∷◌, ◌++◌, refl, arith}
+use Rattle.std.proofs.Common.{◌≡◌, sym, subst, inr, true, [], ◌∷◌, ◌++◌, refl, arith, List}
 use Rattle.std.proofs.lemmas.Bool.{false≢true}
 use Rattle.es_base.specs.Fragments as fragments
 use Rattle.es_base.specs.Octets as words
@@ -12,12 +12,12 @@ use Rattle.frame_delivery.specs.Once.{first_copies}
 use Rattle.frame_delivery.specs.Network.{KeepsTimes}
 use Rattle.frame_delivery.specs.Since.{PassTimely, passing_since}
 use Rattle.frame_delivery.specs.Examples.{numbering}
-use Rattle.frame_delivery.proofs.Main.{short_is_near}
-use Rattle.frame_delivery.proofs.Times.{apart_not_late, short_firsts}
 use Rattle.datagram_delivery.specs.Arriving.{Arrives}
-use Rattle.datagram_delivery.specs.Datagrams.{CarryPackets, IsSplitAmong, offers_of}
+use Rattle.datagram_delivery.specs.Datagrams.{CarryPackets, Completes, IsSplitAfter, offers_of}
+use Rattle.datagram_delivery.proofs.Unused.{unused_is_free}
+use Rattle.frame_delivery.proofs.Since.{all_pass_timely, since_is_near}
 use Rattle.datagram_delivery.specs.Offers.{offered_in}
-use Rattle.datagram_delivery.specs.Splitting.{LeavesRoom, Offer, groups_after_offers}
+use Rattle.datagram_delivery.specs.Splitting.{Offer}
 use Rattle.datagram_delivery.specs.Examples.{a_part_before, after_a_part, came_with, first_frame, link_with_queue, packet_sent, payload_sent, second_frame, timing_after_a_part}
 use Rattle.es_base.specs.declared.place.Net.TheVariants as nets
 use Rattle.es_base.specs.Fragments.{key_of}
@@ -44,19 +44,11 @@ part_times = record {
 }
 
 part_passes : PassTimely link_with_queue numbering timing_after_a_part a_part_before after_a_part
-part_passes = record {
-  timely = record {
-    redundancy = refl;
-    first = omega arith;
-    numbers = (refl, (refl, tt));
-    times = part_times;
-    fits = record { covers = omega arith; restarts = omega arith };
-  };
-  on_time = apart_not_late timing_after_a_part (omega arith);
-  firsts = short_firsts numbering timing_after_a_part after_a_part part_times (omega arith);
-  near = (short_is_near link_with_queue numbering timing_after_a_part after_a_part part_times (omega arith)).0;
-  after = ((λ is. omega arith, (λ is. omega arith, tt)), ((λ is. omega arith, (λ is. omega arith, tt)), tt));
-}
+part_passes =
+    all_pass_timely link_with_queue numbering timing_after_a_part a_part_before after_a_part
+    (record { redundancy = refl; first = omega arith; numbers = (refl, (refl, tt)); times = part_times; fits = record { covers = omega arith; restarts = omega arith } })
+    (omega arith) (since_is_near link_with_queue numbering timing_after_a_part a_part_before after_a_part part_times (omega arith))
+    ((λ is. omega arith, (λ is. omega arith, tt)), ((λ is. omega arith, (λ is. omega arith, tt)), tt))
 
 part_carries : CarryPackets packet_sent after_a_part
 unfolding packets.ones_sum words.u16_at words.u32_at
@@ -66,20 +58,17 @@ part_offered : offers_of packet_sent (first_copies (passing_since link_with_queu
 unfolding packets.ones_sum words.u16_at words.u32_at
 part_offered = refl
 
-part_room : LeavesRoom 50000 (groups_after_offers 50000 [] (other_offer ∷ [])) (key_of (packet_sent 1)) (first_offer ∷ [])
-part_room = (λ other begun. cc, tt)
-
-part_among : IsSplitAmong link_with_queue payload_sent (other_offer ∷ []) first_offer [] last_offer
+part_completes : IsSplitAfter link_with_queue payload_sent (first_offer ∷ other_offer ∷ []) last_offer
 unfolding outcomes.datagram_payload words.u16_at words.u32_at
-part_among = record {
-  parts = record {
-    begins = refl;
-    unused = (λ is. omega arith, tt);
-    fronts = (λ is. record { next = record { begins = refl; good = refl; soon = omega arith }; more = refl }, tt);
-    ends = record { next = record { begins = refl; good = refl; soon = omega arith }; more = refl; after = omega arith };
-    admits = refl;
-  };
-  room = part_room;
+part_completes = record {
+  first = first_offer;
+  during = [];
+  earlier = other_offer ∷ [];
+  is = refl;
+  parts = record { begins = refl; free = unused_is_free 50000 (key_of (packet_sent 1)) 60100 (other_offer ∷ []) (λ is. omega arith, tt); fronts = (λ is. record { next = record { begins = refl; good = refl; soon = omega arith }; more = refl }, tt) };
+  room = (λ other begun. cc, tt);
+  ends = record { next = record { begins = refl; good = refl; soon = omega arith }; more = refl; after = omega arith };
+  admits = refl;
 }
 
 none_before : deliveries link_with_queue (events_since (first_copy ∷ []) a_part_before) (record { 0 = 0 }) ≡ []
@@ -99,7 +88,7 @@ arrives_after_a_part = record {
   packet = packet_sent;
   carry = part_carries;
   first = (refl, refl);
-  completes = inr (record { first = first_offer; during = []; earlier = other_offer ∷ []; is = part_offered; among = part_among });
+  completes = subst (λ (offers : List Offer). Completes link_with_queue payload_sent offers last_offer) (sym part_offered) (inr part_completes);
   room = refl;
   few = rw none_before (omega arith);
   at = refl;

@@ -1,6 +1,6 @@
 -- The group of one key, and what a packet of another key leaves of it.
-use Rattle.std.proofs.Common.{◌≡◌, ◌∙◌, ap, sym, subst, ℕ, zero, suc, ◌<◌, ◌≤◌, inl, inr, ⊎_elim, Bool, true, false, cond, List, [], ◌∷◌, ◌++◌, length, drop, remove, Option, None, Some, is_some, refl, arith, option_map}
-use Rattle.std.specs.Prelude.{◌==◌, ◌⊎◌, slice_get, slice_set}
+use Rattle.std.proofs.Common.{◌≡◌, ◌∙◌, ap, sym, subst, ℕ, zero, suc, ◌<◌, ◌≤◌, inl, inr, ⊎_elim, Bool, true, false, not, cond, List, [], ◌∷◌, ◌++◌, length, drop, remove, Option, None, Some, is_some, refl, arith, option_map}
+use Rattle.std.specs.Prelude.{◌==◌, ◌&&◌, ◌⊎◌, slice_get, slice_set}
 use Rattle.std.proofs.lemmas.Bool.{cases_Bool, false≢true, eqb-true}
 use Rattle.std.proofs.lemmas.Option.{same_Some}
 use Rattle.es_base.specs.declared.fragment.DatagramKey.{DatagramKey}
@@ -8,9 +8,10 @@ use Rattle.es_base.specs.Limits.{most_partials}
 use Rattle.es_base.specs.Packet.{PacketParts}
 use Rattle.es_base.specs.Fragments.{Piece, is_bad, is_whole, key_of, piece_of}
 use Rattle.es_base.specs.Groups.{Found, Group, begins, datagram_with, found_at, found_for, found_if, group_with, groups_after, groups_with, has_key, is_over, is_same_key, joins, place_of, with_room, without_group}
-use Rattle.es_base.proofs.Keys.{key_itself, other_way}
+use Rattle.es_base.proofs.Firsts.{found_at as found_place, passes_found}
+use Rattle.es_base.proofs.Keys.{key_itself, other_way, same_key}
 use Rattle.datagram_delivery.specs.Splitting.{begins_group, begun_meanwhile, begun_since, is_beginning, others_in}
-use Rattle.datagram_delivery.proofs.Each.{AreDistinct, HasOther, IsAbsent, absent_set, each_push, each_remove, each_room}
+use Rattle.datagram_delivery.proofs.Each.{AreDistinct, HasOther, IsAbsent, each_push, each_room}
 use Rattle.datagram_delivery.proofs.Places.{later_place, place_here, place_later}
 
 -- ---- no group has the key
@@ -130,32 +131,86 @@ stands_push key pieces n (first ∷ groups) group (inr later) = inr (later.0, st
 
 -- ---- what a packet of another key leaves
 
--- what a key finds among some groups
-IsFoundIn : List Group → DatagramKey → Found → Type 0
-IsFoundIn groups key (joins place group) = (place_of key groups ≡ Some place) × (slice_get groups place ≡ Some group)
-IsFoundIn groups key (begins others) = (others ≡ groups) ⊎ ((place : ℕ) × (place_of key groups ≡ Some place) × (others ≡ remove groups place))
+-- without the group of a key no group has it
+removed_absent : (key : DatagramKey) (groups : List Group) (place : ℕ) → AreDistinct groups → place_of key groups ≡ Some place → IsAbsent key (remove groups place)
+removed_absent key [] place distinct there = let none : place_of key [] ≡ None = refl in let e = sym none ∙ there in cc
+removed_absent key (group ∷ groups) place distinct there =
+    ⊎_elim
+    (λ (is : has_key key group ≡ true).
+    let e : 0 ≡ place = same_Some _ _ (sym (place_here (has_key key) group groups is) ∙ there) in
+    subst (λ (i : ℕ). IsAbsent key (remove (group ∷ groups) i)) e (subst (λ (k : DatagramKey). IsAbsent k groups) (same_key group.key key is) distinct.0))
+    (λ (is : has_key key group ≡ false).
+    let (j, e, after) = later_place (place_of key groups) place (sym (place_later (has_key key) group groups is) ∙ there) in
+    subst (λ (i : ℕ). IsAbsent key (remove (group ∷ groups) i)) (sym e) (is, removed_absent key groups j distinct.1 after))
+    (cases_Bool (has_key key group))
 
-found_in : (limit : ℕ) (groups : List Group) (key : DatagramKey) (now : ℕ) → IsFoundIn groups key (found_for limit groups key now)
+place_has : (key : DatagramKey) (groups : List Group) (place : ℕ) → place_of key groups ≡ Some place → slice_get groups place ≡ None → ⊥
+place_has key [] place there none = let e : None ≡ Some place = there in cc
+place_has key (group ∷ groups) place there none =
+    ⊎_elim
+    (λ (is : has_key key group ≡ true).
+    let e : 0 ≡ place = same_Some _ _ (sym (place_here (has_key key) group groups is) ∙ there) in
+    let f : Some group ≡ None = ap (slice_get (group ∷ groups)) e ∙ none in
+    cc)
+    (λ (is : has_key key group ≡ false).
+    let (j, e, after) = later_place (place_of key groups) place (sym (place_later (has_key key) group groups is) ∙ there) in
+    place_has key groups j after (ap (slice_get (group ∷ groups)) (sym e) ∙ none))
+    (cases_Bool (has_key key group))
+
+-- what a key finds among some groups: one that it has and that isn't over, or others without it
+IsFoundIn : ℕ → ℕ → List Group → DatagramKey → Found → Type 0
+IsFoundIn limit now groups key (joins place group) = (place_of key groups ≡ Some place) × (slice_get groups place ≡ Some group) × (is_over limit now group ≡ false)
+IsFoundIn limit now groups key (begins others) = ((place_of key groups ≡ None) × (others ≡ groups)) ⊎ ((place : ℕ) × (place_of key groups ≡ Some place) × (others ≡ remove groups place))
+
+found_in : (limit : ℕ) (groups : List Group) (key : DatagramKey) (now : ℕ) (found : Found) → found_for limit groups key now ≡ found → IsFoundIn limit now groups key found
 unfolding IsFoundIn
-found_in limit groups key now = at (place_of key groups) refl
+found_in limit groups key now found same = subst (IsFoundIn limit now groups key) same (at (place_of key groups) refl)
   where
-    over : (place : ℕ) (group : Group) → place_of key groups ≡ Some place → slice_get groups place ≡ Some group → (is : Bool)
-        → IsFoundIn groups key (cond is (begins (remove groups place)) (joins place group))
-    over place group there got true = inr (place, there, refl)
-    over place group there got false = (there, got)
+    over : (place : ℕ) (group : Group) → place_of key groups ≡ Some place → slice_get groups place ≡ Some group → (is : Bool) → is_over limit now group ≡ is
+        → IsFoundIn limit now groups key (cond is (begins (remove groups place)) (joins place group))
+    over place group there got true e = inr (place, there, refl)
+    over place group there got false e = (there, got, e)
 
-    got : (place : ℕ) → place_of key groups ≡ Some place → (group : Option Group) → slice_get groups place ≡ group → IsFoundIn groups key (found_if limit groups now place group)
-    got place there None is = inl refl
-    got place there (Some group) is = over place group there is (is_over limit now group)
+    got : (place : ℕ) → place_of key groups ≡ Some place → (group : Option Group) → slice_get groups place ≡ group → IsFoundIn limit now groups key (found_if limit groups now place group)
+    got place there None is = absurd (place_has key groups place there is)
+    got place there (Some group) is = over place group there is (is_over limit now group) refl
 
-    at : (place : Option ℕ) → place_of key groups ≡ place → IsFoundIn groups key (found_at limit groups now place)
-    at None is = inl refl
+    at : (place : Option ℕ) → place_of key groups ≡ place → IsFoundIn limit now groups key (found_at limit groups now place)
+    at None is = inl (is, refl)
     at (Some place) is = got place is (slice_get groups place) refl
+
+-- what holds of others as a group begins, if it holds of all and without one
+pub begins_from : (limit : ℕ) (groups others : List Group) (key : DatagramKey) (now : ℕ) → found_for limit groups key now ≡ begins others → (Hold : List Group → Type 0) → Hold groups
+    → ((place : ℕ) → place_of key groups ≡ Some place → Hold (remove groups place)) → Hold others
+unfolding IsFoundIn
+begins_from limit groups others key now is Hold all removed = go (found_in limit groups key now (begins others) is)
+  where
+    go : IsFoundIn limit now groups key (begins others) → Hold others
+    go (inl (none, same)) = subst Hold (sym same) all
+    go (inr (place, there, same)) = subst Hold (sym same) (removed place there)
+
+-- a group that is joined
+pub joins_from : (limit : ℕ) (groups : List Group) (group : Group) (key : DatagramKey) (now place : ℕ) → found_for limit groups key now ≡ joins place group
+    → (has_key key group ≡ true) × (slice_get groups place ≡ Some group) × (is_over limit now group ≡ false)
+unfolding IsFoundIn
+joins_from limit groups group key now place is =
+    let (there, got, over) = found_in limit groups key now (joins place group) is in
+    (passes_found (has_key key) groups group (found_place (has_key key) groups place there ∙ got), got, over)
+
+-- no other has the key then
+pub begins_absent : (limit : ℕ) (groups others : List Group) (key : DatagramKey) (now : ℕ) → AreDistinct groups → found_for limit groups key now ≡ begins others → IsAbsent key others
+unfolding IsFoundIn
+begins_absent limit groups others key now distinct is = go (found_in limit groups key now (begins others) is)
+  where
+    go : IsFoundIn limit now groups key (begins others) → IsAbsent key others
+    go (inl (none, same)) = subst (IsAbsent key) (sym same) (place_absent key groups none)
+    go (inr (place, there, same)) = subst (IsAbsent key) (sym same) (removed_absent key groups place distinct there)
 
 -- what holds of the groups before a packet, and is kept by each change but the beginning of a group
 pub after_other : (limit : ℕ) (groups : List Group) (packet : PacketParts) (now : ℕ) (P Q : List Group → Type 0) → P groups
     → ((place : ℕ) → place_of (key_of packet) groups ≡ Some place → P (remove groups place))
-    → ((place : ℕ) (group : Group) → place_of (key_of packet) groups ≡ Some place → slice_get groups place ≡ Some group → P (slice_set groups place (group_with group (piece_of packet now))))
+    → (is_whole packet ≡ false → (place : ℕ) (group : Group) → place_of (key_of packet) groups ≡ Some place → slice_get groups place ≡ Some group → is_over limit now group ≡ false
+    → P (slice_set groups place (group_with group (piece_of packet now))))
     → (begins_group limit groups packet now ≡ true → (others : List Group) → found_for limit groups (key_of packet) now ≡ begins others → P others → Q (with_room others))
     → (begins_group limit groups packet now ≡ true → (others : List Group) → found_for limit groups (key_of packet) now ≡ begins others → P others → Q (with_room others ++ record { key = key_of packet; pieces = piece_of packet now ∷ [] } ∷ []))
     → (begins_group limit groups packet now ≡ true → Q (groups_after limit groups packet now)) × (begins_group limit groups packet now ≡ false → P (groups_after limit groups packet now))
@@ -172,43 +227,50 @@ after_other limit groups packet now P Q before removed put room push = go (is_wh
     given_up None is = before
     given_up (Some place) is = removed place is
 
-    stood : (others : List Group) → IsFoundIn groups key (begins others) → P others
-    stood others (inl same) = subst P (sym same) before
-    stood others (inr (place, there, same)) = subst P (sym same) (removed place there)
+    begun : (found : Found) → found_for limit groups key now ≡ found → is_beginning found ≡ true → begins_group limit groups packet now ≡ true → (whole : Bool) → Q (groups_with groups key (piece_of packet now) found whole)
+    begun (joins place group) is true_is is_begun whole = cc
+    begun (begins others) is true_is is_begun true = room is_begun others is (begins_from limit groups others key now is P before removed)
+    begun (begins others) is true_is is_begun false = push is_begun others is (begins_from limit groups others key now is P before removed)
 
-    begun : (found : Found) → found_for limit groups key now ≡ found → IsFoundIn groups key found → is_beginning found ≡ true → begins_group limit groups packet now ≡ true
-        → (whole : Bool) → Q (groups_with groups key (piece_of packet now) found whole)
-    begun (joins place group) is found true_is is_begun whole = cc
-    begun (begins others) is found true_is is_begun true = room is_begun others is (stood others found)
-    begun (begins others) is found true_is is_begun false = push is_begun others is (stood others found)
-
-    kept : (found : Found) → IsFoundIn groups key found → is_beginning found ≡ false → (whole : Bool) → P (groups_with groups key (piece_of packet now) found whole)
-    kept (joins place group) found none true = removed place found.0
-    kept (joins place group) found none false = put place group found.0 found.1
-    kept (begins others) found none whole = cc
+    kept : is_whole packet ≡ false → (found : Found) → IsFoundIn limit now groups key found → is_beginning found ≡ false → (whole : Bool) → P (groups_with groups key (piece_of packet now) found whole)
+    kept part (joins place group) found none true = removed place found.0
+    kept part (joins place group) found none false = put part place group found.0 found.1 found.2
+    kept part (begins others) found none whole = cc
 
     go : (whole bad : Bool) → is_whole packet ≡ whole → is_bad packet ≡ bad
         → (begins_group limit groups packet now ≡ true → Q (groups_after limit groups packet now)) × (begins_group limit groups packet now ≡ false → P (groups_after limit groups packet now))
     go true bad e f = (λ is. absurd (false≢true (rw e at is)), λ is. rw e (given_up (place_of key groups) refl))
     go false true e f = (λ is. absurd (false≢true (rw (e, f) at is)), λ is. rw (e, f) before)
     go false false e f = (
-      λ is. rw (e, f) (begun (found_for limit groups key now) refl (found_in limit groups key now) (rw (e, f) at is) is complete),
-      λ is. rw (e, f) (kept (found_for limit groups key now) (found_in limit groups key now) (rw (e, f) at is) complete),
+      λ is. rw (e, f) (begun (found_for limit groups key now) refl (rw (e, f) at is) is complete),
+      λ is. rw (e, f) (kept e (found_for limit groups key now) (found_in limit groups key now (found_for limit groups key now) refl) (rw (e, f) at is) complete),
     )
 
--- ---- a packet of another key, and the group of ours
-
-pub absent_after : (limit : ℕ) (key : DatagramKey) (groups : List Group) (packet : PacketParts) (now : ℕ) → is_same_key (key_of packet) key ≡ false → IsAbsent key groups
-    → IsAbsent key (groups_after limit groups packet now)
-absent_after limit key groups packet now other absent =
-    let both = after_other limit groups packet now (IsAbsent key) (IsAbsent key) absent (λ place there. each_remove (HasOther key) groups place absent)
-    (λ place group there got. absent_set key groups place group (piece_of packet now) absent got)
-    (λ is others found standing. each_room (HasOther key) others standing)
-    (λ is others found standing. each_push (HasOther key) (with_room others) (record { key = key_of packet; pieces = piece_of packet now ∷ [] }) (each_room (HasOther key) others standing) other) in
+-- what is kept by the beginning of a group, too
+pub kept_after : (limit : ℕ) (groups : List Group) (packet : PacketParts) (now : ℕ) (Hold : List Group → Type 0) → AreDistinct groups → Hold groups → ((groups : List Group) (place : ℕ) → Hold groups → Hold (remove groups place))
+    → (is_whole packet ≡ false → (place : ℕ) (group : Group) → has_key (key_of packet) group ≡ true → slice_get groups place ≡ Some group → is_over limit now group ≡ false
+    → Hold (slice_set groups place (group_with group (piece_of packet now))))
+    → ((groups : List Group) → Hold groups → Hold (with_room groups))
+    → (is_whole packet ≡ false → (others : List Group) → IsAbsent (key_of packet) others → Hold others → Hold (others ++ record { key = key_of packet; pieces = piece_of packet now ∷ [] } ∷ []))
+    → Hold (groups_after limit groups packet now)
+kept_after limit groups packet now Hold distinct all removed put room push =
+    let both = after_other limit groups packet now Hold Hold all (λ place there. removed groups place all)
+    (λ part place group there got over. put part place group (passes_found (has_key (key_of packet)) groups group (found_place (has_key (key_of packet)) groups place there ∙ got)) got over)
+    (λ is others found standing. room others standing)
+    (λ is others found standing. push (part_begins is) (with_room others) (each_room (HasOther (key_of packet)) others (begins_absent limit groups others (key_of packet) now distinct found)) (room others standing)) in
     ⊎_elim
     (λ (is : begins_group limit groups packet now ≡ true). both.0 is)
     (λ (is : begins_group limit groups packet now ≡ false). both.1 is)
     (cases_Bool (begins_group limit groups packet now))
+  where
+    part_begins : begins_group limit groups packet now ≡ true → is_whole packet ≡ false
+    part_begins is = go (is_whole packet) refl is
+      where
+        go : (all : Bool) → is_whole packet ≡ all → (not all && not (is_bad packet) && is_beginning (found_for limit groups (key_of packet) now)) ≡ true → is_whole packet ≡ false
+        go true e is = cc
+        go false e is = e
+
+-- ---- a packet of another key, and the group of ours
 
 -- the number of groups that began later, as it is
 pub stands_exactly : (key : DatagramKey) (pieces : List Piece) (n : ℕ) (groups : List Group) → Stands key pieces n groups → Stands key pieces (begun_since key groups) groups
@@ -232,7 +294,7 @@ stands_after limit key pieces n groups packet now other stands =
     let m : ℕ = begun_meanwhile limit groups key packet now in
     after_other limit groups packet now (Stands key pieces n) (λ after. begun_meanwhile limit groups key packet now < 3 → Stands key pieces (suc (begun_meanwhile limit groups key packet now)) after) stands
     (λ place there. stands_remove key (key_of packet) pieces n groups place differ stands there)
-    (λ place group there got. stands_set key (key_of packet) pieces n groups place group (piece_of packet now) differ stands there got)
+    (λ part place group there got over. stands_set key (key_of packet) pieces n groups place group (piece_of packet now) differ stands there got)
     (λ is others found standing few. stands_more key pieces m (suc m) (with_room others) (omega arith) (stands_there others found standing few))
     (λ is others found standing few. stands_push key pieces m (with_room others) (record { key = key_of packet; pieces = piece_of packet now ∷ [] }) (stands_there others found standing few))
   where

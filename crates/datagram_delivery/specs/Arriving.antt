@@ -1,5 +1,5 @@
 -- A message that arrives at a link: whatever came before its sender's copies, and whatever comes after it.
-use Rattle.std.specs.Prelude.{◌≡◌, ◌<◌, ◌⊎◌, ℕ, true, List, ◌∷◌, ◌++◌}
+use Rattle.std.specs.Prelude.{◌≡◌, ◌<◌, ℕ, true, List, ◌∷◌, ◌++◌}
 use Rattle.es_base.specs.declared.event.Event.{Event}
 use Rattle.es_base.specs.Deliveries.{number_delivered}
 use Rattle.es_base.specs.Limits.{most_samples}
@@ -11,22 +11,8 @@ use Rattle.frame_delivery.specs.Network.{Timing}
 use Rattle.frame_delivery.specs.Once.{first_copies}
 use Rattle.frame_delivery.specs.Sending.{Copy, Numbering, events_since}
 use Rattle.frame_delivery.specs.Since.{IsFirstPassing, PassTimely, forwarded_since, passing_since}
-use Rattle.datagram_delivery.specs.Datagrams.{CarryPackets, IsSentWhole, IsSplitAmong, offers_of}
+use Rattle.datagram_delivery.specs.Datagrams.{CarryPackets, offers_of, Completes}
 use Rattle.datagram_delivery.specs.Offers.{offered_in}
-use Rattle.datagram_delivery.specs.Splitting.{Offer}
-
--- a datagram in fragments, of which this is the last, was offered among these
--- rule: DELIV-12
-pub record IsSplitAfter (settings : Settings) (payload : Payload) (offers : List Offer) (last : Offer) : Type 0 where
-  pub first : Offer
-  pub during : List Offer
-  pub earlier : List Offer
-  pub is : offers ≡ during ++ first ∷ earlier
-  pub among : IsSplitAmong settings payload earlier first during last
-
--- with this packet, after these offers, a message is whole: the packet has it, or its last fragment
-abbrev pub Completes : Settings → Payload → List Offer → Offer → Type 0
-Completes settings payload offers last = IsSentWhole settings payload last ⊎ IsSplitAfter settings payload offers last
 
 -- A message arrives at a time in a past of a link. After an old past, whatever came in it, the copies that pass are of a
 -- sender's frames and come in time; the last of them is the first of its frame, and completes the message; its queue had

@@ -1,7 +1,7 @@
--- The datagrams that a sender sends one after another, each whole or in fragments, and the messages that ports get.
+-- The packets of frames and the messages that ports get of them; and the datagram of a message, whole or in fragments.
 --
 -- All lists have the latest first but lists of messages.
-use Rattle.std.specs.Prelude.{◌≡◌, ℕ, true, false, List, [], ◌∷◌, ◌++◌, length, Ok, if◌then◌else◌, ◌+◌, ◌<◌, Bool}
+use Rattle.std.specs.Prelude.{◌≡◌, ℕ, true, false, List, [], ◌∷◌, ◌++◌, length, Ok, ◌+◌, ◌<◌, ◌⊎◌}
 use Rattle.es_base.specs.declared.fragment.DatagramKey.{DatagramKey}
 use Rattle.es_base.specs.declared.place.PortNo.{PortNo}
 use Rattle.es_base.specs.declared.event.Message.{Message}
@@ -12,8 +12,7 @@ use Rattle.es_base.specs.Outcome.{Payload, brought, datagram_payload, packet_pay
 use Rattle.es_base.specs.Deliveries.{delivered}
 use Rattle.es_base.specs.Settings.{Settings}
 use Rattle.frame_delivery.specs.Sending.{Copy, EachCopy}
-use Rattle.frame_delivery.specs.Messages.{goes_to}
-use Rattle.datagram_delivery.specs.Splitting.{AreFronts, IsLastFragment, Offer, LeavesRoom, groups_after_offers, is_of, joined, pieces_of}
+use Rattle.datagram_delivery.specs.Splitting.{AreFronts, IsLastFragment, Offer, LeavesRoom, groups_after_offers, is_of, joined, pieces_of, is_key_free}
 
 -- ---- the packets of the frames
 
@@ -43,38 +42,36 @@ pub record IsSentWhole (settings : Settings) (payload : Payload) (offer : Offer)
   pub whole : is_whole offer.packet ≡ true
   pub admits : datagram_payload settings.ports (record { destination = offer.packet.destination; joined = false; octets = offer.packet.octets }) ≡ Ok payload
 
-abbrev pub AreOf : DatagramKey → List Offer → Type 0
-AreOf key [] = Unit {0}
-AreOf key (offer ∷ before) = (is_of key offer ≡ true) × AreOf key before
+-- Fragments of a datagram that more follow, among other packets: `first` is its first fragment, `during` came after it,
+-- and `earlier` before. No datagram with its key was in parts as it began.
+pub record IsInParts (limit : ℕ) (key : DatagramKey) (earlier : List Offer) (first : Offer) (during : List Offer) : Type 0 where
+  pub begins : is_of key first ≡ true
+  pub free : is_key_free limit (groups_after_offers limit [] earlier) key first.time ≡ true
+  pub fronts : AreFronts limit key (during ++ first ∷ [])
 
--- a datagram that is sent in fragments, with this one as the last
-pub record IsSentSplit (settings : Settings) (payload : Payload) (last : Offer) (others : List Offer) : Type 0 where
-  pub ours : AreOf (key_of last.packet) others
-  pub fronts : AreFronts settings.reassembly (key_of last.packet) others
-  pub ends : IsLastFragment settings.reassembly (pieces_of (key_of last.packet) others) last
-  pub admits : datagram_payload settings.ports (record {
-    destination = last.packet.destination;
-    joined = true;
-    octets = joined (pieces_of (key_of last.packet) others) ++ last.packet.octets;
-  }) ≡ Ok payload
+-- and of the groups that others begin after it at most three stand at a time
+-- rule: DELIV-11, DELIV-12
+abbrev pub HasRoomInParts : ℕ → DatagramKey → List Offer → Offer → List Offer → Type 0
+HasRoomInParts limit key earlier first during = LeavesRoom limit (groups_after_offers limit [] earlier) key (during ++ first ∷ [])
 
--- a message that is sent with these packets
-abbrev pub IsSent : Settings → Payload → List Offer → Type 0
-IsSent settings payload [] = ⊥
-IsSent settings payload (offer ∷ []) = IsSentWhole settings payload offer
-IsSent settings payload (last ∷ front ∷ earlier) = IsSentSplit settings payload last (front ∷ earlier)
+-- a fragment that more follow is the next of its datagram
+pub record IsNextFront (limit : ℕ) (offers : List Offer) (front : Offer) : Type 0 where
+  pub first : Offer
+  pub during : List Offer
+  pub earlier : List Offer
+  pub is : front ∷ offers ≡ during ++ first ∷ earlier
+  pub parts : IsInParts limit (key_of front.packet) earlier first during
+  pub room : HasRoomInParts limit (key_of front.packet) earlier first during
 
--- no packet with this key came within the limit before this time
-abbrev pub IsUnused : ℕ → DatagramKey → ℕ → List Offer → Type 0
-IsUnused limit key time [] = Unit {0}
-IsUnused limit key time (offer ∷ before) = (is_of key offer ≡ true → offer.time + limit < time) × IsUnused limit key time before
-
--- A datagram that is sent in fragments, among other packets: `first` is its first fragment, `last` its last, `during`
--- came between the two, and `earlier` before. Its identification wasn't used within the limit of time.
-pub record IsSplitInOrder (settings : Settings) (payload : Payload) (earlier : List Offer) (first : Offer) (during : List Offer) (last : Offer) : Type 0 where
-  pub begins : is_of (key_of last.packet) first ≡ true
-  pub unused : IsUnused settings.reassembly (key_of last.packet) first.time earlier
-  pub fronts : AreFronts settings.reassembly (key_of last.packet) (during ++ first ∷ [])
+-- a datagram in fragments, of which this is the last
+-- rule: DELIV-12
+pub record IsSplitAfter (settings : Settings) (payload : Payload) (offers : List Offer) (last : Offer) : Type 0 where
+  pub first : Offer
+  pub during : List Offer
+  pub earlier : List Offer
+  pub is : offers ≡ during ++ first ∷ earlier
+  pub parts : IsInParts settings.reassembly (key_of last.packet) earlier first during
+  pub room : HasRoomInParts settings.reassembly (key_of last.packet) earlier first during
   pub ends : IsLastFragment settings.reassembly (pieces_of (key_of last.packet) (during ++ first ∷ [])) last
   pub admits : datagram_payload settings.ports (record {
     destination = last.packet.destination;
@@ -82,43 +79,11 @@ pub record IsSplitInOrder (settings : Settings) (payload : Payload) (earlier : L
     octets = joined (pieces_of (key_of last.packet) (during ++ first ∷ [])) ++ last.packet.octets;
   }) ≡ Ok payload
 
--- and of the groups that others begin after it at most three stand at a time
--- rule: DELIV-12
-pub record IsSplitAmong (settings : Settings) (payload : Payload) (earlier : List Offer) (first : Offer) (during : List Offer) (last : Offer) : Type 0 where
-  pub parts : IsSplitInOrder settings payload earlier first during last
-  pub room : LeavesRoom settings.reassembly (groups_after_offers settings.reassembly [] earlier) (key_of last.packet) (during ++ first ∷ [])
+-- with this packet, after these offers, a message is whole: the packet has it, or its last fragment
+abbrev pub Completes : Settings → Payload → List Offer → Offer → Type 0
+Completes settings payload offers last = IsSentWhole settings payload last ⊎ IsSplitAfter settings payload offers last
 
--- ---- datagrams one after another
-
--- a message, and the packets that it is sent with
-pub record Sent : Type 0 where
-  pub payload : Payload
-  pub offers : List Offer
-
--- rule: DELIV-10
-abbrev pub AreSent : Settings → List Sent → Type 0
-AreSent settings [] = Unit {0}
-AreSent settings (sent ∷ before) = IsSent settings sent.payload sent.offers × AreSent settings before
-
--- the packets of all
-abbrev pub all_offers : List Sent → List Offer
-all_offers [] = []
-all_offers (sent ∷ before) = sent.offers ++ all_offers before
-
--- when the last of some packets came
-abbrev pub time_of_last : List Offer → ℕ
-time_of_last [] = 0
-time_of_last (offer ∷ before) = offer.time
-
--- whether the queue had room when the last of some packets came
-abbrev pub room_of : List Offer → Bool
-room_of [] = true
-room_of (offer ∷ before) = offer.room
-
--- the messages to a port, in order, each with the time of its last packet, but for those whose queue was full then
--- rule: DELIV-10
-abbrev pub messages_sent : PortNo → List Sent → List Message
-messages_sent port [] = []
-messages_sent port (sent ∷ before) =
-    if goes_to port sent.payload (room_of sent.offers) then messages_sent port before ++ record { time = time_of_last sent.offers; octets = sent.payload.octets } ∷ []
-    else messages_sent port before
+-- no packet with this key came within the limit before this time
+abbrev pub IsUnused : ℕ → DatagramKey → ℕ → List Offer → Type 0
+IsUnused limit key time [] = Unit {0}
+IsUnused limit key time (offer ∷ before) = (is_of key offer ≡ true → offer.time + limit < time) × IsUnused limit key time before

@@ -15,7 +15,6 @@ use Rattle.frame_delivery.specs.Network.{Timing}
 use Rattle.frame_delivery.specs.Sending.{Copy, Numbering}
 use Rattle.datagram_delivery.specs.Splitting.{Offer}
 use Rattle.datagram_delivery.specs.Counting.{Counting}
-use Rattle.datagram_delivery.specs.Datagrams.{Sent}
 use Rattle.datagram_delivery.specs.Interleaved.{Carried}
 
 -- ---- a message in two fragments
@@ -66,11 +65,14 @@ came_with net index frame time = record { index = index; event = record { net = 
 abbrev pub in_two_fragments : List Copy
 in_two_fragments = came_with nets.B 1 second_frame 1500 ∷ came_with nets.A 0 first_frame 100 ∷ []
 
-abbrev pub message_sent : Sent
-message_sent = record {
-  payload = record { port = record { 0 = 0 }; kind = Queuing 4; joined = true; octets = sixteen_octets };
-  offers = record { packet = packet_sent 1; time = 1500; room = true } ∷ record { packet = packet_sent 0; time = 100; room = true } ∷ [];
-}
+abbrev pub payload_sent : Payload
+payload_sent = record { port = record { 0 = 0 }; kind = Queuing 4; joined = true; octets = sixteen_octets }
+
+abbrev pub part_sent : ℕ → ℕ → ℕ → Carried
+part_sent ident index time = record { offer = record { packet = record (packet_sent index) { ident = ident }; time = time; room = true }; payload = payload_sent }
+
+abbrev pub message_in_two : List Carried
+message_in_two = part_sent 1 1 1500 ∷ part_sent 1 0 100 ∷ []
 
 -- ---- the same message, after the first fragment of another with its identification, whose others were lost, and a frame
 -- ---- of no sender
@@ -85,16 +87,7 @@ after_a_part = came_with nets.B 1 second_frame 61500 ∷ came_with nets.A 0 firs
 abbrev pub timing_after_a_part : Timing
 timing_after_a_part = record { sent = λ index. 60000 + 1000 * index; gap = 1000; pause = 2000; least = 100; greatest = 900; wait = 100 }
 
-abbrev pub payload_sent : Payload
-payload_sent = record { port = record { 0 = 0 }; kind = Queuing 4; joined = true; octets = sixteen_octets }
-
 -- ---- two messages whose fragments come among one another
-
-abbrev pub part_sent : ℕ → ℕ → ℕ → Carried
-part_sent ident index time = record {
-  offer = record { packet = record (packet_sent index) { ident = ident }; time = time; room = true };
-  payload = record { port = record { 0 = 0 }; kind = Queuing 4; joined = true; octets = sixteen_octets };
-}
 
 abbrev pub among_one_another : List Carried
 among_one_another = part_sent 2 1 400 ∷ part_sent 1 1 300 ∷ part_sent 2 0 200 ∷ part_sent 1 0 100 ∷ []
@@ -116,20 +109,17 @@ fragment ident offset more value = record {
   room = true;
 }
 
--- the first fragments of four datagrams, and of a fifth
-abbrev pub four_begun : List Offer
-four_begun = fragment 4 0 true 4 ∷ fragment 3 0 true 3 ∷ fragment 2 0 true 2 ∷ fragment 1 0 true 1 ∷ []
+-- the first fragments of three datagrams that begin after another
+abbrev pub three_begun : List Offer
+three_begun = fragment 4 0 true 4 ∷ fragment 3 0 true 3 ∷ fragment 2 0 true 2 ∷ []
 
--- the key of the first
+-- the key of that one
 abbrev pub first_key : DatagramKey
 first_key = key_of (fragment 1 0 true 1).packet
 
+-- the first fragments of five
 abbrev pub five_begun : List Offer
-five_begun = fragment 5 0 true 5 ∷ four_begun
-
--- the first fragments of four messages, as a sender sends them
-abbrev pub four_in_parts : List Carried
-four_in_parts = part_sent 4 0 400 ∷ part_sent 3 0 300 ∷ part_sent 2 0 200 ∷ part_sent 1 0 100 ∷ []
+five_begun = fragment 5 0 true 5 ∷ three_begun ++ fragment 1 0 true 1 ∷ []
 
 -- ---- two datagrams of one identification
 

@@ -1,18 +1,21 @@
--- Datagrams whose fragments a sender sends among one another, as its sub-virtual links do: at most four are in parts at
--- a time.
+-- Datagrams whose fragments a sender sends among one another, as its sub-virtual links do.
 --
--- All lists have the latest first but lists of messages and of keys.
-use Rattle.std.specs.Prelude.{◌≡◌, ◌<◌, ◌==◌, true, false, not, List, [], ◌∷◌, ◌++◌, length, Ok, if◌then◌else◌}
-use Rattle.es_base.specs.declared.fragment.DatagramKey.{DatagramKey}
+-- All lists have the latest first but lists of messages.
+use Rattle.std.specs.Prelude.{◌≡◌, ◌≤◌, ℕ, true, false, List, [], ◌∷◌, ◌++◌, length, if◌then◌else◌}
+use Rattle.es_base.specs.declared.event.Event.{Event}
 use Rattle.es_base.specs.declared.place.PortNo.{PortNo}
 use Rattle.es_base.specs.declared.event.Message.{Message}
-use Rattle.es_base.specs.Limits.{most_partials}
-use Rattle.es_base.specs.Fragments.{Piece, key_of, piece_of}
-use Rattle.es_base.specs.Groups.{is_same_key}
-use Rattle.es_base.specs.Outcome.{Payload, datagram_payload}
+use Rattle.es_base.specs.Limits.{most_samples}
+use Rattle.es_base.specs.Outcome.{Payload}
+use Rattle.es_base.specs.Packet.{PacketParts}
 use Rattle.es_base.specs.Settings.{Settings}
 use Rattle.frame_delivery.specs.Messages.{goes_to}
-use Rattle.datagram_delivery.specs.Splitting.{ComesNext, Offer, are_some, is_of, joined}
+use Rattle.frame_delivery.specs.Network.{Timing}
+use Rattle.frame_delivery.specs.Once.{first_copies}
+use Rattle.frame_delivery.specs.Sending.{Copy, Numbering, events_of_copies}
+use Rattle.frame_delivery.specs.Since.{PassTimely, forwarded_since, passing_since}
+use Rattle.datagram_delivery.specs.Datagrams.{CarryPackets, Completes, IsNextFront, offers_of}
+use Rattle.datagram_delivery.specs.Splitting.{Offer}
 
 -- a packet that is offered, and the message of its datagram
 pub record Carried : Type 0 where
@@ -23,48 +26,16 @@ abbrev pub carried_offers : List Carried → List Offer
 carried_offers [] = []
 carried_offers (carried ∷ before) = carried.offer ∷ carried_offers before
 
--- ---- datagrams in parts
+-- a packet is sent after others: it is the next fragment of its datagram, or completes the message
+pub record SendsNext (settings : Settings) (before : List Offer) (carried : Carried) : Type 0 where
+  pub front : carried.offer.packet.more ≡ true → IsNextFront settings.reassembly before carried.offer
+  pub last : carried.offer.packet.more ≡ false → Completes settings carried.payload before carried.offer
 
--- the pieces that came of the datagram with a key, if its last didn't come
-abbrev pub pieces_now : DatagramKey → List Offer → List Piece
-pieces_now key [] = []
-pieces_now key (offer ∷ before) =
-    if is_of key offer then (if offer.packet.more then piece_of offer.packet offer.time ∷ pieces_now key before else []) else pieces_now key before
-
--- some keys without the first that is this one
-abbrev pub without_key : DatagramKey → List DatagramKey → List DatagramKey
-without_key key [] = []
-without_key key (other ∷ keys) = if is_same_key other key then keys else other ∷ without_key key keys
-
--- the keys of the datagrams that are in parts, in the order in which they began
-abbrev pub open_keys : List Offer → List DatagramKey
-open_keys [] = []
-open_keys (offer ∷ before) =
-    if offer.packet.more then (if offer.packet.offset == 0 then open_keys before ++ key_of offer.packet ∷ [] else open_keys before)
-    else without_key (key_of offer.packet) (open_keys before)
-
--- ---- what is sent
-
--- A packet is sent after others: it is the whole of a datagram, or the next fragment of one that is in parts, or the
--- first of another. With the last octets of a datagram its message goes to a port that admits it.
-pub record SendsOn (settings : Settings) (before : List Carried) (carried : Carried) : Type 0 where
-  pub next : ComesNext settings.reassembly (pieces_now (key_of carried.offer.packet) (carried_offers before)) carried.offer
-  pub first : (carried.offer.packet.offset == 0) ≡ not (are_some (pieces_now (key_of carried.offer.packet) (carried_offers before)))
-  pub admits : carried.offer.packet.more ≡ false → datagram_payload settings.ports (record {
-    destination = carried.offer.packet.destination;
-    joined = not (carried.offer.packet.offset == 0);
-    octets = joined (pieces_now (key_of carried.offer.packet) (carried_offers before)) ++ carried.offer.packet.octets;
-  }) ≡ Ok carried.payload
-
--- and it begins no datagram in parts while four are
-pub record SendsNext (settings : Settings) (before : List Carried) (carried : Carried) : Type 0 where
-  pub on : SendsOn settings before carried
-  pub few : carried.offer.packet.more ≡ true → (carried.offer.packet.offset == 0) ≡ true → length (open_keys (carried_offers before)) < most_partials
-
+-- these packets are sent, after older ones
 -- rule: DELIV-11
-abbrev pub AreInterleaved : Settings → List Carried → Type 0
-AreInterleaved settings [] = Unit {0}
-AreInterleaved settings (carried ∷ before) = SendsNext settings before carried × AreInterleaved settings before
+abbrev pub AreInterleaved : Settings → List Offer → List Carried → Type 0
+AreInterleaved settings older [] = Unit {0}
+AreInterleaved settings older (carried ∷ before) = SendsNext settings (carried_offers before ++ older) carried × AreInterleaved settings older before
 
 -- the messages to a port, in order, each with the time of its last packet, but for those whose queue was full then
 -- rule: DELIV-11
@@ -74,3 +45,17 @@ messages_ended port (carried ∷ before) =
     if carried.offer.packet.more then messages_ended port before
     else if goes_to port carried.payload carried.offer.room then messages_ended port before ++ record { time = carried.offer.time; octets = carried.payload.octets } ∷ []
     else messages_ended port before
+
+-- These events of a link are copies of a sender's frames, of which those that pass come in time; and the first of them
+-- have the packets of these datagrams.
+pub record BringDatagrams (settings : Settings) (past : List Event) (carried : List Carried) : Type 0 where
+  pub copies : List Copy
+  pub is : past ≡ events_of_copies copies
+  pub numbering : Numbering
+  pub timing : Timing
+  pub pass : PassTimely settings numbering timing [] copies
+  pub packet : ℕ → PacketParts
+  pub carry : CarryPackets packet (forwarded_since settings [] copies)
+  pub offered : offers_of packet (first_copies (passing_since settings [] copies)) ≡ carried_offers carried
+  pub sent : AreInterleaved settings [] carried
+  pub few : length carried ≤ most_samples

@@ -4,6 +4,5 @@ pub mod Offers
 pub mod Interleaved
 pub mod Parts
 pub mod Counting
-pub mod Bringing
 pub mod Arriving
 pub mod Examples

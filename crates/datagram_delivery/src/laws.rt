@@ -10,81 +10,44 @@ ghost use Rattle.es_base.specs.Limits.{most_samples};
 ghost use Rattle.es_base.specs.Past.{arrival_of};
 ghost use Rattle.es_base.specs.Packet.{PacketParts};
 ghost use Rattle.es_base.specs.Fragments.{key_of};
-ghost use Rattle.es_base.specs.Groups.{Group, fate, held, place_of, whole};
+ghost use Rattle.es_base.specs.Groups.{fate, held, whole};
 ghost use Rattle.es_base.specs.Reassembly.{groups_in, packet_in};
 ghost use Rattle.es_base.specs.Redundancy.{is_forwarded};
 ghost use Rattle.es_base.specs.Outcome.{Payload, brings, outcome};
-ghost use Rattle.es_base.specs.Deliveries.{deliveries};
+ghost use Rattle.es_base.specs.Deliveries.{deliveries, number_delivered};
 ghost use Rattle.frame_delivery.specs.Sending.{Copy, Numbering, events_of_copies, events_since};
-ghost use Rattle.frame_delivery.specs.Once.{first_copies, has_come, passing_copies};
+ghost use Rattle.frame_delivery.specs.Once.{first_copies};
 ghost use Rattle.frame_delivery.specs.Network.{ComeWhole, KeepsGap, KeepsPause, KeepsTimes, Timing};
-ghost use Rattle.frame_delivery.specs.Since.{IsFirstPassing, PassTimely, forwarded_since, passing_since};
-ghost use Rattle.datagram_delivery.specs.Splitting.{AreFronts, IsLastFragment, Offer, LeavesRoom, groups_after_offers, is_of, joined, other_keys, pieces_of};
-ghost use Rattle.datagram_delivery.specs.Datagrams.{AreSent, CarryPackets, IsSplitAmong, IsSplitInOrder, Sent, all_offers, messages_by, messages_sent, offers_of};
+ghost use Rattle.frame_delivery.specs.Since.{PassTimely, forwarded_since, passing_since};
+ghost use Rattle.datagram_delivery.specs.Splitting.{IsLastFragment, Offer, groups_after_offers, is_key_free, joined, other_keys, pieces_of};
+ghost use Rattle.datagram_delivery.specs.Datagrams.{CarryPackets, Completes, HasRoomInParts, IsInParts, IsNextFront, IsUnused, messages_by, offers_of};
 ghost use Rattle.datagram_delivery.specs.Offers.{offered_in};
 ghost use Rattle.datagram_delivery.specs.Arriving.{Arrives, past_before};
-ghost use Rattle.datagram_delivery.specs.Interleaved.{AreInterleaved, Carried, SendsOn, SendsNext, carried_offers, messages_ended};
+ghost use Rattle.datagram_delivery.specs.Interleaved.{AreInterleaved, BringDatagrams, Carried, carried_offers, messages_ended};
 ghost use Rattle.datagram_delivery.specs.Parts.{AreWhole, ComeAfterLimit, HaveParts, HavePartsSince, IsMessageOfDatagram, WereSentIn};
 ghost use Rattle.datagram_delivery.specs.Counting.{CarryParts, Counting, CountsUp, IsOverBefore, KeepsCount, TurnsOverLate};
 ghost use Rattle.frame_delivery.specs.Examples.{numbering, timing};
-ghost use Rattle.datagram_delivery.specs.Examples.{a_part_before, after_a_part, among_one_another, counted_anew, counting_anew, datagram_at, datagram_before_restart, datagram_octets, eight, first_key, five_begun, four_begun, four_in_parts, fragment, in_two_fragments, link_of_100, link_with_queue, sixteen_octets, message_sent, one_identification, packet_sent, part_sent, payload_sent, restarting, timing_with_pause};
+ghost use Rattle.datagram_delivery.specs.Examples.{a_part_before, after_a_part, among_one_another, counted_anew, counting_anew, datagram_at, datagram_before_restart, datagram_octets, eight, first_key, five_begun, fragment, in_two_fragments, link_of_100, link_with_queue, message_in_two, sixteen_octets, one_identification, payload_sent, restarting, three_begun, timing_with_pause};
 
 /// A datagram that is split into fragments is joined whole: each fragment but the last is held, and the last brings
 /// exactly the octets of all, one after the other. They come in order and within the limit of time, none is missing,
-/// and of the groups that others begin after it at most three stand at a time, as with four sub-virtual links.
+/// no other of its key was in parts as it began, and of the groups that others begin after it at most three stand at a
+/// time, as with four sub-virtual links.
 pub fn a_split_datagram_is_joined()
-    ensures held { (limit : ℕ) (groups : List Group) (key : DatagramKey) (before : List Offer) (offer : Offer) → place_of key groups ≡ None → AreFronts limit key (offer ∷ before)
-        → LeavesRoom limit groups key before → is_of key offer ≡ true
-        → fate limit (groups_after_offers limit groups before) offer.packet offer.time ≡ held }
-    ensures whole { (limit : ℕ) (groups : List Group) (key : DatagramKey) (before : List Offer) (last : Offer) → place_of key groups ≡ None → AreFronts limit key before
-        → LeavesRoom limit groups key before → is_of key last ≡ true → IsLastFragment limit (pieces_of key before) last
-        → fate limit (groups_after_offers limit groups before) last.packet last.time ≡ whole (joined (pieces_of key before) ++ last.packet.octets) true }
+    ensures held { (limit : ℕ) (offers : List Offer) (front : Offer) → IsNextFront limit offers front → fate limit (groups_after_offers limit [] offers) front.packet front.time ≡ held }
+    ensures whole { (limit : ℕ) (earlier : List Offer) (first : Offer) (during : List Offer) (last : Offer) → IsInParts limit (key_of last.packet) earlier first during
+        → HasRoomInParts limit (key_of last.packet) earlier first during → IsLastFragment limit (pieces_of (key_of last.packet) (during ++ first ∷ [])) last
+        → fate limit (groups_after_offers limit [] (during ++ first ∷ earlier)) last.packet last.time ≡ whole (joined (pieces_of (key_of last.packet) (during ++ first ∷ [])) ++ last.packet.octets) true }
 {}
 
 /// It keeps its place if at most three other datagrams have a fragment between its first and its last: then of the
 /// groups that others begin at most three stand at a time. Those are datagrams as the sender counts them, each by its
-/// identification; a datagram that is sent whole isn't counted.
+/// identification; a datagram that is sent whole isn't counted. And no other of its key is in parts if none of them
+/// came within the limit of time.
 pub fn three_others_leave_room()
-    ensures room { (limit : ℕ) (key : DatagramKey) (earlier offers : List Offer) → place_of key (groups_after_offers limit [] earlier) ≡ None → length (other_keys key offers) ≤ 3
-        → LeavesRoom limit (groups_after_offers limit [] earlier) key offers }
-    ensures message { (settings : Settings) (payload : Payload) (earlier : List Offer) (first : Offer) (during : List Offer) (last : Offer) → IsSplitInOrder settings payload earlier first during last
-        → length (other_keys (key_of last.packet) during) ≤ 3 → IsSplitAmong settings payload earlier first during last }
-{}
-
-/// A port gets the messages that it would get if the packet of each frame of which a copy comes was offered once, in
-/// the order of sending, without any network: whatever the packets are.
-pub fn each_packet_is_offered_once()
-    ensures { (settings : Settings) (numbering : Numbering) (timing : Timing) (packet : ℕ → PacketParts) (copies : List Copy) (port : PortNo) → ComeWhole settings numbering timing copies
-        → CarryPackets packet copies
-        → deliveries settings (events_of_copies copies) port ≡ messages_by settings (offers_of packet (first_copies copies)) port }
-{}
-
-/// If a sender sends its datagrams one after another, each whole or in fragments, and a copy comes of each frame, a
-/// port gets each message that is sent to it, once, whole, in the order of sending, with the time of its last
-/// fragment's first copy; but for those whose queue was full then.
-pub fn each_datagram_is_delivered_once()
-    ensures { (settings : Settings) (numbering : Numbering) (timing : Timing) (packet : ℕ → PacketParts) (copies : List Copy) (sents : List Sent) (port : PortNo)
-        → ComeWhole settings numbering timing copies → CarryPackets packet copies
-        → offers_of packet (first_copies copies) ≡ all_offers sents → AreSent settings sents → length sents ≤ most_samples
-        → deliveries settings (events_of_copies copies) port ≡ messages_sent port sents }
-{}
-
-/// The same if it sends the fragments of up to four datagrams among one another, as its sub-virtual links do.
-pub fn each_datagram_among_others_is_delivered_once()
-    ensures { (settings : Settings) (numbering : Numbering) (timing : Timing) (packet : ℕ → PacketParts) (copies : List Copy) (carried : List Carried) (port : PortNo)
-        → ComeWhole settings numbering timing copies → CarryPackets packet copies → offers_of packet (first_copies copies) ≡ carried_offers carried → AreInterleaved settings carried
-        → length carried ≤ most_samples → deliveries settings (events_of_copies copies) port ≡ messages_ended port carried }
-{}
-
-/// Whatever else comes on the link, and whatever was lost before: a message in fragments, of each of which a copy
-/// comes, is delivered whole with its last fragment, if its identification wasn't used within the limit of time, and of
-/// the groups that others begin after it at most three stand at a time.
-pub fn a_split_message_is_delivered()
-    ensures { (settings : Settings) (numbering : Numbering) (timing : Timing) (packet : ℕ → PacketParts) (copy : Copy) (before : List Copy) (first : Offer) (during earlier : List Offer) (payload : Payload)
-        → ComeWhole settings numbering timing (copy ∷ before) → CarryPackets packet (copy ∷ before) → has_come copy.index before ≡ false
-        → offers_of packet (first_copies before) ≡ during ++ first ∷ earlier
-        → IsSplitAmong settings payload earlier first during (record { packet = packet copy.index; time = copy.event.time; room = copy.event.room })
-        → outcome settings (events_of_copies before) (arrival_of copy.event) ≡ brings payload }
+    ensures room { (limit : ℕ) (key : DatagramKey) (earlier : List Offer) (first : Offer) (during : List Offer) → IsInParts limit key earlier first during
+        → length (other_keys key (during ++ first ∷ [])) ≤ 3 → HasRoomInParts limit key earlier first during }
+    ensures unused { (limit : ℕ) (key : DatagramKey) (now : ℕ) (earlier : List Offer) → IsUnused limit key now earlier → is_key_free limit (groups_after_offers limit [] earlier) key now ≡ true }
 {}
 
 /// What a port gets is what it would get if the packets of the frames that were forwarded were offered one by one, in any
@@ -99,34 +62,28 @@ pub fn deliveries_are_of_what_was_offered()
 /// in the order of sending, at the time of the first that passes: whatever is lost of others, and whatever the packets
 /// are.
 pub fn each_passing_packet_is_offered_once()
-    ensures since { (settings : Settings) (numbering : Numbering) (timing : Timing) (packet : ℕ → PacketParts) (old : List Event) (copies : List Copy) → PassTimely settings numbering timing old copies
+    ensures { (settings : Settings) (numbering : Numbering) (timing : Timing) (packet : ℕ → PacketParts) (old : List Event) (copies : List Copy) → PassTimely settings numbering timing old copies
         → CarryPackets packet (forwarded_since settings old copies)
         → offered_in settings (events_since copies old) ≡ offers_of packet (first_copies (passing_since settings old copies)) ++ offered_in settings old }
-    ensures alone { (settings : Settings) (numbering : Numbering) (timing : Timing) (packet : ℕ → PacketParts) (copies : List Copy) (port : PortNo) → PassTimely settings numbering timing [] copies
-        → CarryPackets packet (forwarded_since settings [] copies)
-        → deliveries settings (events_of_copies copies) port ≡ messages_by settings (offers_of packet (first_copies (passing_copies settings copies))) port }
 {}
 
-/// After any past, whatever came in it, whatever groups stand, and whatever is lost of others: a message in fragments, of
-/// each of which a copy passes, is delivered whole with the first copy that passes of its last fragment. It is asked that
-/// its identification wasn't used within the limit of time before, and that of the groups that others begin after it at
-/// most three stand at a time (`three_others_leave_room`).
-pub fn a_split_message_is_delivered_after_any_past()
-    ensures once_forwarded { (settings : Settings) (past : List Event) (a : Arrival) (room : Bool) (packet : PacketParts) (first : Offer) (during earlier : List Offer) (payload : Payload)
-        → is_forwarded settings past a ≡ true → packet_in a.frame ≡ Ok packet → offered_in settings past ≡ during ++ first ∷ earlier
-        → IsSplitAmong settings payload earlier first during (record { packet = packet; time = a.time; room = room })
-        → outcome settings past a ≡ brings payload }
-    ensures passing { (settings : Settings) (numbering : Numbering) (timing : Timing) (packet : ℕ → PacketParts) (old : List Event) (copy : Copy) (before : List Copy) (first : Offer) (during earlier : List Offer) (payload : Payload)
-        → PassTimely settings numbering timing old (copy ∷ before) → CarryPackets packet (forwarded_since settings old (copy ∷ before)) → IsFirstPassing settings old before copy
-        → offers_of packet (first_copies (passing_since settings old before)) ++ offered_in settings old ≡ during ++ first ∷ earlier
-        → IsSplitAmong settings payload earlier first during (record { packet = packet copy.index; time = copy.event.time; room = copy.event.room })
-        → outcome settings (events_since before old) (arrival_of copy.event) ≡ brings payload }
+/// If a sender sends its datagrams whole, or the fragments of up to four of them among one another, as its sub-virtual
+/// links do, a port gets after any past exactly the messages whose last packet comes: each once, whole, in the order of
+/// ending, with the time of the first copy of its last fragment that passes; but for those whose queue was full then.
+pub fn each_datagram_among_others_is_delivered_once()
+    ensures { (settings : Settings) (numbering : Numbering) (timing : Timing) (packet : ℕ → PacketParts) (old : List Event) (copies : List Copy) (carried : List Carried) (port : PortNo)
+        → PassTimely settings numbering timing old copies → CarryPackets packet (forwarded_since settings old copies) → offers_of packet (first_copies (passing_since settings old copies)) ≡ carried_offers carried
+        → AreInterleaved settings (offered_in settings old) carried → number_delivered settings old port + length carried ≤ most_samples
+        → deliveries settings (events_since copies old) port ≡ deliveries settings old port ++ messages_ended port carried }
 {}
 
 /// So a message that arrives is delivered to its port: whatever came before its sender's copies, whatever was lost of
 /// others, and whatever comes after it. No fault of a sender or a network, once it is over, voids this. It stands right
-/// after what was delivered before it: so each that arrives has a place of its own.
+/// after what was delivered before it: so each that arrives has a place of its own. For any frame that is forwarded
+/// brings the message that its packet completes, whatever groups stand.
 pub fn each_message_that_arrives_is_delivered()
+    ensures completed { (settings : Settings) (past : List Event) (a : Arrival) (room : Bool) (packet : PacketParts) (payload : Payload) → is_forwarded settings past a ≡ true → packet_in a.frame ≡ Ok packet
+        → Completes settings payload (offered_in settings past) (record { packet = packet; time = a.time; room = room }) → outcome settings past a ≡ brings payload }
     ensures brings { (settings : Settings) (past : List Event) (payload : Payload) (time : ℕ) → (one : Arrives settings past payload time) → outcome settings (past_before one) (arrival_of one.copy.event) ≡ brings payload }
     ensures delivered { (settings : Settings) (past : List Event) (payload : Payload) (time : ℕ) → (one : Arrives settings past payload time)
         → (later : List Message) × (deliveries settings past payload.port ≡ deliveries settings (past_before one) payload.port ++ record { time = time; octets = payload.octets } ∷ later) }
@@ -173,11 +130,8 @@ pub fn a_count_of_identifications_mixes_nothing()
 /// numbers, and all four are forwarded; and by a message in two fragments, of which each network loses one,
 /// also after a part of another with its identification, of which the rest was lost, and a frame of no sender.
 pub fn the_conditions_can_be_met()
-    ensures in_fragments { ComeWhole link_with_queue numbering timing in_two_fragments }
-    ensures carried { CarryPackets packet_sent in_two_fragments }
-    ensures offered { offers_of packet_sent (first_copies in_two_fragments) ≡ all_offers (message_sent ∷ []) }
-    ensures sent { AreSent link_with_queue (message_sent ∷ []) }
-    ensures among { AreInterleaved link_with_queue among_one_another }
+    ensures in_fragments { BringDatagrams link_with_queue (events_of_copies in_two_fragments) message_in_two }
+    ensures among { AreInterleaved link_with_queue [] among_one_another }
     ensures arrives { Arrives link_with_queue (events_since after_a_part a_part_before) payload_sent 61500 }
     ensures parts { HaveParts 50000 (λ e. datagram_octets) (events_of_copies in_two_fragments) }
     ensures delivered { deliveries link_with_queue (events_of_copies in_two_fragments) (record { 0 = 0 }) ≡ record { time = 1500; octets = sixteen_octets } ∷ [] }
@@ -189,11 +143,9 @@ pub fn the_conditions_can_be_met()
 /// pause of 10,000: one fragment is lost on both networks. That pause is long enough for a limit of 9,999, with which no
 /// message is delivered.
 pub fn each_condition_is_needed()
-    ensures fifth_group { (place_of first_key [] ≡ None) × (is_of first_key (fragment 1 8 false 1) ≡ true) × AreFronts 50000 first_key five_begun × IsLastFragment 50000 (pieces_of first_key five_begun) (fragment 1 8 false 1) × LeavesRoom 50000 [] first_key four_begun × (LeavesRoom 50000 [] first_key five_begun → ⊥)
+    ensures fifth_group { IsInParts 50000 first_key [] (fragment 1 0 true 1) (fragment 5 0 true 5 ∷ three_begun) × IsLastFragment 50000 (pieces_of first_key five_begun) (fragment 1 8 false 1)
+        × HasRoomInParts 50000 first_key [] (fragment 1 0 true 1) three_begun × (HasRoomInParts 50000 first_key [] (fragment 1 0 true 1) (fragment 5 0 true 5 ∷ three_begun) → ⊥)
         × (fate 50000 (groups_after_offers 50000 [] five_begun) (fragment 1 8 false 1).packet 100 ≡ held) }
-    ensures fifth_in_parts { AreInterleaved link_with_queue four_in_parts × SendsOn link_with_queue four_in_parts (part_sent 5 0 500) × SendsNext link_with_queue (part_sent 5 0 500 ∷ four_in_parts) (part_sent 1 1 600)
-        × (SendsNext link_with_queue four_in_parts (part_sent 5 0 500) → ⊥)
-        × (messages_by link_with_queue (carried_offers (part_sent 1 1 600 ∷ part_sent 5 0 500 ∷ four_in_parts)) (record { 0 = 0 }) ≡ []) }
     ensures identification_again { HaveParts 99 datagram_at (events_of_copies one_identification) × (HaveParts 100 datagram_at (events_of_copies one_identification) → ⊥)
         × (deliveries link_of_100 (events_of_copies one_identification) (record { 0 = 0 }) ≡ record { time = 200; octets = eight 1 ++ eight 2 } ∷ []) }
     ensures counted_anew_too_soon { ComeWhole link_with_queue restarting timing_with_pause counted_anew × CarryParts counting_anew datagram_before_restart counted_anew × TurnsOverLate 50000 timing_with_pause counting_anew

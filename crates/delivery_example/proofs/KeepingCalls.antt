@@ -12,8 +12,7 @@ use Rattle.es_base.specs.declared.verdict.Verdict.{Verdict}
 use Rattle.es_base.specs.Config.{Configuration, link_of}
 use Rattle.es_base.specs.Run.{IsRun}
 use Rattle.es_base.specs.Settings.{Settings}
-use Rattle.datagram_delivery.specs.Bringing.{BringDatagrams}
-use Rattle.datagram_delivery.specs.Interleaved.{Carried, messages_ended}
+use Rattle.datagram_delivery.specs.Interleaved.{BringDatagrams, Carried, messages_ended}
 use Rattle.link_receiver.specs.Outlet.{ShowsDelivered}
 use Rattle.end_system.specs.declared.ends.LinkEnds.{LinkEnds}
 use Rattle.end_system_delivery.specs.Delivery.{DeliversEach, WereGiven}

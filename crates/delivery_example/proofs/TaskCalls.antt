@@ -12,8 +12,7 @@ use Rattle.es_base.specs.Past.{arrived, event_of}
 use Rattle.es_base.specs.Port.{Port}
 use Rattle.es_base.specs.Run.{IsRun}
 use Rattle.es_base.specs.Settings.{Settings}
-use Rattle.datagram_delivery.specs.Bringing.{BringDatagrams}
-use Rattle.datagram_delivery.specs.Interleaved.{Carried, messages_ended}
+use Rattle.datagram_delivery.specs.Interleaved.{BringDatagrams, Carried, messages_ended}
 use Rattle.receiver.specs.declared.port.PortOutlet.{PortOutlet}
 use Rattle.receiver.specs.declared.receiver.Reply.{Reply}
 use Rattle.receiver.specs.declared.receiver.Reply.TheVariants.{Filtered, Link}

@@ -12,7 +12,7 @@ use Rattle.es_base.specs.Config.{Configuration, link_of}
 use Rattle.es_base.specs.Port.{Port}
 use Rattle.es_base.specs.Run.{IsRun}
 use Rattle.es_base.specs.Settings.{Settings}
-use Rattle.datagram_delivery.specs.Bringing.{BringDatagrams}
+use Rattle.datagram_delivery.specs.Interleaved.{BringDatagrams}
 use Rattle.receiver.specs.declared.ends.LinkEnds.{LinkEnds}
 use Rattle.receiver.specs.declared.partition.PartitionEnd.{PartitionEnd}
 use Rattle.network_calls.specs.declared.call.Call.{Call}

@@ -10,7 +10,7 @@ use Rattle.es_base.specs.Outcome as outcomes
 use Rattle.es_base.specs.Packet as packets
 use Rattle.trace_player.specs.Histories.{past_after}
 use Rattle.trace_player.specs.Merge.{merged}
-use Rattle.datagram_delivery.specs.Bringing.{BringDatagrams}
+use Rattle.datagram_delivery.specs.Interleaved.{BringDatagrams}
 use Rattle.player_delivery.specs.Reported.{AreWritten}
 use Rattle.player_delivery.proofs.Reported.{are_written}
 use Rattle.delivery_example.specs.Example as example

@@ -3,8 +3,7 @@ ghost use Rattle.std.specs.Prelude.{◌≡◌, ℕ, [], ◌∷◌, Option, rever
 ghost use Rattle.es_base.specs.Deliveries.{deliveries};
 ghost use Rattle.es_base.specs.Past.{AreFramesOf};
 ghost use Rattle.es_base.specs.Run.{IsRun};
-ghost use Rattle.datagram_delivery.specs.Bringing.{BringDatagrams};
-ghost use Rattle.datagram_delivery.specs.Interleaved.{messages_ended};
+ghost use Rattle.datagram_delivery.specs.Interleaved.{BringDatagrams, messages_ended};
 ghost use Rattle.trace_player.specs.Histories.{past_after};
 ghost use Rattle.trace_player.specs.Merge.{merged};
 ghost use Rattle.player_delivery.specs.Reported.{AreWritten};

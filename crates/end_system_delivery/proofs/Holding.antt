@@ -14,9 +14,8 @@ use Rattle.link_receiver.specs.declared.outlet.Outlet.{Outlet}
 use Rattle.link_receiver.specs.Ends.{IsOfItsPort}
 use Rattle.link_receiver.specs.Link.{Link, message_words, past_of, published_at}
 use Rattle.link_receiver.specs.Outlet.{ShowsDelivered}
-use Rattle.datagram_delivery.specs.Bringing.{BringDatagrams}
-use Rattle.datagram_delivery.specs.Interleaved.{Carried, messages_ended}
-use Rattle.datagram_delivery.proofs.Bringing.{brought}
+use Rattle.datagram_delivery.specs.Interleaved.{BringDatagrams, Carried, messages_ended}
+use Rattle.datagram_delivery.proofs.Interleaved.{brought_by}
 use Rattle.end_system.specs.declared.ends.LinkEnds.{LinkEnds}
 use Rattle.end_system.specs.Run.{HasEnded, Step}
 use Rattle.end_system.specs.System.{System}
@@ -26,7 +25,7 @@ use Rattle.end_system_delivery.specs.Holding.{AreOutletsOf, EachHolds, HoldsEach
 outlets_hold : (link : Link) (carried : List Carried) (outlets : List Outlet) (at : ℕ) → BringDatagrams link.settings (past_of link) carried → AreOutletsOf link outlets
     → ShowsDelivered (slice_get outlets at) (messages_ended (port_no at) carried)
 outlets_hold link carried outlets at bring (taken, pieces, now, is, of_channels) =
-    subst (λ (messages : List Message). ShowsDelivered (slice_get outlets at) messages) (brought link.settings (past_of link) carried (port_no at) bring) (is.all.shown at)
+    subst (λ (messages : List Message). ShowsDelivered (slice_get outlets at) messages) (brought_by link.settings (past_of link) carried (port_no at) bring) (is.all.shown at)
 
 all_told : (published wanted : List (List ℕ)) (readers : List ReaderEnd) → published ≡ wanted → All (λ (reader : ReaderEnd). reader.seen ≡ wanted) (map (λ (reader : ReaderEnd). is_told reader published) readers)
 all_told published wanted [] is = All-nil (λ (reader : ReaderEnd). reader.seen ≡ wanted)
@@ -34,10 +33,10 @@ all_told published wanted (reader ∷ readers) is =
     All-cons (λ (reader : ReaderEnd). reader.seen ≡ wanted) (is_told reader published) (map (λ (reader : ReaderEnd). is_told reader published) readers) is (all_told published wanted readers is)
 
 knows_each : (link : Link) (carried : List Carried) (end : PortEnd) → BringDatagrams link.settings (past_of link) carried → KnowsEach carried (after_meeting link end)
-knows_each link carried (ends.Queuing port name taker) bring = brought link.settings (past_of link) carried port bring
+knows_each link carried (ends.Queuing port name taker) bring = brought_by link.settings (past_of link) carried port bring
 knows_each link carried (ends.Sampling port name readers) bring =
     all_told (published_at link port) (map message_words (messages_ended port carried)) readers
-    (ap (λ (messages : List Message). map message_words messages) (brought link.settings (past_of link) carried port bring))
+    (ap (λ (messages : List Message). map message_words messages) (brought_by link.settings (past_of link) carried port bring))
 
 holds_each : (link : Link) (carried : List Carried) (of_opening : LinkEnds) → All (IsOfItsPort link.channels) of_opening.ports.items → BringDatagrams link.settings (past_of link) carried → HoldsEach link carried of_opening
 holds_each link carried of_opening may bring = record {

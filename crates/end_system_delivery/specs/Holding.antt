@@ -14,8 +14,7 @@ use Rattle.link_receiver.specs.Ends.{IsOfItsPort}
 use Rattle.link_receiver.specs.Kept.{IsLinkKept}
 use Rattle.link_receiver.specs.Link.{Link, all_deliveries_of, message_words, past_of, published_at}
 use Rattle.link_receiver.specs.Outlet.{ShowsDelivered, channel_of}
-use Rattle.datagram_delivery.specs.Bringing.{BringDatagrams}
-use Rattle.datagram_delivery.specs.Interleaved.{Carried, messages_ended}
+use Rattle.datagram_delivery.specs.Interleaved.{BringDatagrams, Carried, messages_ended}
 use Rattle.end_system.specs.declared.ends.LinkEnds.{LinkEnds}
 use Rattle.end_system.specs.System.{System}
 

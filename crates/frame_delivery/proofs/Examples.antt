@@ -8,7 +8,7 @@ use Rattle.frame_delivery.specs.Sending.{EachCopy, HaveNumbers, RunsOn, events_o
 use Rattle.frame_delivery.specs.Network.{BeginNear, ComeWhole, HasNoOvertaking, IsOnItsWay, KeepOrderTogether, KeepsOrder, KeepsTimes, LosesNoneOf, LosesFew, Timing, time_of_all, copies_on}
 use Rattle.frame_delivery.specs.Conditions.{Condition, IsMet, MeetAllBut, covers, firsts, is_asked_for_all, late, late_restart, losses, near, restarts}
 use Rattle.frame_delivery.specs.Examples.{after_skew_max, behind_a_restart, far_apart, far_behind, frame_at, from_57, from_one, link, numbering, overtaken, slower_network, slower_on_b, soon_restarted, timed, timing, two_lost, wide_link, with_losses}
-use Rattle.frame_delivery.proofs.Main.{short_is_near}
+use Rattle.frame_delivery.proofs.Since.{short_is_near}
 use Rattle.frame_delivery.proofs.Firsts.{come_at_most}
 use Rattle.frame_delivery.proofs.Together.{firsts_together}
 use Rattle.frame_delivery.proofs.Times.{apart_not_late, short_firsts}

@@ -2,7 +2,7 @@
 use Rattle.std.proofs.Common.{◌≡◌, ◌∙◌, sym, ap, ℕ, ◌<◌, ◌≤◌, Bool, true, false, not, List, [], ◌∷◌, refl, ⊎_elim, arith, suc, length, drop}
 use Rattle.std.specs.Prelude.{◌==◌, ◌||◌, max}
 use Rattle.std.proofs.lemmas.Bool.{cases_Bool, cases_lt, lt-ltb, le-ltb, ltb-true, ltb-false, eqb-true, eqb-false, eq-eqb, or_cases, or_left, or_parts, both_ways}
-use Rattle.frame_delivery.specs.Sending.{Copy}
+use Rattle.frame_delivery.specs.Sending.{Copy, EachCopy}
 use Rattle.frame_delivery.specs.Once.{FirstsInOrder, IsNotOvertaken, IsOvertaken, first_copies, greatest_index, has_come, is_new, new_copies}
 
 pub come_at_most : (index : ℕ) (copies : List Copy) → has_come index copies ≡ true → index ≤ greatest_index copies
@@ -79,6 +79,15 @@ all_have_first index (copy ∷ before) =
     (λ (is : (copy.index == index) ≡ false). rw (come, is) rest)
     (cases_Bool (copy.index == index)))
     (λ (first : has_come copy.index before ≡ false). rw first (ap (λ (b : Bool). (copy.index == index) || b) rest))
+    (cases_Bool (has_come copy.index before))
+
+-- what holds of each copy holds of the first ones
+pub each_first : (Holds : Copy → Type 0) (copies : List Copy) → EachCopy (λ before copy. Holds copy) copies → EachCopy (λ before copy. Holds copy) (first_copies copies)
+each_first Holds [] each = tt
+each_first Holds (copy ∷ before) each =
+    ⊎_elim
+    (λ (come : has_come copy.index before ≡ true). rw come (each_first Holds before each.1))
+    (λ (first : has_come copy.index before ≡ false). rw first (each.0, each_first Holds before each.1))
     (cases_Bool (has_come copy.index before))
 
 -- a copy that isn't overtaken is new exactly if it is the first of its frame

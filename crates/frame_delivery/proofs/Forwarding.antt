@@ -1,7 +1,7 @@
 -- Redundancy management forwards the copies that are new.
 use Rattle.std.proofs.Common.{◌≡◌, ◌∙◌, sym, ap, ℕ, ◌+◌, ◌<◌, ◌≤◌, true, false, List, [], ◌∷◌, refl, ⊎_elim, arith}
 use Rattle.std.specs.Prelude.{◌||◌, nat_lt, max}
-use Rattle.std.proofs.lemmas.Bool.{cases_Bool, cases_lt, lt-ltb, le-ltb, or_left, or_right, or_from}
+use Rattle.std.proofs.lemmas.Bool.{cases_Bool, cases_lt, lt-ltb, le-ltb, ltb-false, or_left, or_right, or_from}
 use Rattle.es_base.specs.Frame.{sequence_number_of}
 use Rattle.es_base.specs.Copies.{is_ahead, elapsed, greatest_time, is_first_copy}
 use Rattle.frame_delivery.specs.Sending.{Copy, HaveNumbers, Numbering, number_of_frame}
@@ -87,19 +87,26 @@ same_greatest (copy ∷ other ∷ before) =
     rw (le-ltb (greatest_index (other ∷ before)) copy.index more) (rest ∙ omega arith))
     (cases_lt (greatest_index (other ∷ before)) copy.index)
 
--- a frame that is new after some copies is new after some of them that have the same greatest index
-still_new : (index : ℕ) (some : List Copy) (greatest : ℕ) → nat_lt greatest index ≡ true → greatest_index some ≡ greatest → is_new index some ≡ true
-still_new index [] greatest new same = refl
-still_new index (one ∷ some) greatest new same = rw same new
+-- what is new after some copies is new after the new ones of them
+pub new_by_news : (index : ℕ) (copies : List Copy) → is_new index (new_copies copies) ≡ is_new index copies
+new_by_news index [] = refl
+new_by_news index (copy ∷ before) =
+    ⊎_elim
+    (λ (new : is_new copy.index before ≡ true). rw new (ap (λ (greatest : ℕ). nat_lt (max copy.index greatest) index) (same_greatest before)))
+    (λ (old : is_new copy.index before ≡ false). rw old (new_by_news index before ∙ go before old))
+    (cases_Bool (is_new copy.index before))
+  where
+    go : (before : List Copy) → is_new copy.index before ≡ false → is_new index before ≡ is_new index (copy ∷ before)
+    go [] old = cc
+    go (other ∷ earlier) old =
+        let most : copy.index ≤ greatest_index (other ∷ earlier) = ltb-false (greatest_index (other ∷ earlier)) copy.index old in
+        let same : greatest_index (other ∷ earlier) ≡ max copy.index (greatest_index (other ∷ earlier)) = omega arith in
+        ap (λ (greatest : ℕ). nat_lt greatest index) same
 
 pub new_in_order : (copies : List Copy) → AreInOrder (new_copies copies)
 new_in_order [] = tt
 new_in_order (copy ∷ before) =
     ⊎_elim
-    (λ (new : is_new copy.index before ≡ true). rw new (go before new, new_in_order before))
+    (λ (new : is_new copy.index before ≡ true). rw new (new_by_news copy.index before ∙ new, new_in_order before))
     (λ (old : is_new copy.index before ≡ false). rw old (new_in_order before))
     (cases_Bool (is_new copy.index before))
-  where
-    go : (before : List Copy) → is_new copy.index before ≡ true → is_new copy.index (new_copies before) ≡ true
-    go [] new = refl
-    go (other ∷ earlier) new = still_new copy.index (new_copies (other ∷ earlier)) (greatest_index (other ∷ earlier)) new (same_greatest (other ∷ earlier))

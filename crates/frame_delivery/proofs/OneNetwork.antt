@@ -11,13 +11,13 @@ use Rattle.es_base.specs.Past.{arrival_of}
 use Rattle.es_base.specs.Integrity.{is_same_net, latest, may_follow, passes, sequence_numbers_on}
 use Rattle.es_base.specs.Settings.{Settings}
 use Rattle.frame_delivery.specs.Sending.{Copy, HaveNumbers, Numbering, events_of_copies, events_since, number_of_frame}
-use Rattle.frame_delivery.specs.Once.{AreInOrder, first_copies, has_come, passing_copies}
+use Rattle.frame_delivery.specs.Once.{has_come}
 use Rattle.frame_delivery.specs.Network.{BringsInRow, IsLater, KeepsOrder, LosesFew, MayFollow, Timing, copies_on, indices_on}
 use Rattle.frame_delivery.specs.Running.{EachForwarded}
-use Rattle.frame_delivery.specs.Since.{PassTimely, forwarded_since, passing_since}
+use Rattle.frame_delivery.specs.Since.{PassTimely, counts, forwarded_since, passing_since}
 use Rattle.frame_delivery.proofs.Passing.{may_follow_too}
 use Rattle.frame_delivery.proofs.Firsts.{all_have_first}
-use Rattle.frame_delivery.proofs.Since.{counts_at_last, firsts_since, passing_alone}
+use Rattle.frame_delivery.proofs.Since.{counts_alone, counts_at_last, firsts_since}
 
 -- ---- the copies of one network
 
@@ -117,13 +117,13 @@ row_passes settings numbering net copy before row is =
 -- ---- so each frame of which it brings a copy is forwarded
 
 pub row_come : (settings : Settings) (numbering : Numbering) (net : Net) (copies : List Copy) → BringsInRow numbering settings.window net copies → (index : ℕ) → has_come index (copies_on net copies) ≡ true
-    → has_come index (passing_copies settings copies) ≡ true
+    → has_come index (passing_since settings [] copies) ≡ true
 row_come settings numbering net [] row index come = come
 row_come settings numbering net (copy ∷ before) row index come =
     ⊎_elim
     (λ (on : is_same_net copy.event.net net ≡ true).
     let come_on : (copy.index == index || has_come index (copies_on net before)) ≡ true = rw on at come in
-    rw (row_passes settings numbering net copy before row on)
+    rw (counts_alone settings copy before ∙ row_passes settings numbering net copy before row on)
     (⊎_elim
     (λ (here : (copy.index == index) ≡ true). or_left _ _ here)
     (λ (there : has_come index (copies_on net before) ≡ true). or_right _ _ (row_come settings numbering net before (in_row_before numbering settings.window net copy before row) index there))
@@ -131,22 +131,15 @@ row_come settings numbering net (copy ∷ before) row index come =
     (λ (other : is_same_net copy.event.net net ≡ false).
     let rest = row_come settings numbering net before (in_row_before numbering settings.window net copy before row) index (rw other at come) in
     ⊎_elim
-    (λ (pass : passes settings (events_of_copies before) (arrival_of copy.event) ≡ true). rw pass (or_right _ _ rest))
-    (λ (fails : passes settings (events_of_copies before) (arrival_of copy.event) ≡ false). rw fails rest)
-    (cases_Bool (passes settings (events_of_copies before) (arrival_of copy.event))))
+    (λ (is : counts settings (events_of_copies before) (arrival_of copy.event) (passing_since settings [] before) ≡ true). rw is (or_right _ _ rest))
+    (λ (is : counts settings (events_of_copies before) (arrival_of copy.event) (passing_since settings [] before) ≡ false). rw is rest)
+    (cases_Bool (counts settings (events_of_copies before) (arrival_of copy.event) (passing_since settings [] before))))
     (cases_Bool (is_same_net copy.event.net net))
-
--- with no old past
-pub firsts_alone : (settings : Settings) (numbering : Numbering) (timing : Timing) (copies : List Copy) → PassTimely settings numbering timing [] copies
-    → (forwarded_since settings [] copies ≡ first_copies (passing_copies settings copies)) × AreInOrder (first_copies (passing_copies settings copies))
-firsts_alone settings numbering timing copies pass =
-    subst (λ (some : List Copy). (forwarded_since settings [] copies ≡ first_copies some) × AreInOrder (first_copies some)) (passing_alone settings copies)
-    (firsts_since settings numbering timing [] copies pass)
 
 pub row_forwarded : (settings : Settings) (numbering : Numbering) (timing : Timing) (copies : List Copy) (net : Net) (index : ℕ) → PassTimely settings numbering timing [] copies
     → BringsInRow numbering settings.window net copies → has_come index (copies_on net copies) ≡ true → has_come index (forwarded_since settings [] copies) ≡ true
 row_forwarded settings numbering timing copies net index pass row come =
-    ap (has_come index) (firsts_alone settings numbering timing copies pass).0 ∙ all_have_first index (passing_copies settings copies) ∙ row_come settings numbering net copies row index come
+    ap (has_come index) (firsts_since settings numbering timing [] copies pass).0 ∙ all_have_first index (passing_since settings [] copies) ∙ row_come settings numbering net copies row index come
 
 -- ---- and the link has recovered
 

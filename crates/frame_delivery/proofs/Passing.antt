@@ -8,7 +8,7 @@ use Rattle.es_base.specs.Past.{arrival_of}
 use Rattle.es_base.specs.Integrity.{is_among_next, is_same_net, latest, may_follow, next_number, passes, sequence_numbers_on}
 use Rattle.es_base.specs.Settings.{Settings}
 use Rattle.frame_delivery.specs.Sending.{Copy, HaveNumbers, Numbering, RunsOn, events_of_copies, number_of_frame}
-use Rattle.frame_delivery.specs.Once.{greatest_index, is_new, passing_copies}
+use Rattle.frame_delivery.specs.Once.{greatest_index, is_new}
 use Rattle.frame_delivery.specs.Network.{IsLater, KeepsOrder, LosesFew, MayFollow, indices_on}
 use Rattle.frame_delivery.proofs.Numbers.{number_after, number_later}
 
@@ -76,12 +76,6 @@ passes_here settings numbering copy before numbers later may =
 pub copy_passes : (settings : Settings) (numbering : Numbering) (copy : Copy) (before : List Copy) → HaveNumbers numbering (copy ∷ before) → KeepsOrder (copy ∷ before)
     → LosesFew numbering settings.window (copy ∷ before) → passes settings (events_of_copies before) (arrival_of copy.event) ≡ true
 copy_passes settings numbering copy before numbers keeps losses = passes_here settings numbering copy before numbers keeps.0 losses.0
-
-pub all_pass : (settings : Settings) (numbering : Numbering) (copies : List Copy) → HaveNumbers numbering copies → KeepsOrder copies → LosesFew numbering settings.window copies
-    → passing_copies settings copies ≡ copies
-all_pass settings numbering [] numbers keeps losses = refl
-all_pass settings numbering (copy ∷ before) numbers keeps losses =
-    rw (copy_passes settings numbering copy before numbers keeps losses) (ap (λ copies. copy ∷ copies) (all_pass settings numbering before numbers.1 keeps.1 losses.1))
 
 -- ---- where a network may bring a frame twice, each new copy passes
 

@@ -1,5 +1,5 @@
 -- After any past, from the first copy on that is forwarded, the first copy of each frame that passes is forwarded.
-use Rattle.std.proofs.Common.{◌≡◌, ◌∙◌, sym, ap, subst, ℕ, ◌+◌, ◌<◌, ◌≤◌, Bool, true, false, not, List, [], ◌∷◌, ◌++◌, append-nil, inl, refl, ⊎_elim, arith}
+use Rattle.std.proofs.Common.{◌≡◌, ◌∙◌, sym, ap, subst, ℕ, ◌+◌, ◌<◌, ◌≤◌, Bool, true, false, not, List, [], ◌∷◌, ◌++◌, inl, refl, ⊎_elim, arith}
 use Rattle.std.specs.Prelude.{◌&&◌, ◌||◌, ◌⊎◌, nat_lt, max}
 use Rattle.std.proofs.lemmas.Bool.{and_from, and_right, cases_Bool}
 use Rattle.es_base.specs.declared.event.Arrival.{Arrival}
@@ -11,14 +11,14 @@ use Rattle.es_base.specs.Copies.{Forwarded, elapsed, greatest_time, is_ahead, is
 use Rattle.es_base.specs.Redundancy.{forwarded, is_forwarded, is_forwarded_after}
 use Rattle.es_base.specs.Settings.{Settings}
 use Rattle.frame_delivery.specs.Sending.{Copy, EachCopy, HaveNumbers, Numbering, events_of_copies, events_since, number_of_frame}
-use Rattle.frame_delivery.specs.Once.{AreInOrder, ComesInTime, FirstsInOrder, IsForwardedIfFirst, IsForwardedIfNew, as_forwarded, first_copies, has_come, is_new, new_copies, newest_time, passing_copies}
-use Rattle.frame_delivery.specs.Network.{BeginNear, ComeTimely, HasNoOvertaking, IsNeverLate, IsOnItsWay, KeepsTimes, Timing, time_of_all}
+use Rattle.frame_delivery.specs.Once.{AreInOrder, ComesInTime, FirstsInOrder, as_forwarded, first_copies, has_come, is_new, new_copies, newest_time}
+use Rattle.frame_delivery.specs.Network.{BeginNear, ComeTimely, HasNoOvertaking, IsNeverLate, IsOnItsWay, IsOverSoon, KeepsTimes, Timing, time_of_all}
 use Rattle.frame_delivery.specs.Running.{EachForwarded}
 use Rattle.frame_delivery.specs.Since.{ComeAfter, IsFirstPassing, PassTimely, counts, forwarded_since, passing_since}
 use Rattle.frame_delivery.proofs.Forwarding.{first_is_new, new_in_order, newest_of}
 use Rattle.frame_delivery.proofs.Firsts.{first_are_new, new_are_first, new_is_first}
 use Rattle.frame_delivery.proofs.Running.{all_over, first_when_over}
-use Rattle.frame_delivery.proofs.Times.{all_in_time, apart_not_late, none_overtaken, not_late}
+use Rattle.frame_delivery.proofs.Times.{all_in_time, apart_not_late, begin_near, none_overtaken, not_late}
 
 -- ---- what holds of each copy holds of each of those that count
 
@@ -183,33 +183,29 @@ module _ (settings : Settings) (numbering : Numbering) (old : List Event) (on : 
 
 -- ---- from what is asked of the sender and of the networks
 
-sound_pass : (settings : Settings) (numbering : Numbering) (timing : Timing) (old : List Event) (copies : List Copy) → PassTimely settings numbering timing old copies
-    → AreSound settings numbering old (passing_since settings old copies)
-sound_pass settings numbering timing old copies pass =
-    let timely = pass.timely in
+sound_timely : (settings : Settings) (numbering : Numbering) (timing : Timing) (old : List Event) (copies : List Copy) → ComeTimely settings numbering timing (passing_since settings old copies) → IsNeverLate timing
+    → BeginNear settings.skew_max (passing_since settings old copies) → ComeAfter settings old (passing_since settings old copies) → AreSound settings numbering old (passing_since settings old copies)
+sound_timely settings numbering timing old copies timely on_time near after =
     let times = timely.times in
     let some : List Copy = passing_since settings old copies in
-    let in_time = all_in_time numbering timing times.gaps times.pauses settings.skew_max some timely.fits (not_late numbering timing times.gaps times.pauses pass.on_time) pass.near times.ways times.order in
-    (timely.numbers, old_times settings old some pass.after, in_time)
+    (timely.numbers, old_times settings old some after, all_in_time numbering timing times.gaps times.pauses settings.skew_max some timely.fits (not_late numbering timing times.gaps times.pauses on_time) near times.ways times.order)
 
-pub firsts_since : (settings : Settings) (numbering : Numbering) (timing : Timing) (old : List Event) (copies : List Copy) → PassTimely settings numbering timing old copies
-    → (forwarded_since settings old copies ≡ first_copies (passing_since settings old copies)) × AreInOrder (first_copies (passing_since settings old copies))
-firsts_since settings numbering timing old copies pass =
-    let timely = pass.timely in
-    let firsts : new_copies (passing_since settings old copies) ≡ first_copies (passing_since settings old copies) = new_are_first (passing_since settings old copies) pass.firsts in (
-      new_since settings numbering old timely.redundancy timely.first copies (sound_pass settings numbering timing old copies pass) ∙ firsts,
-      subst AreInOrder firsts (new_in_order (passing_since settings old copies)),
-    )
+sound_pass : (settings : Settings) (numbering : Numbering) (timing : Timing) (old : List Event) (copies : List Copy) → PassTimely settings numbering timing old copies
+    → AreSound settings numbering old (passing_since settings old copies)
+sound_pass settings numbering timing old copies pass = sound_timely settings numbering timing old copies pass.timely pass.on_time pass.near pass.after
 
 -- where copies may be overtaken, the new ones are forwarded
 pub news_since : (settings : Settings) (numbering : Numbering) (timing : Timing) (old : List Event) (copies : List Copy) → ComeTimely settings numbering timing (passing_since settings old copies) → IsNeverLate timing
     → BeginNear settings.skew_max (passing_since settings old copies) → ComeAfter settings old (passing_since settings old copies)
     → (forwarded_since settings old copies ≡ new_copies (passing_since settings old copies)) × AreInOrder (new_copies (passing_since settings old copies))
 news_since settings numbering timing old copies timely on_time near after =
-    let times = timely.times in
-    let some : List Copy = passing_since settings old copies in
-    let in_time = all_in_time numbering timing times.gaps times.pauses settings.skew_max some timely.fits (not_late numbering timing times.gaps times.pauses on_time) near times.ways times.order in
-    (new_since settings numbering old timely.redundancy timely.first copies (timely.numbers, old_times settings old some after, in_time), new_in_order some)
+    (new_since settings numbering old timely.redundancy timely.first copies (sound_timely settings numbering timing old copies timely on_time near after), new_in_order (passing_since settings old copies))
+
+pub firsts_since : (settings : Settings) (numbering : Numbering) (timing : Timing) (old : List Event) (copies : List Copy) → PassTimely settings numbering timing old copies
+    → (forwarded_since settings old copies ≡ first_copies (passing_since settings old copies)) × AreInOrder (first_copies (passing_since settings old copies))
+firsts_since settings numbering timing old copies pass =
+    subst (λ (some : List Copy). (forwarded_since settings old copies ≡ some) × AreInOrder some) (new_are_first (passing_since settings old copies) pass.firsts)
+    (news_since settings numbering timing old copies pass.timely pass.on_time pass.near pass.after)
 
 -- so they are the first copies only if these come in order
 pub order_is_needed : (settings : Settings) (numbering : Numbering) (timing : Timing) (old : List Event) (copies : List Copy) → ComeTimely settings numbering timing (passing_since settings old copies) → IsNeverLate timing
@@ -274,21 +270,35 @@ short_in_order settings numbering timing old copies times apart =
     let some = times_since settings numbering timing old copies times in
     none_overtaken numbering timing some.gaps some.pauses (passing_since settings old copies) apart some.ways some.order
 
+pub timely_since : (settings : Settings) (numbering : Numbering) (timing : Timing) (old : List Event) (copies : List Copy) → ComeTimely settings numbering timing copies → ComeTimely settings numbering timing (passing_since settings old copies)
+timely_since settings numbering timing old copies timely = record {
+  redundancy = timely.redundancy;
+  first = timely.first;
+  numbers = each_since (λ copy. sequence_number_of copy.event.frame ≡ number_of_frame numbering copy.index) settings old copies timely.numbers;
+  times = times_since settings numbering timing old copies timely.times;
+  fits = timely.fits;
+}
+
 pub all_pass_timely : (settings : Settings) (numbering : Numbering) (timing : Timing) (old : List Event) (copies : List Copy) → ComeTimely settings numbering timing copies → HasNoOvertaking timing
     → BeginNear settings.skew_max (passing_since settings old copies) → ComeAfter settings old copies → PassTimely settings numbering timing old copies
 all_pass_timely settings numbering timing old copies timely apart near after = record {
-  timely = record {
-    redundancy = timely.redundancy;
-    first = timely.first;
-    numbers = each_since (λ copy. sequence_number_of copy.event.frame ≡ number_of_frame numbering copy.index) settings old copies timely.numbers;
-    times = times_since settings numbering timing old copies timely.times;
-    fits = timely.fits;
-  };
+  timely = timely_since settings numbering timing old copies timely;
   on_time = apart_not_late timing apart;
   firsts = short_in_order settings numbering timing old copies timely.times apart;
   near = near;
   after = each_since (λ copy. EachForwarded settings (λ e. e.time ≤ copy.event.time) old) settings old copies after;
 }
+
+-- where SkewMax is short, networks begin near each other
+pub since_is_near : (settings : Settings) (numbering : Numbering) (timing : Timing) (old : List Event) (copies : List Copy) → KeepsTimes numbering timing copies → IsOverSoon timing settings.skew_max
+    → BeginNear settings.skew_max (passing_since settings old copies)
+since_is_near settings numbering timing old copies times over =
+    begin_near numbering timing times.gaps times.pauses settings.skew_max (passing_since settings old copies) over (each_since (IsOnItsWay timing) settings old copies times.ways)
+
+pub short_is_near : (settings : Settings) (numbering : Numbering) (timing : Timing) (copies : List Copy) → KeepsTimes numbering timing copies → IsOverSoon timing settings.skew_max
+    → BeginNear settings.skew_max copies × BeginNear settings.skew_max (passing_since settings [] copies)
+short_is_near settings numbering timing copies times over =
+    (begin_near numbering timing times.gaps times.pauses settings.skew_max copies over times.ways, since_is_near settings numbering timing [] copies times over)
 
 -- ---- at the latest when SkewMax is over since each old frame that was forwarded
 
@@ -326,7 +336,7 @@ counts_at_last settings old copy before pass over =
 
 -- ---- with no old past these are the copies that pass
 
-counts_alone : (settings : Settings) (copy : Copy) (before : List Copy)
+pub counts_alone : (settings : Settings) (copy : Copy) (before : List Copy)
     → counts settings (events_since before []) (arrival_of copy.event) (passing_since settings [] before) ≡ passes settings (events_of_copies before) (arrival_of copy.event)
 counts_alone settings copy before = go (passing_since settings [] before) refl
   where
@@ -340,59 +350,9 @@ counts_alone settings copy before = go (passing_since settings [] before) refl
         (λ (fails : passes settings (events_since before []) (arrival_of copy.event) ≡ false). refused settings (events_since before []) (arrival_of copy.event) fails ∙ sym fails)
         (cases_Bool (passes settings (events_since before []) (arrival_of copy.event)))
 
-pub passing_alone : (settings : Settings) (copies : List Copy) → passing_since settings [] copies ≡ passing_copies settings copies
-passing_alone settings [] = refl
-passing_alone settings (copy ∷ before) =
-    let same = counts_alone settings copy before in
-    ⊎_elim
-    (λ (is : passes settings (events_of_copies before) (arrival_of copy.event) ≡ true). rw (same ∙ is, is) (ap (λ (copies : List Copy). copy ∷ copies) (passing_alone settings before)))
-    (λ (is : passes settings (events_of_copies before) (arrival_of copy.event) ≡ false). rw (same ∙ is, is) (passing_alone settings before))
-    (cases_Bool (passes settings (events_of_copies before) (arrival_of copy.event)))
-
-pub each_passing : (Holds : Copy → Type 0) (settings : Settings) (copies : List Copy) → EachCopy (λ before copy. Holds copy) copies → EachCopy (λ before copy. Holds copy) (passing_copies settings copies)
-each_passing Holds settings copies each = subst (EachCopy (λ before copy. Holds copy)) (passing_alone settings copies) (each_since Holds settings [] copies each)
-
-pub order_of_passing : (wait : ℕ) (settings : Settings) (copies : List Copy) → EachCopy (λ before copy. time_of_all before ≤ copy.event.time + wait) copies
-    → EachCopy (λ before copy. time_of_all before ≤ copy.event.time + wait) (passing_copies settings copies)
-order_of_passing wait settings copies order =
-    subst (EachCopy (λ before copy. time_of_all before ≤ copy.event.time + wait)) (passing_alone settings copies) (order_since wait settings [] copies order)
-
-none_before : (settings : Settings) (copies : List Copy) → ComeAfter settings [] copies
+pub none_before : (settings : Settings) (copies : List Copy) → ComeAfter settings [] copies
 none_before settings [] = tt
 none_before settings (copy ∷ before) = (tt, none_before settings before)
-
--- what is asked of those that pass
-sound_alone : (settings : Settings) (numbering : Numbering) (copies : List Copy) → HaveNumbers numbering copies → EachCopy (ComesInTime numbering settings.skew_max) (passing_copies settings copies)
-    → AreSound settings numbering [] (passing_since settings [] copies)
-sound_alone settings numbering copies numbers in_time = (
-  each_since (λ copy. sequence_number_of copy.event.frame ≡ number_of_frame numbering copy.index) settings [] copies numbers,
-  old_times settings [] (passing_since settings [] copies) (none_before settings (passing_since settings [] copies)),
-  subst (EachCopy (ComesInTime numbering settings.skew_max)) (sym (passing_alone settings copies)) in_time,
-)
-
--- so the new ones of them are forwarded
-pub new_are_forwarded : (settings : Settings) (numbering : Numbering) (copies : List Copy) → settings.redundancy ≡ true → numbering.first ≤ 255 → HaveNumbers numbering copies
-    → EachCopy (ComesInTime numbering settings.skew_max) (passing_copies settings copies)
-    → forwarded settings (events_of_copies copies) ≡ as_forwarded (new_copies (passing_copies settings copies))
-new_are_forwarded settings numbering copies on small numbers in_time =
-    forwarded_are settings [] copies ∙ append-nil (as_forwarded (forwarded_since settings [] copies))
-    ∙ ap as_forwarded (new_since settings numbering [] on small copies (sound_alone settings numbering copies numbers in_time) ∙ ap new_copies (passing_alone settings copies))
-
-each_new : (settings : Settings) (numbering : Numbering) (copies : List Copy) → settings.redundancy ≡ true → numbering.first ≤ 255 → AreSound settings numbering [] (passing_since settings [] copies)
-    → EachCopy (IsForwardedIfNew settings) copies
-each_new settings numbering [] on small sound = tt
-each_new settings numbering (copy ∷ before) on small sound =
-    let earlier = sound_before settings numbering [] on small copy before sound in
-    let is = as_new settings numbering [] on small copy before (new_since settings numbering [] on small before earlier) sound in (
-      is
-          ∙ ap (λ (b : Bool). b && is_new copy.index (passing_since settings [] before)) (counts_alone settings copy before)
-          ∙ ap (λ (some : List Copy). passes settings (events_of_copies before) (arrival_of copy.event) && is_new copy.index some) (passing_alone settings before),
-      each_new settings numbering before on small earlier,
-    )
-
-pub copies_are_forwarded : (settings : Settings) (numbering : Numbering) (copies : List Copy) → settings.redundancy ≡ true → numbering.first ≤ 255 → HaveNumbers numbering copies
-    → EachCopy (ComesInTime numbering settings.skew_max) (passing_copies settings copies) → EachCopy (IsForwardedIfNew settings) copies
-copies_are_forwarded settings numbering copies on small numbers in_time = each_new settings numbering copies on small (sound_alone settings numbering copies numbers in_time)
 
 -- what holds of each copy holds of those that are forwarded
 pub each_forwarded : (Holds : Copy → Type 0) (settings : Settings) (old : List Event) (copies : List Copy) → EachCopy (λ before copy. Holds copy) copies → EachCopy (λ before copy. Holds copy) (forwarded_since settings old copies)
@@ -402,14 +362,3 @@ each_forwarded Holds settings old (copy ∷ before) each =
     (λ (is : is_forwarded settings (events_since before old) (arrival_of copy.event) ≡ true). rw is (each.0, each_forwarded Holds settings old before each.1))
     (λ (is : is_forwarded settings (events_since before old) (arrival_of copy.event) ≡ false). rw is (each_forwarded Holds settings old before each.1))
     (cases_Bool (is_forwarded settings (events_since before old) (arrival_of copy.event)))
-
--- where exactly the first copies are forwarded, these are they
-pub firsts_are_all : (settings : Settings) (copies : List Copy) → EachCopy (IsForwardedIfFirst settings) copies → forwarded_since settings [] copies ≡ first_copies copies
-firsts_are_all settings [] each = refl
-firsts_are_all settings (copy ∷ before) each =
-    let rest = firsts_are_all settings before each.1 in
-    let same : is_forwarded settings (events_since before []) (arrival_of copy.event) ≡ not (has_come copy.index before) = each.0 in
-    ⊎_elim
-    (λ (come : has_come copy.index before ≡ true). rw (same ∙ ap not come, come) rest)
-    (λ (first : has_come copy.index before ≡ false). rw (same ∙ ap not first, first) (ap (λ (copies : List Copy). copy ∷ copies) rest))
-    (cases_Bool (has_come copy.index before))

@@ -1,27 +1,17 @@
 -- Examples of a network that is out, and of a link that recovers.
-use Rattle.std.proofs.Common.{◌≡◌, ◌+◌, ◌≤◌, inl, inr, true, List, [], ◌∷◌, refl, arith}
+use Rattle.std.proofs.Common.{◌≡◌, ◌+◌, ◌≤◌, inl, inr, true, [], ◌∷◌, refl, arith}
 use Rattle.std.specs.Prelude.{◌⊎◌}
 use Rattle.std.proofs.lemmas.Bool.{false≢true}
-use Rattle.es_base.specs.declared.event.Event.{Event}
 use Rattle.es_base.specs.declared.place.Net.TheVariants as nets
 use Rattle.es_base.specs.Redundancy.{forwarded}
-use Rattle.es_base.specs.Settings.{Settings}
-use Rattle.frame_delivery.specs.Sending.{Copy, Numbering, RunsOn, events_of_copies, events_since}
-use Rattle.frame_delivery.specs.Network.{BeginNear, BringsInRow, ComeTimely, IsNeverLate, IsOnItsWay, IsOverSoon, KeepsTimes, LosesFew, Timing}
-use Rattle.frame_delivery.specs.Once.{FirstsInOrder, passing_copies}
+use Rattle.frame_delivery.specs.Sending.{RunsOn, events_of_copies, events_since}
+use Rattle.frame_delivery.specs.Network.{BeginNear, BringsInRow, ComeTimely, IsNeverLate, KeepsTimes, LosesFew, Timing}
+use Rattle.frame_delivery.specs.Once.{FirstsInOrder}
 use Rattle.frame_delivery.specs.Since.{ComeAfter, PassTimely, passing_since}
 use Rattle.frame_delivery.specs.Conditions.{Condition, IsMet, MeetAllBut, covers, firsts, is_asked_for_all, late, late_restart, losses, near, restarts}
 use Rattle.frame_delivery.specs.Examples.{after_skew_max, after_strange, far_apart, frame_at, from_57, from_one, from_ten, link, of_later_time, one_network_out, overtaken, received, restarted, soon_restarted, strange, stranger_passes, timed, timing}
-use Rattle.frame_delivery.proofs.Main.{short_is_near}
-use Rattle.frame_delivery.proofs.Times.{apart_not_late, begin_near, short_firsts}
-use Rattle.frame_delivery.proofs.Since.{each_since, short_in_order}
-
--- ---- where SkewMax is short
-
-pub since_is_near : (settings : Settings) (numbering : Numbering) (timing : Timing) (old : List Event) (copies : List Copy) → KeepsTimes numbering timing copies → IsOverSoon timing settings.skew_max
-    → BeginNear settings.skew_max (passing_since settings old copies)
-since_is_near settings numbering timing old copies times over =
-    begin_near numbering timing times.gaps times.pauses settings.skew_max (passing_since settings old copies) over (each_since (IsOnItsWay timing) settings old copies times.ways)
+use Rattle.frame_delivery.proofs.Times.{apart_not_late, short_firsts}
+use Rattle.frame_delivery.proofs.Since.{short_in_order, short_is_near, since_is_near}
 
 -- ---- a network is out
 
@@ -131,12 +121,12 @@ later_is_lost = (
 
 -- ---- where all pass
 
-pub needed_too : (passing_copies (link 1000) after_skew_max ≡ after_skew_max) × (passing_copies (link 1000) overtaken ≡ overtaken) × (passing_copies (link 128000) far_apart ≡ far_apart)
-    × (passing_copies (link 1000) soon_restarted ≡ soon_restarted)
+pub needed_too : (passing_since (link 1000) [] after_skew_max ≡ after_skew_max) × (passing_since (link 1000) [] overtaken ≡ overtaken) × (passing_since (link 128000) [] far_apart ≡ far_apart)
+    × (passing_since (link 1000) [] soon_restarted ≡ soon_restarted)
 needed_too = (refl, refl, refl, refl)
 
 -- ---- where a stranger's frame passes on the other network
 
-pub stranger_hides : BringsInRow from_one 2 nets.A stranger_passes × (passing_copies (link 1000) stranger_passes ≡ stranger_passes)
+pub stranger_hides : BringsInRow from_one 2 nets.A stranger_passes × (passing_since (link 1000) [] stranger_passes ≡ stranger_passes)
     × (forwarded (link 1000) (events_of_copies stranger_passes) ≡ frame_at 50 200 ∷ frame_at 1 100 ∷ [])
 stranger_hides = (record { numbers = (refl, (refl, tt)); order = (omega arith, (tt, tt)); losses = (inl (omega arith, λ index after within. refl), (tt, tt)) }, refl, refl)

@@ -9,7 +9,7 @@ use Rattle.es_base.specs.Deliveries.{is_same_port}
 use Rattle.frame_delivery.specs.Sending.{Copy}
 use Rattle.frame_delivery.specs.Once.{AreInOrder, first_copies, greatest_index, has_come, is_new}
 use Rattle.frame_delivery.specs.Messages.{AllCame, HaveRoom, goes_to, has_room, messages_of, octets_of_messages, octets_sent}
-use Rattle.frame_delivery.proofs.Firsts.{all_have_first, come_at_most, new_has_not_come}
+use Rattle.frame_delivery.proofs.Firsts.{all_have_first, come_at_most, each_first, new_has_not_come}
 
 -- of copies in order, of the first n frames, the latest is of the last of these
 latest_is : (n : ℕ) (copy : Copy) (before : List Copy) → is_new copy.index before ≡ true → AllCame n (copy ∷ before) → suc copy.index ≡ n
@@ -74,14 +74,6 @@ all_octets payload port n (copy ∷ before) order room all =
         kept true = refl
         kept false = refl
 
-pub first_rooms : (payload : ℕ → Payload) (copies : List Copy) → HaveRoom payload copies → HaveRoom payload (first_copies copies)
-first_rooms payload [] room = tt
-first_rooms payload (copy ∷ before) room =
-    ⊎_elim
-    (λ (come : has_come copy.index before ≡ true). rw come (first_rooms payload before room.1))
-    (λ (first : has_come copy.index before ≡ false). rw first (room.0, first_rooms payload before room.1))
-    (cases_Bool (has_come copy.index before))
-
 pub all_first_octets : (payload : ℕ → Payload) (port : PortNo) (n : ℕ) (copies : List Copy) → AreInOrder (first_copies copies) → HaveRoom payload copies → AllCame n copies
     → octets_of_messages (messages_of payload port (first_copies copies)) ≡ octets_sent payload port n
-all_first_octets payload port n copies order room all = all_octets payload port n (first_copies copies) order (first_rooms payload copies room) (λ index. all_have_first index copies ∙ all index)
+all_first_octets payload port n copies order room all = all_octets payload port n (first_copies copies) order (each_first (λ copy. has_room (payload copy.index).kind copy.event.room ≡ true) copies room) (λ index. all_have_first index copies ∙ all index)

@@ -1,9 +1,10 @@
 -- The conditions on the sender and the networks, each with a name, and copies that meet all that a law asks but one.
-use Rattle.std.specs.Prelude.{◌≡◌, ◌+◌, ◌*◌, ◌≤◌, ◌<◌, max, Bool, true, false, List}
+use Rattle.std.specs.Prelude.{◌≡◌, ◌+◌, ◌*◌, ◌≤◌, ◌<◌, max, Bool, true, false, List, []}
 use Rattle.es_base.specs.Settings.{Settings}
 use Rattle.frame_delivery.specs.Sending.{Copy, HaveNumbers, Numbering}
-use Rattle.frame_delivery.specs.Once.{FirstsInOrder, passing_copies}
+use Rattle.frame_delivery.specs.Once.{FirstsInOrder}
 use Rattle.frame_delivery.specs.Network.{BeginNear, KeepsTimes, LosesFew, Timing}
+use Rattle.frame_delivery.specs.Since.{passing_since}
 
 pub data Condition : Type 0 where
   -- SkewMax covers what the times on the way differ by
@@ -25,7 +26,7 @@ pub data Condition : Type 0 where
 abbrev pub IsMet : Condition → Settings → Numbering → Timing → List Copy → Type 0
 IsMet covers settings numbering timing copies = timing.greatest ≤ timing.least + settings.skew_max
 IsMet restarts settings numbering timing copies = timing.greatest + settings.skew_max < timing.least + timing.pause
-IsMet near settings numbering timing copies = BeginNear settings.skew_max copies × BeginNear settings.skew_max (passing_copies settings copies)
+IsMet near settings numbering timing copies = BeginNear settings.skew_max copies × BeginNear settings.skew_max (passing_since settings [] copies)
 IsMet losses settings numbering timing copies = LosesFew numbering settings.window copies
 IsMet firsts settings numbering timing copies = FirstsInOrder copies
 IsMet late settings numbering timing copies = timing.greatest + timing.wait < timing.least + 128 * timing.gap

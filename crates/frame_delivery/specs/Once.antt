@@ -1,12 +1,8 @@
 -- What of the copies is to be forwarded: one copy of each frame, in the order of sending.
-use Rattle.std.specs.Prelude.{◌≡◌, ℕ, ◌+◌, ◌≤◌, ◌<◌, ◌==◌, Bool, true, false, not, ◌&&◌, ◌||◌, nat_lt, max, List, [], ◌∷◌, if◌then◌else◌}
+use Rattle.std.specs.Prelude.{◌≡◌, ℕ, ◌+◌, ◌≤◌, ◌<◌, ◌==◌, Bool, true, false, ◌||◌, nat_lt, max, List, [], ◌∷◌, if◌then◌else◌}
 use Rattle.es_base.specs.Frame.{sequence_number_of}
-use Rattle.es_base.specs.Past.{arrival_of}
-use Rattle.es_base.specs.Integrity.{passes}
 use Rattle.es_base.specs.Copies.{Forwarded, greatest_time}
-use Rattle.es_base.specs.Redundancy.{is_forwarded}
-use Rattle.es_base.specs.Settings.{Settings}
-use Rattle.frame_delivery.specs.Sending.{Copy, EachCopy, Numbering, RunsOn, events_of_copies}
+use Rattle.frame_delivery.specs.Sending.{Copy, EachCopy, Numbering, RunsOn}
 
 -- ---- copies of later and later frames
 
@@ -44,24 +40,7 @@ abbrev pub first_copies : List Copy → List Copy
 first_copies [] = []
 first_copies (copy ∷ before) = if has_come copy.index before then first_copies before else copy ∷ first_copies before
 
--- ---- what the receiver makes of them
-
--- the copies that pass integrity checking
--- rule: DELIV-5
-abbrev pub passing_copies : Settings → List Copy → List Copy
-passing_copies settings [] = []
-passing_copies settings (copy ∷ before) =
-    if passes settings (events_of_copies before) (arrival_of copy.event) then copy ∷ passing_copies settings before else passing_copies settings before
-
--- a copy is forwarded exactly if it passes and is new after those that passed before
-abbrev pub IsForwardedIfNew : Settings → List Copy → Copy → Type 0
-IsForwardedIfNew settings before copy =
-    is_forwarded settings (events_of_copies before) (arrival_of copy.event) ≡ (passes settings (events_of_copies before) (arrival_of copy.event) && is_new copy.index (passing_copies settings before))
-
--- a copy is forwarded exactly if it is the first of its frame
--- rule: DELIV-6
-abbrev pub IsForwardedIfFirst : Settings → List Copy → Copy → Type 0
-IsForwardedIfFirst settings before copy = is_forwarded settings (events_of_copies before) (arrival_of copy.event) ≡ not (has_come copy.index before)
+-- ---- what redundancy management needs of them
 
 -- what redundancy management keeps of some copies that were forwarded
 abbrev pub as_forwarded : List Copy → List Forwarded

@@ -14,6 +14,7 @@ use Rattle.frame_delivery.specs.Network.{BeginNear, ComeTimely, IsNeverLate, Tim
 -- ---- what the receiver makes of them
 
 -- the copies that are forwarded
+-- rule: DELIV-6
 abbrev pub forwarded_since : Settings → List Event → List Copy → List Copy
 forwarded_since settings old [] = []
 forwarded_since settings old (copy ∷ before) =

@@ -15,9 +15,9 @@ ghost use Rattle.es_base.specs.Redundancy.{forwarded, is_forwarded};
 ghost use Rattle.es_base.specs.Outcome.{Payload};
 ghost use Rattle.es_base.specs.Deliveries.{deliveries, number_delivered};
 ghost use Rattle.frame_delivery.specs.Sending.{Copy, EachCopy, HaveNumbers, Numbering, RunsOn, events_of_copies, events_since, number_of_frame};
-ghost use Rattle.frame_delivery.specs.Once.{AreInOrder, ComesInTime, FirstsInOrder, IsForwardedIfFirst, IsForwardedIfNew, IsOvertaken, as_forwarded, first_copies, has_come, new_copies, passing_copies};
+ghost use Rattle.frame_delivery.specs.Once.{AreInOrder, FirstsInOrder, IsOvertaken, as_forwarded, first_copies, has_come, new_copies};
 ghost use Rattle.frame_delivery.specs.Running.{EachForwarded, SomeForwarded};
-ghost use Rattle.frame_delivery.specs.Since.{ComeAfter, IsFirstPassing, PassTimely, forwarded_since, passing_since};
+ghost use Rattle.frame_delivery.specs.Since.{ComeAfter, IsFirstPassing, PassTimely, counts, forwarded_since, passing_since};
 ghost use Rattle.frame_delivery.specs.Network.{BeginNear, BringsInRow, ComeTimely, ComeWhole, Delays, HasAge, HasNoOvertaking, IsNeverLate, IsOverSoon, KeepOrderTogether, KeepsBefore, KeepsDelays, KeepsOrder, KeepsTimes, LosesFew, MayFollow, Timing, copies_on, indices_on};
 ghost use Rattle.frame_delivery.specs.Conditions.{MeetAll, MeetAllBut, covers, firsts, is_asked_for_all, is_asked_for_once, late, late_restart, losses, near, restarts};
 ghost use Rattle.frame_delivery.specs.Messages.{AllCame, CarryWhole, HaveRoom, messages_of, octets_of_messages, octets_sent};
@@ -46,45 +46,34 @@ pub fn skew_max_runs_from_each_forwarded_frame()
         → is_ahead latest.sequence_number (sequence_number_of a.frame) ≡ false → SomeForwarded settings (λ e. a.time ≤ e.time + settings.skew_max) past → is_forwarded settings past a ≡ false }
 {}
 
-/// Of the copies that pass those are forwarded that are of a later frame than all before, if the copies come in time.
-pub fn new_frames_are_forwarded()
-    ensures { (settings : Settings) (numbering : Numbering) (copies : List Copy) → settings.redundancy ≡ true → numbering.first ≤ 255 → HaveNumbers numbering copies
-        → EachCopy (ComesInTime numbering settings.skew_max) (passing_copies settings copies) → EachCopy (IsForwardedIfNew settings) copies }
-{}
-
-/// No frame is forwarded twice, and none after a later one, whatever the networks lose, bring twice or out of order:
-/// if the copies come at times that fit SkewMax, none is too late, and networks begin near each other.
+/// No frame is forwarded twice, and none after a later one, whatever the networks lose, bring twice or out of order: of
+/// the copies that pass those are forwarded that are of a later frame than all before, if they come at times that fit
+/// SkewMax, none is too late, and networks begin near each other. With no old past all copies that pass count.
 pub fn no_frame_is_forwarded_twice()
-    ensures forwarded { (settings : Settings) (numbering : Numbering) (timing : Timing) (copies : List Copy) → ComeTimely settings numbering timing copies → IsNeverLate timing
-        → BeginNear settings.skew_max (passing_copies settings copies) → forwarded settings (events_of_copies copies) ≡ as_forwarded (new_copies (passing_copies settings copies)) }
-    ensures in_order { (settings : Settings) (copies : List Copy) → AreInOrder (new_copies (passing_copies settings copies)) }
+    ensures forwarded { (settings : Settings) (numbering : Numbering) (timing : Timing) (old : List Event) (copies : List Copy) → ComeTimely settings numbering timing (passing_since settings old copies) → IsNeverLate timing
+        → BeginNear settings.skew_max (passing_since settings old copies) → ComeAfter settings old (passing_since settings old copies)
+        → (forwarded_since settings old copies ≡ new_copies (passing_since settings old copies)) × AreInOrder (new_copies (passing_since settings old copies)) }
+    ensures nothing_before { (settings : Settings) (copy : Copy) (before : List Copy)
+        → counts settings (events_of_copies before) (arrival_of copy.event) (passing_since settings [] before) ≡ passes settings (events_of_copies before) (arrival_of copy.event) }
+    ensures redundancy_keeps { (settings : Settings) (old : List Event) (copies : List Copy) → forwarded settings (events_since copies old) ≡ as_forwarded (forwarded_since settings old copies) ++ forwarded settings old }
 {}
 
 /// And none is lost of which a copy comes: the first copy of each frame is forwarded, and no other, if each network
-/// also loses fewer than the window in a row, and the first copies come in order (`first_copies_come_in_order`).
+/// also loses fewer than the window in a row, and the first copies come in order (`first_copies_come_in_order`). For
+/// then the first copy of each frame passes.
 pub fn no_frame_is_lost()
-    ensures first { (settings : Settings) (numbering : Numbering) (timing : Timing) (copies : List Copy) → ComeWhole settings numbering timing copies
-        → EachCopy (IsForwardedIfFirst settings) copies }
+    ensures pass { (settings : Settings) (numbering : Numbering) (timing : Timing) (copies : List Copy) → ComeWhole settings numbering timing copies
+        → PassTimely settings numbering timing [] copies × (first_copies (passing_since settings [] copies) ≡ first_copies copies) }
     ensures forwarded { (settings : Settings) (numbering : Numbering) (timing : Timing) (copies : List Copy) → ComeWhole settings numbering timing copies
-        → forwarded settings (events_of_copies copies) ≡ as_forwarded (first_copies copies) }
-    ensures in_order { (settings : Settings) (numbering : Numbering) (timing : Timing) (copies : List Copy) → ComeWhole settings numbering timing copies
-        → AreInOrder (first_copies copies) }
+        → (forwarded_since settings [] copies ≡ first_copies copies) × AreInOrder (first_copies copies) }
     ensures all { (copies : List Copy) (index : ℕ) → has_come index (first_copies copies) ≡ has_come index copies }
 {}
 
 /// If they don't come in order, a frame is still lost only if each of its copies comes after a copy of a later frame.
 pub fn a_frame_is_lost_only_if_it_is_overtaken()
     ensures forwarded { (settings : Settings) (numbering : Numbering) (timing : Timing) (copies : List Copy) → ComeTimely settings numbering timing copies → IsNeverLate timing
-        → BeginNear settings.skew_max copies → KeepsOrder copies → LosesFew numbering settings.window copies → forwarded settings (events_of_copies copies) ≡ as_forwarded (new_copies copies) }
+        → BeginNear settings.skew_max copies → KeepsOrder copies → LosesFew numbering settings.window copies → forwarded_since settings [] copies ≡ new_copies copies }
     ensures lost { (copies : List Copy) (index : ℕ) → has_come index (new_copies copies) ≡ false → IsOvertaken index copies }
-{}
-
-/// If the networks lose more in a row, each frame of which a copy passes integrity checking is still forwarded, with
-/// the first that passes, and no other. It is only asked of the copies that pass that the first of each frame comes
-/// before those of later frames: a further copy may come late.
-pub fn no_frame_that_passes_is_lost()
-    ensures { (settings : Settings) (numbering : Numbering) (timing : Timing) (copies : List Copy) → ComeTimely settings numbering timing copies → IsNeverLate timing → FirstsInOrder (passing_copies settings copies)
-        → BeginNear settings.skew_max (passing_copies settings copies) → forwarded settings (events_of_copies copies) ≡ as_forwarded (first_copies (passing_copies settings copies)) }
 {}
 
 /// One network is enough. If it keeps the order of the frames, and loses fewer than the window in a row, each of its
@@ -99,13 +88,10 @@ pub fn one_network_is_enough()
         → passes settings (events_since before old) (arrival_of copy.event) ≡ true }
     ensures brings { (settings : Settings) (numbering : Numbering) (timing : Timing) (copies : List Copy) (net : Net) (index : ℕ) → PassTimely settings numbering timing [] copies
         → BringsInRow numbering settings.window net copies → has_come index (copies_on net copies) ≡ true → has_come index (forwarded_since settings [] copies) ≡ true }
-    ensures once { (settings : Settings) (numbering : Numbering) (timing : Timing) (copies : List Copy) → PassTimely settings numbering timing [] copies
-        → (forwarded_since settings [] copies ≡ first_copies (passing_copies settings copies)) × AreInOrder (first_copies (passing_copies settings copies)) }
 {}
 
 /// Whatever came before on the link, frames of a stranger or numbers that don't follow: from the first copy on that is
-/// forwarded then, the first copy of each frame that passes is forwarded, and no other, in order. If first copies may
-/// be overtaken, those are forwarded that are of a later frame than all before. With nothing before these are all that pass.
+/// forwarded then, the first copy of each frame that passes is forwarded, and no other, in order.
 pub fn forwarding_recovers()
     ensures forwarded { (settings : Settings) (numbering : Numbering) (timing : Timing) (old : List Event) (copies : List Copy) → PassTimely settings numbering timing old copies
         → (forwarded_since settings old copies ≡ first_copies (passing_since settings old copies)) × AreInOrder (first_copies (passing_since settings old copies)) }
@@ -115,10 +101,6 @@ pub fn forwarding_recovers()
         → IsFirstPassing settings old before copy → is_forwarded settings (events_since before old) (arrival_of copy.event) ≡ true }
     ensures no_other { (settings : Settings) (numbering : Numbering) (timing : Timing) (old : List Event) (copy : Copy) (before : List Copy) → PassTimely settings numbering timing old (copy ∷ before)
         → has_come copy.index (passing_since settings old before) ≡ true → is_forwarded settings (events_since before old) (arrival_of copy.event) ≡ false }
-    ensures even_if_overtaken { (settings : Settings) (numbering : Numbering) (timing : Timing) (old : List Event) (copies : List Copy) → ComeTimely settings numbering timing (passing_since settings old copies) → IsNeverLate timing
-        → BeginNear settings.skew_max (passing_since settings old copies) → ComeAfter settings old (passing_since settings old copies)
-        → (forwarded_since settings old copies ≡ new_copies (passing_since settings old copies)) × AreInOrder (new_copies (passing_since settings old copies)) }
-    ensures nothing_before { (settings : Settings) (copies : List Copy) → passing_since settings [] copies ≡ passing_copies settings copies }
 {}
 
 /// A link has recovered at the latest with the first copy that passes once SkewMax is over since all that was forwarded
@@ -158,8 +140,6 @@ pub fn first_copies_come_in_order()
 pub fn a_short_skew_max_is_near()
     ensures all { (settings : Settings) (numbering : Numbering) (timing : Timing) (copies : List Copy) → KeepsTimes numbering timing copies → IsOverSoon timing settings.skew_max
         → BeginNear settings.skew_max copies }
-    ensures passing { (settings : Settings) (numbering : Numbering) (timing : Timing) (copies : List Copy) → KeepsTimes numbering timing copies → IsOverSoon timing settings.skew_max
-        → BeginNear settings.skew_max (passing_copies settings copies) }
     ensures since { (settings : Settings) (numbering : Numbering) (timing : Timing) (old : List Event) (copies : List Copy) → KeepsTimes numbering timing copies → IsOverSoon timing settings.skew_max
         → BeginNear settings.skew_max (passing_since settings old copies) }
 {}
@@ -168,13 +148,6 @@ pub fn a_short_skew_max_is_near()
 /// on its way.
 pub fn each_message_has_its_age()
     ensures { (numbering : Numbering) (timing : Timing) (copies : List Copy) (now : ℕ) → KeepsTimes numbering timing copies → EachCopy (λ before copy. HasAge timing now copy) (first_copies copies) }
-{}
-
-/// So a port gets the message of each frame of which a copy comes, once, in the order of sending, whole, with the time
-/// of the first copy; but for those whose queue was full then.
-pub fn each_message_is_delivered_once()
-    ensures { (settings : Settings) (numbering : Numbering) (timing : Timing) (payload : ℕ → Payload) (copies : List Copy) (port : PortNo) → ComeWhole settings numbering timing copies
-        → CarryWhole settings payload copies → length copies ≤ most_samples → deliveries settings (events_of_copies copies) port ≡ messages_of payload port (first_copies copies) }
 {}
 
 /// After any past a port gets the message of each frame of which a copy passes, from the first on that is forwarded: once,
@@ -205,7 +178,7 @@ pub fn all_messages_are_delivered_by_one_network()
 pub fn these_are_the_conditions()
     ensures all { (settings : Settings) (numbering : Numbering) (timing : Timing) (copies : List Copy) → MeetAll is_asked_for_all settings numbering timing copies → ComeWhole settings numbering timing copies }
     ensures once { (settings : Settings) (numbering : Numbering) (timing : Timing) (copies : List Copy) → MeetAll is_asked_for_once settings numbering timing copies
-        → ComeTimely settings numbering timing copies × IsNeverLate timing × BeginNear settings.skew_max (passing_copies settings copies) }
+        → ComeTimely settings numbering timing (passing_since settings [] copies) × IsNeverLate timing × BeginNear settings.skew_max (passing_since settings [] copies) × ComeAfter settings [] (passing_since settings [] copies) }
     ensures passing { (settings : Settings) (numbering : Numbering) (timing : Timing) (old : List Event) (copies : List Copy) → ComeTimely settings numbering timing copies → HasNoOvertaking timing
         → BeginNear settings.skew_max (passing_since settings old copies) → ComeAfter settings old copies → PassTimely settings numbering timing old copies }
 {}
@@ -240,9 +213,9 @@ pub fn a_link_recovers_in_examples()
     ensures after_a_later_time { ComeTimely (link 1000) from_57 (timed 3000 3000 100 100 0) restarted × IsNeverLate (timed 3000 3000 100 100 0) × FirstsInOrder (passing_since (link 1000) of_later_time restarted) × BeginNear 1000 (passing_since (link 1000) of_later_time restarted)
         × (passing_since (link 1000) of_later_time restarted ≡ restarted) × (ComeAfter (link 1000) of_later_time restarted → ⊥)
         × (forwarded (link 1000) (events_since restarted of_later_time) ≡ frame_at 57 100 ∷ frame_at 50 5000 ∷ []) }
-    ensures while_a_stranger_passes { BringsInRow from_one 2 nets.A stranger_passes × (passing_copies (link 1000) stranger_passes ≡ stranger_passes)
+    ensures while_a_stranger_passes { BringsInRow from_one 2 nets.A stranger_passes × (passing_since (link 1000) [] stranger_passes ≡ stranger_passes)
         × (forwarded (link 1000) (events_of_copies stranger_passes) ≡ frame_at 50 200 ∷ frame_at 1 100 ∷ []) }
-    ensures all_pass { (passing_copies (link 1000) after_skew_max ≡ after_skew_max) × (passing_copies (link 1000) overtaken ≡ overtaken) × (passing_copies (link 128000) far_apart ≡ far_apart) × (passing_copies (link 1000) soon_restarted ≡ soon_restarted) }
+    ensures all_pass { (passing_since (link 1000) [] after_skew_max ≡ after_skew_max) × (passing_since (link 1000) [] overtaken ≡ overtaken) × (passing_since (link 128000) [] far_apart ≡ far_apart) × (passing_since (link 1000) [] soon_restarted ≡ soon_restarted) }
 {}
 
 /// Counterexamples with one condition not met, by a microsecond or by one frame, and all others that the law asks met:

@@ -22,17 +22,16 @@ use Rattle.trace_player.specs.Histories.{past_after}
 use Rattle.trace_player.specs.Merge.{merged}
 use Rattle.trace_player.specs.Output.{lines_of, output_of, report_time_of}
 use Rattle.datagram_delivery.specs.Arriving.{Arrives, past_before}
-use Rattle.datagram_delivery.specs.Bringing.{BringDatagrams}
-use Rattle.datagram_delivery.specs.Interleaved.{Carried}
+use Rattle.datagram_delivery.specs.Interleaved.{BringDatagrams, Carried}
 use Rattle.datagram_delivery.proofs.Arriving.{arriving_is_delivered}
-use Rattle.datagram_delivery.proofs.Bringing.{brought}
+use Rattle.datagram_delivery.proofs.Interleaved.{brought_by}
 use Rattle.datagram_delivery.proofs.Offered.{deliveries_by_offers}
 use Rattle.player_delivery.specs.Reported.{AreWritten, IsReported, StandsIn, lines_offered, lines_sent}
 
 pub lines_are : (constant : List ℕ) (link : Settings) (frames : List Arrival) (carried : List Carried) (at : ℕ) → BringDatagrams link (past_after constant link frames) carried
     → link_lines at link (past_after constant link frames) ≡ lines_sent link carried at
 lines_are constant link frames carried at bring =
-    ap (λ delivered. ports_lines at delivered 0 link.ports) (fun_ext (λ port. brought link (past_after constant link frames) carried port bring))
+    ap (λ delivered. ports_lines at delivered 0 link.ports) (fun_ext (λ port. brought_by link (past_after constant link frames) carried port bring))
 
 -- whatever came
 pub lines_are_offered : (constant : List ℕ) (link : Settings) (frames : List Arrival) (at : ℕ) → link_lines at link (past_after constant link frames) ≡ lines_offered link (past_after constant link frames) at

@@ -10,8 +10,7 @@ ghost use Rattle.output_lines.specs.Report.{link_lines};
 ghost use Rattle.trace_player.specs.Histories.{past_after};
 ghost use Rattle.trace_player.specs.Merge.{merged};
 ghost use Rattle.datagram_delivery.specs.Arriving.{Arrives};
-ghost use Rattle.datagram_delivery.specs.Bringing.{BringDatagrams};
-ghost use Rattle.datagram_delivery.specs.Interleaved.{Carried};
+ghost use Rattle.datagram_delivery.specs.Interleaved.{BringDatagrams, Carried};
 ghost use Rattle.player_delivery.specs.Reported.{AreWritten, IsReported, lines_offered, lines_sent};
 
 /// The report's lines on a link's ports are those of the messages sent to them, each once and whole, if copies of it

@@ -1,7 +1,5 @@
-use Rattle.frame_delivery.proofs.Main.{forwarded_at_most_once}
-use Rattle.frame_delivery.proofs.Forwarding.{new_in_order}
-use Rattle.frame_delivery.specs.Once.{passing_copies}
+use Rattle.frame_delivery.proofs.Since.{counts_alone, forwarded_are, news_since}
 use Rattle.frame_delivery.proofs.laws.no_frame_is_forwarded_twice.Goals as goal
 
 pub returns : goal.returns
-returns c = record { forwarded = forwarded_at_most_once; in_order = λ settings copies. new_in_order (passing_copies settings copies) }
+returns c = record { forwarded = news_since; nothing_before = counts_alone; redundancy_keeps = forwarded_are }

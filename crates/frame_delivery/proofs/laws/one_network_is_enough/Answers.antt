@@ -1,5 +1,5 @@
-use Rattle.frame_delivery.proofs.OneNetwork.{firsts_alone, passes_again, row_forwarded, row_passes}
+use Rattle.frame_delivery.proofs.OneNetwork.{passes_again, row_forwarded, row_passes}
 use Rattle.frame_delivery.proofs.laws.one_network_is_enough.Goals as goal
 
 pub returns : goal.returns
-returns c = record { passes = row_passes; passes_again = passes_again; brings = row_forwarded; once = firsts_alone }
+returns c = record { passes = row_passes; passes_again = passes_again; brings = row_forwarded }
