@@ -1,5 +1,5 @@
 -- A message that is brought to a port is that of a datagram that was sent.
-use Rattle.std.proofs.Common.{◌≡◌, ◌∙◌, ap, sym, subst, append-nil, append_assoc, ℕ, Bool, true, false, List, [], ◌∷◌, ◌++◌, inl, inr, Some, Result, Ok, Err, refl}
+use Rattle.std.proofs.Common.{◌≡◌, ◌∙◌, ap, sym, append-nil, append_assoc, ℕ, Bool, true, false, List, [], ◌∷◌, ◌++◌, inl, inr, Some, Result, Ok, Err, refl}
 use Rattle.std.specs.Prelude.{◌&&◌, if◌then◌else◌}
 use Rattle.es_base.specs.declared.event.Arrival.{Arrival}
 use Rattle.es_base.specs.declared.event.Event.{Event}
@@ -210,17 +210,6 @@ all_since settings datagram old (e ∷ past) port have =
 
 -- ---- with no old past
 
-parts_alone : (settings : Settings) (datagram : Event → List ℕ) (past : List Event) → HaveParts settings.reassembly datagram past → HavePartsSince settings datagram [] past
+pub parts_alone : (settings : Settings) (datagram : Event → List ℕ) (past : List Event) → HaveParts settings.reassembly datagram past → HavePartsSince settings datagram [] past
 parts_alone settings datagram [] have = tt
 parts_alone settings datagram (e ∷ past) have = (have.0, have.1, λ packet reads fragment. tt, parts_alone settings datagram past have.2)
-
-pub brought_was_sent : (settings : Settings) (datagram : Event → List ℕ) (e : Event) (past : List Event) (payload : Payload) → HaveParts settings.reassembly datagram (e ∷ past)
-    → outcome settings past (arrival_of e) ≡ brings payload → IsMessageOfDatagram settings e.frame (datagram e) payload
-brought_was_sent settings datagram e past payload have is =
-    brought_since settings datagram [] e past payload (parts_alone settings datagram (e ∷ past) have) (ap (λ (past : List Event). outcome settings past (arrival_of e)) (append-nil past) ∙ is)
-
-pub all_were_sent : (settings : Settings) (datagram : Event → List ℕ) (past : List Event) (port : PortNo) → HaveParts settings.reassembly datagram past
-    → WereSentIn settings datagram port past (deliveries settings past port)
-all_were_sent settings datagram past port have =
-    let (more, is, sent) = all_since settings datagram [] past port (parts_alone settings datagram past have) in
-    subst (WereSentIn settings datagram port past) (sym is ∙ ap (λ (past : List Event). deliveries settings past port) (append-nil past)) sent

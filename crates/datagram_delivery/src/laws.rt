@@ -89,28 +89,20 @@ pub fn each_message_that_arrives_is_delivered()
         → (later : List Message) × (deliveries settings past payload.port ≡ deliveries settings (past_before one) payload.port ++ record { time = time; octets = payload.octets } ∷ later) }
 {}
 
-/// Nothing is made up, mixed or cut, whatever is lost, brought twice or out of order: a message that a port gets is
-/// that of the datagram of which the frame has a part that came at its time. It is only asked that no two fragments that
-/// come within the limit of time of each other are of different datagrams with one identification. So nothing is asked of
-/// the identifications of datagrams that are sent whole.
+/// Nothing is made up, mixed or cut, whatever is lost, brought twice or out of order, and whatever came before: a message
+/// that a port gets is that of the datagram of which the frame has a part that came at its time. It is only asked that no
+/// two fragments that come within the limit of time of each other are of different datagrams with one identification,
+/// and that an old past hasn't these identifications within it: they may be any once the limit is over since all that was
+/// forwarded there, or with nothing before. Nothing is asked of the identifications of datagrams that are sent whole.
 pub fn each_message_was_sent()
-    ensures brought { (settings : Settings) (datagram : Event → List ℕ) (e : Event) (past : List Event) (payload : Payload) → HaveParts settings.reassembly datagram (e ∷ past)
-        → outcome settings past (arrival_of e) ≡ brings payload → IsMessageOfDatagram settings e.frame (datagram e) payload }
-    ensures delivered { (settings : Settings) (datagram : Event → List ℕ) (past : List Event) (port : PortNo) → HaveParts settings.reassembly datagram past
-        → WereSentIn settings datagram port past (deliveries settings past port) }
-    ensures whole { (limit : ℕ) (datagram : Event → List ℕ) (past : List Event) → AreWhole datagram past → HaveParts limit datagram past }
-{}
-
-/// The same of the frames that come after any old past, whatever came in it, and whatever groups stand: it is only asked
-/// besides that the identifications of fragments weren't used there within the limit of time: they may be any once the
-/// limit is over since all that was forwarded there. So strange frames, once they are over, mix no message.
-pub fn each_message_was_sent_after_any_past()
     ensures brought { (settings : Settings) (datagram : Event → List ℕ) (old : List Event) (e : Event) (past : List Event) (payload : Payload) → HavePartsSince settings datagram old (e ∷ past)
         → outcome settings (past ++ old) (arrival_of e) ≡ brings payload → IsMessageOfDatagram settings e.frame (datagram e) payload }
     ensures delivered { (settings : Settings) (datagram : Event → List ℕ) (old past : List Event) (port : PortNo) → HavePartsSince settings datagram old past
         → (more : List Message) × (deliveries settings (past ++ old) port ≡ deliveries settings old port ++ more) × WereSentIn settings datagram port past more }
     ensures limit_over { (settings : Settings) (datagram : Event → List ℕ) (old past : List Event) → HaveParts settings.reassembly datagram past → ComeAfterLimit settings old past
         → HavePartsSince settings datagram old past }
+    ensures nothing_before { (settings : Settings) (datagram : Event → List ℕ) (past : List Event) → HaveParts settings.reassembly datagram past → HavePartsSince settings datagram [] past }
+    ensures whole { (limit : ℕ) (datagram : Event → List ℕ) (past : List Event) → AreWhole datagram past → HaveParts limit datagram past }
 {}
 
 /// A sender may count identifications if one comes again only after longer than the reassembly limit and what the times on

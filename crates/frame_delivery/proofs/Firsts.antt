@@ -3,6 +3,7 @@ use Rattle.std.proofs.Common.{◌≡◌, ◌∙◌, sym, ap, ℕ, ◌<◌, ◌�
 use Rattle.std.specs.Prelude.{◌==◌, ◌||◌, max}
 use Rattle.std.proofs.lemmas.Bool.{cases_Bool, cases_lt, lt-ltb, le-ltb, ltb-true, ltb-false, eqb-true, eqb-false, eq-eqb, or_cases, or_left, or_parts, both_ways}
 use Rattle.frame_delivery.specs.Sending.{Copy, EachCopy}
+use Rattle.frame_delivery.proofs.Cases.{by_if}
 use Rattle.frame_delivery.specs.Once.{FirstsInOrder, IsNotOvertaken, IsOvertaken, first_copies, greatest_index, has_come, is_new, new_copies}
 
 pub come_at_most : (index : ℕ) (copies : List Copy) → has_come index copies ≡ true → index ≤ greatest_index copies
@@ -85,10 +86,7 @@ all_have_first index (copy ∷ before) =
 pub each_first : (Holds : Copy → Type 0) (copies : List Copy) → EachCopy (λ before copy. Holds copy) copies → EachCopy (λ before copy. Holds copy) (first_copies copies)
 each_first Holds [] each = tt
 each_first Holds (copy ∷ before) each =
-    ⊎_elim
-    (λ (come : has_come copy.index before ≡ true). rw come (each_first Holds before each.1))
-    (λ (first : has_come copy.index before ≡ false). rw first (each.0, each_first Holds before each.1))
-    (cases_Bool (has_come copy.index before))
+    let rest = each_first Holds before each.1 in by_if (EachCopy (λ before copy. Holds copy)) (has_come copy.index before) (first_copies before) (copy ∷ first_copies before) (λ come. rest) (λ first. (each.0, rest))
 
 -- a copy that isn't overtaken is new exactly if it is the first of its frame
 pub new_is_first : (copy : Copy) (before : List Copy) → IsNotOvertaken before copy → is_new copy.index before ≡ not (has_come copy.index before)

@@ -6,6 +6,7 @@ use Rattle.es_base.specs.Frame.{sequence_number_of}
 use Rattle.es_base.specs.Copies.{is_ahead, elapsed, greatest_time, is_first_copy}
 use Rattle.frame_delivery.specs.Sending.{Copy, HaveNumbers, Numbering, number_of_frame}
 use Rattle.frame_delivery.specs.Once.{AreInOrder, ComesInTime, as_forwarded, greatest_index, is_new, new_copies, newest_time}
+use Rattle.frame_delivery.proofs.Cases.{by_if}
 use Rattle.frame_delivery.proofs.Numbers.{ahead_of_earlier, not_ahead_of_later}
 
 -- ---- the newest of some copies
@@ -106,7 +107,4 @@ new_by_news index (copy ∷ before) =
 pub new_in_order : (copies : List Copy) → AreInOrder (new_copies copies)
 new_in_order [] = tt
 new_in_order (copy ∷ before) =
-    ⊎_elim
-    (λ (new : is_new copy.index before ≡ true). rw new (new_by_news copy.index before ∙ new, new_in_order before))
-    (λ (old : is_new copy.index before ≡ false). rw old (new_in_order before))
-    (cases_Bool (is_new copy.index before))
+    by_if AreInOrder (is_new copy.index before) (copy ∷ new_copies before) (new_copies before) (λ new. (new_by_news copy.index before ∙ new, new_in_order before)) (λ old. new_in_order before)

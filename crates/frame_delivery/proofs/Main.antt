@@ -13,7 +13,7 @@ use Rattle.frame_delivery.proofs.Firsts.{each_first, first_are_new, new_are_firs
 use Rattle.frame_delivery.proofs.Forwarding.{new_by_news, same_greatest}
 use Rattle.frame_delivery.proofs.Near.{near_the_newest}
 use Rattle.frame_delivery.proofs.Passing.{copy_passes, new_passes}
-use Rattle.frame_delivery.proofs.Since.{counts_alone, firsts_since, news_since, none_before, timely_since}
+use Rattle.frame_delivery.proofs.Since.{by_counts, counts_alone, firsts_since, news_since, none_before, timely_since}
 
 -- ---- some copies that leave out none that is the first of its frame
 
@@ -63,16 +63,14 @@ module _ (settings : Settings) (numbering : Numbering) where
   all_but_further [] numbers losses firsts = record { come = λ index. refl; firsts = refl; news = refl }
   all_but_further (copy ∷ before) numbers losses firsts =
       let rest = all_but_further before numbers.1 losses.1 firsts.1 in
+      by_counts settings [] copy before (SameAs (copy ∷ before)) (λ is. with_copy copy before (passing_since settings [] before) rest)
+      (λ is.
       ⊎_elim
-      (λ (is : counts settings (events_of_copies before) (arrival_of copy.event) (passing_since settings [] before) ≡ true). rw is (with_copy copy before (passing_since settings [] before) rest))
-      (λ (is : counts settings (events_of_copies before) (arrival_of copy.event) (passing_since settings [] before) ≡ false).
-      ⊎_elim
-      (λ (old : has_come copy.index before ≡ true). rw is (without_copy copy before (passing_since settings [] before) old rest))
+      (λ (old : has_come copy.index before ≡ true). without_copy copy before (passing_since settings [] before) old rest)
       (λ (first : has_come copy.index before ≡ false).
       let passes = counts_alone settings copy before ∙ new_passes settings numbering copy before numbers losses (new_is_first copy before firsts.0 ∙ ap not first) in
       absurd (both_ways (counts settings (events_of_copies before) (arrival_of copy.event) (passing_since settings [] before)) is passes))
       (cases_Bool (has_come copy.index before)))
-      (cases_Bool (counts settings (events_of_copies before) (arrival_of copy.event) (passing_since settings [] before)))
 
   -- and those that pass are as near as all
   passing_near : (copies : List Copy) → HaveNumbers numbering copies → LosesFew numbering settings.window copies → FirstsInOrder copies → BeginNear settings.skew_max copies
@@ -80,11 +78,7 @@ module _ (settings : Settings) (numbering : Numbering) where
   passing_near [] numbers losses firsts near = tt
   passing_near (copy ∷ before) numbers losses firsts near =
       let rest = passing_near before numbers.1 losses.1 firsts.1 near.1 in
-      ⊎_elim
-      (λ (is : counts settings (events_of_copies before) (arrival_of copy.event) (passing_since settings [] before) ≡ true).
-      rw is (begins before (passing_since settings [] before) (all_but_further before numbers.1 losses.1 firsts.1) near.0, rest))
-      (λ (is : counts settings (events_of_copies before) (arrival_of copy.event) (passing_since settings [] before) ≡ false). rw is rest)
-      (cases_Bool (counts settings (events_of_copies before) (arrival_of copy.event) (passing_since settings [] before)))
+      by_counts settings [] copy before (BeginNear settings.skew_max) (λ is. (begins before (passing_since settings [] before) (all_but_further before numbers.1 losses.1 firsts.1) near.0, rest)) (λ is. rest)
     where
       begins : (before some : List Copy) → SameAs before some → BeginsNear settings.skew_max before copy → BeginsNear settings.skew_max some copy
       begins before [] same near = tt

@@ -14,10 +14,10 @@ use Rattle.frame_delivery.specs.Sending.{Copy, HaveNumbers, Numbering, events_of
 use Rattle.frame_delivery.specs.Once.{has_come}
 use Rattle.frame_delivery.specs.Network.{BringsInRow, IsLater, KeepsOrder, LosesFew, MayFollow, Timing, copies_on, indices_on}
 use Rattle.frame_delivery.specs.Running.{EachForwarded}
-use Rattle.frame_delivery.specs.Since.{PassTimely, counts, forwarded_since, passing_since}
+use Rattle.frame_delivery.specs.Since.{PassTimely, forwarded_since, passing_since}
 use Rattle.frame_delivery.proofs.Passing.{may_follow_too}
 use Rattle.frame_delivery.proofs.Firsts.{all_have_first}
-use Rattle.frame_delivery.proofs.Since.{counts_alone, counts_at_last, firsts_since}
+use Rattle.frame_delivery.proofs.Since.{by_counts, counts_alone, counts_at_last, firsts_since}
 
 -- ---- the copies of one network
 
@@ -130,10 +130,7 @@ row_come settings numbering net (copy ∷ before) row index come =
     (or_cases (copy.index == index) (has_come index (copies_on net before)) come_on)))
     (λ (other : is_same_net copy.event.net net ≡ false).
     let rest = row_come settings numbering net before (in_row_before numbering settings.window net copy before row) index (rw other at come) in
-    ⊎_elim
-    (λ (is : counts settings (events_of_copies before) (arrival_of copy.event) (passing_since settings [] before) ≡ true). rw is (or_right _ _ rest))
-    (λ (is : counts settings (events_of_copies before) (arrival_of copy.event) (passing_since settings [] before) ≡ false). rw is rest)
-    (cases_Bool (counts settings (events_of_copies before) (arrival_of copy.event) (passing_since settings [] before))))
+    by_counts settings [] copy before (λ some. has_come index some ≡ true) (λ is. or_right _ _ rest) (λ is. rest))
     (cases_Bool (is_same_net copy.event.net net))
 
 pub row_forwarded : (settings : Settings) (numbering : Numbering) (timing : Timing) (copies : List Copy) (net : Net) (index : ℕ) → PassTimely settings numbering timing [] copies

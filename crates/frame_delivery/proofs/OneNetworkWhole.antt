@@ -1,36 +1,33 @@
 -- Where one network brings each frame in a row, all messages are delivered.
 use Rattle.std.proofs.Common.{◌≡◌, ◌∙◌, sym, ℕ, ◌<◌, ◌≤◌, true, false, List, [], ◌∷◌, length, ⊎_elim}
-use Rattle.std.specs.Prelude.{◌==◌, ◌||◌}
+use Rattle.std.specs.Prelude.{◌==◌}
 use Rattle.std.proofs.lemmas.Bool.{both_ways, cases_Bool, cases_lt, le-ltb, lt-ltb, or_cases, or_left, or_right}
 use Rattle.es_base.specs.declared.place.PortNo.{PortNo}
 use Rattle.es_base.specs.declared.place.Net.{Net}
 use Rattle.es_base.specs.Deliveries.{deliveries}
 use Rattle.es_base.specs.Limits.{most_samples}
 use Rattle.es_base.specs.Outcome.{Payload}
-use Rattle.es_base.specs.Past.{arrival_of}
 use Rattle.es_base.specs.Settings.{Settings}
 use Rattle.frame_delivery.specs.Messages.{AllCame, CarryWhole, HaveRoom, has_room, octets_of_messages, octets_sent}
 use Rattle.frame_delivery.specs.Network.{BringsInRow, Timing, copies_on}
 use Rattle.frame_delivery.specs.Once.{has_come}
 use Rattle.frame_delivery.specs.Sending.{Copy, Numbering, events_of_copies}
-use Rattle.frame_delivery.specs.Since.{PassTimely, counts, passing_since}
+use Rattle.frame_delivery.specs.Since.{PassTimely, passing_since}
 use Rattle.frame_delivery.proofs.Messages.{all_forwarded}
 use Rattle.frame_delivery.proofs.OneNetwork.{row_come}
-use Rattle.frame_delivery.proofs.Since.{each_since, firsts_since}
+use Rattle.frame_delivery.proofs.Since.{by_counts, each_since, firsts_since}
 
 -- a frame of which a copy passes came
 passing_come : (settings : Settings) (index : ℕ) (copies : List Copy) → has_come index (passing_since settings [] copies) ≡ true → has_come index copies ≡ true
 passing_come settings index [] come = come
 passing_come settings index (copy ∷ before) come =
-    ⊎_elim
-    (λ (is : counts settings (events_of_copies before) (arrival_of copy.event) (passing_since settings [] before) ≡ true).
-    let come_here : (copy.index == index || has_come index (passing_since settings [] before)) ≡ true = rw is at come in
+    by_counts settings [] copy before (λ some. has_come index some ≡ true → has_come index (copy ∷ before) ≡ true)
+    (λ is come_here.
     ⊎_elim
     (λ (here : (copy.index == index) ≡ true). or_left _ _ here)
     (λ (there : has_come index (passing_since settings [] before) ≡ true). or_right _ _ (passing_come settings index before there))
     (or_cases (copy.index == index) (has_come index (passing_since settings [] before)) come_here))
-    (λ (is : counts settings (events_of_copies before) (arrival_of copy.event) (passing_since settings [] before) ≡ false). or_right _ _ (passing_come settings index before (rw is at come)))
-    (cases_Bool (counts settings (events_of_copies before) (arrival_of copy.event) (passing_since settings [] before)))
+    (λ is there. or_right _ _ (passing_come settings index before there)) come
 
 all_pass_of_one : (settings : Settings) (numbering : Numbering) (copies : List Copy) (net : Net) (n : ℕ) → BringsInRow numbering settings.window net copies → AllCame n copies → AllCame n (copies_on net copies)
     → AllCame n (passing_since settings [] copies)

@@ -15,40 +15,40 @@ use Rattle.frame_delivery.specs.Once.{AreInOrder, ComesInTime, FirstsInOrder, as
 use Rattle.frame_delivery.specs.Network.{BeginNear, ComeTimely, HasNoOvertaking, IsNeverLate, IsOnItsWay, IsOverSoon, KeepsTimes, Timing, time_of_all}
 use Rattle.frame_delivery.specs.Running.{EachForwarded}
 use Rattle.frame_delivery.specs.Since.{ComeAfter, IsFirstPassing, PassTimely, counts, forwarded_since, passing_since}
+use Rattle.frame_delivery.proofs.Cases.{by_if}
 use Rattle.frame_delivery.proofs.Forwarding.{first_is_new, new_in_order, newest_of}
 use Rattle.frame_delivery.proofs.Firsts.{first_are_new, new_are_first, new_is_first}
 use Rattle.frame_delivery.proofs.Running.{all_over, first_when_over}
 use Rattle.frame_delivery.proofs.Times.{all_in_time, apart_not_late, begin_near, none_overtaken, not_late}
+
+-- ---- whether a copy counts
+
+pub by_counts : (settings : Settings) (old : List Event) (copy : Copy) (before : List Copy) (Hold : List Copy → Type 0)
+    → (counts settings (events_since before old) (arrival_of copy.event) (passing_since settings old before) ≡ true → Hold (copy ∷ passing_since settings old before))
+    → (counts settings (events_since before old) (arrival_of copy.event) (passing_since settings old before) ≡ false → Hold (passing_since settings old before)) → Hold (passing_since settings old (copy ∷ before))
+by_counts settings old copy before Hold =
+    by_if Hold (counts settings (events_since before old) (arrival_of copy.event) (passing_since settings old before)) (copy ∷ passing_since settings old before) (passing_since settings old before)
 
 -- ---- what holds of each copy holds of each of those that count
 
 pub each_since : (Holds : Copy → Type 0) (settings : Settings) (old : List Event) (copies : List Copy) → EachCopy (λ before copy. Holds copy) copies → EachCopy (λ before copy. Holds copy) (passing_since settings old copies)
 each_since Holds settings old [] each = tt
 each_since Holds settings old (copy ∷ before) each =
-    ⊎_elim
-    (λ (is : counts settings (events_since before old) (arrival_of copy.event) (passing_since settings old before) ≡ true). rw is (each.0, each_since Holds settings old before each.1))
-    (λ (is : counts settings (events_since before old) (arrival_of copy.event) (passing_since settings old before) ≡ false). rw is (each_since Holds settings old before each.1))
-    (cases_Bool (counts settings (events_since before old) (arrival_of copy.event) (passing_since settings old before)))
+    let rest = each_since Holds settings old before each.1 in by_counts settings old copy before (EachCopy (λ before copy. Holds copy)) (λ is. (each.0, rest)) (λ is. rest)
 
 time_of_since : (settings : Settings) (old : List Event) (copies : List Copy) → time_of_all (passing_since settings old copies) ≤ time_of_all copies
 time_of_since settings old [] = omega arith
 time_of_since settings old (copy ∷ before) =
-    let rest = time_of_since settings old before in
-    ⊎_elim
-    (λ (is : counts settings (events_since before old) (arrival_of copy.event) (passing_since settings old before) ≡ true). rw is (omega (arith, rest)))
-    (λ (is : counts settings (events_since before old) (arrival_of copy.event) (passing_since settings old before) ≡ false). rw is (omega (arith, rest)))
-    (cases_Bool (counts settings (events_since before old) (arrival_of copy.event) (passing_since settings old before)))
+    let rest = time_of_since settings old before in by_counts settings old copy before (λ some. time_of_all some ≤ time_of_all (copy ∷ before)) (λ is. omega (arith, rest)) (λ is. omega (arith, rest))
 
 order_since : (wait : ℕ) (settings : Settings) (old : List Event) (copies : List Copy) → EachCopy (λ before copy. time_of_all before ≤ copy.event.time + wait) copies
     → EachCopy (λ before copy. time_of_all before ≤ copy.event.time + wait) (passing_since settings old copies)
 order_since wait settings old [] order = tt
 order_since wait settings old (copy ∷ before) order =
-    let rest = time_of_since settings old before in
+    let most = time_of_since settings old before in
     let here = order.0 in
-    ⊎_elim
-    (λ (is : counts settings (events_since before old) (arrival_of copy.event) (passing_since settings old before) ≡ true). rw is (omega (arith, rest, here), order_since wait settings old before order.1))
-    (λ (is : counts settings (events_since before old) (arrival_of copy.event) (passing_since settings old before) ≡ false). rw is (order_since wait settings old before order.1))
-    (cases_Bool (counts settings (events_since before old) (arrival_of copy.event) (passing_since settings old before)))
+    let rest = order_since wait settings old before order.1 in
+    by_counts settings old copy before (EachCopy (λ before copy. time_of_all before ≤ copy.event.time + wait)) (λ is. (omega (arith, most, here), rest)) (λ is. rest)
 
 -- ---- the frames that were forwarded are those copies, and before them the old ones
 
@@ -81,19 +81,13 @@ newest_after time one [] each = let here = each.0 in omega (arith, here)
 newest_after time one (other ∷ some) each =
     let here = each.0 in
     let rest = newest_after time other some each.1 in
-    ⊎_elim
-    (λ (new : is_new one.index (other ∷ some) ≡ true). rw new (omega (arith, here)))
-    (λ (old : is_new one.index (other ∷ some) ≡ false). rw old rest)
-    (cases_Bool (is_new one.index (other ∷ some)))
+    by_if (λ news. time ≤ greatest_time (as_forwarded news)) (is_new one.index (other ∷ some)) (one ∷ new_copies (other ∷ some)) (new_copies (other ∷ some)) (λ new. omega (arith, here)) (λ old. rest)
 
 old_time : (settings : Settings) (time : ℕ) (old : List Event) → EachForwarded settings (λ e. e.time ≤ time) old → greatest_time (forwarded settings old) ≤ time
 old_time settings time [] each = omega arith
 old_time settings time (e ∷ old) each =
     let rest = old_time settings time old each.1 in
-    ⊎_elim
-    (λ (is : is_forwarded settings old (arrival_of e) ≡ true). let here = each.0 is in rw is (omega (arith, here, rest)))
-    (λ (is : is_forwarded settings old (arrival_of e) ≡ false). rw is rest)
-    (cases_Bool (is_forwarded settings old (arrival_of e)))
+    by_if (λ frames. greatest_time frames ≤ time) (is_forwarded settings old (arrival_of e)) (record { sequence_number = sequence_number_of e.frame; time = e.time } ∷ forwarded settings old) (forwarded settings old) (λ is. let here = each.0 is in omega (arith, here, rest)) (λ is. rest)
 
 old_times : (settings : Settings) (old : List Event) (copies : List Copy) → ComeAfter settings old copies → EachCopy (λ before copy. greatest_time (forwarded settings old) ≤ copy.event.time) copies
 old_times settings old [] after = tt
@@ -159,12 +153,7 @@ module _ (settings : Settings) (numbering : Numbering) (old : List Event) (on : 
   -- those that count before a copy are asked no more
   sound_before : (copy : Copy) (before : List Copy) → AreSound settings numbering old (passing_since settings old (copy ∷ before)) → AreSound settings numbering old (passing_since settings old before)
   sound_before copy before sound =
-      ⊎_elim
-      (λ (is : counts settings (events_since before old) (arrival_of copy.event) (passing_since settings old before) ≡ true).
-      let at : AreSound settings numbering old (copy ∷ passing_since settings old before) = rw is at sound in
-      (at.0.1, at.1.1, at.2.1))
-      (λ (is : counts settings (events_since before old) (arrival_of copy.event) (passing_since settings old before) ≡ false). rw is at sound)
-      (cases_Bool (counts settings (events_since before old) (arrival_of copy.event) (passing_since settings old before)))
+      by_counts settings old copy before (λ some. AreSound settings numbering old some → AreSound settings numbering old (passing_since settings old before)) (λ is at. (at.0.1, at.1.1, at.2.1)) (λ is at. at) sound
 
   pub new_since : (copies : List Copy) → AreSound settings numbering old (passing_since settings old copies) → forwarded_since settings old copies ≡ new_copies (passing_since settings old copies)
   new_since [] sound = refl
@@ -222,11 +211,7 @@ firsts_before settings numbering timing old copy before pass =
     let firsts = pass.firsts in
     let timely = pass.timely in
     new_since settings numbering old timely.redundancy timely.first before (sound_before settings numbering old timely.redundancy timely.first copy before sound)
-    ∙ new_are_first (passing_since settings old before)
-    (⊎_elim
-    (λ (count : counts settings (events_since before old) (arrival_of copy.event) (passing_since settings old before) ≡ true). (rw count at firsts).1)
-    (λ (fails : counts settings (events_since before old) (arrival_of copy.event) (passing_since settings old before) ≡ false). rw fails at firsts)
-    (cases_Bool (counts settings (events_since before old) (arrival_of copy.event) (passing_since settings old before))))
+    ∙ new_are_first (passing_since settings old before) (by_counts settings old copy before (λ some. FirstsInOrder some → FirstsInOrder (passing_since settings old before)) (λ is at. at.1) (λ is at. at) firsts)
 
 -- so a copy is forwarded exactly if it is the first of its frame that counts
 first_if : (settings : Settings) (numbering : Numbering) (timing : Timing) (old : List Event) (copy : Copy) (before : List Copy) → PassTimely settings numbering timing old (copy ∷ before)
@@ -358,7 +343,4 @@ none_before settings (copy ∷ before) = (tt, none_before settings before)
 pub each_forwarded : (Holds : Copy → Type 0) (settings : Settings) (old : List Event) (copies : List Copy) → EachCopy (λ before copy. Holds copy) copies → EachCopy (λ before copy. Holds copy) (forwarded_since settings old copies)
 each_forwarded Holds settings old [] each = tt
 each_forwarded Holds settings old (copy ∷ before) each =
-    ⊎_elim
-    (λ (is : is_forwarded settings (events_since before old) (arrival_of copy.event) ≡ true). rw is (each.0, each_forwarded Holds settings old before each.1))
-    (λ (is : is_forwarded settings (events_since before old) (arrival_of copy.event) ≡ false). rw is (each_forwarded Holds settings old before each.1))
-    (cases_Bool (is_forwarded settings (events_since before old) (arrival_of copy.event)))
+    let rest = each_forwarded Holds settings old before each.1 in by_if (EachCopy (λ before copy. Holds copy)) (is_forwarded settings (events_since before old) (arrival_of copy.event)) (copy ∷ forwarded_since settings old before) (forwarded_since settings old before) (λ is. (each.0, rest)) (λ is. rest)

@@ -5,38 +5,37 @@ use Rattle.std.proofs.lemmas.Bool.{cases_Bool, cases_lt, eq-eqb, eqb-true, false
 use Rattle.es_base.specs.declared.place.Net.{Net}
 use Rattle.es_base.specs.declared.place.Net.TheVariants as nets
 use Rattle.es_base.specs.declared.event.Event.{Event}
-use Rattle.es_base.specs.Past.{arrival_of}
 use Rattle.es_base.specs.Integrity.{is_same_net, latest}
 use Rattle.es_base.specs.Settings.{Settings}
-use Rattle.frame_delivery.specs.Sending.{Copy, Numbering, events_since}
+use Rattle.frame_delivery.specs.Sending.{Copy, Numbering}
 use Rattle.frame_delivery.specs.Once.{FirstsInOrder, IsNotOvertaken, greatest_index, has_come}
 use Rattle.frame_delivery.specs.Network.{Delays, IsLater, KeepOrderTogether, KeepsBefore, KeepsDelays, KeepsGap, KeepsOrder, KeepsTimes, LosesNoneOf, Timing, copies_on, indices_on, time_of_all}
-use Rattle.frame_delivery.specs.Since.{counts, passing_since}
+use Rattle.frame_delivery.specs.Since.{passing_since}
+use Rattle.frame_delivery.proofs.Cases.{by_if}
 use Rattle.frame_delivery.proofs.OneNetwork.{itself, same_net}
-use Rattle.frame_delivery.proofs.Since.{each_since, times_since}
+use Rattle.frame_delivery.proofs.Since.{by_counts, each_since, times_since}
 use Rattle.frame_delivery.proofs.Times.{latest_has_come, sent_apart}
 
 -- ---- the copies of one network
 
+by_net : (net : Net) (copy : Copy) (before : List Copy) (Hold : List Copy → Type 0) → (is_same_net copy.event.net net ≡ true → Hold (copy ∷ copies_on net before)) → (is_same_net copy.event.net net ≡ false → Hold (copies_on net before))
+    → Hold (copies_on net (copy ∷ before))
+by_net net copy before Hold = by_if Hold (is_same_net copy.event.net net) (copy ∷ copies_on net before) (copies_on net before)
+
 on_before : (net : Net) (index : ℕ) (copy : Copy) (before : List Copy) → has_come index (copies_on net before) ≡ true → has_come index (copies_on net (copy ∷ before)) ≡ true
 on_before net index copy before come =
-    ⊎_elim
-    (λ (is : is_same_net copy.event.net net ≡ true). rw is (or_right _ _ come))
-    (λ (is : is_same_net copy.event.net net ≡ false). rw is come)
-    (cases_Bool (is_same_net copy.event.net net))
+    by_net net copy before (λ some. has_come index some ≡ true) (λ is. or_right _ _ come) (λ is. come)
 
 come_on : (net : Net) (index : ℕ) (copies : List Copy) → has_come index (copies_on net copies) ≡ true → has_come index copies ≡ true
 come_on net index [] come = come
 come_on net index (copy ∷ before) come =
-    ⊎_elim
-    (λ (is : is_same_net copy.event.net net ≡ true).
-    let here : has_come index (copy ∷ copies_on net before) ≡ true = rw is at come in
+    by_net net copy before (λ some. has_come index some ≡ true → has_come index (copy ∷ before) ≡ true)
+    (λ is here.
     ⊎_elim
     (λ (same : (copy.index == index) ≡ true). or_left _ _ same)
     (λ (there : has_come index (copies_on net before) ≡ true). or_right _ _ (come_on net index before there))
     (or_cases (copy.index == index) (has_come index (copies_on net before)) here))
-    (λ (is : is_same_net copy.event.net net ≡ false). or_right _ _ (come_on net index before (rw is at come)))
-    (cases_Bool (is_same_net copy.event.net net))
+    (λ is there. or_right _ _ (come_on net index before there)) come
 
 -- a copy is of a later frame than all before it on its network
 later_on : (net : Net) (copy : Copy) (before : List Copy) → KeepsOrder (copy ∷ before) → is_same_net copy.event.net net ≡ true → IsLater (latest (indices_on before net)) copy.index
@@ -177,27 +176,17 @@ later_since settings old net (copy ∷ before) index order later =
     ⊎_elim
     (λ (on : is_same_net copy.event.net net ≡ true).
     let less : copy.index < index = rw on at later in
-    ⊎_elim
-    (λ (is : counts settings (events_since before old) (arrival_of copy.event) (passing_since settings old before) ≡ true). rw (is, on) less)
-    (λ (is : counts settings (events_since before old) (arrival_of copy.event) (passing_since settings old before) ≡ false).
-    rw is (later_since settings old net before index order.1 (later_yet (latest (indices_on before net)) copy.index index (later_on net copy before order on) less)))
-    (cases_Bool (counts settings (events_since before old) (arrival_of copy.event) (passing_since settings old before))))
+    by_counts settings old copy before (λ some. IsLater (latest (indices_on some net)) index) (λ is. rw on less)
+    (λ is. later_since settings old net before index order.1 (later_yet (latest (indices_on before net)) copy.index index (later_on net copy before order on) less)))
     (λ (off : is_same_net copy.event.net net ≡ false).
     let rest = later_since settings old net before index order.1 (rw off at later) in
-    ⊎_elim
-    (λ (is : counts settings (events_since before old) (arrival_of copy.event) (passing_since settings old before) ≡ true). rw (is, off) rest)
-    (λ (is : counts settings (events_since before old) (arrival_of copy.event) (passing_since settings old before) ≡ false). rw is rest)
-    (cases_Bool (counts settings (events_since before old) (arrival_of copy.event) (passing_since settings old before))))
+    by_counts settings old copy before (λ some. IsLater (latest (indices_on some net)) index) (λ is. rw off rest) (λ is. rest))
     (cases_Bool (is_same_net copy.event.net net))
 
 order_kept_since : (settings : Settings) (old : List Event) (copies : List Copy) → KeepsOrder copies → KeepsOrder (passing_since settings old copies)
 order_kept_since settings old [] order = tt
 order_kept_since settings old (copy ∷ before) order =
-    let rest = order_kept_since settings old before order.1 in
-    ⊎_elim
-    (λ (is : counts settings (events_since before old) (arrival_of copy.event) (passing_since settings old before) ≡ true). rw is (later_since settings old copy.event.net before copy.index order.1 order.0, rest))
-    (λ (is : counts settings (events_since before old) (arrival_of copy.event) (passing_since settings old before) ≡ false). rw is rest)
-    (cases_Bool (counts settings (events_since before old) (arrival_of copy.event) (passing_since settings old before)))
+    let rest = order_kept_since settings old before order.1 in by_counts settings old copy before KeepsOrder (λ is. (later_since settings old copy.event.net before copy.index order.1 order.0, rest)) (λ is. rest)
 
 pub passing_together : (settings : Settings) (numbering : Numbering) (timing : Timing) (delays : Delays) (old : List Event) (copies : List Copy) → KeepsTimes numbering timing copies → KeepsOrder copies
     → KeepsDelays timing delays copies → KeepsBefore timing delays nets.A nets.B (passing_since settings old copies) → KeepsBefore timing delays nets.B nets.A (passing_since settings old copies)

@@ -13,16 +13,14 @@ ghost use Rattle.datagram_delivery.specs.Arriving.{Arrives};
 ghost use Rattle.datagram_delivery.specs.Interleaved.{BringDatagrams, Carried};
 ghost use Rattle.player_delivery.specs.Reported.{AreWritten, IsReported, lines_offered, lines_sent};
 
-/// The report's lines on a link's ports are those of the messages sent to them, each once and whole, if copies of it
-/// came and its queue had room; and of no other. They stand in the order in which their sending ended. This asks of the
-/// link's frames in both traces that they are copies of a sender's, of all fragments of a datagram or of none, on
-/// networks that keep what is asked of them. At most four of its datagrams may be in parts at a time. Nobody takes a
-/// message from a queue of the player. These lines are in the output of the traces, which `trace_player::play` writes.
-///
-/// And whatever came, the lines are those of the packets of the forwarded frames, each offered once. So each message that
-/// arrives (`Arrives`) is among those that are written for its port: a copy passed of its frame, or of the frame of each of
-/// its fragments, since any fault was over, and its queue had room. A queuing port's messages have a line each; of a
-/// sampling port's the newest has one.
+/// The report's lines on a link's ports are those of the packets of the forwarded frames in both traces, each offered
+/// once, and of no other message. They are in the output of the traces, which `trace_player::play` writes; nobody
+/// takes a message from a queue of the player. So each message that arrives (`Arrives`) is among those that are
+/// written for its port: a copy passed of its frame, or of the frame of each of its fragments, since any fault was
+/// over, and its queue had room. What was lost of others doesn't matter, nor what came later. And if the copies that
+/// pass are of a sender's frames, in time and order, and each packet is the next of its datagram (`BringDatagrams`),
+/// exactly the messages of these datagrams are written, in the order of ending. A queuing port's messages have a line
+/// each; of a sampling port's the newest has one.
 pub fn each_message_is_reported_once()
     ensures offered { (constant : List ℕ) (link : Settings) (frames : List Arrival) (at : ℕ) → link_lines at link (past_after constant link frames) ≡ lines_offered link (past_after constant link frames) at }
     ensures lines { (constant : List ℕ) (link : Settings) (frames : List Arrival) (carried : List Carried) (at : ℕ) → BringDatagrams link (past_after constant link frames) carried

@@ -1,6 +1,7 @@
-use Rattle.datagram_delivery.proofs.Parts.{all_were_sent, brought_was_sent}
+use Rattle.datagram_delivery.proofs.Parts.{all_since, brought_since, parts_alone}
+use Rattle.datagram_delivery.proofs.LimitOver.{limit_is_over}
 use Rattle.datagram_delivery.proofs.WholeParts.{whole_have_parts}
 use Rattle.datagram_delivery.proofs.laws.each_message_was_sent.Goals as goal
 
 pub returns : goal.returns
-returns c = record { brought = brought_was_sent; delivered = all_were_sent; whole = whole_have_parts }
+returns c = record { brought = brought_since; delivered = all_since; limit_over = limit_is_over; nothing_before = parts_alone; whole = whole_have_parts }
