@@ -15,7 +15,7 @@ use Rattle.frame_delivery.specs.Network.{KeepsTimes}
 use Rattle.frame_delivery.specs.Since.{PassTimely}
 use Rattle.frame_delivery.specs.Examples.{numbering, timing}
 use Rattle.datagram_delivery.specs.Splitting.{IsLastFragment, groups_after_offers, pieces_of, IsFront, Offer}
-use Rattle.datagram_delivery.specs.Datagrams.{CarryPackets, IsInParts, HasRoomInParts, IsNextFront, IsSplitAfter}
+use Rattle.datagram_delivery.specs.Datagrams.{CarryPackets, IsInParts, KeepsPlace, IsNextFront, IsSplitAfter}
 use Rattle.datagram_delivery.specs.Interleaved.{AreInterleaved, BringDatagrams}
 use Rattle.datagram_delivery.specs.Parts.{HaveParts, IsPartOf}
 use Rattle.datagram_delivery.specs.Examples.{among_one_another, datagram_at, datagram_octets, datagram_of, eight, first_key, first_third, five_begun, fragment, in_two_fragments, last_third, link_of_100, link_with_queue, sixteen_octets, one_identification, packet_sent, part_sent, second_third, message_in_two, three_begun, payload_sent}
@@ -174,11 +174,11 @@ fifth_parts = record {
 fifth_last : IsLastFragment 50000 (pieces_of first_key five_begun) (fragment 1 8 false 1)
 fifth_last = record { next = record { begins = refl; good = refl; soon = omega arith }; more = refl; after = omega arith }
 
-room_for_four : HasRoomInParts 50000 first_key [] (fragment 1 0 true 1) three_begun
+room_for_four : KeepsPlace 50000 first_key [] (fragment 1 0 true 1) three_begun
 unfolding groups_after
 room_for_four = (λ other begun. omega arith, (λ other begun. omega arith, (λ other begun. omega arith, (λ other begun. cc, tt))))
 
-no_room_for_five : HasRoomInParts 50000 first_key [] (fragment 1 0 true 1) (fragment 5 0 true 5 ∷ three_begun) → ⊥
+no_room_for_five : KeepsPlace 50000 first_key [] (fragment 1 0 true 1) (fragment 5 0 true 5 ∷ three_begun) → ⊥
 unfolding groups_after
 no_room_for_five room = let few = room.0 refl refl in absurd (omega (arith, few))
 
@@ -187,7 +187,7 @@ unfolding fate groups_after fragments.octets_below
 fifth_is_held = refl
 
 pub fifth_gives_up : IsInParts 50000 first_key [] (fragment 1 0 true 1) (fragment 5 0 true 5 ∷ three_begun) × IsLastFragment 50000 (pieces_of first_key five_begun) (fragment 1 8 false 1)
-    × HasRoomInParts 50000 first_key [] (fragment 1 0 true 1) three_begun × (HasRoomInParts 50000 first_key [] (fragment 1 0 true 1) (fragment 5 0 true 5 ∷ three_begun) → ⊥)
+    × KeepsPlace 50000 first_key [] (fragment 1 0 true 1) three_begun × (KeepsPlace 50000 first_key [] (fragment 1 0 true 1) (fragment 5 0 true 5 ∷ three_begun) → ⊥)
     × (fate 50000 (groups_after_offers 50000 [] five_begun) (fragment 1 8 false 1).packet 100 ≡ held)
 fifth_gives_up = (fifth_parts, fifth_last, room_for_four, no_room_for_five, fifth_is_held)
 

@@ -8,7 +8,7 @@ use Rattle.es_base.specs.Fragments.{Piece, is_bad, is_whole, key_of, piece_of}
 use Rattle.es_base.specs.Groups.{Found, Group, begins, found_for, group_with, groups_after, has_key, is_same_key, joins, with_room}
 use Rattle.es_base.proofs.Keys.{key_itself, same_key}
 use Rattle.datagram_delivery.specs.Splitting.{Offer, begins_group, begun_meanwhile, begun_since, groups_after_offers, is_among, is_beginning, is_of, other_keys, others_in}
-use Rattle.datagram_delivery.specs.Datagrams.{HasRoomInParts, IsInParts}
+use Rattle.datagram_delivery.specs.Datagrams.{KeepsPlace, IsInParts}
 use Rattle.datagram_delivery.proofs.Each.{AreDistinct, EachGroup, HasOther, IsAbsent, distinct_remove, each_at, each_more, each_push, each_remove, each_room, each_set, room_kept}
 use Rattle.datagram_delivery.proofs.Splits.{first_groups}
 use Rattle.datagram_delivery.proofs.Standing.{begins_absent, begins_from, kept_after}
@@ -194,7 +194,7 @@ behind_all limit key earlier first (offer ∷ during) parts =
     (added.kept standing (behind_all limit key earlier first during (record { begins = parts.begins; free = parts.free; fronts = parts.fronts.1 }))) added.counted
 
 pub few_leave_room : (limit : ℕ) (key : DatagramKey) (earlier : List Offer) (first : Offer) (during : List Offer) → IsInParts limit key earlier first during → length (other_keys key (during ++ first ∷ [])) ≤ 3
-    → HasRoomInParts limit key earlier first during
+    → KeepsPlace limit key earlier first during
 unfolding IsCounted
 few_leave_room limit key earlier first [] parts few = (λ other begun. absurd (both_ways (is_of key first) other parts.begins), tt)
 few_leave_room limit key earlier first (offer ∷ during) parts few =

@@ -7,7 +7,7 @@ use Rattle.es_base.specs.Copies.{elapsed}
 use Rattle.es_base.specs.Fragments.{Piece, key_of, piece_of}
 use Rattle.es_base.specs.Groups.{Found, Group, begin_of, begin_or, begins, found_at, found_for, found_if, group_with, groups_after, has_key, is_over, is_same_key, joins, place_of, with_room}
 use Rattle.es_base.proofs.Firsts.{found_at as found_place, passes_found}
-use Rattle.datagram_delivery.specs.Splitting.{Offer, are_some, groups_after_offers, is_of, is_key_free, is_beginning}
+use Rattle.datagram_delivery.specs.Splitting.{Offer, are_some, groups_after_offers, is_of, none_in_parts, is_beginning}
 use Rattle.datagram_delivery.specs.Datagrams.{IsUnused}
 use Rattle.datagram_delivery.proofs.Each.{AreDistinct, EachGroup, IsAbsent, distinct_remove, distinct_set, each_at, each_more, each_push, each_remove, each_room, each_set, room_kept}
 use Rattle.datagram_delivery.proofs.Datagrams.{offers_join}
@@ -81,7 +81,7 @@ unused_at limit key time offer (other ∷ before) unused (inl same) is = subst (
 unused_at limit key time offer (other ∷ before) unused (inr among) is = unused_at limit key time offer before unused.1 among is
 
 -- it is free
-pub unused_is_free : (limit : ℕ) (key : DatagramKey) (now : ℕ) (before : List Offer) → IsUnused limit key now before → is_key_free limit (groups_after_offers limit [] before) key now ≡ true
+pub unused_is_free : (limit : ℕ) (key : DatagramKey) (now : ℕ) (before : List Offer) → IsUnused limit key now before → none_in_parts limit (groups_after_offers limit [] before) key now ≡ true
 unused_is_free limit key now before unused = at (place_of key groups) refl
   where
     groups : List Group
@@ -108,7 +108,7 @@ pub record BeginsAlone (limit : ℕ) (before : List Offer) (key : DatagramKey) (
   pub found : found_for limit (groups_after_offers limit [] before) key now ≡ begins others
   pub absent : IsAbsent key others
 
-pub free_begins : (limit : ℕ) (key : DatagramKey) (now : ℕ) (before : List Offer) → is_key_free limit (groups_after_offers limit [] before) key now ≡ true → BeginsAlone limit before key now
+pub free_begins : (limit : ℕ) (key : DatagramKey) (now : ℕ) (before : List Offer) → none_in_parts limit (groups_after_offers limit [] before) key now ≡ true → BeginsAlone limit before key now
 free_begins limit key now before free = go (found_for limit groups key now) refl
   where
     groups : List Group

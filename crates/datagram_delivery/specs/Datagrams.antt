@@ -12,7 +12,7 @@ use Rattle.es_base.specs.Outcome.{Payload, brought, datagram_payload, packet_pay
 use Rattle.es_base.specs.Deliveries.{delivered}
 use Rattle.es_base.specs.Settings.{Settings}
 use Rattle.frame_delivery.specs.Sending.{Copy, EachCopy}
-use Rattle.datagram_delivery.specs.Splitting.{AreFronts, IsLastFragment, Offer, LeavesRoom, groups_after_offers, is_of, joined, pieces_of, is_key_free}
+use Rattle.datagram_delivery.specs.Splitting.{AreFronts, IsLastFragment, Offer, LeavesRoom, groups_after_offers, is_of, joined, pieces_of, none_in_parts}
 
 -- ---- the packets of the frames
 
@@ -46,13 +46,13 @@ pub record IsSentWhole (settings : Settings) (payload : Payload) (offer : Offer)
 -- and `earlier` before. No datagram with its key was in parts as it began.
 pub record IsInParts (limit : ℕ) (key : DatagramKey) (earlier : List Offer) (first : Offer) (during : List Offer) : Type 0 where
   pub begins : is_of key first ≡ true
-  pub free : is_key_free limit (groups_after_offers limit [] earlier) key first.time ≡ true
+  pub free : none_in_parts limit (groups_after_offers limit [] earlier) key first.time ≡ true
   pub fronts : AreFronts limit key (during ++ first ∷ [])
 
 -- and of the groups that others begin after it at most three stand at a time
 -- rule: DELIV-11, DELIV-12
-abbrev pub HasRoomInParts : ℕ → DatagramKey → List Offer → Offer → List Offer → Type 0
-HasRoomInParts limit key earlier first during = LeavesRoom limit (groups_after_offers limit [] earlier) key (during ++ first ∷ [])
+abbrev pub KeepsPlace : ℕ → DatagramKey → List Offer → Offer → List Offer → Type 0
+KeepsPlace limit key earlier first during = LeavesRoom limit (groups_after_offers limit [] earlier) key (during ++ first ∷ [])
 
 -- a fragment that more follow is the next of its datagram
 pub record IsNextFront (limit : ℕ) (offers : List Offer) (front : Offer) : Type 0 where
@@ -61,7 +61,7 @@ pub record IsNextFront (limit : ℕ) (offers : List Offer) (front : Offer) : Typ
   pub earlier : List Offer
   pub is : front ∷ offers ≡ during ++ first ∷ earlier
   pub parts : IsInParts limit (key_of front.packet) earlier first during
-  pub room : HasRoomInParts limit (key_of front.packet) earlier first during
+  pub room : KeepsPlace limit (key_of front.packet) earlier first during
 
 -- a datagram in fragments, of which this is the last
 -- rule: DELIV-12
@@ -71,7 +71,7 @@ pub record IsSplitAfter (settings : Settings) (payload : Payload) (offers : List
   pub earlier : List Offer
   pub is : offers ≡ during ++ first ∷ earlier
   pub parts : IsInParts settings.reassembly (key_of last.packet) earlier first during
-  pub room : HasRoomInParts settings.reassembly (key_of last.packet) earlier first during
+  pub room : KeepsPlace settings.reassembly (key_of last.packet) earlier first during
   pub ends : IsLastFragment settings.reassembly (pieces_of (key_of last.packet) (during ++ first ∷ [])) last
   pub admits : datagram_payload settings.ports (record {
     destination = last.packet.destination;

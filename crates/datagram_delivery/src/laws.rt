@@ -19,8 +19,8 @@ ghost use Rattle.frame_delivery.specs.Sending.{Copy, Numbering, events_of_copies
 ghost use Rattle.frame_delivery.specs.Once.{first_copies};
 ghost use Rattle.frame_delivery.specs.Network.{ComeWhole, KeepsGap, KeepsPause, KeepsTimes, Timing};
 ghost use Rattle.frame_delivery.specs.Since.{PassTimely, forwarded_since, passing_since};
-ghost use Rattle.datagram_delivery.specs.Splitting.{IsLastFragment, Offer, groups_after_offers, is_key_free, joined, other_keys, pieces_of};
-ghost use Rattle.datagram_delivery.specs.Datagrams.{CarryPackets, Completes, HasRoomInParts, IsInParts, IsNextFront, IsUnused, messages_by, offers_of};
+ghost use Rattle.datagram_delivery.specs.Splitting.{IsLastFragment, Offer, groups_after_offers, none_in_parts, joined, other_keys, pieces_of};
+ghost use Rattle.datagram_delivery.specs.Datagrams.{CarryPackets, Completes, KeepsPlace, IsInParts, IsNextFront, IsUnused, messages_by, offers_of};
 ghost use Rattle.datagram_delivery.specs.Offers.{offered_in};
 ghost use Rattle.datagram_delivery.specs.Arriving.{Arrives, past_before};
 ghost use Rattle.datagram_delivery.specs.Interleaved.{AreInterleaved, BringDatagrams, Carried, carried_offers, messages_ended};
@@ -36,7 +36,7 @@ ghost use Rattle.datagram_delivery.specs.Examples.{a_part_before, after_a_part, 
 pub fn a_split_datagram_is_joined()
     ensures held { (limit : ℕ) (offers : List Offer) (front : Offer) → IsNextFront limit offers front → fate limit (groups_after_offers limit [] offers) front.packet front.time ≡ held }
     ensures whole { (limit : ℕ) (earlier : List Offer) (first : Offer) (during : List Offer) (last : Offer) → IsInParts limit (key_of last.packet) earlier first during
-        → HasRoomInParts limit (key_of last.packet) earlier first during → IsLastFragment limit (pieces_of (key_of last.packet) (during ++ first ∷ [])) last
+        → KeepsPlace limit (key_of last.packet) earlier first during → IsLastFragment limit (pieces_of (key_of last.packet) (during ++ first ∷ [])) last
         → fate limit (groups_after_offers limit [] (during ++ first ∷ earlier)) last.packet last.time ≡ whole (joined (pieces_of (key_of last.packet) (during ++ first ∷ [])) ++ last.packet.octets) true }
 {}
 
@@ -46,8 +46,8 @@ pub fn a_split_datagram_is_joined()
 /// came within the limit of time.
 pub fn three_others_leave_room()
     ensures room { (limit : ℕ) (key : DatagramKey) (earlier : List Offer) (first : Offer) (during : List Offer) → IsInParts limit key earlier first during
-        → length (other_keys key (during ++ first ∷ [])) ≤ 3 → HasRoomInParts limit key earlier first during }
-    ensures unused { (limit : ℕ) (key : DatagramKey) (now : ℕ) (earlier : List Offer) → IsUnused limit key now earlier → is_key_free limit (groups_after_offers limit [] earlier) key now ≡ true }
+        → length (other_keys key (during ++ first ∷ [])) ≤ 3 → KeepsPlace limit key earlier first during }
+    ensures unused { (limit : ℕ) (key : DatagramKey) (now : ℕ) (earlier : List Offer) → IsUnused limit key now earlier → none_in_parts limit (groups_after_offers limit [] earlier) key now ≡ true }
 {}
 
 /// What a port gets is what it would get if the packets of the frames that were forwarded were offered one by one, in any
@@ -136,7 +136,7 @@ pub fn the_conditions_can_be_met()
 /// message is delivered.
 pub fn each_condition_is_needed()
     ensures fifth_group { IsInParts 50000 first_key [] (fragment 1 0 true 1) (fragment 5 0 true 5 ∷ three_begun) × IsLastFragment 50000 (pieces_of first_key five_begun) (fragment 1 8 false 1)
-        × HasRoomInParts 50000 first_key [] (fragment 1 0 true 1) three_begun × (HasRoomInParts 50000 first_key [] (fragment 1 0 true 1) (fragment 5 0 true 5 ∷ three_begun) → ⊥)
+        × KeepsPlace 50000 first_key [] (fragment 1 0 true 1) three_begun × (KeepsPlace 50000 first_key [] (fragment 1 0 true 1) (fragment 5 0 true 5 ∷ three_begun) → ⊥)
         × (fate 50000 (groups_after_offers 50000 [] five_begun) (fragment 1 8 false 1).packet 100 ≡ held) }
     ensures identification_again { HaveParts 99 datagram_at (events_of_copies one_identification) × (HaveParts 100 datagram_at (events_of_copies one_identification) → ⊥)
         × (deliveries link_of_100 (events_of_copies one_identification) (record { 0 = 0 }) ≡ record { time = 200; octets = eight 1 ++ eight 2 } ∷ []) }
