@@ -4,9 +4,11 @@ A link's frames are a list of copies, which changes make faulty; then they becom
 """
 import random
 import struct
+import zlib
 from typing import NamedTuple
 
 from parts.worked import with_sum
+from workbench import captures
 
 A, B, BOTH = (0,), (1,), (0, 1)
 GAP, SKEW, COUNT, DELAY, PART, PARTS = 4000, 3000, 600, 300, 480, 3
@@ -172,15 +174,15 @@ ROWS = [
 
 def config(rows):
     """A link for each row, at its place in the table."""
-    for place, (_, _, _, _, _, *more) in rows:
+    for place, (_, made, _, _, _, *more) in rows:
         link, port = [*more, "", ""][:2]
         vl = FIRST_VL + place
         settings = {"skew_max_us": SKEW, "reassembly_us": 40_000, "bag_us": GAP}
         settings |= dict(line.split(" = ") for line in filter(None, [link]))
         lines = [f"{key} = {value}" for key, value in settings.items()]
         yield "\n".join(["[[link]]", f"vl = {vl}", *lines, "[[link.port]]", f'name = "q{vl}"', 'kind = "queuing"',
-                         f'address = "224.224.{vl >> 8}.{vl & 255}"', "udp = 5000", "depth = 32", "max = 1440" if "parts" in str(
-                             rows) else "max = 60", port, ""])
+                         f'address = "224.224.{vl >> 8}.{vl & 255}"', "udp = 5000", "depth = 32",
+                         f"max = {1440 if 'parts' in made else 60}", port, ""])
 
 
 def frames_of(place, row):
@@ -193,8 +195,60 @@ def frames_of(place, row):
     return [(one.time + shift, one.net, octets_of(FIRST_VL + place, one)) for one in found]
 
 
-def capture(frames):
-    """A pcapng of the interfaces A and B."""
-    from workbench import captures
+def capture(frames, lost=0):
+    """A pcapng of the interfaces A and B, of which B lost so many packets."""
     return b"".join([captures.written_section("checks"), *(captures.written_interface(net, net) for net in "AB"), *(
-        captures.written_packet(net, 1000 * (BEGIN + time), octets, None, "") for time, net, octets in sorted(frames))])
+        captures.written_packet(net, 1000 * (BEGIN + time), octets, None, "") for time, net, octets in frames),
+        captures.written_block(captures.STATISTICS, struct.pack("<III", 1, 0, 0), (captures.LOST[0], struct.pack("<Q", lost)))])
+
+
+# ---- files: name, what becomes of the frames of a link without a fault, the options, the words of the link and of all, the
+# status, and what the standard error says
+
+def whole(change=lambda frames: frames, **more):
+    return lambda frames: [capture(change(frames), **more)]
+
+
+def clock(shift=0, rate=0):
+    """That of B is so many microseconds ahead, and so many parts per million faster."""
+    return whole(lambda frames: sorted((time + (shift + rate * (time - frames[0][0]) // 10**6) * net, net, octets)
+                                       for time, net, octets in frames))
+
+
+def one(place, change):
+    return whole(lambda frames: [change(each) if number == place else each for number, each in enumerate(frames)])
+
+
+def of_net(net):
+    return lambda frames: [each for each in frames if each[1] == net]
+
+
+def with_sums(frames):
+    return [(time, net, octets + zlib.crc32(octets).to_bytes(4, "little")) for time, net, octets in frames]
+
+
+def torn(frames):
+    return [capture(frames)[:-60]]
+
+
+SLOW = {"gap": 100_000}
+FILES = [
+    ("two files", {}, lambda frames: [capture(of_net(net)(frames)) for net in BOTH], [], {}, {}, 0, ""),
+    ("B appended to A", {}, whole(lambda frames: of_net(0)(frames) + of_net(1)(frames)), ["--reorder", "100"], {},
+     {"left-out": 599}, 1, "far behind the other network: packet 602"),
+    ("the second half first", {}, whole(lambda frames: frames[600:] + frames[:600]), ["--reorder", "100"], {},
+     {"left-out": 600}, 1, "too late for its place: packet 601"),
+    ("cut within a packet", {}, torn, [], {}, {"left-out": 1}, 5, "cut by the end of the capture: packet 1200"),
+    ("no octet", {}, lambda frames: [b""], [], {"silent": 2}, {}, 1, "it has no packet"),
+    ("an empty file of B", {}, lambda frames: [capture(of_net(0)(frames)), b""], [], {"silent": 1}, {}, 1, "it has no packet"),
+    ("B's clock ahead", SLOW, clock(shift=2000), [], {}, {}, 0, "--shift-b -2300"),
+    ("B's clock faster", SLOW, clock(rate=40), [], {}, {"drift": 1}, 1, "by 40.0 parts per million: --shift-b 0,-40.0"),
+    ("B's clock faster, and set right", SLOW, clock(rate=40), ["--shift-b", "0,-40"], {}, {}, 0, ""),
+    ("check sequences that are taken for frames", {}, whole(with_sums), [], {"numbers": 1, "out-of-sequence": 1186},
+     {}, 1, ""),
+    ("check sequences", {}, whole(with_sums), ["--fcs", "yes"], {}, {}, 0, "check sequences cut off"),
+    ("packets that the tap lost", {}, whole(lost=3), [], {}, {"tap": 3}, 1, "3 packets were lost while it was captured, on interface 1"),
+    ("a tag", {}, one(70, lambda each: (*each[:2], each[2][:12] + b"\x81\0\0\5" + each[2][12:])), [], {"lost-a": 1},
+     {"left-out": 1}, 1, "VLAN tag: packet 71"),
+    ("a strange link", {}, one(70, lambda each: (*each[:2], each[2][:5] + b"\x99" + each[2][6:])), [], {"lost-a": 1}, {"filtered": 1}, 1, ""),
+]
