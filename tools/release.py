@@ -5,6 +5,7 @@ read, and to run what is a program.
 """
 import io
 import os
+import re
 import shutil
 import subprocess
 import tarfile
@@ -19,6 +20,7 @@ from version import version
 NAME = "yelunnavi"
 # What of the tree goes along: what runs without the toolchain, and what is read.
 PACKED = ("README.md", "CHANGELOG.md", "afdx_play", "docs", "examples", "tools")
+LINK = re.compile(r"(?<!!)\[([^][]*)\]\(([^)\s]+)\)")
 SUMS, EVIDENCE = "SUMS", "evidence"
 # Where Debian's package lays the same files, and what one calls.
 PLACE, COMMANDS = f"usr/lib/{NAME}", {"afdx_play": "afdx_play", NAME: f"tools/{NAME}"}
@@ -43,9 +45,23 @@ def contents(folders, gate):
     """The octets of each file and whether it is run, by its name in the release."""
     paths = [*files_of_tree(), *(path for folder in folders for path in sorted(folder.iterdir()))]
     files = {str(path.relative_to(ROOT)): (path.read_bytes(), os.access(path, os.X_OK)) for path in paths}
+    files = without_dead_links(files)
     files |= {f"{EVIDENCE}/{name}": (text.encode(), False) for name, text in evidence(gate).items()}
     sums = "".join(f"{sum_of(octets)}  {name}\n" for name, (octets, _) in files.items())
     return {**files, SUMS: (sums.encode(), False)}
+
+
+def without_dead_links(files):
+    """The files, where a page's link to what isn't packed is its words alone."""
+    known = {str(folder) for name in files for folder in (Path(name), *Path(name).parents)}
+
+    def cut(page, found):
+        to = found[2].partition("#")[0]
+        is_there = not to or ":" in to or os.path.normpath(page.parent / to) in known
+        return found[0] if is_there else found[1]
+
+    return {name: (LINK.sub(lambda found, page=Path(name): cut(page, found), octets.decode()).encode()
+                   if name.endswith(".md") else octets, is_run) for name, (octets, is_run) in files.items()}
 
 
 def write(path, octets, is_run=False):

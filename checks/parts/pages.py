@@ -3,7 +3,7 @@ import csv
 import io
 
 from parts.options import ROOT
-from parts.rules import CALLS, PARTS, links, remarks, rules
+from parts.rules import CALLS, PARTS, links, remarks, rules, source_of
 from parts.tree import CRATES, bodies, crates, functions, head_of
 
 NOTE = "<!-- Made by checks/book: edit the sources. -->"
@@ -57,7 +57,7 @@ def matrix():
         if (rule.page, rule.section) != at:
             at = (rule.page, rule.section)
             yield from ("", f"## [{rule.page.stem}](../{rule.page.name}): {rule.section}")
-        yield from ("", f"### {rule.number}", "", f"> {rule.words}", "")
+        yield from ("", f"### {rule.number}", "", f"> {rule.words}", "", f"Source: {source_of(rule)}", "")
         for part in PARTS:
             own = [it for it in links() if (it.rule, it.part) == (rule.number, part)]
             yield f"- {part}: {SHOWN[part](own) if own else 'none: ' + reasons.get((rule.number, part), 'no reason')}"
@@ -73,16 +73,21 @@ def by_rule():
     """From a rule to all that serves it."""
     order = {rule.number: at for at, rule in enumerate(rules())}
     found = sorted(links(), key=lambda it: (order.get(it.rule, -1), PARTS.index(it.part), it.steps, it.name))
-    rows = ((it.rule, it.part, it.name, it.path.relative_to(ROOT), it.steps) for it in found)
-    return table(("rule", "part", "name", "file", "steps"), dict.fromkeys(rows))
+    sources = {rule.number: source_of(rule) for rule in rules()}
+    rows = [(it.rule, it.part, it.name, it.path.relative_to(ROOT), it.steps, sources.get(it.rule), "") for it in found]
+    rows += [(rule, part, "", "", "", sources.get(rule), why) for (rule, part), why in remarks()[0].items()]
+    rows.sort(key=lambda row: (order.get(row[0], -1), PARTS.index(row[1])))
+    return table(("rule", "part", "name", "file", "steps", "source", "why none"), dict.fromkeys(rows))
 
 
 def by_code():
-    """From what there is to the rules that it serves, those at the fewest steps; tests and wrong bodies of no rule too."""
+    """From what there is to the rules that it serves, those at the fewest steps; functions, tests and wrong bodies of no rule
+    too."""
     order, code, rows = {rule.number: at for at, rule in enumerate(rules())}, {}, []
     for it in links():
         code.setdefault((it.part, it.name, it.path.relative_to(ROOT)), []).append((it.steps, order.get(it.rule, -1), it.rule))
-    for part, found in (("test", (it for it in functions() if it.is_test)), ("wrong body", bodies())):
+    code_of_none = (it for it in functions() if not it.is_test and not it.crate.startswith("test_"))
+    for part, found in (("contract", code_of_none), ("test", (it for it in functions() if it.is_test)), ("wrong body", bodies())):
         for it in found:
             code.setdefault((part, it.name, it.path.relative_to(ROOT)), [])
     for (part, name, file), served in sorted(code.items(), key=lambda one: (PARTS.index(one[0][0]), str(one[0][2]), one[0][1])):

@@ -6,6 +6,7 @@ say stands in checks/rules.txt: why a rule has none of a part, and the rules tha
 Which contracts carry a rule follows: those whose promises cite a definition that carries it, directly or through up to
 STEPS other definitions; of the functions that a user calls, CALLS, through any number.
 """
+import hashlib
 import re
 from collections import namedtuple
 from functools import cache
@@ -22,6 +23,9 @@ CALLS = {
     "each call that takes frames": (
         "receiver::Receiver::receive", "receiver_c::yelunnavi_receiver_receive", "live_system::LiveSystem::receive",
         "system_c::yelunnavi_pass_receive", "link_receiver::LinkState::take", "end_system::EndSystem::receive", "trace_player::play", "program::run"),
+    "each opening": (
+        "receiver_c::yelunnavi_receiver_open", "receiver_c::yelunnavi_receiver_open_table", "system_c::yelunnavi_system_open",
+        "system_c::yelunnavi_system_open_table"),
     "each call of a partition": (
         "mailbox_reader::MailboxReader::read", "partition_reader::PartitionReader::read", "message_ring::RingTaker::take",
         "queuing_port::Taker::take"),
@@ -32,6 +36,10 @@ ENTRIES = tuple(name for names in CALLS.values() for name in names)
 NUMBER = re.compile(r"\*\*([A-Z]+-\d+)\*\* ")
 
 Rule = namedtuple("Rule", "number words page line section")
+# The sum of each rule's words when somebody last compared what serves it with them.
+SUMS = ROOT / "checks" / "rules_sums.txt"
+# What a rule's words, or else the heading above it, name as its source; the rest is own.
+SOURCES = re.compile(r"RFC \d+(?: \d+(?:\.\d+)*)?|ARINC 664 Part 7|\bown\b")
 # What serves a rule: its part, the name, the place, and how many definitions stand between (0 where it has the tag).
 Link = namedtuple("Link", "rule part name path line steps")
 
@@ -53,6 +61,24 @@ def rules():
                 own = words.strip().strip("|").strip()
                 found.append(Rule(number, lead + own if is_item else own, page, line, section))
     return found
+
+
+def source_of(rule):
+    """The public standard that a rule is of, or `own`."""
+    return next((found[0] for text in (rule.words, rule.section) if (found := SOURCES.search(text))), "own")
+
+
+def sum_of(rule):
+    return hashlib.sha256(rule.words.encode()).hexdigest()[:12]
+
+
+def sums():
+    """The rules that were there, each with the sum of its words."""
+    return dict(line.split() for line in lines_of(SUMS) if line)
+
+
+def write_sums():
+    SUMS.write_text("".join(f"{rule.number} {sum_of(rule)}\n" for rule in rules()), encoding="utf-8")
 
 
 def remarks():

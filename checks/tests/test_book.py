@@ -52,6 +52,8 @@ GAPS = [
     (RULES, "PORT-5 test: ", "PORT-5, PORT-99 test: ", "no rule PORT-99"),
     ("docs/RECEIVER.md", "**INT-1** ", "", "INT-1 is left out, and numbers stay"),
     ("docs/RECEIVER.md", "**INT-1** ", "**INT-2** ", "INT-2 is there twice"),
+    ("docs/RECEIVER.md", "**INT-1** ", "**INT-1** Perhaps ", "INT-1 has other words: compare what serves it"),
+    ("checks/rules_sums.txt", "INT-1 ", "INT-96 0\nINT-1 ", "INT-96 was dropped, and numbers stay"),
     ("crates/es_base/specs/Returns.antt", "-- rule: none", "-- none", "no rule, and no reason"),
     (INTEGRITY, "-- ", "-- rule: none (for a try)\n-- ", "a rule, and a reason for none"),
     ("crates/integrity_check/src/lib.rt", "//! ", "// ", "crates/integrity_check: no head"),

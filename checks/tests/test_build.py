@@ -1,10 +1,14 @@
 """What ./build keeps, and the words of ./afdx_play that are refused before anything is built."""
 import csv
 import io
+import os
+import re
 import shutil
 import subprocess
 import tarfile
+from pathlib import Path
 
+import evidence
 import interface
 import pytest
 import release
@@ -75,8 +79,43 @@ def test_a_release_of_one_commit_is_always_the_same_octets(tmp_path):
     sums = dict(reversed(line.split("  ", 1)) for line in files.pop(release.SUMS)[1].decode().splitlines())
     assert sums == {name: sum_of(octets) for name, (_, octets) in files.items()}
     assert files["evidence/gate"][1] == b"12 passed, 0 failed\n"
+    ported = [line.split()[1] for line in files["evidence/index"][1].decode().splitlines() if line.startswith("ported ")]
+    assert "atomic_table:" in ported and b"compiler of C: " in files["evidence/made-by"][1]
     rows = csv.DictReader(io.StringIO(files["evidence/TRACEABILITY.csv"][1].decode()))
     assert {row["part"] for row in rows} == {"definition", "contract", "wrong body", "test"}
+
+
+def test_each_link_of_a_release_leads_to_what_is_packed(tmp_path):
+    with tarfile.open(fileobj=io.BytesIO(packed(tmp_path, None))) as archive:
+        files = {entry.name.partition("/")[2]: archive.extractfile(entry).read() for entry in archive}
+    known = {str(folder) for name in files for folder in (Path(name), *Path(name).parents)}
+    for name, octets in files.items():
+        for found in re.finditer(r"\]\(([^)\s#]+)[^)]*\)", octets.decode()) if name.endswith(".md") else ():
+            assert ":" in found[1] or os.path.normpath(Path(name).parent / found[1]) in known, (name, found[0])
+
+
+@pytest.fixture
+def committed(tmp_path, monkeypatch):
+    """A tree of one commit in place of this one, and its number."""
+    def git(*words):
+        return subprocess.run(["git", "-c", "user.name=x", "-c", "user.email=x@x", *words], cwd=tmp_path, check=True,
+                              capture_output=True, text=True).stdout
+    (tmp_path / "file").write_text("one")
+    for words in (["init", "-q"], ["add", "file"], ["commit", "-qm", "one"]):
+        git(*words)
+    monkeypatch.setattr(evidence, "ROOT", tmp_path)
+    return tmp_path, git("rev-parse", "HEAD").strip()
+
+
+def test_a_release_is_of_one_commit(committed):
+    tree, commit = committed
+    evidence.look_at_commit(None)
+    evidence.look_at_commit(f"commit {commit}\n3 passed, 0 failed\n")
+    with pytest.raises(evidence.NotOfOneCommit, match="no line 'commit"):
+        evidence.look_at_commit("3 passed, 0 failed\n")
+    (tree / "file").write_text("two")
+    with pytest.raises(evidence.NotOfOneCommit, match="isn't that of its commit"):
+        evidence.look_at_commit(None)
 
 
 @pytest.mark.skipif(not shutil.which("dpkg-deb"), reason="no dpkg-deb")

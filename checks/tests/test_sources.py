@@ -28,13 +28,14 @@ def test_the_tree_has_no_slip(tree):
 
 
 CODE, KEPT, REASONS = "crates/integrity_check/src/lib.rt", "crates/integrity_check/specs/Kept.antt", "checks/names.txt"
-CRATES, OFFER = "crates.txt", "crates/link_core/specs/Offer.antt"
+CRATES, OFFER, STEPS = "crates.txt", "crates/link_core/specs/Offer.antt", "crates/triple_buffer/src/steps.rt"
 # A file, what stands there, what is put in its place, and what is told.
 SLIPS = [
     (CRATES, "\nlink_lock: atomic_table\n", "\n", "crates/link_lock: no line of crates.txt names it"),
     (CRATES, "\nlink_lock: ", "\nlink_latch:\nlink_lock: ", "link_latch is no folder of crates/"),
     (CODE, "        match self.last {", 41 * "        let _ = 0;\n" + "        match self.last {", "lines, 40 at most"),
     (CODE, "\nimpl Sequence {", "\n#[test]\nfn a_test() {}\n\nimpl Sequence {", "its place is a crate of tests"),
+    (STEPS, "let found = self\n", "self.table.shared.peek(0);\n        let found = self\n", "a load that no contract counts"),
     (KEPT, "-- what is kept is", "abbrev pub latest : ℕ\nlatest = 0\n\n-- what is kept is", "latest stands in "),
     (KEPT, "abbrev pub StandsFor", "abbrev pub IsRun", "IsRun stands in "),
     # Crates that share other names, of a link with its history and without.

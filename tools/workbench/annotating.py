@@ -12,7 +12,7 @@ def annotate(given):
     played = station.Station(given.config)
     found, alone = Health(played), Alone(played.octets) if given.each else None
     with files.writing(given.to) as out, stream.opened(given) as packets:
-        out.writelines(blocks(played.seen(packets), packets, found, alone))
+        out.writelines(blocks(station.of_link(given, played, packets), packets, found, alone))
     return packets.status
 
 

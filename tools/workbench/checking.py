@@ -22,6 +22,7 @@ LEVELS = {
 LEVEL_OF = {key: level for level, keys in LEVELS.items() for key in keys}
 OF_OTHER_KIND = {"sampling": ("depth", "take_us"), "queuing": ("refresh_us", "read_us")}
 MOST_FAULTS = 100
+AHEAD = 128  # gaps after which a sequence number isn't ahead any more
 # A value that is right, for each key whose value needn't differ from others.
 MENDED = {"constant": "03000000", "skew_max_us": 0, "redundancy": True, "reassembly_us": 0, "window": 2, "port": [],
           "max": 0, "refresh_us": 0, "depth": 1}
@@ -48,7 +49,7 @@ def slips_of(given):
         return [str(told)], 0
     wrong = list(settings.wrong_keys(document.tables))
     found = [document.slip(path, told)
-             for path, told in (*refused(document.tables, fault), *wrong, *silences(document.tables))]
+             for path, told in (*refused(document.tables, fault), *wrong, *silences(document.tables), *turns(document.tables))]
     if not given.files:
         return found, 0
     if fault or wrong:
@@ -107,6 +108,16 @@ def written(config):
     tables = (json.dumps({key: value}, ensure_ascii=False, separators=(", ", " = ")) for key, value in config.items())
     lines = "\n".join(table.removeprefix("{").removesuffix("}") for table in tables)
     return lines.replace("\x7f", "\\u007f")
+
+
+def turns(config):
+    """Links whose numbers may turn while SkewMax runs, by the configuration alone."""
+    for path, link, level in members(config):
+        if level == "a link" and link.get("redundancy", True) and settings.is_right("bag_us", link.get("bag_us")):
+            skew_max, gaps = link.get("skew_max_us"), AHEAD * link["bag_us"]
+            if type(skew_max) is int and skew_max >= gaps:
+                yield (*path, "skew_max_us"), (f"skew_max_us {skew_max} isn't below {AHEAD} BAGs, which are {gaps} us "
+                                               "(docs/DELIVERY.md)")
 
 
 def silences(config):

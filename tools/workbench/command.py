@@ -6,7 +6,9 @@ import pkgutil
 import signal
 import sys
 
+from verdict_words import NETWORKS
 from version import version
+from workbench import moments
 from workbench.faults import NO_MEMORY, NOT_READ, Fault, plain
 
 INPUTS = """\
@@ -75,12 +77,18 @@ CAPTURES = {
                    "help": "what tells A from B: the interface, or the source address, for a tap that joins both"},
     "--fcs": {"choices": ("auto", "yes", "no"), "default": "auto",
               "help": "whether frames end with their check sequence (default: as the capture says, or as it is seen)"},
+    "--in-a-row": flag("all FILEs are one capture of both networks, one after the other, as dumpcap's rings are"),
+    "--from": {"type": moments.moment, "metavar": "WHEN", "dest": "since", "help": "what came before isn't played: seconds "
+               "since the first packet (12.5), a time (13:05:00) or a date with a time (2026-11-29T13:05:00), in UTC"},
+    "--until": {"type": moments.moment, "metavar": "WHEN", "help": "nor what came after"},
+    "--untag": flag("takes VLAN tags off"),
     "--reorder": {"type": number_from(1, 1_000_000), "default": 1000, "metavar": "PACKETS",
                   "help": "how many later packets may stand before one (default 1000)"},
 }
 SHIFT = {"--shift-b": {"type": moved, "default": (0, 0), "metavar": "MICROSECONDS[,PPM]", "help": "moves the clock of B's packets, "
                        "and lets it go faster by so many parts per million"}}
 PLAYED = {**CONFIG, **CAPTURES, **SHIFT}
+LINK = {"--link": {"type": number_from(0, 65535), "metavar": "VL", "help": "one link alone"}}
 EACH = {"--each": flag("besides, the faults of each network's own frames, which the other network's copies hide")}
 FAILING = {"--fail-on": {"metavar": "WORDS", "help": "what makes the status 1 (default: any fault)"}}
 
@@ -93,7 +101,7 @@ def to(metavar, **more):
 COMMANDS = {
     "play": ("workbench.playing:play", "plays captures: a line a frame, and a report", {
         **PLAYED,
-        "--packets": flag("the number of its packet in front of each line, or -"),
+        **LINK, "--packets": flag("the number of its packet in front of each line, or -"),
         "--at": {"type": number_from(0, 2**63 - 1), "metavar": "MICROSECONDS",
                  "help": "time of the report (default: the latest packet's)"},
         "--never-taken": flag("nobody takes or reads: what the proved player writes"),
@@ -101,8 +109,7 @@ COMMANDS = {
     "health": ("workbench.summing:health", "says of each link whether its networks are healthy: losses, delays, ages, and "
                "which conditions of docs/DELIVERY.md were kept", {
         **PLAYED,
-        "--link": {"type": number_from(0, 65535), "metavar": "VL", "help": "the screen of one link"},
-        "--json": flag("all of it, for programs"),
+        **LINK, "--json": flag("all of it, for programs"), "--csv": flag("a line a link, for spreadsheets"),
         **EACH, **FAILING,
         "--workers": {"type": number_from(1, 1024), "metavar": "N", "help": "many captures, by so many processes"},
         "--scheduler": {"metavar": "ADDRESS", "help": "or by the workers of a scheduler of dask.distributed, which see the "
@@ -120,19 +127,24 @@ COMMANDS = {
         **SHIFT, **FAILING,
     }, ("Keys: s sorts, a link's number and Enter shows it, Escape all, q ends.\n", PARTITIONS, AMISS)),
     "annotate": ("workbench.annotating:annotate", "writes one capture of both networks, each packet with its verdict as a "
-                 "comment, and why", {**PLAYED, **to("OUT.pcapng", required=True), **EACH}, (INPUTS, FILTERS)),
+                 "comment, and why", {**PLAYED, **LINK, **to("OUT.pcapng", required=True), **EACH}, (INPUTS, FILTERS)),
     "export": ("workbench.exporting:export", "writes one record a frame, for spreadsheets and pandas", {
-        **PLAYED, **to("OUT", default="-"), "files": {**CAPTURES["files"], "nargs": "*"},
+        **PLAYED, **LINK, **to("OUT", default="-"), "files": {**CAPTURES["files"], "nargs": "*"},
         "--csv": flag("a table with commas"), "--json": flag("an array, a line for each record"),
         "--c-table": flag("the configuration alone, as a table in C for yelunnavi_receiver_open_table")}, (INPUTS,)),
     "draw": ("drawing.draw:draw", "draws what became of the frames, as a page for a browser", {
         **PLAYED, **to("OUT.html", default="-"), **EACH}, (INPUTS, PARTITIONS)),
     "check": ("workbench.checking:check", "looks for slips in a configuration, and in what captures show of it", {
-        "config": {"metavar": "C.toml", "help": "the receiver's configuration"},
+        "place": {"nargs": "?", "metavar": "C.toml", "help": "the receiver's configuration, if --config doesn't name it"},
+        "--config": {**CONFIG["--config"], "required": False},
         **CAPTURES, **SHIFT, "files": {**CAPTURES["files"], "nargs": "*"},
     }, ("A slip is a line FILE:LINE: TEXT. The status is 1 if there is any,\n5 if a file isn't of its form.",)),
+    "propose": ("workbench.proposing:propose", "writes a configuration by what captures show, with the evidence of each value "
+                "as a comment", {**CAPTURES, **SHIFT, **to("C.toml", default="-")}, (INPUTS,)),
     "traces": ("workbench.exporting:traces", "writes captures as hex traces, which the proved player takes: FOLDER/a.trace "
-               "and FOLDER/b.trace", {**CAPTURES, **SHIFT, **to("FOLDER", required=True)}, (INPUTS,)),
+               "and FOLDER/b.trace", {**CAPTURES, **SHIFT, "--to": {"metavar": "FOLDER", "required": True, "help": "where they are "
+               "written; - is the standard output, of one network"}, "--network": {"choices": NETWORKS, "help": "one alone"}},
+               (INPUTS,)),
 }
 
 
@@ -155,13 +167,18 @@ def look_at(parser, given):
     """Refuses words that don't go together."""
     names = getattr(given, "files", [])
     is_many = getattr(given, "workers", None) or getattr(given, "scheduler", None)
-    if not is_many and (len(names) > 2 or names.count("-") > 1):
-        parser.error("one capture or trace, or two")
-    if is_many and ("-" in names or given.json or given.link is not None):
-        parser.error("many captures are files, and make a table: without --json and --link")
+    if not is_many and not getattr(given, "in_a_row", False) and len(names) > 2 or names.count("-") > 1:
+        parser.error("one capture or trace, or two; or with --in-a-row those of one capture")
+    if is_many and ("-" in names or given.json or given.csv or given.link is not None):
+        parser.error("many captures are files, and make a table: without --json, --csv and --link")
     if not is_many and getattr(given, "workers", 0) is None and given.to:
         parser.error("--to is for --workers or --scheduler")
-    if hasattr(given, "csv") and (given.csv + given.json + given.c_table != 1 or given.c_table == bool(names)):
+    if hasattr(given, "place"):
+        given.files = [*(filter(None, [given.place]) if given.config else []), *given.files]
+        given.config = given.config or given.place or parser.error("the configuration: C.toml, or --config C.toml")
+    if hasattr(given, "network") and given.to == "-" and not given.network:
+        parser.error("the standard output takes the trace of one network: --network A or B")
+    if hasattr(given, "c_table") and (given.csv + given.json + given.c_table != 1 or given.c_table == bool(names)):
         parser.error("export takes --csv or --json with captures, or --c-table with none")
     given.fcs = {"auto": None, "yes": True, "no": False}[getattr(given, "fcs", "auto")]
 

@@ -1,4 +1,5 @@
 """One record a frame, for spreadsheets and pandas; a configuration as a table in C; captures as the player's hex traces."""
+import contextlib
 import csv
 import io
 import itertools
@@ -20,7 +21,7 @@ def export(given):
         if given.c_table:
             out.write(c_table.text_of(played.octets).encode())
         else:
-            (write_csv if given.csv else write_json)(out, records(played.seen(packets)))
+            (write_csv if given.csv else write_json)(out, records(station.of_link(given, played, packets)))
     return packets.status
 
 
@@ -53,13 +54,19 @@ def write_json(out, found):
 
 def traces(given):
     """Writes the hex traces that the player takes: FOLDER/a.trace and FOLDER/b.trace."""
-    with files.telling(given.to, "written"):
-        os.makedirs(given.to, exist_ok=True)
-    a, b = (files.writing(os.path.join(given.to, f"{net}.trace")) for net in "ab")
-    with a as of_a, b as of_b, stream.opened(given) as found:
-        outs, clock = (of_a, of_b), stream.Clock(found.is_of_captures)
+    if given.to != "-":
+        with files.telling(given.to, "written"):
+            os.makedirs(given.to, exist_ok=True)
+    chosen = [net for net in NETWORKS if given.network in (None, net)]
+    with contextlib.ExitStack() as stack:
+        outs = {NETWORKS.index(net): stack.enter_context(files.writing(
+            "-" if given.to == "-" else os.path.join(given.to, f"{net.lower()}.trace"))) for net in chosen}
+        found = stack.enter_context(stream.opened(given))
+        clock = stream.Clock(found.is_of_captures)
         for one in found:
             if not one.left_out:
-                outs[one.net].write(b"%d %s\n" % (clock.of(one.net, one.time), one.octets.hex().encode()))
+                now = clock.of(one.net, one.time)
+                if one.net in outs:
+                    outs[one.net].write(b"%d %s\n" % (now, one.octets.hex().encode()))
     found.tell_beginning()
     return found.status

@@ -4,6 +4,7 @@ import io
 import os
 import secrets
 import select
+import signal
 import sys
 import time
 
@@ -112,9 +113,11 @@ def beside(name):
 
 @contextlib.contextmanager
 def output():
-    """The standard output. What a reader that is gone left in it goes nowhere."""
+    """The standard output. A reader that is gone, as `head` is, ends the run quietly, as a shell's pipe would."""
     try:
         with open(1, "wb", BLOCK, closefd=False) as file:
             yield file
+    except BrokenPipeError:
+        sys.exit(128 + signal.SIGPIPE)
     except OSError:
         raise Fault("output not written", NOT_READ) from None

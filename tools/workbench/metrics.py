@@ -12,7 +12,7 @@ class Collector:
     def collect(self):
         counter, gauge = self.core.CounterMetricFamily, self.core.GaugeMetricFamily
         frames = counter("yelunnavi_frames", "frames by verdict", labels=["vl", "network", "verdict"])
-        amiss = counter("yelunnavi_amiss", "what is amiss, by the words of --fail-on", labels=["vl", "what"])
+        amiss = gauge("yelunnavi_amiss", "what is amiss, by the words of --fail-on", labels=["vl", "what"])
         delay = gauge("yelunnavi_delay_us", "how much later B's copy comes", labels=["vl", "of"])
         age = gauge("yelunnavi_port_age_us", "age of the newest message of a sampling port", labels=["port"])
         waiting = gauge("yelunnavi_port_most_waiting", "messages that waited at most in a queue", labels=["port"])

@@ -6,7 +6,8 @@ from workbench import files, station, stream
 def play(given):
     is_live = "-" in given.files
     played = station.Station(given.config, not given.never_taken,
-                            lambda *found: [add(line) for line in lines_of_end(*found)])
+                            lambda now, end, found: [add(line) for line in lines_of_end(now, end, found)
+                                                     if given.link in (None, end.port.vl)])
     with files.output() as out:
         def add(line, number="-"):
             out.write(f"{number} {line}\n".encode() if given.packets else f"{line}\n".encode())
@@ -14,11 +15,11 @@ def play(given):
                 out.flush()
 
         with stream.opened(given) as found:
-            for one, now, reply in played.seen(found):
+            for one, now, reply in station.of_link(given, played, found):
                 if reply:
                     add(f"{now} {NETWORKS[one.net]} {reply.words}", one.number)
         found.tell_beginning()
-        for line in report(played, played.latest if given.at is None else given.at):
+        for line in report(played, played.latest if given.at is None else given.at, given.link):
             add(line)
     return found.status
 
@@ -31,12 +32,16 @@ def lines_of_end(moment, end, found):
     return [f"{moment} taken {name} {one.time} {len(one.octets)}{hexed(one)}" for one in found]
 
 
-def report(played, at):
-    """The player's report; and after the line of each port what its partition found."""
+def report(played, at, link):
+    """The player's report, of all or of one link; and after the line of each port what its partition found."""
     for port in played.receiver.ports:
+        if link not in (None, port.vl):
+            continue
         end = played.partition and played.partition.ends[port.name]
         yield from (of_sampling if port.is_sampling else of_queuing)(played.receiver, port, end, at)
     for (vl, net), counts in played.receiver.counts().items():
+        if link not in (None, vl):
+            continue
         numbers = " ".join(map(str, counts.values()))
         yield f"filtered {net} {numbers}" if vl is None else f"count {vl} {net} {numbers}"
 

@@ -1,5 +1,6 @@
 """A receiver and the partition that reads and takes its ports, fed by a stream."""
 from workbench import settings, stream
+from workbench.faults import WRONG_WORDS, Fault
 from workbench.partitions import Partition
 
 
@@ -34,3 +35,12 @@ class Station:
         self.clock = stream.Clock(found.is_of_captures)
         for one in found:
             yield one, *self.take(one)
+
+
+def of_link(given, played, found):
+    """What a stream's arrivals came to, all or those of the link that a command line names."""
+    if given.link is None:
+        return played.seen(found)
+    if not any(link.vl == given.link for link in played.receiver.links):
+        raise Fault(f"{given.config} has no link {given.link}", WRONG_WORDS)
+    return (seen for seen in played.seen(found) if seen[2] and seen[2].vl == given.link)

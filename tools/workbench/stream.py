@@ -9,7 +9,7 @@ import sys
 from typing import NamedTuple, Optional
 
 from verdict_words import NETWORKS
-from workbench import captures, files, frames, hex_traces
+from workbench import captures, files, frames, hex_traces, moments, unpacking
 from workbench.faults import BROKEN, Broken, Fault, plain
 from workbench.shifts import BEHIND, Shift
 
@@ -21,8 +21,8 @@ SHOWN = 8
 # Nanoseconds that a packet of a pipe waits for earlier ones, and by which one may be behind the other network: dumpcap reads
 # each quarter of a second.
 HOLD_OF_A_PIPE = 300_000_000
-HINTS = {b"\x1f\x8b": "compressed: gunzip it, or `zcat FILE | yelunnavi .. -`", b"\xfd7zX": "compressed: unxz it",
-         b"\x28\xb5\x2f\xfd": "compressed: unzstd it", b"\xef\xbb\xbf": "a byte order mark: sed '1s/^\\xef\\xbb\\xbf//'",
+HINTS = {b"\xfd7zX": "compressed: unxz it", b"\x28\xb5\x2f\xfd": "compressed: install zstd, or unzstd it",
+         b"\xef\xbb\xbf": "a byte order mark: sed '1s/^\\xef\\xbb\\xbf//'",
          b"\xff\xfe": "UTF-16: iconv -f UTF-16 -t ASCII"}
 
 
@@ -44,10 +44,12 @@ class Arrival(NamedTuple):
 class Account:
     """What was met in a capture, for people."""
 
-    def __init__(self, name):
+    def __init__(self, name, count=1):
+        """Of a file, or of so many in a row."""
         self.name = "standard input" if name == "-" else plain(os.path.basename(name))
-        self.broken, self.lost = "", collections.Counter()
-        self.packets = self.whole = self.checked = self.moved = self.newest = 0
+        self.name += f" and {count - 1} more" if count > 1 else ""
+        self.broken, self.lost, self.first = "", collections.Counter(), None
+        self.packets = self.whole = self.checked = self.moved = self.newest = self.untagged = 0
         self.left_out, self.counts = collections.defaultdict(list), collections.Counter()
 
     def leave_out(self, number, reason):
@@ -60,7 +62,8 @@ class Account:
         return self.checked == self.whole >= SHOWN or None
 
     def lines(self):
-        met = (self.checked, "check sequences cut off"), (self.moved, "put in order")
+        met = ((self.checked, "check sequences cut off"), (self.untagged, "VLAN tags taken off"),
+               (self.moved, "put in order"))
         if more := "".join(f", {count} {what}" for count, what in met if count):
             yield f"{self.name}: {self.packets} packets{more}"
         for interface, count in self.lost.items():
@@ -100,14 +103,14 @@ class Clock:
 
 def arrivals(packets, net_of, given, account):
     """What comes of a capture's packets, None if it is none of a network; `net_of` tells that of an interface and octets."""
-    latest, first, (shift, rate) = 0, None, given.shift_b
+    latest, (shift, rate), before = 0, given.shift_b, account.packets
     try:
         for packet in packets:
             if packet is None:
                 yield None
                 continue
             number, interface, time, octets, length, about = packet
-            account.packets = number
+            account.packets = number = before + number
             net = net_of(interface, octets)
             if net is None:
                 account.leave_out(number, OTHER)
@@ -121,10 +124,12 @@ def arrivals(packets, net_of, given, account):
                 found, reason = frames.without_fcs(octets, account.all_had_fcs() if has is None else has)
                 account.checked += len(found) < len(octets)
                 account.whole += reason is None
+                if given.untag:
+                    found = untagged(found, account)
                 octets, length, reason = found, len(found), reason or frames.refusal(found)
             if net and time is not None:
-                first = time if first is None else first
-                time += 1000 * shift + round((time - first) * rate / 1e6)
+                account.first = time if account.first is None else account.first
+                time += 1000 * shift + round((time - account.first) * rate / 1e6)
             if time is None or not 0 <= time < MOST_TIME:
                 time, reason = latest, reason or NO_TIME
             yield Arrival(time, net, number, octets, reason, length)
@@ -135,6 +140,26 @@ def arrivals(packets, net_of, given, account):
         account.broken = f"{account.name}: {broken}; {account.packets} packets before were played"
     except Fault as fault:
         raise Fault(f"{account.name}: {fault}", fault.status) from None
+
+
+def untagged(octets, account):
+    """The frame without its VLAN tags."""
+    while octets[12:14] in frames.TAGS:
+        octets = octets[:12] + octets[16:]
+        account.untagged += 1
+    return octets
+
+
+def of_row(names, first, net_of, given, account):
+    """What comes of captures one after the other, whose packets are numbered on. The first one is open."""
+    yield from arrivals(captures.packets(*first, account.lost), net_of, given, account)
+    for name in names[1:]:
+        with contextlib.ExitStack() as stack:
+            file, magic = opened_file(name, stack)
+            if magic and magic not in captures.MAGICS:
+                raise Fault(f"{name}: no capture, as those before it")
+            if magic:
+                yield from arrivals(captures.packets(file, magic, account.lost), net_of, given, account)
 
 
 def of_trace(found, net, account):
@@ -192,9 +217,12 @@ def in_order(found, window, pipe, account):
 
 
 def opened_file(name, stack):
-    """A file, and its first four octets: of a capture or of a trace."""
-    file = stack.enter_context(files.reading(name))
-    magic = file.read(4)
+    """A file, and its first four octets: of a capture or of a trace. It may be compressed."""
+    file = unpacking.unpacked(name, stack.enter_context(files.reading(name)), stack)
+    try:
+        magic = file.read(4)
+    except Broken as broken:
+        raise Fault(f"{name}: {broken}", BROKEN) from None
     if magic not in captures.MAGICS and magic and magic[0] not in b"0123456789#\n":
         hint = next((hint for start, hint in HINTS.items() if magic.startswith(start)),
                     "`editcap -F pcapng FILE -` makes one of what Wireshark reads")
@@ -214,7 +242,8 @@ class Stream:
     """The arrivals of one capture with both networks, or of two; or of one or two traces. `status` is that at their end."""
 
     def __init__(self, given, stack):
-        inputs = [opened_file(name, stack) for name in given.files]
+        self.given, rows = given, [given.files] if given.in_a_row else [[name] for name in given.files]
+        inputs = [opened_file(row[0], stack) for row in rows]
         kinds = {magic in captures.MAGICS for _, magic in inputs if magic}
         if len(kinds) > 1:
             raise Fault("one capture and one trace: their times have nothing in common")
@@ -222,16 +251,17 @@ class Stream:
         self.unit = "packet" if self.is_of_captures else "line"
         self.first, self.status, self.shift = None, 0, Shift()
         self.interfaces = given.interfaces if given.networks == "interface" else ()
-        self.accounts = [Account(name) for name in given.files]
-        self.feeds = [self.feed(place, *one, given) for place, one in enumerate(inputs)]
+        self.accounts = [Account(row[0], len(row)) for row in rows]
+        self.feeds = [self.feed(place, row, *one) for place, (row, one) in enumerate(zip(rows, inputs))]
 
-    def feed(self, place, file, magic, given):
-        account = self.accounts[place]
+    def feed(self, place, row, file, magic):
+        account, given = self.accounts[place], self.given
         if not self.is_of_captures:
             return of_trace(hex_traces.lines(file, magic, place), place, account)
-        packets = captures.packets(file, magic, account.lost) if magic else ()
-        found = arrivals(packets, networks_of(place, len(self.accounts), given), given, account)
-        return in_order(found, given.reorder, file if given.files[place] == "-" else None, account)
+        net_of = networks_of(place, len(self.accounts), given)
+        found = of_row(row, (file, magic), net_of, given, account) if magic or len(row) > 1 else ()
+        is_pipe = row[0] == "-" and isinstance(file.raw, files.Watched)
+        return in_order(found, given.reorder, file if is_pipe else None, account)
 
     def source(self, net):
         """The name of the file that a network's packets are of."""
@@ -249,12 +279,25 @@ class Stream:
         return sum(account.counts[TORN] for account in self.accounts)
 
     def __iter__(self):
-        for one in self.feeds[0] if len(self.feeds) == 1 else heapq.merge(*self.feeds, key=operator.itemgetter(0, 1)):
+        merged = self.feeds[0] if len(self.feeds) == 1 else heapq.merge(*self.feeds, key=operator.itemgetter(0, 1))
+        for one in self.between(merged) if self.given.since or self.given.until else merged:
             if self.first is None:
                 self.first = one.time
             if self.shift.looks and self.is_of_captures:
                 self.shift.see(one)
             yield one
+
+    def between(self, merged):
+        """The arrivals from one moment to another."""
+        began, ended = None, None
+        for one in merged:
+            if began is None:
+                began, ended = (found and moments.in_capture(found, one.time) for found in (self.given.since, self.given.until))
+                began = began or 0
+            if ended is not None and one.time > ended:
+                return
+            if one.time >= began:
+                yield one
 
     def tell_beginning(self):
         if self.is_of_captures:

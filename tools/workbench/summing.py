@@ -14,6 +14,9 @@ def health(given):
         from workbench import sharing
         return sharing.health(given, most)
     found, status = summed(given)
+    if given.csv:
+        from workbench import sharing
+        sharing.write("-", list(sharing.records(given.files, found)))
     with files.output() as out:
         out.writelines(f"{line}\n".encode() for line in shown(found, given))
     failed = list(told.failures(found, most))
@@ -38,6 +41,8 @@ def summed(given):
 
 
 def shown(found, given):
+    if given.csv:
+        return []
     if given.json:
         return [json.dumps(found)]
     if given.link is None:

@@ -1,16 +1,47 @@
 -- A queue of messages, as its two ends know it while both use it (ARINC 664 Part 7, queuing service): what it may hold
 -- at one moment of a call, as far as one end knows.
-use Rattle.std.specs.Prelude.{◌≡◌, ℕ, List, [], ◌∷◌, ◌++◌, length}
+use Rattle.std.specs.Prelude.{◌≡◌, ℕ, ◌+◌, List, [], ◌∷◌, ◌++◌, length}
 use Rattle.atomic_table.specs.Seated.{TableId}
 use Rattle.es_base.specs.declared.event.Message.{Message}
-use Rattle.es_base.specs.Queue.{BeginsWith, KnownOf}
+use Rattle.es_base.specs.Queue.{BeginsWith}
 
 -- tells one queue from all others
 abbrev pub QueueId : Type 0
 QueueId = TableId
 
-abbrev pub Known : Type 0
-Known = KnownOf QueueId
+-- What an end knows of its queue. A putter knows the whole put list and a beginning of the taken list, a taker the
+-- whole taken list and a beginning of the put list. `depth` is the most messages of the queue. `tries` counts the tries
+-- of this end: a putter's puts, refused or not, and a taker's takes, with a message or without. An answer that is given
+-- without a try leaves this number as it was.
+pub record Known : Type 0 where
+  pub queue : QueueId
+  pub depth : ℕ
+  pub put : List Message
+  pub taken : List Message
+  pub tries : ℕ
+
+-- what both ends know of a new queue
+abbrev pub opened : QueueId → ℕ → Known
+opened queue depth = record { queue = queue; depth = depth; put = []; taken = []; tries = 0 }
+
+-- an end after one more try, by which it put or took nothing
+-- rule: PORT-17
+abbrev pub after_try : Known → Known
+after_try end = record end { tries = end.tries + 1 }
+
+-- a putter that put one message more, by one try
+abbrev pub with_put : Known → Message → Known
+with_put putter message = record putter { put = putter.put ++ message ∷ []; tries = putter.tries + 1 }
+
+-- a taker that took one message more, by one try
+-- rule: PORT-11
+abbrev pub with_taken : Known → Message → Known
+with_taken taker message = record taker { taken = taker.taken ++ message ∷ []; tries = taker.tries + 1 }
+
+-- a queue whose lists are both known: it holds this many messages, put and not taken
+-- rule: PORT-18
+abbrev pub Holds : Known → ℕ → Type 0
+Holds both count = (held : List Message) × (length held ≡ count) × (both.put ≡ both.taken ++ held)
 
 -- a putter that put these messages, and knows of these that they were taken, may find these held
 -- rule: PORT-10

@@ -14,18 +14,19 @@
 #![tactic(auto)]
 
 mod rule;
+mod tries;
 
 ghost use Rattle.std.specs.Prelude.{◌≡◌, ◌+◌, ◌<◌, ◌≤◌, true, length, slice_get, IfOk, OnOk, IfErr, OnErr, IfSome, IfNone, IsOk};
 ghost use Rattle.es_base.specs.Port.{is_kind_within_limits};
 ghost use Rattle.es_base.specs.declared.port.PortKind.TheVariants.{Queuing};
-ghost use Rattle.es_base.specs.Queue.{BeginsWith, Holds, opened, with_put, with_taken};
-ghost use Rattle.queuing_port.specs.Queue.{MayBeEmpty, MayBeFull, MayBeOldest};
+ghost use Rattle.es_base.specs.Queue.{BeginsWith};
+ghost use Rattle.queuing_port.specs.Queue.{Holds, MayBeEmpty, MayBeFull, MayBeOldest, after_try, opened, with_put, with_taken};
 
-use crate::rule::{Ends, Looks, Puts, Queue, Right, Spare, Takes};
+use crate::rule::{Ends, Queue};
+use crate::tries::{RightToPut, RightToTake};
 use es_base::{Memory, Message};
 use std::alloc::Global;
 use std::marker::Model;
-use std::mem;
 use std::sync::{Arc, Wait};
 
 /// The end that puts messages. Contracts see what it knows: the whole put list, and that part of the
@@ -33,7 +34,7 @@ use std::sync::{Arc, Wait};
 #[derive(Drop)]
 pub struct Putter {
     queue: Arc<Queue, Global>,
-    right: Right,
+    right: RightToPut,
 }
 
 impl Model for Putter {
@@ -45,13 +46,14 @@ impl Model for Putter {
     ghost Value = { Known };
 
     ghost view = { λ p. record {
-      queue = p.right.table_id;
+      queue = p.right.pass.table_id;
       depth = ruled_capacity (arc_value p.queue);
-      put = (pass_view p.right).put;
-      taken = (pass_view p.right).taken;
+      put = (pass_view p.right.pass).put;
+      taken = (pass_view p.right.pass).taken;
+      tries = p.right.tries.count;
     } };
 
-    ghost invariant = { λ p. IsPassOf (arc_value p.queue) p.right × ((pass_view p.right).puts ≡ true) };
+    ghost invariant = { λ p. IsPassOf (arc_value p.queue) p.right.pass × ((pass_view p.right.pass).puts ≡ true) };
 }
 
 /// The end that takes messages. Contracts see what it knows: the whole taken list, and that part of the
@@ -59,7 +61,7 @@ impl Model for Putter {
 #[derive(Drop)]
 pub struct Taker {
     queue: Arc<Queue, Global>,
-    right: Right,
+    right: RightToTake,
 }
 
 impl Model for Taker {
@@ -71,13 +73,14 @@ impl Model for Taker {
     ghost Value = { Known };
 
     ghost view = { λ t. record {
-      queue = t.right.table_id;
+      queue = t.right.pass.table_id;
       depth = ruled_capacity (arc_value t.queue);
-      put = (pass_view t.right).put;
-      taken = (pass_view t.right).taken;
+      put = (pass_view t.right.pass).put;
+      taken = (pass_view t.right.pass).taken;
+      tries = t.right.tries.count;
     } };
 
-    ghost invariant = { λ t. IsPassOf (arc_value t.queue) t.right × ((pass_view t.right).takes ≡ true) };
+    ghost invariant = { λ t. IsPassOf (arc_value t.queue) t.right.pass × ((pass_view t.right.pass).takes ≡ true) };
 }
 
 /// Opens a queue of up to `depth` messages, 1 to 64, and returns its ends. All memory of the queue but
@@ -92,68 +95,62 @@ pub fn open_queue(alloc: Global, depth: u8) -> Result<(Putter, Taker), Memory>
     let queue = Arc::new(alloc, queue)?;
     let putter = Putter {
         queue: Arc::try_clone(&queue)?,
-        right: right_to_put,
+        right: RightToPut::new(right_to_put),
     };
     let taker = Taker {
         queue,
-        right: right_to_take,
+        right: RightToTake::new(right_to_take),
     };
     Ok((putter, taker))
 }
 
 /// Synchronizes the two ends of one queue: each then knows all that the other did, of which it knew a
 /// beginning before. Returns the number of messages in the queue: put and not taken, at most its depth.
-/// Nothing else changes, and there is nobody to wait for, since both ends are here.
+/// Nothing else changes, it counts as no try, and there is nobody to wait for, since both ends are here.
 pub fn meet<R: Wait>(rt: &R, putter: &mut Putter, taker: &mut Taker) -> usize
     requires { taker.old.queue ≡ putter.old.queue }
     ensures putter { putter.new ≡ record putter.old { taken = taker.old.taken } }
     ensures taker { taker.new ≡ record taker.old { put = putter.old.put } }
-    ensures same { taker.new ≡ putter.new }
+    ensures same { taker.new ≡ record putter.new { tries = taker.old.tries } }
     ensures before { BeginsWith taker.new.put taker.old.put × BeginsWith putter.new.taken putter.old.taken }
     ensures held { Holds putter.new result }
     ensures depth { result ≤ putter.old.depth }
 {
-    let queue = &putter.queue;
-    let spare = queue.another::<Spare>(&mut putter.right);
-    let right_to_take = mem::replace(&mut taker.right, spare);
-    queue.absorb::<Ends>(&mut putter.right, right_to_take);
-    let held = queue.len_as::<Looks, R>(rt, &mut putter.right);
-    taker.right = queue.another::<Ends>(&mut putter.right);
-    held
+    putter.right.meet(rt, &putter.queue, &mut taker.right)
 }
 
 impl Putter {
-    /// Puts a message at the end of the queue. `Err` hands the message back. By the rule of the queue
-    /// that happens only if the queue was full at one moment of the call. The contract says as much of
-    /// it as this end can know: no message is handed back in the first `depth` puts, nor while fewer
-    /// than `depth` messages were put that this end doesn't know to be taken. It learns of takes as the
-    /// ends meet.
+    /// Puts a message at the end of the queue, by one try. `Err` hands the message back: a message is refused only by a
+    /// try in this call, and by the queue's rule a try finds the queue full only if it was full at one moment of the
+    /// call. The contract says as much of that moment as this end can know: no message is handed back in the first
+    /// `depth` puts, nor while fewer than `depth` messages were put that this end doesn't know to be taken. It learns of
+    /// takes as the ends meet.
     // rule: PORT-17
     pub fn put<R: Wait>(&mut self, rt: &R, message: Message) -> Result<(), Message>
-        ensures ok { OnOk result (self.new ≡ with_put self.old message self.old.taken) }
-        ensures err { IfErr result (λ back. (back ≡ message) × (self.new ≡ self.old)) }
+        ensures ok { OnOk result (self.new ≡ with_put self.old message) }
+        ensures err { IfErr result (λ back. (back ≡ message) × (self.new ≡ after_try self.old)) }
         ensures may_be_full { OnErr result (MayBeFull self.old) }
         ensures room_is_known { length self.old.put < length self.old.taken + self.old.depth → IsOk result }
     {
         let Putter { queue, right } = self;
-        queue.push_as::<Puts, R>(rt, right, message)
+        right.push(rt, queue, message)
     }
 }
 
 impl Taker {
-    /// Takes the oldest message. By the rule of the queue there is none only if the queue was empty at
-    /// one moment of the call. The contract says as much of it as this end can know: while it knows of
-    /// messages that were put and that it hasn't taken, the take gives the next of those. It learns of
-    /// puts as the ends meet.
+    /// Takes the oldest message, by one try. None: there is none only by a try in this call, and by the queue's rule a
+    /// try finds none only if the queue was empty at one moment of the call. The contract says as much of that moment as
+    /// this end can know: while it knows of messages that were put and that it hasn't taken, the take gives the next of
+    /// those. It learns of puts as the ends meet.
     pub fn take<R: Wait>(&mut self, rt: &R) -> Option<Message>
-        ensures some { IfSome result (λ message. self.new ≡ with_taken self.old message self.old.put) }
+        ensures some { IfSome result (λ message. self.new ≡ with_taken self.old message) }
         ensures may_be_oldest { IfSome result (MayBeOldest self.old) }
-        ensures none { IfNone result (self.new ≡ self.old) }
+        ensures none { IfNone result (self.new ≡ after_try self.old) }
         ensures may_be_empty { IfNone result (MayBeEmpty self.old) }
         ensures next_is_known { length self.old.taken < length self.old.put →
             result ≡ slice_get self.old.put (length self.old.taken) }
     {
         let Taker { queue, right } = self;
-        queue.pop_as::<Takes, R>(rt, right)
+        right.pop(rt, queue)
     }
 }

@@ -93,6 +93,11 @@ pub record HasAll (v w : ReaderEnd) (published : List Message) : Type 0 where
 
 -- ---- what the ends keep
 
+-- three buffers with no message yet
+abbrev pub AreThree : ℕ → List (Option Latest) → Type 0
+AreThree longest slots = (a : Latest) × (b : Latest) × (c : Latest) × (slots ≡ Some a ∷ Some b ∷ Some c ∷ [])
+    × (HasRoom longest a × (a.number ≡ 0)) × (HasRoom longest b × (b.number ≡ 0)) × (HasRoom longest c × (c.number ≡ 0))
+
 -- A writer has its buffer in its place.
 pub record IsWriter (me : At) (slot longest count : ℕ) : Type 0 where
   pub view : me.0 ≡ Writes (writer_of me.0)

@@ -1,0 +1,36 @@
+"""A configuration by what captures show: `check` takes it, and each value has what was seen."""
+import tomllib
+
+import pytest
+from conftest import CAPTURES, done, run
+from workbench import proposing
+
+
+@pytest.mark.parametrize("names", [["faults.pcapng"], ["both.pcapng"], ["a.pcap", "b.pcap"], ["ahead_a.pcap", "ahead_b.pcap"]])
+def test_check_takes_it_without_a_slip(tmp_path, names):
+    files, made = [CAPTURES / name for name in names], tmp_path / "made.toml"
+    done("propose", *files, "--to", made)
+    found = run("check", made, *files)
+    slips = [line for line in found.stdout.decode().splitlines() if "clock seems" not in line]
+    assert not slips
+
+
+def test_what_a_sender_sent_is_seen():
+    """The kernel's messages: to two UDP ports, of which one has messages of up to 3,000 octets."""
+    text = done("propose", CAPTURES / "both.pcapng").decode()
+    link, = tomllib.loads(text)["link"]
+    assert link["vl"] == 17 and link["reassembly_us"] == 5000
+    assert [(port["udp"], port["kind"], port["max"]) for port in link["port"]] == [
+        (5000, "sampling", 100), (5002, "queuing", 3000)]
+    assert all("#" in line for line in text.splitlines() if line.startswith(("kind", "max", "skew_max_us", "reassembly_us")))
+
+
+def test_next_of_1_2_5():
+    assert [proposing.rounded(value, 10**6) for value in (0, 1, 3, 11, 49_000, 700_001)] == [1, 1, 5, 20, 50_000, 10**6]
+
+
+def test_a_guess_says_so(written):
+    text = done("propose", written("empty.trace", "")).decode()
+    assert "link" not in tomllib.loads(text)
+    text = done("propose", CAPTURES / "a.pcap").decode()
+    assert "a guess: no pair of copies came" in text

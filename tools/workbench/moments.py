@@ -1,0 +1,35 @@
+"""Moments of a capture: seconds since its first packet, a time of its first day, or a date and a time (UTC if no zone is
+said). All are nanoseconds here."""
+import argparse
+import datetime
+import re
+from decimal import Decimal
+
+SECOND, DAY = 10**9, 86_400 * 10**9
+SINCE, OF_DAY, OF_ALL = range(3)
+SECONDS = re.compile(r"\d+(\.\d+)?")
+EPOCH = datetime.datetime(1970, 1, 1, tzinfo=datetime.timezone.utc)
+
+
+def moment(word):
+    """What a word of the command line says."""
+    if SECONDS.fullmatch(word):
+        return SINCE, int(Decimal(word) * SECOND)
+    try:
+        if ":" in word[:3]:
+            found = datetime.datetime.combine(EPOCH, datetime.time.fromisoformat(word))
+            return OF_DAY, since_1970(found)
+        return OF_ALL, since_1970(datetime.datetime.fromisoformat(word))
+    except ValueError:
+        raise argparse.ArgumentTypeError(f"{word!r} is no moment: 12.5, 13:05:00 or 2026-11-29T13:05:00 (UTC)") from None
+
+
+def since_1970(found):
+    zoned = found if found.tzinfo else found.replace(tzinfo=datetime.timezone.utc)
+    return (zoned - EPOCH) // datetime.timedelta(microseconds=1) * 1000
+
+
+def in_capture(found, first):
+    """Nanoseconds of 1970, in a capture with this first packet."""
+    kind, value = found
+    return value + (first if kind == SINCE else first // DAY * DAY if kind == OF_DAY else 0)
