@@ -105,6 +105,7 @@ class Copies:
         self.newest, self.number, self.latest = -1, None, None  # place, number and time
         self.rate, self.quiet = collections.deque(maxlen=RATE_OF), 0
         self.lost_both = self.dropped = self.resets = 0
+        self.strays = []  # the latest that were behind, with their networks and numbers
         self.seen, self.first, self.least, self.closest = 0, None, None, None  # new frames, and their times
 
     # ---- a frame
@@ -130,10 +131,15 @@ class Copies:
         return self.take(net, number, copy, ahead, self.newest)
 
     def awaited(self, net, number, time):
-        """The place whose other copy came. After SkewMax a number from before a restart is that of a new frame."""
+        """The place whose other copy came. After SkewMax a number from before a restart is that of a new frame, and so is one of
+        which the sender has gone on for a turn in silence."""
         place = self.by_number.get(number)
-        is_so = place and not place.copies[net] and place.copies[1 - net]
-        return place if is_so and (place.index >= self.began or time - place.since <= self.skew) else None
+        if not place or place.copies[net] or not place.copies[1 - net]:
+            return None
+        if time - place.since > self.skew and (
+                place.index < self.began or self.newest + self.expected(time) - place.index > HALF_TURN + 1):
+            return None
+        return place
 
     def judge(self, net, side, number):
         """Whether the refused frame before counts, by the number that comes next."""
@@ -173,14 +179,26 @@ class Copies:
         side.newest, side.number, side.behind, side.follow = max(side.newest, place.index), place.number, None, 0
 
     def fall_behind(self, net, number, copy):
-        """It is of no place that is waited for. If others go on from it, the sender has begun anew without a 0."""
+        """It is of no place that is waited for. If others go on from it, the sender has begun anew without a 0, with the first of
+        them."""
         side = self.sides[net]
-        follows = side.behind is not None and (number - side.behind) % TURN == 1
-        side.behind, side.follow = number, side.follow + 1 if follows else 1
-        if side.follow == RENEWED:
-            return self.advance(net, number, copy, 1, is_reset=True)
-        side.late += 1
-        return Note(LATE)
+        if side.behind is None or (number - side.behind) % TURN != 1:
+            side.follow, self.strays = 0, [one for one in self.strays if one[0] != net]
+        side.behind, side.follow = number, side.follow + 1
+        if side.follow < RENEWED:
+            self.strays.append((net, number, copy))
+            side.late += 1
+            return Note(LATE)
+        (first, *others), self.strays = [*self.strays, (net, number, copy)], []
+        note = self.advance(*first, 1, is_reset=True)
+        for each, its_number, its_copy in others:
+            if place := self.awaited(each, its_number, its_copy.time):
+                note = self.come(each, place, its_copy, self.newest)
+            else:
+                note = self.take(each, its_number, its_copy, self.ahead(its_number, its_copy.time), self.newest)
+        for each, *_ in (first, *others[:-1]):
+            self.sides[each].late -= 1
+        return note._replace(what=ANEW)
 
     def ahead(self, number, time):
         """How many places a frame of this number is ahead of the newest one; 0 or less if it isn't."""
@@ -190,13 +208,24 @@ class Copies:
         steps = number if before == 0 else (number - before) % TURN
         if steps == 1:
             return 1
-        expected = 0
-        if time - self.latest > 2 * self.quiet and self.rate and self.seen - self.rate[0][0] >= STEADY:
-            seen, since = self.rate[0]
-            expected = (time - self.latest) * (self.seen - seen) // max(1, self.latest - since)
-            if self.bag:
-                expected = min(expected, (time - self.latest) // (1000 * self.bag) + 1)
-        return steps + TURN * max(-1, (expected - steps + HALF_TURN) // TURN)
+        steps += TURN * max(-1, (self.expected(time) - steps + HALF_TURN) // TURN)
+        return steps - TURN if steps > HALF_TURN and steps > self.most_since(time) else steps
+
+    def expected(self, time):
+        """How many frames the sender would have sent by now, where both networks are silent for longer than usual."""
+        if time - self.latest <= 2 * self.quiet or not self.rate or self.seen - self.rate[0][0] < STEADY:
+            return 0
+        seen, since = self.rate[0]
+        return (time - self.latest) * (self.seen - seen) // max(1, self.latest - since)
+
+    def most_since(self, time):
+        """How many frames the sender can have sent since the newest: by the BAG, or by twice its greatest rate."""
+        if self.bag:
+            return (time - self.latest) // (1000 * self.bag) + 2
+        return 2 * (time - self.latest) // max(1, self.gap()) + 2
+
+    def gap(self):
+        return self.closest // RATE_OF if self.closest else self.least or MOST_TIME
 
     def advance(self, net, number, copy, ahead, is_reset=False):
         """A place that is newer than all."""
@@ -235,13 +264,17 @@ class Copies:
                 self.closest = min(time - self.rate[0][1], self.closest or MOST_TIME)
         self.rate.append((self.seen, time))
 
+    def odd(self):
+        """How many frames came again, late or astray."""
+        return sum(side.repeated + side.late + side.astray for side in self.sides)
+
     def room(self):
-        """For how many frames there was time beside those that came: by the BAG, or by twice their greatest rate."""
+        """For how many frames there was time beside those that came; a sender that breaks its BAG has the other bound."""
         if self.seen < 2:
             return 0
-        elapsed, gap = self.latest - self.first, self.closest // RATE_OF if self.closest else self.least
+        elapsed = self.latest - self.first
         by_bag = elapsed // (1000 * self.bag) + 2 - self.seen if self.bag else -1
-        return by_bag if by_bag >= 0 else 2 * elapsed // max(1, gap) + 2 - self.seen
+        return by_bag if by_bag >= 0 else 2 * elapsed // max(1, self.gap()) + 2 - self.seen
 
     def add(self, number, time, by):
         self.newest += 1

@@ -19,6 +19,7 @@ FIRST_PIECE = CODES["bad-fragment"]  # frames of this kind and those after it ha
 SENDER = slice(6, 11)  # octets of a source address that both networks share
 MOST_SENDERS = 8  # addresses of a link whose frames are told apart
 JITTER = 500  # microseconds that a frame may come before its BAG is over, if `jitter_us` isn't there
+LEAST_ODD = 16  # frames with odd numbers; more than the others make no sense
 AHEAD = 128  # gaps after which a sequence number isn't ahead any more
 # The verdicts that say that a frame itself is at fault; and one that no receiver gives.
 FAULTS = frozenset(("bad-header", "bad-fragment", "bad-udp", "no-port", "too-long", "fragmented-sample", "exhausted"))
@@ -29,7 +30,8 @@ class Network:
     """When frames of a link came on a network. `closest` is the least time in which 128 more came."""
 
     def __init__(self, bag, jitter):
-        self.bag, self.least_wanted, self.frames, self.early = bag, 1000 * max(0, (bag or 0) - jitter), 0, 0
+        self.bag, self.least_wanted = bag, 1000 * max(0, (bag or 0) - jitter)
+        self.frames, self.early, self.is_early = 0, 0, False
         self.first = self.last = self.least = self.most = None
         self.bags, self.times, self.closest = Counter(), deque(maxlen=AHEAD), None
 
@@ -48,7 +50,7 @@ class Network:
                 self.least = gap
             if self.most is None or gap > self.most:
                 self.most = gap
-            self.early += gap < self.least_wanted
+            self.is_early = gap < self.least_wanted
             self.bags[(gap * 181 // 128_000_000).bit_length()] += 1  # the nearest of 2^n milliseconds, by ratio
         self.last = time
 
@@ -108,6 +110,8 @@ class Link(copies.Listener):
         before, newest = self.copies.latest, self.copies.newest
         note = self.copies.see(net, time, number, packet, is_forwarded, code == OUT_OF_SEQUENCE, is_bad)
         what, fault = note.what, None
+        if self.nets[net].is_early and note.index == self.copies.newest > newest >= 0 and time - before < self.nets[net].least_wanted:
+            self.nets[net].early += 1  # of its network, and of the frames that are new
         if what == copies.COPY:
             fault = self.pair(net, time, is_forwarded, note.other, where)
         elif what in (copies.RESET, copies.ANEW):
@@ -239,8 +243,12 @@ class Link(copies.Listener):
         """Why the numbers of its frames make no sense, if they make none: then nothing is counted by them."""
         if self.mixed_at:
             return f"two series of numbers alternate, from {self.mixed_at} on"
-        return next((f"{one.lost_both} numbers are missing, where there was time for {max(0, one.room())} frames more"
-                     for one in self.senders.values() if one.lost_both > one.room()), None)
+        for one in self.senders.values():
+            if one.lost_both > one.room():
+                return f"{one.lost_both} numbers are missing, where there was time for {max(0, one.room())} frames more"
+            if (odd := one.odd()) > max(LEAST_ODD, one.seen):
+                return f"the numbers of {odd} frames don't go on from those before"
+        return None
 
     def sender_count(self):
         """How many addresses it has, or series of numbers."""

@@ -21,7 +21,7 @@ class Group:
 
     def __init__(self, now, packet):
         self.begin, self.packet, self.places, self.octets = now, packet, {}, bytearray(MOST_OCTETS)
-        self.reach, self.end = 0, None
+        self.reach, self.end, self.wrong = 0, None, []
 
     def add(self, offset, octets, more):
         """What is wrong with a fragment beside those before."""
@@ -89,7 +89,8 @@ class Pieces:
             group = self.begin(key, now, offset, packet)
         elif offset in group.places:
             self.tell("identification", group.packet, packet)
-        if wrong := group.add(offset, octets, more):
+        if (wrong := group.add(offset, octets, more)) and wrong not in group.wrong:
+            group.wrong.append(wrong)
             self.tell(wrong, group.packet, packet)
         if kind == HELD:
             return True

@@ -177,14 +177,17 @@ class Order:
 
     def __init__(self, account):
         self.heap, self.latest, self.account = [], [0, 0], account
+        self.patience = [HOLD_OF_A_PIPE, HOLD_OF_A_PIPE]  # by how much each may be behind the other: none once it was
 
     def next(self):
         """The earliest; it is left out if it comes too late for its network."""
         one = heapq.heappop(self.heap)
         time, net, number, _, left_out, _ = one
-        if not left_out and time < max(self.latest[net], self.latest[1 - net] - HOLD_OF_A_PIPE):
-            left_out = LATE if time < self.latest[net] else BEHIND
-            one = one._replace(left_out=left_out)
+        if not left_out:
+            is_behind = time < self.latest[1 - net] - self.patience[net]
+            self.patience[net] = 0 if is_behind else HOLD_OF_A_PIPE
+            left_out = LATE if time < self.latest[net] else BEHIND if is_behind else None
+            one = one._replace(left_out=left_out) if left_out else one
         if left_out:
             self.account.leave_out(number, left_out)
         else:

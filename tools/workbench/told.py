@@ -3,7 +3,6 @@ import re
 
 from verdict_words import NETWORKS
 from workbench.faults import WRONG_WORDS, Fault
-from workbench.health import FAULTS
 from workbench.stream import TORN
 
 
@@ -46,7 +45,8 @@ def of_link(link, ports, latest):
             "senders": [sender.hex(":") for sender in link.senders], "sender_count": link.sender_count(), "nonsense": link.nonsense(),
             "lost_both": link.summed("lost_both"), "delays_us": of_delays(link), "twice": of_events(link.twice),
             "resets": of_events(link.resets), "least_pause_us": link.least_pause, "unfinished": of_events(link.unfinished),
-            "identification_again": of_events(link.again), "fragments": of_events(link.fragments), "bad": link.of_kinds(*FAULTS),
+            "identification_again": of_events(link.again), "fragments": of_events(link.fragments),
+            "bad": sum(count for refused in link.refused for count, _ in refused.values()),
             "out_of_sequence": link.of_kinds("out-of-sequence"), "overflows": link.of_kinds("overflow"),
             "law": link.law(), **link.spans.told(settings.reassembly if link.pieces.has_fragments else 0), "costs": link.costs(),
             "outages": of_events(link.outages), "free_outages": link.free_outages, "broken": broken, "ports": ports}
