@@ -235,7 +235,7 @@ SLOW = {"gap": 100_000}
 FILES = [
     ("two files", {}, lambda frames: [capture(of_net(net)(frames)) for net in BOTH], [], {}, {}, 0, ""),
     ("B appended to A", {}, whole(lambda frames: of_net(0)(frames) + of_net(1)(frames)), ["--reorder", "100"], {},
-     {"left-out": 499}, 1, "far behind the other network: packet 602"),
+     {"left-out": 499}, 1, "far behind the other network: packet 601"),
     ("the second half first", {}, whole(lambda frames: frames[600:] + frames[:600]), ["--reorder", "100"], {},
      {"left-out": 600}, 1, "too late for its place: packet 601"),
     ("cut within a packet", {}, torn, [], {}, {"left-out": 1}, 5, "cut by the end of the capture: packet 1200"),

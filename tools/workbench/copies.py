@@ -122,7 +122,8 @@ class Copies:
             self.judge(1 - net, other, number)
         if self.places and self.places[0].since < time - self.wait:
             self.settle(time - self.wait)
-        if place := self.awaited(net, number, time):
+        place = self.by_number.get(number)
+        if place and not place.copies[net] and place.copies[1 - net] and self.is_of(place, time):
             return self.come(net, place, copy, self.newest)
         ahead = self.ahead(number, time)
         if is_refused and ahead > 0 and not goes_on(number, side.number):
@@ -131,15 +132,15 @@ class Copies:
         return self.take(net, number, copy, ahead, self.newest)
 
     def awaited(self, net, number, time):
-        """The place whose other copy came. After SkewMax a number from before a restart is that of a new frame, and so is one of
-        which the sender has gone on for a turn in silence."""
+        """The place whose other copy came."""
         place = self.by_number.get(number)
-        if not place or place.copies[net] or not place.copies[1 - net]:
-            return None
-        if time - place.since > self.skew and (
-                place.index < self.began or self.newest + self.expected(time) - place.index > HALF_TURN + 1):
-            return None
-        return place
+        return place if place and not place.copies[net] and place.copies[1 - net] and self.is_of(place, time) else None
+
+    def is_of(self, place, time):
+        """Whether a frame with its number may be its copy. After SkewMax a number from before a restart is that of a new frame, and
+        so is one of which the sender has gone on for a turn in silence."""
+        return time - place.since <= self.skew or (
+            place.index >= self.began and self.newest + self.expected(time) - place.index <= HALF_TURN + 1)
 
     def judge(self, net, side, number):
         """Whether the refused frame before counts, by the number that comes next."""
@@ -258,10 +259,12 @@ class Copies:
         self.seen += 1
         if self.latest is None:
             self.first = time
+        elif len(self.rate) == RATE_OF:
+            span = time - self.rate[0][1]
+            if self.closest is None or span < self.closest:
+                self.closest = span
         else:
             self.least = min(time - self.latest, self.least or MOST_TIME)
-            if len(self.rate) == RATE_OF:
-                self.closest = min(time - self.rate[0][1], self.closest or MOST_TIME)
         self.rate.append((self.seen, time))
 
     def odd(self):
@@ -297,7 +300,7 @@ class Copies:
     def end(self, place):
         if self.by_number.get(place.number) is place:
             del self.by_number[place.number]
-        lost, before = [], self.cost
+        lost, before = [], self.lost_both + self.dropped
         a, b = place.copies
         if not a and not b:
             self.lost_both += 1

@@ -56,9 +56,10 @@ class Pieces:
         self.groups, self.offers, self.told = collections.OrderedDict(), Offers(limit), collections.OrderedDict()
         self.has_fragments, self.joined, self.whole = False, 0, collections.deque(maxlen=MOST_KEPT)
 
-    def see(self, now, octets, kind, packet, is_again):
+    def see(self, now, one, kind, is_again):
         """A frame that was forwarded, and whose header is good; perhaps again. Returns whether a message is whole with it by the
         law."""
+        octets = one.octets
         word = int.from_bytes(octets[FRAGMENT], "big") & 0x3FFF
         if not word and not self.has_fragments:
             self.whole.append((now, octets))
@@ -72,9 +73,9 @@ class Pieces:
         is_used, end = chain and chain.is_joined and now - chain.latest <= self.limit, int.from_bytes(octets[16:18], "big") + 14
         is_whole = self.offers.add(key, None if is_bad else offset, end - 34, more, now)
         if not word and key in self.groups:
-            self.give_up(key, "a whole datagram", packet)
+            self.give_up(key, "a whole datagram", one.where)
         elif word and not is_bad and not is_again:
-            return self.add(key, now, offset, octets[34:end], more, kind, packet, is_used) and is_whole
+            return self.add(key, now, offset, octets[34:end], more, kind, one.where, is_used) and is_whole
         return is_whole
 
     def add(self, key, now, offset, octets, more, kind, packet, is_used):
