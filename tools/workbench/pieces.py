@@ -38,8 +38,11 @@ class Group:
         return wrong
 
     def is_mixed(self, addresses):
-        """Whether the UDP checksum of the joined datagram is wrong."""
-        return has_wrong_sum(addresses, self.octets[:min(self.end, int.from_bytes(self.octets[4:6], "big"))])
+        """Whether the UDP checksum of the joined datagram is wrong; of copies that were forwarded again it has none."""
+        reached = 0
+        for begin, after in sorted(self.places.items()):
+            reached = max(reached, after) if begin <= reached else -MOST_OCTETS
+        return self.end is not None and reached >= self.end and has_wrong_sum(addresses, self.octets[:min(self.end, int.from_bytes(self.octets[4:6], "big"))])
 
 
 def has_wrong_sum(addresses, datagram):
