@@ -85,8 +85,8 @@ CAPTURES = {
     "--reorder": {"type": number_from(1, 1_000_000), "default": 1000, "metavar": "PACKETS",
                   "help": "how many later packets may stand before one (default 1000)"},
 }
-SHIFT = {"--shift-b": {"type": moved, "default": (0, 0), "metavar": "MICROSECONDS[,PPM]", "help": "moves the clock of B's packets, "
-                       "and lets it go faster by so many parts per million"}}
+SHIFT = {"--shift-b": {"type": moved, "default": (0, 0), "metavar": "MICROSECONDS[,PPM]", "help": "moves the clock of B's "
+                       "packets, and lets it go faster by so many parts per million"}}
 PLAYED = {**CONFIG, **CAPTURES, **SHIFT}
 LINK = {"--link": {"type": number_from(0, 65535), "metavar": "VL", "help": "one link alone"}}
 EACH = {"--each": flag("besides, the faults of each network's own frames, which the other network's copies hide")}

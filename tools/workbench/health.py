@@ -110,8 +110,9 @@ class Link(copies.Listener):
         before, newest = self.copies.latest, self.copies.newest
         note = self.copies.see(net, time, number, packet, is_forwarded, code == OUT_OF_SEQUENCE, is_bad)
         what, fault = note.what, None
-        if self.nets[net].is_early and note.index == self.copies.newest > newest >= 0 and time - before < self.nets[net].least_wanted:
-            self.nets[net].early += 1  # of its network, and of the frames that are new
+        its = self.nets[net]
+        if its.is_early and note.index == self.copies.newest > newest >= 0 and time - before < its.least_wanted:
+            its.early += 1  # after the one before of its network, and after the newest frame
         if what == copies.COPY:
             fault = self.pair(one, is_forwarded, note.other)
         elif what in (copies.RESET, copies.ANEW):
@@ -199,7 +200,8 @@ class Link(copies.Listener):
         if run < self.link.window:
             return
         where = f"{copy.packet} of {NETWORKS[net]}" if copy else f"the end of {NETWORKS[net]}"
-        self.conditions.broken("losses", where, f"the first after {run} were lost" if copy else f"{run} were lost, and no more came")
+        how = f"the first after {run} were lost" if copy else f"{run} were lost, and no more came"
+        self.conditions.broken("losses", where, how)
         self.outages.add(f"{run} before {where}, " + (f"{cost} frames not forwarded" if cost else "no frame lost"))
         self.free_outages += not cost
 
@@ -280,15 +282,14 @@ class Link(copies.Listener):
                 and (not is_nonsense or word not in BY_NUMBERS)}
 
     def costs(self):
-        """What messages were lost by: frames that came on neither network, or that the receiver dropped, refused or had no room
-        for, and datagrams in parts that were given up; and those that came twice."""
+        """What messages were lost by: frames that came on neither network, or that the receiver dropped, refused or had no
+        room for, and datagrams in parts that were given up; and those that came twice."""
         return {"lost-both": self.summed("lost_both"), "dropped": self.summed("dropped"), "bad": self.of_kinds(*FAULTS),
                 "overflow": self.of_kinds("overflow"), "unfinished": self.unfinished.count, "twice": self.twice.count}
 
     def law(self):
-        """What came of the law: `all`, its conditions held from the first frame to the last, and nothing was lost; `no loss`,
-        some were broken, or a network is out, and that cost nothing; messages came `twice`, or were `lost`; `not known`, where
-        numbers make no sense; `off`, without redundancy management it says nothing; and nothing came."""
+        """What came of the law (docs/FORMATS.md): `all` where its conditions held from the first frame to the last, and
+        nothing was lost."""
         if not any(net.frames for net in self.nets):
             return "-"
         if not self.link.redundancy:

@@ -31,7 +31,8 @@ class Group:
             for begin, end in self.places.items():
                 begin, end = max(begin, offset), min(end, after)
                 if begin < end:
-                    wrong = OVERLAP if self.octets[begin:end] != octets[begin - offset:end - offset] or wrong == OVERLAP else None
+                    is_other = self.octets[begin:end] != octets[begin - offset:end - offset]
+                    wrong = OVERLAP if is_other or wrong == OVERLAP else None
         self.octets[offset:after] = octets
         self.places[offset], self.reach = after, max(after, self.reach)
         self.end = self.end if more else after
@@ -42,7 +43,8 @@ class Group:
         reached = 0
         for begin, after in sorted(self.places.items()):
             reached = max(reached, after) if begin <= reached else -MOST_OCTETS
-        return self.end is not None and reached >= self.end and has_wrong_sum(addresses, self.octets[:min(self.end, int.from_bytes(self.octets[4:6], "big"))])
+        length = int.from_bytes(self.octets[4:6], "big")
+        return self.end is not None and reached >= self.end and has_wrong_sum(addresses, self.octets[:min(self.end, length)])
 
 
 def has_wrong_sum(addresses, datagram):
@@ -60,8 +62,8 @@ class Pieces:
         self.has_fragments, self.joined, self.whole = False, 0, collections.deque(maxlen=MOST_KEPT)
 
     def see(self, now, one, kind, is_again):
-        """A frame that was forwarded, and whose header is good; perhaps again. Returns whether a message is whole with it by the
-        law."""
+        """A frame that was forwarded, and whose header is good; perhaps again. Returns whether a message is whole with it, by
+        the law."""
         octets = one.octets
         word = int.from_bytes(octets[FRAGMENT], "big") & 0x3FFF
         if not word and not self.has_fragments:
@@ -73,7 +75,8 @@ class Pieces:
                 self.offers.add(key_of(each), 0, 0, 0, time)
         key, offset, more = key_of(octets), 8 * (word & 0x1FFF), word >> 13
         is_bad, chain = kind == "bad-fragment", self.offers.chains.get(key)
-        is_used, end = chain and chain.is_joined and now - chain.latest <= self.limit, int.from_bytes(octets[16:18], "big") + 14
+        is_used = chain and chain.is_joined and now - chain.latest <= self.limit
+        end = int.from_bytes(octets[16:18], "big") + 14
         is_whole = self.offers.add(key, None if is_bad else offset, end - 34, more, now)
         if not word and key in self.groups:
             self.give_up(key, "a whole datagram", one.where)

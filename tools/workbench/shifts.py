@@ -1,5 +1,5 @@
-"""Whether one tap's clock is ahead of the other's, by the delays of the first frames, which are found by their octets; and whether
-it is faster, by the delays of all."""
+"""Whether one tap's clock is ahead of the other's, by the delays of the first frames, which are found by their octets; and
+whether it is faster, by the delays of all."""
 import statistics
 
 BEHIND = "far behind the other network"  # a packet that is left out for its time, which a clock may have wrong
@@ -72,5 +72,5 @@ class Drift:
 
     def hint(self):
         rate = self.rate()
-        return rate and (f"{'B' if rate > 0 else 'A'}'s clock seems faster than the other's, by {abs(rate)} parts per million: "
-                         f"--shift-b 0,{-rate}")
+        return rate and (f"{'B' if rate > 0 else 'A'}'s clock seems faster than the other's, by {abs(rate)} parts per "
+                         f"million: --shift-b 0,{-rate}")

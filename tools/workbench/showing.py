@@ -122,7 +122,8 @@ def of_times(shown, link):
         yield (f"reassembly_us {link.link.reassembly}: no datagram in parts was joined; {link.unfinished.count} times one "
                "was given up")
     if early := sum(net.early for net in link.nets):
-        yield f"bag_us {link.own['bag_us']}: {early} frames came before it was over, less {link.own.get('jitter_us', JITTER)} of jitter"
+        jitter = link.own.get("jitter_us", JITTER)
+        yield f"bag_us {link.own['bag_us']}: {early} frames came before it was over, less {jitter} of jitter"
 
 
 def of_skew_max(shown, link):
