@@ -125,7 +125,7 @@ ROWS = [
     ("A out, and back", {}, [lose(A, 150, 449)], {"lost-a": 300, "out-of-sequence": 1}, "no loss"),
     ("A out twice", {}, [lose(A, 50, 99), lose(A, 300, 309)], {"lost-a": 60, "out-of-sequence": 2}, "no loss"),
     ("B dies", {}, [lose(B, 250, COUNT)], {"lost-b": 349, "silent": 1}, "no loss"),
-    ("B never came", {}, [lose(B, 0, COUNT)], {"silent": 1}, "all"),
+    ("B never came", {}, [lose(B, 0, COUNT)], {"silent": 1}, "no loss"),
     ("none came", {}, [lose(BOTH, 0, COUNT)], {"silent": 2}, "-"),
     ("one lost on both", {}, [lose(BOTH, 120)], {"lost-both": 1}, "lost"),
     ("the window lost on both", {}, [lose(BOTH, 120, 121)], {"lost-both": 2, "dropped": 1, "out-of-sequence": 2}, "lost"),

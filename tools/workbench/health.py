@@ -299,7 +299,8 @@ class Link(copies.Listener):
         costs = self.costs()
         if any(count for word, count in costs.items() if word != "twice") or self.spans.arrived > self.spans.delivered:
             return "lost"
-        is_out = any(side.run >= self.link.window for one in self.senders.values() for side in one.sides)
+        is_out = not all(net.frames for net in self.nets) or any(
+            side.run >= self.link.window for one in self.senders.values() for side in one.sides)
         return "twice" if costs["twice"] else "no loss" if self.conditions.found or self.spans.count != 1 or is_out else "all"
 
 
