@@ -9,8 +9,8 @@ from workbench import copies, frames, settings
 from workbench.conditions import BY_NUMBERS, CONDITIONS, Conditions
 from workbench.copies import Copies
 from workbench.delays import Delays
+from workbench.drifts import Drift
 from workbench.pieces import GIVEN_UP, ORDER, Pieces, has_wrong_sum
-from workbench.shifts import Drift
 from workbench.spans import Spans
 
 SHOWN = 5  # places of each kind

@@ -108,6 +108,10 @@ def of_link(shown, vl):
     for letter, number, of_all in zip(NETWORKS, counts, shown.frames):
         if of_all and not number:
             yield f"no frame of it on {letter}"
+    if link.sender_count() > 1:
+        yield f"{link.sender_count()} senders, by their source addresses or their numbers"
+    elif reason := link.nonsense():
+        yield f"its numbers make no sense: {reason}"
     if shown.is_timed:
         yield from of_times(shown, link)
     for (of, pair), (first, number) in shown.strays.items():
