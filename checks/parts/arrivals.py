@@ -1,7 +1,7 @@
 """The law of a single message, worked out for random networks: which messages arrive, and what is wrong with what a
 program made of them.
 
-Copies *count* that pass integrity checking (docs/RECEIVER.md), from the first on that is forwarded, or that comes when
+The law itself is that of the tools, tools/workbench/law.py. Copies *count* that pass integrity checking (docs/RECEIVER.md), from the first on that is forwarded, or that comes when
 SkewMax is over since all that was forwarded. They are a stretch as long as each is a copy of the sender's frames, at a
 time that fits, on networks that begin near each other. All before a stretch is its past, where anything may have come.
 

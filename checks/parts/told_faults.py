@@ -125,7 +125,7 @@ ROWS = [
     ("A out, and back", {}, [lose(A, 150, 449)], {"lost-a": 300, "out-of-sequence": 1}, "no loss"),
     ("A out twice", {}, [lose(A, 50, 99), lose(A, 300, 309)], {"lost-a": 60, "out-of-sequence": 2}, "no loss"),
     ("B dies", {}, [lose(B, 250, COUNT)], {"lost-b": 349, "silent": 1}, "no loss"),
-    ("B never came", {}, [lose(B, 0, COUNT)], {"silent": 1}, "all"),
+    ("B never came", {}, [lose(B, 0, COUNT)], {"silent": 1}, "no loss"),
     ("none came", {}, [lose(BOTH, 0, COUNT)], {"silent": 2}, "-"),
     ("one lost on both", {}, [lose(BOTH, 120)], {"lost-both": 1}, "lost"),
     ("the window lost on both", {}, [lose(BOTH, 120, 121)], {"lost-both": 2, "dropped": 1, "out-of-sequence": 2}, "lost"),
@@ -235,7 +235,7 @@ SLOW = {"gap": 100_000}
 FILES = [
     ("two files", {}, lambda frames: [capture(of_net(net)(frames)) for net in BOTH], [], {}, {}, 0, ""),
     ("B appended to A", {}, whole(lambda frames: of_net(0)(frames) + of_net(1)(frames)), ["--reorder", "100"], {},
-     {"left-out": 499}, 1, "far behind the other network: packet 602"),
+     {"left-out": 499}, 1, "far behind the other network: packet 601"),
     ("the second half first", {}, whole(lambda frames: frames[600:] + frames[:600]), ["--reorder", "100"], {},
      {"left-out": 600}, 1, "too late for its place: packet 601"),
     ("cut within a packet", {}, torn, [], {}, {"left-out": 1}, 5, "cut by the end of the capture: packet 1200"),

@@ -361,7 +361,7 @@ def test_mutated_captures_are_played_or_make_one_fault(written, tmp_path, capsys
         path = written("mutated", mutated(rng, seeds))
         given = argparse.Namespace(files=[path], interfaces=(0, 1), fcs=rng.choice([None, True]), reorder=5,
                                    networks=rng.choice(["interface", "source"]), shift_b=(rng.choice([0, -7]), 0),
-                                   to=tmp_path / "made")
+                                   to=tmp_path / "made", untag=False, in_a_row=False, since=None, until=None, network=None)
         latest = [0, 0]
         try:
             with stream.opened(given) as found:

@@ -270,6 +270,16 @@ def test_a_delay_beyond_skew_max_has_another_colour(written):
     assert "first-a beyond" in done("draw", "--config", written("two.toml", TWO), *names).decode()
 
 
+def test_the_strip_of_a_network_that_died(written):
+    """Its frames end where it did; the copies that it lost since are none."""
+    names = [written(net, "".join(f"{1000 * place} {frame(7, place % 255 + 1, '', 1, 8)}\n" for place in range(count)))
+             for net, count in (("a", 400), ("b", 100))]
+    text = done("draw", "--config", written("two.toml", TWO), *names).decode()
+    strip = re.search(r'<svg class="strip".*?</svg>', text, re.DOTALL)[0]
+    ends = [max(float(x) for x in re.findall(r"H([0-9.]+)", drawn)) for drawn in re.findall(r'class="frames" d="([^"]+)"', strip)]
+    assert ends[0] > 315 and 75 < ends[1] < 85
+
+
 def test_a_queue_that_is_emptied_by_a_period(written):
     """Three messages fit; taken each 10 milliseconds two of five are lost."""
     trace = written("a", "".join(f"{1000 * place} {frame(7, place, '', 2, 8)}\n" for place in range(1, 6)))

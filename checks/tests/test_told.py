@@ -11,6 +11,12 @@ from workbench.told import amiss, amiss_in_all
 BESIDES = {"none came": b"it has no packet", "B slower by two gaps, within SkewMax": b"if it isn't its frames' delay"}
 
 
+# What check says of a file whose times are wrong or whose numbers make no sense: this, and nothing else.
+SLIPS = {"B appended to A": ": 499 packets are far behind the other network: --reorder ", "B's clock ahead": " 2300 us ahead ",
+         "B's clock faster": " 40.0 parts per million: ", "B's clock faster, and set right": "",
+         "check sequences that are taken for frames": ": link 300: its numbers make no sense: "}
+
+
 def told(written, rows, files, *words):
     """The links by their place in the table, all that was told, and the run."""
     names = [written(f"{number}.pcapng", octets) for number, octets in enumerate(files)]
@@ -51,3 +57,7 @@ def test_files(name, made, files, options, of_link, of_all, status, error, writt
     assert words(links[0]) == of_link
     assert {word: count for word, count in amiss_in_all(report).items() if count} == of_all
     assert found.returncode == status and error in found.stderr.decode(), found.stderr
+    if name in SLIPS:
+        config_of, *names = (word for word in found.args[5:] if word not in options)
+        slips = run("check", config_of, *names, *options).stdout.decode().splitlines()
+        assert [SLIPS[name] in slip for slip in slips] == [True] * bool(SLIPS[name])

@@ -31,7 +31,7 @@ class Tap:
 
 
 def tapped(tap):
-    found = watching.Tapped(tap, argparse.Namespace(shift_b=(0, 0), fcs=None))
+    found = watching.Tapped(tap, argparse.Namespace(shift_b=(0, 0), fcs=None, untag=False))
     return [(one.time, one.net) for one in found.until(time.monotonic() + 5)], found
 
 
@@ -48,7 +48,7 @@ def test_a_clock_that_is_set_moves_no_time(monkeypatch):
     hour = 3600 * 10**9
     given = [*((at, A) for at in times[:2]), *((at - hour, A) for at in times[2:4]), *((at + hour, A) for at in times[4:])]
     tap = Tap(given)
-    one = watching.Tapped(tap, argparse.Namespace(shift_b=(0, 0), fcs=None))
+    one = watching.Tapped(tap, argparse.Namespace(shift_b=(0, 0), fcs=None, untag=False))
     time.sleep(0.2)  # all were read
     seen, real = [], one.found.get
 
@@ -63,15 +63,16 @@ def test_a_clock_that_is_set_moves_no_time(monkeypatch):
 def test_the_metrics_are_served():
     pytest.importorskip("prometheus_client")
     watched = watching.Watch(argparse.Namespace(config=CONFIG))
-    with watching.stream.opened(argparse.Namespace(files=[CAPTURES / "faults.pcapng"], interfaces=(0, 1), networks="interface",
-                                                   shift_b=(0, 0), fcs=None, reorder=1000)) as packets:
+    given = argparse.Namespace(files=[CAPTURES / "faults.pcapng"], interfaces=(0, 1), networks="interface", shift_b=(0, 0),
+                               fcs=None, untag=False, reorder=1000, in_a_row=False, since=None, until=None)
+    with watching.stream.opened(given) as packets:
         for one in packets:
             watched.take(one)
     shown = watched.picture([3, 0])
     metrics.serve(19_171, shown)
     text = urllib.request.urlopen("http://127.0.0.1:19171/metrics").read().decode()
     assert 'yelunnavi_frames_total{network="A",verdict="sampled",vl="17"} 18.0' in text
-    assert 'yelunnavi_amiss_total{vl="17",what="twice"} 1.0' in text and 'yelunnavi_tap_lost_total{network="A"} 3.0' in text
+    assert 'yelunnavi_amiss{vl="17",what="twice"} 1.0' in text and 'yelunnavi_tap_lost_total{network="A"} 3.0' in text
 
 
 def test_a_scrape_finds_the_picture_before_while_one_is_made():
@@ -106,7 +107,7 @@ def test_packets_that_dumpcap_counts_and_does_not_write_are_told(tmp_path, monke
     made.write_text(f"#!/bin/sh\ntrap '' TERM\ncat '{CAPTURES / 'both.pcapng'}'\ncat >&2 <<END\n{CAPTURED.decode()}END\n")
     made.chmod(0o755)
     monkeypatch.setenv("PATH", f"{tmp_path}:{os.environ['PATH']}")
-    one = watching.Tapped(taps.Dumpcap(["a", "b"]), argparse.Namespace(shift_b=(0, 0), fcs=None))
+    one = watching.Tapped(taps.Dumpcap(["a", "b"]), argparse.Namespace(shift_b=(0, 0), fcs=None, untag=False))
     while one.found.qsize() < 32:
         time.sleep(0.01)
     taken = []

@@ -85,8 +85,8 @@ CAPTURES = {
     "--reorder": {"type": number_from(1, 1_000_000), "default": 1000, "metavar": "PACKETS",
                   "help": "how many later packets may stand before one (default 1000)"},
 }
-SHIFT = {"--shift-b": {"type": moved, "default": (0, 0), "metavar": "MICROSECONDS[,PPM]", "help": "moves the clock of B's packets, "
-                       "and lets it go faster by so many parts per million"}}
+SHIFT = {"--shift-b": {"type": moved, "default": (0, 0), "metavar": "MICROSECONDS[,PPM]", "help": "moves the clock of B's "
+                       "packets, and lets it go faster by so many parts per million"}}
 PLAYED = {**CONFIG, **CAPTURES, **SHIFT}
 LINK = {"--link": {"type": number_from(0, 65535), "metavar": "VL", "help": "one link alone"}}
 EACH = {"--each": flag("besides, the faults of each network's own frames, which the other network's copies hide")}
@@ -181,6 +181,7 @@ def look_at(parser, given):
     if hasattr(given, "c_table") and (given.csv + given.json + given.c_table != 1 or given.c_table == bool(names)):
         parser.error("export takes --csv or --json with captures, or --c-table with none")
     given.fcs = {"auto": None, "yes": True, "no": False}[getattr(given, "fcs", "auto")]
+    given.untag = getattr(given, "untag", False)
 
 
 def main(arguments):

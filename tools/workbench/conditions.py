@@ -51,15 +51,15 @@ class Conditions:
         self.found.setdefault(word, Broken()).add(where, how)
         return word
 
-    def look_at(self, note, reply, where, steps, before, time):
+    def look_at(self, note, reply, one, steps, before):
         """What a frame breaks. Its place is so many steps ahead of the newest before, which came at `before`."""
         if reply.kind in REFUSED:
-            self.broken(REFUSED[reply.kind], where, f"{reply.kind} {reply.cause}".rstrip())
+            self.broken(REFUSED[reply.kind], one.where, f"{reply.kind} {reply.cause}".rstrip())
         if note.is_overtaken and note.what == copies.FIRST:
-            self.broken("overtaking", where, "its first copy came after one of a later frame")
+            self.broken("overtaking", one.where, "its first copy came after one of a later frame")
         if note.what == copies.LATE:
-            self.broken("sender", where, "a number that isn't waited for any more")
+            self.broken("sender", one.where, "a number that isn't waited for any more")
         elif note.what == copies.ANEW:
-            self.broken("sender", where, "numbers that began anew without a 0")
-        if steps > copies.HALF_TURN and time - before <= 1000 * self.link.skew_max:
-            self.broken("near", where, f"{steps} frames after the newest while SkewMax runs")
+            self.broken("sender", one.where, "numbers that began anew without a 0")
+        if steps > copies.HALF_TURN and one.time - before <= 1000 * self.link.skew_max:
+            self.broken("near", one.where, f"{steps} frames after the newest while SkewMax runs")

@@ -5,9 +5,8 @@ place in a row that goes on. Of the places that a number may mean it is the one 
 copy came on either network; and where both were silent for longer than ever before without a loss, nearest to where the
 sender would stand by now at its usual rate. If the next number follows, the sender paused: 255 lost frames look the same.
 
-A frame that integrity checking refuses counts if it goes on from the last one of its network that did, or once the next one goes
-on from it rather than from that; else it was astray. Numbers make no sense where two series of them alternate on a network,
-or more are missing than there was time for.
+A frame that integrity checking refuses counts if it goes on from the last one of its network that did, or once the next one
+goes on from it rather than from that; else it was astray.
 """
 import collections
 from typing import NamedTuple, Optional
@@ -91,8 +90,8 @@ class Listener:
         """Two series of numbers alternate on a network."""
 
     def run_ended(self, net, run, copy, cost):
-        """The first copy of a network after it lost so many frames in a row, or none; so many frames from the first of them to
-        this one weren't forwarded."""
+        """The first copy of a network after it lost so many frames in a row, or none; so many of all up to it weren't
+        forwarded."""
 
 
 class Copies:
@@ -122,7 +121,8 @@ class Copies:
             self.judge(1 - net, other, number)
         if self.places and self.places[0].since < time - self.wait:
             self.settle(time - self.wait)
-        if place := self.awaited(net, number, time):
+        place = self.by_number.get(number)
+        if place and not place.copies[net] and place.copies[1 - net] and self.is_of(place, time):
             return self.come(net, place, copy, self.newest)
         ahead = self.ahead(number, time)
         if is_refused and ahead > 0 and not goes_on(number, side.number):
@@ -131,21 +131,22 @@ class Copies:
         return self.take(net, number, copy, ahead, self.newest)
 
     def awaited(self, net, number, time):
-        """The place whose other copy came. After SkewMax a number from before a restart is that of a new frame, and so is one of
-        which the sender has gone on for a turn in silence."""
+        """The place whose other copy came."""
         place = self.by_number.get(number)
-        if not place or place.copies[net] or not place.copies[1 - net]:
-            return None
-        if time - place.since > self.skew and (
-                place.index < self.began or self.newest + self.expected(time) - place.index > HALF_TURN + 1):
-            return None
-        return place
+        return place if place and not place.copies[net] and place.copies[1 - net] and self.is_of(place, time) else None
+
+    def is_of(self, place, time):
+        """Whether a frame with its number may be its copy. After SkewMax a number from before a restart is that of a new
+        frame, and so is one from which the sender has gone on for a turn in silence."""
+        return time - place.since <= self.skew or (
+            place.index >= self.began and self.newest + self.expected(time) - place.index <= HALF_TURN + 1)
 
     def judge(self, net, side, number):
         """Whether the refused frame before counts, by the number that comes next."""
         (held, copy, newest), side.held = side.held, None
         steps = (number - held) % TURN
-        if number and held and (steps > HALF_TURN or side.number is not None and (number - side.number - 1) % TURN + 1 < steps):
+        is_nearer = side.number is not None and (number - side.number - 1) % TURN + 1 < steps
+        if number and held and (steps > HALF_TURN or is_nearer):
             side.astray += 1
             return
         if place := self.awaited(net, held, copy.time):
@@ -179,8 +180,7 @@ class Copies:
         side.newest, side.number, side.behind, side.follow = max(side.newest, place.index), place.number, None, 0
 
     def fall_behind(self, net, number, copy):
-        """It is of no place that is waited for. If others go on from it, the sender has begun anew without a 0, with the first of
-        them."""
+        """It is of no place that is waited for. If others go on from it, the sender has begun anew with it, without a 0."""
         side = self.sides[net]
         if side.behind is None or (number - side.behind) % TURN != 1:
             side.follow, self.strays = 0, [one for one in self.strays if one[0] != net]
@@ -258,10 +258,12 @@ class Copies:
         self.seen += 1
         if self.latest is None:
             self.first = time
+        elif len(self.rate) == RATE_OF:
+            span = time - self.rate[0][1]
+            if self.closest is None or span < self.closest:
+                self.closest = span
         else:
             self.least = min(time - self.latest, self.least or MOST_TIME)
-            if len(self.rate) == RATE_OF:
-                self.closest = min(time - self.rate[0][1], self.closest or MOST_TIME)
         self.rate.append((self.seen, time))
 
     def odd(self):
@@ -297,7 +299,7 @@ class Copies:
     def end(self, place):
         if self.by_number.get(place.number) is place:
             del self.by_number[place.number]
-        lost, before = [], self.cost
+        lost, before = [], self.lost_both + self.dropped
         a, b = place.copies
         if not a and not b:
             self.lost_both += 1

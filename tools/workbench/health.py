@@ -9,8 +9,8 @@ from workbench import copies, frames, settings
 from workbench.conditions import BY_NUMBERS, CONDITIONS, Conditions
 from workbench.copies import Copies
 from workbench.delays import Delays
+from workbench.drifts import Drift
 from workbench.pieces import GIVEN_UP, ORDER, Pieces, has_wrong_sum
-from workbench.shifts import Drift
 from workbench.spans import Spans
 
 SHOWN = 5  # places of each kind
@@ -97,31 +97,37 @@ class Link(copies.Listener):
     def see(self, now, one, reply):
         """Returns what the frame is beside the others."""
         net, time, octets, packet = one.net, one.time, one.octets, one.number
-        code, number, where = CODES[reply.kind], octets[-1], one.where
+        code, number = CODES[reply.kind], octets[-1]
         is_forwarded, is_bad = code >= FIRST_FORWARDED, reply.kind in FAULTS
         self.nets[net].see(time)
         self.kinds[net][reply.kind] += 1
         if is_bad or code == OUT_OF_SEQUENCE and is_cut(octets):
-            self.refuse(net, reply, octets, where)
+            self.refuse(net, reply, octets, one.where)
             if is_cut(octets):
-                return self.see_cut(now, where, code, is_forwarded)
+                return self.see_cut(now, one, code, is_forwarded)
         if octets[SENDER] != self.sender:
-            self.turn_to(octets[SENDER], where)
+            self.turn_to(octets[SENDER], one.where)
         before, newest = self.copies.latest, self.copies.newest
         note = self.copies.see(net, time, number, packet, is_forwarded, code == OUT_OF_SEQUENCE, is_bad)
         what, fault = note.what, None
-        if self.nets[net].is_early and note.index == self.copies.newest > newest >= 0 and time - before < self.nets[net].least_wanted:
-            self.nets[net].early += 1  # of its network, and of the frames that are new
+        its = self.nets[net]
+        if its.is_early and note.index == self.copies.newest > newest >= 0 and time - before < its.least_wanted:
+            its.early += 1  # after the one before of its network, and after the newest frame
         if what == copies.COPY:
-            fault = self.pair(net, time, is_forwarded, note.other, where)
+            fault = self.pair(one, is_forwarded, note.other)
         elif what in (copies.RESET, copies.ANEW):
-            fault = self.restart(what, time - before, where)
-        self.conditions.look_at(note, reply, where, self.copies.newest - newest, before, time)
+            fault = self.restart(what, time - before, one.where)
+        self.conditions.look_at(note, reply, one, self.copies.newest - newest, before)
         if code != OUT_OF_SEQUENCE:
             if self.sender != self.passed:
                 fault, self.passed = self.passed and "sender", self.sender
-            self.follow_law(now, octets, reply.kind, note, where, is_forwarded,
-                            "overtaking" if what == copies.FIRST and note.is_overtaken else fault)
+            if what == copies.FIRST and note.is_overtaken:
+                fault = "overtaking"
+            spans = self.spans
+            if is_forwarded or fault or not spans.is_on or note.index is None or note.index > spans.greatest:
+                self.follow_law(now, one, reply.kind, note, is_forwarded, fault)
+            else:
+                spans.latest = now  # a second copy, as most are
         return note
 
     def turn_to(self, sender, where):
@@ -140,39 +146,40 @@ class Link(copies.Listener):
         count, first = self.refused[net].get(cause, (0, where))
         self.refused[net][cause] = count + 1, first
 
-    def see_cut(self, now, where, code, is_forwarded):
+    def see_cut(self, now, one, code, is_forwarded):
         """A frame that was cut on the wire, whose last octet is no sequence number."""
-        self.conditions.broken("packets", where, "cut on the wire")
+        self.conditions.broken("packets", one.where, "cut on the wire")
         note = copies.Note(copies.CUT)
         if code != OUT_OF_SEQUENCE:
-            self.follow_law(now, b"", "bad-header", note, where, is_forwarded, "packets")
+            self.follow_law(now, one, "bad-header", note, is_forwarded, "packets")
         return note
 
-    def follow_law(self, now, octets, kind, note, where, is_forwarded, fault):
+    def follow_law(self, now, one, kind, note, is_forwarded, fault):
         """Of a copy that passes integrity checking."""
         spans, is_whole = self.spans, False
         if is_forwarded and CODES[kind] >= FIRST_PIECE:
             is_again = note.what == copies.COPY and note.other.is_forwarded
-            is_whole = self.pieces.see(now, octets, kind, where, is_again)
+            is_whole = self.pieces.see(now, one, kind, is_again)
         if self.link.redundancy:
             is_first = spans.see(note.index, now, is_forwarded, fault)
             if spans.fault:
-                spans.ended(where)
+                spans.ended(one.where)
             if is_first:
                 spans.take(kind, is_forwarded, is_whole)
 
-    def pair(self, net, time, is_forwarded, other, where):
+    def pair(self, one, is_forwarded, other):
         """The condition that a second copy breaks, if it does."""
-        delay = (time - other.time if net else other.time - time) // 1000
+        time = one.time
+        delay = (time - other.time if one.net else other.time - time) // 1000
         self.delays.add(delay)
         if self.drift and time >= self.drift.due:
             self.drift.add(time, delay)
         if is_forwarded and other.is_forwarded and self.link.redundancy:
-            self.twice.add(where)
+            self.twice.add(one.where)
         if abs(delay) <= self.link.skew_max:
             return None
         self.beyond += 1
-        return self.conditions.broken("skew-max", where, f"{abs(delay)} us after its first copy")
+        return self.conditions.broken("skew-max", one.where, f"{abs(delay)} us after its first copy")
 
     def restart(self, what, pause, where):
         """The condition that a restart breaks, if it does."""
@@ -193,11 +200,14 @@ class Link(copies.Listener):
         if run < self.link.window:
             return
         where = f"{copy.packet} of {NETWORKS[net]}" if copy else f"the end of {NETWORKS[net]}"
-        self.conditions.broken("losses", where, f"the first after {run} were lost" if copy else f"{run} were lost, and no more came")
+        how = f"the first after {run} were lost" if copy else f"{run} were lost, and no more came"
+        self.conditions.broken("losses", where, how)
         self.outages.add(f"{run} before {where}, " + (f"{cost} frames not forwarded" if cost else "no frame lost"))
         self.free_outages += not cost
 
     def settled(self, place, lost):
+        if not lost and all(place.copies):
+            return
         where = f"{place.by[1]} of {NETWORKS[place.by[0]]}"
         if lost and place.number == 0:
             self.conditions.broken("losses", where, f"{NETWORKS[lost[0]]} lost its copy, the first after a restart")
@@ -272,15 +282,14 @@ class Link(copies.Listener):
                 and (not is_nonsense or word not in BY_NUMBERS)}
 
     def costs(self):
-        """What messages were lost by: frames that came on neither network, or that the receiver dropped, refused or had no room
-        for, and datagrams in parts that were given up; and those that came twice."""
+        """What messages were lost by: frames that came on neither network, or that the receiver dropped, refused or had no
+        room for, and datagrams in parts that were given up; and those that came twice."""
         return {"lost-both": self.summed("lost_both"), "dropped": self.summed("dropped"), "bad": self.of_kinds(*FAULTS),
                 "overflow": self.of_kinds("overflow"), "unfinished": self.unfinished.count, "twice": self.twice.count}
 
     def law(self):
-        """What came of the law: `all`, its conditions held from the first frame to the last, and nothing was lost; `no loss`,
-        some were broken, or a network is out, and that cost nothing; messages came `twice`, or were `lost`; `not known`, where
-        numbers make no sense; `off`, without redundancy management it says nothing; and nothing came."""
+        """What came of the law (docs/FORMATS.md): `all` where its conditions held from the first frame to the last, and
+        nothing was lost."""
         if not any(net.frames for net in self.nets):
             return "-"
         if not self.link.redundancy:
@@ -290,7 +299,8 @@ class Link(copies.Listener):
         costs = self.costs()
         if any(count for word, count in costs.items() if word != "twice") or self.spans.arrived > self.spans.delivered:
             return "lost"
-        is_out = any(side.run >= self.link.window for one in self.senders.values() for side in one.sides)
+        is_out = not all(net.frames for net in self.nets) or any(
+            side.run >= self.link.window for one in self.senders.values() for side in one.sides)
         return "twice" if costs["twice"] else "no loss" if self.conditions.found or self.spans.count != 1 or is_out else "all"
 
 

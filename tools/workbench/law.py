@@ -1,8 +1,8 @@
 """The law of a message that arrives (docs/DELIVERY.md), copy by copy, in bounded memory: which copies count, and which
 datagrams in fragments are whole.
 
-A copy counts that passes integrity checking, from the first on that is forwarded, or that comes when SkewMax is over since all
-that was. A copy that breaks a condition ends the stretch of those that count; after it another one begins in the same way.
+A copy counts that passes integrity checking, from the first on that is forwarded, or that comes when SkewMax is over since
+all that was. A copy that breaks a condition ends the stretch of those that count; another one begins in the same way.
 """
 import collections
 
@@ -63,9 +63,9 @@ class Offers:
         self.limit, self.chains = limit, collections.OrderedDict()
 
     def add(self, key, offset, length, more, time, message=None):
-        """Whether a message is whole with this packet: it has the datagram, or its last fragment. The others came before, in
-        order and within the limit, nothing with their key within the limit before, and the datagram kept its place. The offset
-        is None if the packet is refused."""
+        """Whether a message is whole with this packet: it has the datagram, or its last fragment, and the others came before,
+        in order, within the limit, nothing with their key within it before, and the datagram kept its place. The offset is
+        None if the packet is refused."""
         while self.chains and next(iter(self.chains.values())).latest + self.limit < time:
             self.chains.popitem(last=False)
         chain = self.chains.get(key)

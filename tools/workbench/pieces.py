@@ -31,15 +31,20 @@ class Group:
             for begin, end in self.places.items():
                 begin, end = max(begin, offset), min(end, after)
                 if begin < end:
-                    wrong = OVERLAP if self.octets[begin:end] != octets[begin - offset:end - offset] or wrong == OVERLAP else None
+                    is_other = self.octets[begin:end] != octets[begin - offset:end - offset]
+                    wrong = OVERLAP if is_other or wrong == OVERLAP else None
         self.octets[offset:after] = octets
         self.places[offset], self.reach = after, max(after, self.reach)
         self.end = self.end if more else after
         return wrong
 
     def is_mixed(self, addresses):
-        """Whether the UDP checksum of the joined datagram is wrong."""
-        return has_wrong_sum(addresses, self.octets[:min(self.end, int.from_bytes(self.octets[4:6], "big"))])
+        """Whether the UDP checksum of the joined datagram is wrong; of copies that were forwarded again it has none."""
+        reached = 0
+        for begin, after in sorted(self.places.items()):
+            reached = max(reached, after) if begin <= reached else -MOST_OCTETS
+        length = int.from_bytes(self.octets[4:6], "big")
+        return self.end is not None and reached >= self.end and has_wrong_sum(addresses, self.octets[:min(self.end, length)])
 
 
 def has_wrong_sum(addresses, datagram):
@@ -56,9 +61,10 @@ class Pieces:
         self.groups, self.offers, self.told = collections.OrderedDict(), Offers(limit), collections.OrderedDict()
         self.has_fragments, self.joined, self.whole = False, 0, collections.deque(maxlen=MOST_KEPT)
 
-    def see(self, now, octets, kind, packet, is_again):
-        """A frame that was forwarded, and whose header is good; perhaps again. Returns whether a message is whole with it by the
-        law."""
+    def see(self, now, one, kind, is_again):
+        """A frame that was forwarded, and whose header is good; perhaps again. Returns whether a message is whole with it, by
+        the law."""
+        octets = one.octets
         word = int.from_bytes(octets[FRAGMENT], "big") & 0x3FFF
         if not word and not self.has_fragments:
             self.whole.append((now, octets))
@@ -69,12 +75,13 @@ class Pieces:
                 self.offers.add(key_of(each), 0, 0, 0, time)
         key, offset, more = key_of(octets), 8 * (word & 0x1FFF), word >> 13
         is_bad, chain = kind == "bad-fragment", self.offers.chains.get(key)
-        is_used, end = chain and chain.is_joined and now - chain.latest <= self.limit, int.from_bytes(octets[16:18], "big") + 14
+        is_used = chain and chain.is_joined and now - chain.latest <= self.limit
+        end = int.from_bytes(octets[16:18], "big") + 14
         is_whole = self.offers.add(key, None if is_bad else offset, end - 34, more, now)
         if not word and key in self.groups:
-            self.give_up(key, "a whole datagram", packet)
+            self.give_up(key, "a whole datagram", one.where)
         elif word and not is_bad and not is_again:
-            return self.add(key, now, offset, octets[34:end], more, kind, packet, is_used) and is_whole
+            return self.add(key, now, offset, octets[34:end], more, kind, one.where, is_used) and is_whole
         return is_whole
 
     def add(self, key, now, offset, octets, more, kind, packet, is_used):

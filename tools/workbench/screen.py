@@ -88,7 +88,7 @@ class Screen:
     def links(self, shown):
         """A line a link: red if a network is silent or a message was lost, yellow if else something is amiss."""
         links = sorted(shown["links"], key=self.order)
-        lines = screen_text.table(screen_text.HEADS, [screen_text.cells(link) for link in links], self.live.console.width)
+        lines = screen_text.links_in(links, self.live.console.width)
         styles = ["bold", *map(style, links)]
         return [self.text(line, style=each, no_wrap=True, overflow="ellipsis") for line, each in zip(lines, styles)]
 

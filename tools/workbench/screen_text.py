@@ -1,4 +1,6 @@
 """The health of links as text: a line a link, a screen for one, and the ports."""
+import textwrap
+
 from verdict_words import NETWORKS
 from workbench import told
 from workbench.conditions import CONDITIONS
@@ -10,6 +12,8 @@ DISPENSABLE = ("queue", "age ms", "SkewMax", "A/s", "B/s")
 # Of a network of one link: how its frames come, and what it does to them. Times without a unit are in microseconds.
 COMES = ("frames", "rate", "least_gap_us", "greatest_gap_us", "usual_gap_ms", "jitter_us", "early", "silent_us")
 LOSES = ("lost", "longest_run", "overtaken", "repeated", "late", "astray")
+EVENTS = {"twice": "delivered twice", "resets": "restarts", "unfinished": "datagrams given up",
+          "identification_again": "identifications again", "fragments": "datagrams in fragments", "outages": "outages of a network"}
 SHOWN_ALONE = ("lost-a", "lost-b", "lost-both", "twice", "law")
 
 
@@ -70,12 +74,23 @@ def table(heads, rows, room=None):
     for row in (heads, *rows):
         shown = [(cell, widths[head], head in LEFT) for head, cell in zip(heads, row) if head in widths]
         line = " ".join(cell.ljust(width) if is_left else cell.rjust(width) for cell, width, is_left in shown).rstrip()
-        yield line if not room or len(line) <= room else line[:room - 2] + ".."
+        yield line if not room or len(line) <= room else "\n".join(textwrap.wrap(
+            line, room, subsequent_indent="    ", break_on_hyphens=False))
+
+
+def links_in(links, room):
+    """A line a link. Where there is no room the conditions that were broken give way, and what is amiss goes on below."""
+    rows = [cells(link) for link in links]
+    shown = list(table(HEADS, rows, room))
+    if any("\n" in line for line in shown):
+        place = HEADS.index("law")
+        shown = list(table(HEADS, [(*row[:place], row[place].partition(" not ")[0], *row[place + 1:]) for row in rows], room))
+    return shown
 
 
 def lines(found, room=None):
     """The screen of all links; in so many columns, if they are told."""
-    yield from table(HEADS, [cells(link) for link in found["links"]], room)
+    yield from links_in(found["links"], room)
     yield from lines_beside(found)
 
 
@@ -109,7 +124,8 @@ def lines_of_link(link):
         yield f"verdicts on {net}: {verdicts or 'none'}{hidden}"
     found = link["delays_us"]
     for net, about in link["networks"].items():
-        yield from (f"refused on {net}: {cause} {one['count']}, at first {one['first']}" for cause, one in about["refused"].items())
+        for cause, one in about["refused"].items():
+            yield f"refused on {net}: {cause} {one['count']}, at first {one['first']}"
     if link["sender_count"] > 1:
         yield f"senders: {', '.join(link['senders'])}"
     if link["nonsense"]:
@@ -117,8 +133,7 @@ def lines_of_link(link):
     yield f"lost on both networks: {count(link['lost_both'])}"
     yield (f"B's copy came later by, in us, least/median/99 %/greatest: {delays(link)}; {found['pairs']} pairs, "
            f"{found['beyond']} beyond SkewMax")
-    for key, what in (("twice", "delivered twice"), ("resets", "restarts"), ("unfinished", "datagrams given up"),
-                      ("identification_again", "identifications again"), ("fragments", "datagrams in fragments"), ("outages", "outages of a network")):
+    for key, what in EVENTS.items():
         if link[key]["count"]:
             yield f"{what}: {link[key]['count']}, at first {', '.join(link[key]['first'])}"
     yield from map(line_of_port, link["ports"])

@@ -12,7 +12,8 @@ UNNAMED = {"link given twice": ("vl", "a number that no other link has"),
            "too many links or ports": (None, f"{MOST_LINKS} links, {MOST_PORTS} ports of a link")}
 # What a value of an own key has to be.
 PERIOD = f"a whole number of microseconds, 1 to {MOST_PERIOD}"
-OWN_KEYS = {"a link": {"name": f"a text of 1 to {LONGEST_NAME} letters", "bag_us": PERIOD, "jitter_us": PERIOD.replace("1", "0", 1)},
+OWN_KEYS = {"a link": {"name": f"a text of 1 to {LONGEST_NAME} letters", "bag_us": PERIOD,
+                       "jitter_us": PERIOD.replace("1", "0", 1)},
             "a port": {"read_us": PERIOD, "take_us": PERIOD}}
 
 

@@ -108,6 +108,10 @@ def of_link(shown, vl):
     for letter, number, of_all in zip(NETWORKS, counts, shown.frames):
         if of_all and not number:
             yield f"no frame of it on {letter}"
+    if link.sender_count() > 1:
+        yield f"{link.sender_count()} senders, by their source addresses or their numbers"
+    elif reason := link.nonsense():
+        yield f"its numbers make no sense: {reason}"
     if shown.is_timed:
         yield from of_times(shown, link)
     for (of, pair), (first, number) in shown.strays.items():
@@ -122,7 +126,8 @@ def of_times(shown, link):
         yield (f"reassembly_us {link.link.reassembly}: no datagram in parts was joined; {link.unfinished.count} times one "
                "was given up")
     if early := sum(net.early for net in link.nets):
-        yield f"bag_us {link.own['bag_us']}: {early} frames came before it was over, less {link.own.get('jitter_us', JITTER)} of jitter"
+        jitter = link.own.get("jitter_us", JITTER)
+        yield f"bag_us {link.own['bag_us']}: {early} frames came before it was over, less {jitter} of jitter"
 
 
 def of_skew_max(shown, link):

@@ -1,5 +1,5 @@
-"""What the law of a message that arrives (docs/DELIVERY.md) says of a link: the spans of time in which its conditions held, and
-what arrived in them. The receiver has healed where a span begins."""
+"""What the law of a message that arrives (docs/DELIVERY.md) says of a link: the spans of time in which its conditions held,
+and what arrived in them. The receiver has healed where a span begins."""
 from workbench.law import Stretch
 
 SHOWN = 5  # spans: the first ones and the latest
@@ -33,8 +33,8 @@ class Spans(Stretch):
         self.fault = None
 
     def take(self, kind, was_forwarded, is_whole):
-        """The first copy of a frame that counts, with which a message is whole or not: it has to be delivered, unless its queue
-        is full. Refused packets bring none."""
+        """The first copy of a frame that counts, with which a message is whole or not: it has to be delivered, unless its
+        queue is full. Refused packets bring none."""
         if not was_forwarded or is_whole and kind == HELD:
             self.arrived += 1
         elif is_whole and kind in DELIVERED:
@@ -50,5 +50,6 @@ class Spans(Stretch):
         has_healed = self.is_on and self.count > 1
         return {"spans": [dict(one) for one in self.shown], "span_count": self.count,
                 "held_us": self.held + (self.latest - self.began if self.is_on else 0),
-                "healed_us": self.began if has_healed else None, "fragments_healed_us": self.began + limit if has_healed else None,
+                "healed_us": self.began if has_healed else None,
+                "fragments_healed_us": self.began + limit if has_healed else None,
                 "arrived": self.arrived, "delivered": self.delivered, "full": self.full}

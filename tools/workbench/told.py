@@ -42,19 +42,21 @@ def of_link(link, ports, latest):
             "redundancy": settings.redundancy, "skew_max_us": settings.skew_max, "window": settings.window,
             "reassembly_us": settings.reassembly,
             "networks": {net: of_network(link, number, latest) for number, net in enumerate(NETWORKS)},
-            "senders": [sender.hex(":") for sender in link.senders], "sender_count": link.sender_count(), "nonsense": link.nonsense(),
+            "senders": [sender.hex(":") for sender in link.senders], "sender_count": link.sender_count(),
+            "nonsense": link.nonsense(),
             "lost_both": link.summed("lost_both"), "delays_us": of_delays(link), "twice": of_events(link.twice),
             "resets": of_events(link.resets), "least_pause_us": link.least_pause, "unfinished": of_events(link.unfinished),
             "identification_again": of_events(link.again), "fragments": of_events(link.fragments),
             "bad": sum(count for refused in link.refused for count, _ in refused.values()),
             "out_of_sequence": link.of_kinds("out-of-sequence"), "overflows": link.of_kinds("overflow"),
-            "law": link.law(), **link.spans.told(settings.reassembly if link.pieces.has_fragments else 0), "costs": link.costs(),
+            "law": link.law(), "costs": link.costs(),
+            **link.spans.told(settings.reassembly if link.pieces.has_fragments else 0),
             "outages": of_events(link.outages), "free_outages": link.free_outages, "broken": broken, "ports": ports}
 
 
 def of_all(health, partition, now, lost=None, torn=0):
-    """Of all links, at a moment in microseconds since the first packet. `lost` are the packets that the tap lost, `torn` those
-    that the end of a file cuts."""
+    """Of all links, at a moment in microseconds since the first packet. `lost` are the packets that the tap lost, `torn`
+    those that the end of a file cuts."""
     ports = [end.told(now) for end in partition.ends.values()] if partition else []
     links = [of_link(link, [port for port in ports if port["vl"] == link.link.vl], health.latest)
              for link in health.links.values()]
