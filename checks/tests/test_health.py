@@ -117,7 +117,7 @@ def test_a_restart_without_a_zero():
 
 @pytest.mark.parametrize("numbers, found", [
     ([1, 2, 90, 3, 4, 5], (0, 1)), ([1, 2, 90, 4, 5], (1, 1)), ([1, 2, 7, 8], (4, 0)), ([1, 2, 7, 12, 17, 18], (12, 0)),
-    ([1, 2, 4, 3, 5], (0, 0)), ([1, 2, 2, 3], (0, 0)), ([1, 2, 90], (87, 0)),  # whether it is astray the end leaves open
+    ([1, 2, 4, 3, 5], (0, 0)), ([1, 2, 2, 3], (0, 0)), ([1, 2, 90], (0, 1)),  # the end leaves it open, but for the time
 ])
 def test_a_number_that_was_refused_counts_if_the_next_goes_on_from_it(numbers, found):
     frames, before = [], None

@@ -136,10 +136,13 @@ class Copies:
         return place if place and not place.copies[net] and place.copies[1 - net] and self.is_of(place, time) else None
 
     def is_of(self, place, time):
-        """Whether a frame with its number may be its copy. After SkewMax a number from before a restart is that of a new
-        frame, and so is one from which the sender has gone on for a turn in silence."""
-        return time - place.since <= self.skew or (
-            place.index >= self.began and self.newest + self.expected(time) - place.index <= HALF_TURN + 1)
+        """Whether a frame with its number may be its copy. A number from before a restart is that of a new frame after SkewMax,
+        or if it goes on from the newest; and so is, after SkewMax, one from which the sender has gone on for a turn in
+        silence."""
+        is_soon = time - place.since <= self.skew
+        if place.index < self.began:
+            return is_soon and not goes_on(place.number, self.number)
+        return is_soon or self.newest + self.expected(time) - place.index <= HALF_TURN + 1
 
     def judge(self, net, side, number):
         """Whether the refused frame before counts, by the number that comes next."""
@@ -329,9 +332,12 @@ class Copies:
         self.newest += count
 
     def finish(self, time, skew_max):
-        """At the end a copy is lost if its network brought a later one, or SkewMax is over."""
+        """At the end a copy is lost if its network brought a later one, or SkewMax is over; and a refused frame counts if there
+        was time for those before it."""
         for net, side in enumerate(self.sides):
-            if side.held:
+            if side.held and self.ahead(side.held[0], side.held[1].time) > self.most_since(side.held[1].time):
+                side.held, side.astray = None, side.astray + 1
+            elif side.held:
                 self.judge(net, side, side.held[0])
         while self.places:
             place = self.places.popleft()

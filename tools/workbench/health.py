@@ -19,7 +19,7 @@ FIRST_PIECE = CODES["bad-fragment"]  # frames of this kind and those after it ha
 SENDER = slice(6, 11)  # octets of a source address that both networks share
 MOST_SENDERS = 8  # addresses of a link whose frames are told apart
 JITTER = 500  # microseconds that a frame may come before its BAG is over, if `jitter_us` isn't there
-LEAST_ODD = 16  # frames with odd numbers; more than the others make no sense
+LEAST_ODD = 16  # frames whose numbers don't go on; more than the others make no sense
 AHEAD = 128  # gaps after which a sequence number isn't ahead any more
 # The verdicts that say that a frame itself is at fault; and one that no receiver gives.
 FAULTS = frozenset(("bad-header", "bad-fragment", "bad-udp", "no-port", "too-long", "fragmented-sample", "exhausted"))
@@ -282,8 +282,8 @@ class Link(copies.Listener):
                 and (not is_nonsense or word not in BY_NUMBERS)}
 
     def costs(self):
-        """What messages were lost by: frames that came on neither network, or that the receiver dropped, refused or had no
-        room for, and datagrams in parts that were given up; and those that came twice."""
+        """By what messages were lost: frames that came on neither network, or that the receiver dropped, refused or had no
+        room for, and datagrams that were given up; and how many came twice."""
         return {"lost-both": self.summed("lost_both"), "dropped": self.summed("dropped"), "bad": self.of_kinds(*FAULTS),
                 "overflow": self.of_kinds("overflow"), "unfinished": self.unfinished.count, "twice": self.twice.count}
 
@@ -319,13 +319,13 @@ class Health:
 
     def see(self, one, now, reply):
         """Returns what the frame is beside the others of its link, if it is of one."""
-        self.latest = one.time
         if self.first is None:
             self.first = one.time
         if not reply:
             self.left_out[one.net][one.left_out] += 1
             self.firsts.setdefault((one.net, one.left_out), f"{one.number}{link_of(one.octets)}")
             return None
+        self.latest = one.time
         self.frames += 1
         if reply.vl is None:
             self.filtered[one.net][reply.cause] += 1
