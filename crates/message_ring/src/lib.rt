@@ -4,8 +4,9 @@
 //!
 //! ```text
 //! let (mut putter, mut taker) = open_ring(alloc, 1, 100)?;
-//! putter.put(5, b"first")     // Ok(())
-//! putter.put(6, b"second")    // Err(Full)
+//! putter.has_room()           // true
+//! putter.put(5, b"first");
+//! putter.has_room()           // false: a queue of one message is full
 //! taker.take(&mut out)        // Some(Taken { time: 5, len: 5 }), and `out` begins with b"first"
 //! taker.take(&mut out)        // None: the queue is empty
 //! ```
@@ -30,10 +31,6 @@ pub use head::HEAD;
 use rtrb::RingBuffer;
 use std::alloc::{AllocError, Global};
 use std::marker::Model;
-
-/// The queue is full, by a look in this call: the message was not put.
-#[derive(Debug, Clone, Copy, PartialEq, Eq)]
-pub struct Full;
 
 /// A taken message: its arrival time, and its length in `out`.
 #[derive(Debug, Clone, Copy, PartialEq, Eq)]
@@ -204,26 +201,19 @@ impl RingPutter {
         !is_room
     }
 
-    /// Puts a message at the end of the queue. `Err`: after it looked in this call, as many messages as the queue holds
-    /// were put that this end doesn't know to be taken. If it knows of room before the call it doesn't look.
-    pub fn put(&mut self, time: u64, octets: &[u8]) -> Result<(), Full>
-        requires { length octets.now ≤ self.old.queue.max }
-        ensures ok { OnOk result (self.new ≡ with_put self.old (message time octets.now) self.new.taken self.new.looks) }
+    /// Puts a message at the end of the queue, of which this end knows that it has room. It makes no look.
+    pub fn put(&mut self, time: u64, octets: &[u8])
+        requires short { length octets.now ≤ self.old.queue.max }
+        requires room { length self.old.put < length self.old.taken + self.old.depth }
+        ensures put { self.new ≡ with_put self.old (message time octets.now) self.new.taken self.new.looks }
         ensures told { BeginsWith self.new.taken self.old.taken }
         ensures depth { length self.new.put ≤ length self.new.taken + self.old.depth }
-        ensures err { OnErr result (self.new ≡ after_look self.old) }
-        ensures seems_full { OnErr result (SeemsFull self.old) }
-        ensures room_is_known { length self.old.put < length self.old.taken + self.old.depth → IsOk result }
-        ensures looked { LooksForRoom self.old self.new }
+        ensures looks { self.new.looks ≡ self.old.looks }
     {
-        if !has_room(&mut self.ring, self.needed) {
-            return Err(Full);
-        }
         let size = HEAD + octets.len();
         push_message(&mut self.ring, &mut self.room, time, octets);
         let oldest = self.latest.push_back(size as u16).unwrap_or(0);
         self.needed = self.needed - size + oldest as usize;
-        Ok(())
     }
 }
 

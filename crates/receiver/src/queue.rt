@@ -88,7 +88,7 @@ impl CountingPutter {
         ensures greatest { self.new.greatest ≡ max self.old.greatest (length self.new.known.put - length self.new.known.taken) }
         ensures looks { (self.old.known.looks ≤ self.new.known.looks) × (self.new.known.looks ≤ self.old.known.looks + 1) }
     {
-        let _ = self.putter.put(time, octets);
+        self.putter.put(time, octets);
         if self.greatest + 1 < self.depth {
             let with_one_more = self.octets + HEAD + octets.len();
             self.octets = with_one_more - self.putter.size_before_last(self.greatest);

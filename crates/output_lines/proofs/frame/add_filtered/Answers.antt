@@ -9,8 +9,8 @@ in_order : (time net cause after : List ℕ) →
     time ++ (codes " " ++ (net ++ (codes " filtered " ++ (cause ++ after)))) ≡ (time ++ codes " " ++ net ++ codes " filtered " ++ cause) ++ after
 in_order time net cause after = search (rules, append_assoc)
 
-pub returns-clause-line : goal.returns-clause-line
-returns-clause-line c =
+pub returns : goal.returns
+returns c =
     let whole : c.as_slice.result.now ≡ filtered_line c.args.time c.args.net c.args.cause =
     rw (c.as_slice.ensures, c.put_number.ensures.text, c.put_word-4.ensures.text, c.put_word-3.ensures.text, c.word-2.ensures.text, c.put_word-2.ensures.text, c.put_word.ensures.text, c.word.ensures.text, c.new-line.ensures)
     (in_order (decimal c.args.time) _ _ _) in
