@@ -16,7 +16,8 @@ use crate::system::LiveSystem;
 use es_base::{Config, FilterTally, LinkSettings, Memory, Net, PortNo};
 use link_lock::Lock;
 use receiver::{
-    LinkEnds, MailboxReader, PartitionEnd, ReaderCount, Readers, RingTaker, place_named,
+    LinkEnds, MailboxReader, PartitionEnd, ReaderCount, Readers, RingTaker, port_named,
+    reader_named, taker_named,
 };
 use std::alloc::Global;
 
@@ -83,8 +84,7 @@ impl Opened {
         ensures system { self.new.system ≡ self.old.system }
         ensures passes { (self.new.a ≡ self.old.a) × (self.new.b ≡ self.old.b) }
     {
-        let (place, at) = place_named(&self.ends, name)?;
-        self.ends[place].ports[at].reads.take_reader()
+        reader_named(&mut self.ends, name)
     }
 
     /// Moves out the taker of the queuing port with this name, for a partition. None if no queuing port has the name,
@@ -94,8 +94,7 @@ impl Opened {
         ensures system { self.new.system ≡ self.old.system }
         ensures passes { (self.new.a ≡ self.old.a) × (self.new.b ≡ self.old.b) }
     {
-        let (place, at) = place_named(&self.ends, name)?;
-        self.ends[place].ports[at].reads.take_taker()
+        taker_named(&mut self.ends, name)
     }
 
     /// Index in the configuration of the link that has the port with this name, and the port's place in the link. None
@@ -103,8 +102,7 @@ impl Opened {
     pub fn place_of(&self, name: &str) -> Option<(usize, PortNo)>
         ensures { result ≡ port_named name.now self.now.ends.items }
     {
-        let (place, at) = place_named(&self.ends, name)?;
-        Some((place, self.ends[place].ports[at].port))
+        port_named(&self.ends, name)
     }
 }
 

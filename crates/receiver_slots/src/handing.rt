@@ -1,39 +1,14 @@
-//! Ends of ports that are left to hand out, by the names of the ports, for the slots of both kinds of receivers.
+//! The ports whose ends are left to hand out, by name, for the slots of both kinds of receivers.
 ghost use Rattle.std.specs.Prelude.{◌≡◌, IfErr, IfOk, None, Some, is_some, option_map, true};
 ghost use Rattle.receiver.specs.Named.{port_named};
-ghost use Rattle.receiver.specs.Taking.{HandsNamed, HandsReader, HandsTaker};
 ghost use Rattle.vl_config.specs.Octets.{text_of};
 ghost use Rattle.receiver_slots.specs.Codes.{no_name};
 ghost use Rattle.receiver_slots.specs.Naming.{place_among, place_reply_of};
 
 use crate::codes::NO_NAME;
 use crate::replies::PlaceReply;
-use receiver::{LinkEnds, MailboxReader, PartitionEnd, PortNo, RingTaker, place_named};
+use receiver::{LinkEnds, PartitionEnd, port_named};
 use vl_config::text_of;
-
-/// Index of the link that has the port with this name, and the port.
-fn port_named(ends: &[LinkEnds<PartitionEnd>], name: &str) -> Option<(usize, PortNo)>
-    ensures { result ≡ port_named name.now ends.now }
-{
-    let (place, at) = place_named(ends, name)?;
-    Some((place, ends[place].ports[at].port))
-}
-
-/// Moves out a reader of the sampling port with this name. None if there is none.
-pub(crate) fn reader_named(ends: &mut [LinkEnds<PartitionEnd>], name: &str) -> Option<MailboxReader>
-    ensures { HandsNamed HandsReader name.now ends.old ends.new result }
-{
-    let (place, at) = place_named(ends, name)?;
-    ends[place].ports[at].reads.take_reader()
-}
-
-/// Moves out the taker of the queuing port with this name. None if there is none.
-pub(crate) fn taker_named(ends: &mut [LinkEnds<PartitionEnd>], name: &str) -> Option<RingTaker>
-    ensures { HandsNamed HandsTaker name.now ends.old ends.new result }
-{
-    let (place, at) = place_named(ends, name)?;
-    ends[place].ports[at].reads.take_taker()
-}
 
 /// The name of a port. NO_NAME if no port has it.
 pub(crate) fn name_of<'a>(ends: &[LinkEnds<PartitionEnd>], name: &'a [u8]) -> Result<&'a str, u32>
