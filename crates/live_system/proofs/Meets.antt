@@ -12,7 +12,7 @@ use Rattle.link_lock.specs.declared.user.User.{User}
 use Rattle.link_lock.specs.declared.user.User.TheVariants.{First, Second}
 use Rattle.link_lock.specs.Lists.{with_list}
 use Rattle.link_lock.specs.Pass.{KnownPass, MayFind, MayLeave}
-use Rattle.mailbox_reader.specs.Reads.{PortReader}
+use Rattle.mailbox_port.specs.Reads.{PortReader}
 use Rattle.message_ring.specs.Queue.{Known as Taker}
 use Rattle.receiver.specs.declared.port.PortOutlet.{PortOutlet}
 use Rattle.receiver.specs.declared.port.PortOutlet.TheVariants as outlets

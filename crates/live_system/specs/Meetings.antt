@@ -1,7 +1,7 @@
 -- Ends of ports meet them, under the lock of their link.
 use Rattle.std.specs.Prelude.{◌≡◌, ◌≢◌, ◌≤◌, ◌+◌, ℕ, List, [], length, slice_get, Some}
 use Rattle.es_base.specs.declared.place.PortNo.{PortNo}
-use Rattle.mailbox_reader.specs.Reads.{PortReader, told}
+use Rattle.mailbox_port.specs.Reads.{PortReader, told}
 use Rattle.es_base.specs.Queue.{BeginsWith}
 use Rattle.message_ring.specs.Queue.{Known}
 use Rattle.receiver.specs.declared.port.PortOutlet.{PortOutlet}

@@ -5,7 +5,7 @@ ghost use Rattle.es_base.specs.declared.place.Net.{Net};
 ghost use Rattle.es_base.specs.declared.place.Net.TheVariants.{A, B};
 ghost use Rattle.es_base.specs.declared.place.PortNo.{PortNo};
 ghost use Rattle.link_lock.specs.Lists.{both_lists};
-ghost use Rattle.mailbox_reader.specs.Reads.{PortReader};
+ghost use Rattle.mailbox_port.specs.Reads.{PortReader};
 ghost use Rattle.message_ring.specs.Queue.{Known};
 ghost use Rattle.receiver.specs.declared.ends.LinkEnds.{LinkEnds};
 ghost use Rattle.receiver.specs.declared.partition.PartitionEnd.{PartitionEnd};

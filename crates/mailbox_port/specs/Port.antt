@@ -74,5 +74,5 @@ new_mailboxes buffers longest = mailboxes_from longest 0 buffers
 
 -- its reader knows these to be published
 -- rule: PORT-18
-abbrev pub told : Mailbox → List Message → Mailbox
-told mailbox published = record { reader = is_told mailbox.reader published; place = mailbox.place }
+abbrev pub told_mailbox : Mailbox → List Message → Mailbox
+told_mailbox mailbox published = record { reader = is_told mailbox.reader published; place = mailbox.place }

@@ -2,7 +2,7 @@
 ghost use Rattle.std.specs.Prelude.{◌≡◌, ◌+◌, ◌<◌, ◌≤◌, length, slice_get, Some, IfOk};
 ghost use Rattle.triple_buffer.specs.Rule.{StartsWith, message};
 ghost use Rattle.triple_buffer.specs.Ends.{most_messages};
-ghost use Rattle.mailbox_port.specs.Port.{IsMailboxOf, new_mailboxes, new_port, port_with, told};
+ghost use Rattle.mailbox_port.specs.Port.{IsMailboxOf, new_mailboxes, new_port, port_with, told_mailbox};
 
 use crate::count::ReaderCount;
 use es_base::Memory;
@@ -98,7 +98,7 @@ impl PortWriter {
     /// Synchronizes a mailbox with its port: its reader then knows all that was published. Nothing else changes.
     pub fn meet(&mut self, mailbox: &mut Mailbox)
         requires { IsMailboxOf self.old mailbox.old }
-        ensures mailbox { mailbox.new ≡ told mailbox.old self.old.published }
+        ensures mailbox { mailbox.new ≡ told_mailbox mailbox.old self.old.published }
         ensures writer { self.new ≡ self.old }
         ensures before { StartsWith self.old.published mailbox.old.reader.known }
     {

@@ -1,4 +1,4 @@
-//! Result of a read. That of a mailbox (`mailbox_reader`) has no Busy, so it is another type.
+//! Result of a read. That of a mailbox (`mailbox_port`) has no Busy, so it is another type.
 use es_base::Freshness;
 
 /// Result of a partition's read.

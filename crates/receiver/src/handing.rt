@@ -6,7 +6,7 @@ ghost use Rattle.receiver.specs.Taking.{HandsNamed, HandsReader, HandsTaker};
 use crate::ends::{LinkEnds, place_named};
 use crate::partition::PartitionEnd;
 use es_base::PortNo;
-use mailbox_reader::MailboxReader;
+use mailbox_port::MailboxReader;
 use message_ring::RingTaker;
 
 /// Index of the link that has the port with this name, and the port's place in the link. None if no port has it, or its

@@ -10,7 +10,7 @@ ghost use Rattle.std.specs.Borrow.{sem};
 ghost use Rattle.std.specs.Mem.{type_size};
 ghost use Rattle.std.specs.Ptr.{points_to, uninit_at};
 ghost use Rattle.message_ring.specs.Queue.{Known};
-ghost use Rattle.mailbox_reader.specs.Reads.{PortReader};
+ghost use Rattle.mailbox_port.specs.Reads.{PortReader};
 ghost use Rattle.receiver.specs.Taking.{HandsReader, HandsTaker};
 ghost use Rattle.mailbox_port.specs.Port.{is_reader_count};
 ghost use Rattle.receiver_c.specs.Abi.{abi};

@@ -1,7 +1,7 @@
 //! The work of a partition: it has ends of ports, and nothing else of the receiver.
 ghost use Rattle.std.specs.Prelude.{◌≡◌, ◌<◌, IfNone, IfOk, IfSome, IsSome, length, take};
 ghost use Rattle.message_ring.specs.Queue.{SeemsEmpty, after_look, message, with_taken};
-ghost use Rattle.mailbox_reader.specs.Reads.{IfMessage, IsRead};
+ghost use Rattle.mailbox_port.specs.Reads.{IfMessage, IsRead};
 ghost use Rattle.es_base.specs.Age.{freshness as freshness_at};
 
 use receiver::{MailboxReader, Memory, Reading, RingTaker, Taken};

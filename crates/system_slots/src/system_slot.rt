@@ -2,7 +2,7 @@
 //! have to be written for each (no macro makes items), and the work of both stands in `receiver_slots`.
 ghost use Rattle.std.specs.Prelude.{◌≡◌, ◌≢◌, ◌<◌, ◌≤◌, ◌↔◌, ◌⊎◌, IsSome, None, Some, false};
 ghost use Rattle.mailbox_port.specs.Port.{is_reader_count};
-ghost use Rattle.mailbox_reader.specs.Reads.{PortReader};
+ghost use Rattle.mailbox_port.specs.Reads.{PortReader};
 ghost use Rattle.message_ring.specs.Queue.{Known};
 ghost use Rattle.receiver.specs.Taking.{HandsReader, HandsTaker};
 ghost use Rattle.receiver_slots.specs.Codes.{already_open, done, faulty, no_memory, none_left, not_open, out_of_range};

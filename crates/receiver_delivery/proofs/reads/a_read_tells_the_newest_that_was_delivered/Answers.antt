@@ -1,7 +1,7 @@
 use Rattle.std.proofs.Common.{◌∙◌}
 use Rattle.triple_buffer.proofs.Moments.{looked_all, took_all}
 use Rattle.link_core.specs.Counted.{port_no}
-use Rattle.mailbox_reader.proofs.Newest.{tells_newest}
+use Rattle.mailbox_port.proofs.Newest.{tells_newest}
 use Rattle.receiver.specs.Link.{deliveries_of}
 use Rattle.receiver_delivery.proofs.Sampled.{all_delivered}
 use Rattle.receiver_delivery.proofs.reads.a_read_tells_the_newest_that_was_delivered.Goals as goal

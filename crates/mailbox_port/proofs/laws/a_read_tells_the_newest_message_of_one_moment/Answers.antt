@@ -1,7 +1,7 @@
 use Rattle.std.proofs.Common.{◌∙◌}
 use Rattle.triple_buffer.proofs.Moments.{looked_all, took_all}
-use Rattle.mailbox_reader.proofs.Newest.{tells_newest}
-use Rattle.mailbox_reader.proofs.laws.a_read_tells_the_newest_message_of_one_moment.Goals as goal
+use Rattle.mailbox_port.proofs.Newest.{tells_newest}
+use Rattle.mailbox_port.proofs.laws.a_read_tells_the_newest_message_of_one_moment.Goals as goal
 
 pub returns-clause-load : goal.returns-clause-load
 returns-clause-load c longest s published load seat after reader later before out answer kept are look low same =

@@ -1,8 +1,7 @@
 //! A message that is read in place.
 use crate::port::{MAX, open, publish, seventeen};
-use mailbox_port::PortWriter;
-use mailbox_reader::Freshness::{Fresh, Stale};
-use mailbox_reader::MailboxReader;
+use mailbox_port::Freshness::{Fresh, Stale};
+use mailbox_port::{MailboxReader, PortWriter};
 use std::alloc::Global;
 use std::process::Abort;
 

@@ -1,8 +1,7 @@
 //! A thread that publishes, and a partition that reads on a thread of its own. Each ends by itself.
 use crate::port::{check_read, message, open, publish};
-use mailbox_port::PortWriter;
-use mailbox_reader::Freshness::Fresh;
-use mailbox_reader::{MailboxReader, Reading};
+use mailbox_port::Freshness::Fresh;
+use mailbox_port::{MailboxReader, PortWriter, Reading};
 use std::alloc::Global;
 use std::process::Abort;
 use std::thread::{Threads, join};

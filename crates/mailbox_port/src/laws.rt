@@ -4,8 +4,8 @@ ghost use Rattle.es_base.specs.declared.event.Message.{Message};
 ghost use Rattle.triple_buffer.specs.Moments.{ArePublished, BufferState, HasNoMark, LooksIn, SeatStep, TookIn, word_in};
 ghost use Rattle.triple_buffer.specs.Plays.{At, reader_of};
 ghost use Rattle.triple_buffer.specs.Rule.{KeptTable};
-ghost use Rattle.mailbox_reader.specs.declared.reading.Reading.{Reading};
-ghost use Rattle.mailbox_reader.specs.Reads.{IsRead, PortReader, TellsNewest};
+ghost use Rattle.mailbox_port.specs.declared.reading.Reading.{Reading};
+ghost use Rattle.mailbox_port.specs.Reads.{IsRead, PortReader, TellsNewest};
 
 /// A read tells the message that was the newest published at one moment of the call, with its number and its time, and
 /// Empty if nothing was published then. That is the moment of its load if the load finds no mark, and else the moment

@@ -1,6 +1,7 @@
 //! A port with partitions' readers, and what they read.
-use mailbox_port::{MOST_MESSAGES, PortWriter, ReaderCount, open_mailboxes};
-use mailbox_reader::{Freshness, MailboxReader, Reading};
+use mailbox_port::{
+    Freshness, MOST_MESSAGES, MailboxReader, PortWriter, ReaderCount, Reading, open_mailboxes,
+};
 use std::alloc::Global;
 use std::process::Abort;
 

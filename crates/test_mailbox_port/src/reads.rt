@@ -1,8 +1,7 @@
 //! What is read, and whether it is fresh.
 use crate::port::{MAX, REFRESH, check_read, message, open, open_for, publish, seventeen};
-use mailbox_port::PortWriter;
-use mailbox_reader::Freshness::{Fresh, Stale};
-use mailbox_reader::{MailboxReader, Reading};
+use mailbox_port::Freshness::{Fresh, Stale};
+use mailbox_port::{MailboxReader, PortWriter, Reading};
 use std::alloc::Global;
 use std::process::Abort;
 

@@ -3,12 +3,13 @@ ghost use Rattle.std.specs.Prelude.{◌≡◌, ◌≤◌, [], IfNone, IfSome, dr
 ghost use Rattle.es_base.specs.Age.{freshness as freshness_at};
 ghost use Rattle.triple_buffer.specs.Rule.{HasLast, StartsWith, message_in};
 ghost use Rattle.mailbox_port.specs.Port.{IsMailboxOf};
-ghost use Rattle.mailbox_reader.specs.Reads.{IfEmpty, IfMessage, IsCopied, IsLookOf, IsReadAs, told};
+ghost use Rattle.mailbox_port.specs.Reads.{IfEmpty, IfMessage, IsCopied, IsLookOf, IsReadAs, told};
 
+use crate::port::{Mailbox, PortWriter};
 use crate::reading::Reading;
 use es_base::{Freshness, freshness};
-use mailbox_port::{Latest, Mailbox, PortWriter};
 use std::marker::Model;
+use triple_buffer::Latest;
 
 /// Reading end of a sampling port, for a partition. Contracts see its mailbox and the port's refresh period.
 #[derive(Drop)]
@@ -18,7 +19,7 @@ pub struct MailboxReader {
 }
 
 impl Model for MailboxReader {
-    ghost use Rattle.mailbox_reader.specs.Reads.{PortReader};
+    ghost use Rattle.mailbox_port.specs.Reads.{PortReader};
 
     ghost Value = { PortReader };
 

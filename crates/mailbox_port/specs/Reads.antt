@@ -4,10 +4,10 @@ use Rattle.es_base.specs.declared.event.Message.{Message as Published}
 use Rattle.es_base.specs.declared.validity.Freshness.{Freshness}
 use Rattle.triple_buffer.specs.Ends.{IsReadOf}
 use Rattle.triple_buffer.specs.Rule.{HasLast, message}
-use Rattle.mailbox_port.specs.Port.{told as told_mailbox}
+use Rattle.mailbox_port.specs.Port.{told_mailbox}
 use Rattle.mailbox_port.specs.declared.port.Mailbox.{Mailbox}
-use Rattle.mailbox_reader.specs.declared.reading.Reading.{Reading}
-use Rattle.mailbox_reader.specs.declared.reading.Reading.TheVariants.{Message, Empty}
+use Rattle.mailbox_port.specs.declared.reading.Reading.{Reading}
+use Rattle.mailbox_port.specs.declared.reading.Reading.TheVariants.{Message, Empty}
 
 -- a reader: its mailbox, and the refresh period of its port in microseconds
 pub record PortReader : Type 0 where
