@@ -15,8 +15,8 @@ use Rattle.es_base.specs.Settings.{Settings}
 use Rattle.datagram_delivery.specs.Interleaved.{BringDatagrams, Carried, messages_ended}
 use Rattle.link_receiver.specs.Outlet.{ShowsDelivered}
 use Rattle.end_system.specs.declared.ends.LinkEnds.{LinkEnds}
-use Rattle.end_system_delivery.specs.Delivery.{DeliversEach, WereGiven}
-use Rattle.end_system_delivery.specs.Holding.{EachHolds, HoldsEach}
+use Rattle.delivery_laws.specs.Histories.{DeliversEach, WereGiven}
+use Rattle.delivery_laws.specs.Holding.{EachHolds, HoldsEach}
 use Rattle.network_calls.specs.declared.reply.Reply.{Reply}
 use Rattle.network_calls.specs.declared.reply.Reply.TheVariants.{Filtered, Link}
 use Rattle.network_calls.specs.Calls.{call, calls_from}

@@ -21,7 +21,7 @@ use Rattle.receiver.specs.Outlet.{ShowsAt}
 use Rattle.receiver.specs.Port.{AnswersPort, GivesPort, ShowsPort}
 use Rattle.receiver.specs.Receiver.{AreLinksOf, Links, RepliesTo}
 use Rattle.receiver.specs.Run.{AddsIf, AddsReply, AreEventsAt, HasRun}
-use Rattle.receiver_delivery.specs.Delivery.{DeliversEach, GivesEach, WereGiven}
+use Rattle.delivery_laws.specs.Task.{DeliversEach, GivesEach, WereGiven}
 use Rattle.delivery_example.specs.Example as example
 use Rattle.delivery_example.specs.Example.{AreOfTheExample, arrival_on_a, configuration, first_arrival_on_b, first_on_a, first_on_b, link_with_nav, nav, nav_message, nav_port, second_arrival_on_b, second_on_b, sent}
 use Rattle.delivery_example.specs.Given.{HasNavMessage, WasGivenOnce}

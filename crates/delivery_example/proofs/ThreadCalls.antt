@@ -19,7 +19,7 @@ use Rattle.network_calls.specs.declared.call.Call.{Call}
 use Rattle.network_calls.specs.declared.reply.Reply.{Reply}
 use Rattle.network_calls.specs.declared.reply.Reply.TheVariants.{Filtered, Link}
 use Rattle.network_calls.specs.Calls.{call, calls_from}
-use Rattle.live_system_delivery.specs.Delivery.{DeliversEach}
+use Rattle.delivery_laws.specs.Live.{DeliversEach}
 use Rattle.delivery_example.specs.Example as example
 use Rattle.delivery_example.specs.Example.{AreOfTheExample, arrival_on_a, configuration, first_arrival_on_b, first_on_a, first_on_b, link_with_nav, second_arrival_on_b, second_on_b}
 use Rattle.link_core.specs.Counted.{shown}

@@ -11,8 +11,8 @@ use Rattle.es_base.specs.Packet as packets
 use Rattle.trace_player.specs.Histories.{past_after}
 use Rattle.trace_player.specs.Merge.{merged}
 use Rattle.datagram_delivery.specs.Interleaved.{BringDatagrams}
-use Rattle.player_delivery.specs.Reported.{AreWritten}
-use Rattle.player_delivery.proofs.Reported.{are_written}
+use Rattle.delivery_laws.specs.Reported.{AreWritten}
+use Rattle.delivery_laws.proofs.Reported.{are_written}
 use Rattle.delivery_example.specs.Example as example
 use Rattle.delivery_example.specs.Example.{configuration, link_with_nav, past, sent}
 use Rattle.delivery_example.specs.Traces.{trace_of_a, trace_of_b}

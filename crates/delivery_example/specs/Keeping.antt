@@ -12,8 +12,8 @@ use Rattle.end_system.specs.declared.ends.LinkEnds.{LinkEnds}
 use Rattle.end_system.specs.declared.settled.Settled.{Settled}
 use Rattle.end_system.specs.Run.{Step, received, took}
 use Rattle.end_system.specs.System.{System}
-use Rattle.end_system_delivery.specs.Delivery.{DeliversEach}
-use Rattle.end_system_delivery.specs.Holding.{AreOutletsOf, EachHolds}
+use Rattle.delivery_laws.specs.Histories.{DeliversEach}
+use Rattle.delivery_laws.specs.Holding.{AreOutletsOf, EachHolds}
 use Rattle.delivery_example.specs.Example.{first_time_on_b, nav_message, nav, second_time_on_b, time_on_a}
 
 -- these frames were given, with these replies, and an epoch of link 17 taken out before the last, if there is one: the

@@ -10,7 +10,7 @@ use Rattle.network_calls.specs.declared.reply.Reply.{Reply}
 use Rattle.live_system.specs.declared.settled.Settled.{Settled}
 use Rattle.live_system.specs.Run.{Step, received}
 use Rattle.live_system.specs.System.{IsPassOf, KnownNet, Replies, System}
-use Rattle.live_system_delivery.specs.Delivery.{DeliversEach}
+use Rattle.delivery_laws.specs.Live.{DeliversEach}
 use Rattle.delivery_example.specs.Example.{first_time_on_b, second_time_on_b, time_on_a}
 
 -- a pass gave a frame, and this was replied

@@ -5,7 +5,7 @@ ghost use Rattle.delivery_example.specs.Keeping.{EndedKeeping, HoldsMessage};
 ghost use Rattle.delivery_example.specs.Order.{WasTakenBefore};
 
 use end_system::{EndSystem, NoGate, Opened, Settled};
-use end_system_delivery::laws::{each_message_is_given_once, each_port_holds_its_messages};
+use delivery_laws::histories::{each_message_is_given_once, each_port_holds_its_messages};
 use es_base::{Config, LinkNo, Memory};
 use network_calls::Reply;
 use std::alloc::{AllocError, Global};

@@ -6,7 +6,7 @@ ghost use Rattle.es_base.specs.Run.{IsRun};
 ghost use Rattle.datagram_delivery.specs.Interleaved.{BringDatagrams, messages_ended};
 ghost use Rattle.trace_player.specs.Histories.{past_after};
 ghost use Rattle.trace_player.specs.Merge.{merged};
-ghost use Rattle.player_delivery.specs.Reported.{AreWritten};
+ghost use Rattle.delivery_laws.specs.Reported.{AreWritten};
 ghost use Rattle.delivery_example.specs.Traces.{trace_of_a, trace_of_b};
 ghost use Rattle.delivery_example.specs.Example.{configuration, link_with_nav, nav_message, nav, past, sent, past_if_b_is_first, sent_if_b_is_first};
 

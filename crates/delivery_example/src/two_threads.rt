@@ -9,7 +9,7 @@ ghost use Rattle.delivery_example.specs.Order.{WasTakenBefore};
 
 use es_base::{Config, Memory};
 use live_system::{LiveSystem, NetPass, Opened, ReaderCount, Reply, Settled};
-use live_system_delivery::laws::each_message_is_given_once;
+use delivery_laws::live::each_message_is_given_once;
 use std::alloc::Global;
 use std::sync::Wait;
 use std::thread::{Threads, join};

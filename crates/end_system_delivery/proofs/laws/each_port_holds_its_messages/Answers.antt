@@ -1,7 +1,0 @@
-use Rattle.end_system.proofs.Running.{ended}
-use Rattle.end_system_delivery.proofs.Holding.{each_holds}
-use Rattle.end_system_delivery.proofs.laws.each_port_holds_its_messages.Goals as goal
-
-pub returns : goal.returns
-returns g = λ system first last ends steps links a b opened ran has_settled.
-    each_holds system steps ends links a b (ended system first last ends steps links a b opened ran has_settled)
