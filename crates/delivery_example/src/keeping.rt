@@ -4,8 +4,8 @@ ghost use Rattle.delivery_example.specs.Example.{AreOfTheExample};
 ghost use Rattle.delivery_example.specs.Keeping.{EndedKeeping, HoldsMessage};
 ghost use Rattle.delivery_example.specs.Order.{WasTakenBefore};
 
-use end_system::{EndSystem, NoGate, Opened, Settled};
 use delivery_laws::histories::{each_message_is_given_once, each_port_holds_its_messages};
+use end_system::{EndSystem, NoGate, Opened, Settled};
 use es_base::{Config, LinkNo, Memory};
 use network_calls::Reply;
 use std::alloc::{AllocError, Global};

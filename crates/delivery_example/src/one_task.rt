@@ -6,10 +6,10 @@ ghost use Rattle.delivery_example.specs.Example.{AreOfTheExample};
 ghost use Rattle.delivery_example.specs.Given.{WasGivenOnce};
 ghost use Rattle.delivery_example.specs.Task.{calls_of_task};
 
+use delivery_laws::task::each_datagram_is_given_once;
 use es_base::{Config, Memory, Net};
 use receiver::laws::the_calls_on_each_link_are_its_past;
 use receiver::{Opened, PortOutlet, ReaderCount, Receiver, Reply};
-use delivery_laws::task::each_datagram_is_given_once;
 use std::alloc::Global;
 
 /// A receiver after its frames, the ends of its ports, and the replies.

@@ -7,9 +7,9 @@ ghost use Rattle.delivery_example.specs.Given.{WasGivenOnce};
 ghost use Rattle.delivery_example.specs.TwoThreads.{EndedAfter, GaveOne};
 ghost use Rattle.delivery_example.specs.Order.{WasTakenBefore};
 
+use delivery_laws::live::each_message_is_given_once;
 use es_base::{Config, Memory};
 use live_system::{LiveSystem, NetPass, Opened, ReaderCount, Reply, Settled};
-use delivery_laws::live::each_message_is_given_once;
 use std::alloc::Global;
 use std::sync::Wait;
 use std::thread::{Threads, join};

@@ -2,13 +2,13 @@
 use crate::counts::check_counts;
 use crate::rows::{LINK_17, octets_of};
 use end_system::Reply;
-use end_system_example::{Ended, run};
 use es_base::Net::A;
 use es_base::Verdict;
 use es_base::Verdict::{Redundant, Sampled};
 use std::alloc::Global;
 use std::process::Abort;
 use std::sync::Wait;
+use system_examples::histories::{Ended, run};
 use test_inputs::rows::{POS, smallest_row};
 use test_inputs_end_system::{BUILT_IN, config_of};
 

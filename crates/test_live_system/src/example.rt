@@ -3,11 +3,11 @@ use crate::running::{LINK_17, built_in, octets_of};
 use es_base::Net::{A, B};
 use es_base::Verdict::Sampled;
 use live_system::Reply;
-use live_system_example::{Ended, run};
 use std::alloc::Global;
 use std::process::Abort;
 use std::sync::Wait;
 use std::thread::Threads;
+use system_examples::live::{Ended, run};
 use test_inputs::rows::{POS, smallest_row};
 
 /// Whether a reply is of link 17.

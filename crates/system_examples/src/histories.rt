@@ -1,9 +1,7 @@
 //! A program that gives a frame to each network, takes an epoch out and ends: what the law of an end system says of
 //! these three calls.
-#![tactic(auto)]
-
 ghost use Rattle.std.specs.Prelude.{◌≡◌, IfOk};
-ghost use Rattle.end_system_example.specs.Whole.{IsWhole};
+ghost use Rattle.system_examples.specs.Histories.{IsWhole};
 
 use end_system::{EndSystem, NoGate, Opened, Reply, Settled};
 use es_base::{Config, LinkNo, Memory};

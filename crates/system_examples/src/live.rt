@@ -1,11 +1,9 @@
 //! A program in which one thread gives a frame to its network and another a burst of frames to the other one, and which
 //! then ends: what the law of a system that keeps no frame says of it, in whatever order the threads had their turn.
-#![tactic(auto)]
-
 ghost use Rattle.std.specs.Prelude.{◌≡◌, ◌≤◌, IfOk, length, take};
 ghost use Rattle.es_base.specs.declared.place.Net.TheVariants.{A, B};
 ghost use Rattle.live_system.specs.System.{IsPassOf};
-ghost use Rattle.live_system_example.specs.Whole.{Gave, GaveAll, IsWhole, room};
+ghost use Rattle.system_examples.specs.Live.{Gave, GaveAll, IsWhole, room};
 
 use es_base::{Config, FilterCause, Memory};
 use live_system::{LiveSystem, NetPass, Opened, ReaderCount, Reply, Settled};

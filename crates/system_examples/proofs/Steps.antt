@@ -3,7 +3,7 @@ use Rattle.std.proofs.Common.{◌≡◌, ap, refl, List, [], ◌∷◌, ◌++◌
 use Rattle.es_base.specs.declared.place.Net.TheVariants.{A, B}
 use Rattle.network_calls.specs.Threads.{steps_of}
 use Rattle.live_system.specs.Run.{Step}
-use Rattle.live_system_example.specs.Whole.{on_b}
+use Rattle.system_examples.specs.Live.{on_b}
 
 pub of_b : (steps : List Step) (one : Step) → steps_of B (map on_b steps ++ (A, one) ∷ []) ≡ steps
 of_b [] one = refl

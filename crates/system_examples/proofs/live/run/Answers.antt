@@ -11,9 +11,9 @@ use Rattle.live_system.specs.Burst.{steps_in_turn}
 use Rattle.live_system.specs.Run.{AreOpened, Does, HasSettled, Passes, Ran, RanAlone, Step, received, net_in}
 use Rattle.live_system.specs.System.{IsPassOf, System}
 use Rattle.live_system.proofs.Running.{ended}
-use Rattle.live_system_example.specs.Whole.{Gave, GaveAll, frame_and_burst, room}
-use Rattle.live_system_example.proofs.Steps.{of_a, of_b}
-use Rattle.live_system_example.proofs.run.Goals as goal
+use Rattle.system_examples.specs.Live.{Gave, GaveAll, frame_and_burst, room}
+use Rattle.system_examples.proofs.Steps.{of_a, of_b}
+use Rattle.system_examples.proofs.live.run.Goals as goal
 
 pub returns : goal.returns
 returns g c =
