@@ -7,9 +7,9 @@ time that fits, on networks that begin near each other. All before a stretch is 
 
 - Of each frame the first copy that counts is forwarded, and no other.
 - A message arrives with such a copy, if its frame has the datagram whole or its last fragment. Of a datagram in
-  fragments all others were offered before, in order and within the reassembly limit; within the limit before the first
-  nothing came with its addresses and identification; and another began a group only while fewer than three stood that
-  began after it.
+  fragments all others were offered before, in order and within the reassembly limit; none with its addresses and
+  identification was in parts as the first came (those before it came whole, or none came within the limit); and another
+  began a group only while fewer than three stood that began after it.
 - A message that arrives, and whose queue isn't full, is put at the end of its port's messages, with the time of this copy.
 
 What a program forwarded is looked at in the past of a stretch, and where one begins; there the law speaks of it, too.
@@ -35,9 +35,9 @@ def follows(number, before, window):
 
 
 def keeps_times(networks):
-    """Whether the times of sender and networks fit SkewMax, and no copy overtakes."""
+    """Whether the times of sender and networks fit SkewMax, and first copies come in order."""
     fits = networks.spread <= networks.skew and networks.spread + networks.skew < networks.pause
-    return fits and networks.spread < networks.gap
+    return fits and (networks.spread < networks.gap or networks.keeps_order)
 
 
 # ---- packets that are offered

@@ -44,6 +44,8 @@ class Networks:
     # The share of frames before which the sender restarts, the least window, and the network that brings all copies as
     # late as it may, if there is one.
     restart, least_window, slower = 0.01, 1, None
+    # Whether first copies come in order though D isn't below the gap.
+    keeps_order = False
 
     def __init__(self, r):
         self.r, self.messages = r, []
@@ -70,7 +72,7 @@ class Networks:
             self.ident_step = self.r.choice([0, 1]) if self.streams == 1 and not self.lost_on_both else 1
 
     def drawn_spread(self):
-        """D: what the delays differ by."""
+        """D: what the latencies differ by."""
         return self.r.choice([0, self.gap - 1, self.r.randrange(self.gap)])
 
     def drawn_skew(self):
@@ -243,14 +245,33 @@ class CutOff(Networks):
         return {"A": set(range(end + 1)), "B": set(range(end + self.frames_later, self.count))}
 
 
-HOLDING = [Networks, Networks, Networks, CutOff]
+class KeepingOrder(Networks):
+    """all hold: each network keeps the order, D is a gap or more"""
+    keeps_order = True
+
+    def drawn_spread(self):
+        return self.r.randint(self.gap, 2 * self.gap - 2)
+
+    def brought(self, came):
+        """A frame waits on one network for those before it; the other's greatest latency is less than a gap above the least
+        of that one, and its least less than a gap below the greatest."""
+        uneven = self.r.choice(NETS)
+        for net in NETS:
+            least, greatest = (0, self.spread) if net == uneven else (self.spread - self.gap + 1, self.gap - 1)
+            latest = 0
+            for index in sorted(came[net]):
+                latest = max(latest, self.sent[index] + self.least + self.r.randint(least, greatest))
+                yield Copy(latest, net, index)
+
+
+HOLDING = [Networks, KeepingOrder, Networks, CutOff]
 
 
 # ---- one condition dropped
 
 
 class Overtaking(Networks):
-    """delays differ by a gap or more"""
+    """latencies differ by a gap or more"""
     least_window, slower = 2, "A"
 
     def drawn_spread(self):

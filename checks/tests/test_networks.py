@@ -31,7 +31,7 @@ def by_hand(text, skew):
     frames = [Frame(index, index, 0, False, b"") for index in range(len(numbers))]
     return types.SimpleNamespace(
         copies=copies, numbers=numbers, frames=frames, count=10, window=2, skew=skew, limit=50_000, spread=800, pause=3000,
-        gap=1000, least=100, sent=[1000 * index for index in range(10)], source=lambda index: index >= 10)
+        gap=1000, keeps_order=False, least=100, sent=[1000 * index for index in range(10)], source=lambda index: index >= 10)
 
 
 # The places of the copies that were forwarded, of those with which a message arrives, and the faults of the first.
@@ -62,6 +62,10 @@ FRAGMENTS = [
     ("1 8+ 0, 1 0+ 10, 1 16 50", False),
     ("1 0+ 0, 1 0+ 100, 1 8 110", False),
     ("1 0+ 0, 1 0+ 101, 1 8 110", True),
+    ("1 0+ 0, 1 8 10, 1 0+ 20, 1 8 30", True),
+    ("1 0 0, 1 0+ 10, 1 8 20", True),
+    ("1 0+ 0, 1 8 10, 1 8+ 15, 1 0+ 20, 1 16 30", False),
+    ("1 0+ 0, 1 16 10, 1 0+ 20, 1 8 30", False),
     ("1 0+ 0, 2 0+ 1, 3 0+ 2, 4 0+ 3, 1 8 4", True),
     ("1 0+ 0, 2 0+ 1, 3 0+ 2, 4 0+ 3, 5 0+ 4, 1 8 5", False),
     ("1 0+ 0, 2 0+ 1, 3 0+ 2, 4 0+ 3, 2 8 4, 5 0+ 4, 1 8 5", True),

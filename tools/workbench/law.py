@@ -47,13 +47,13 @@ class Stretch:
 
 
 class Chain:
-    """The fragments of a datagram that came in order. `expects` is the next offset, None if it can't go on; `is_joined` says
-    that the receiver joined them."""
-    __slots__ = ("message", "begin", "latest", "expects", "is_sound", "is_joined")
+    """The fragments of a datagram that came in order. `expects` is the next offset, None if it can't go on; `is_closed` says
+    that it came whole, so that none with its key is in parts; `is_joined` that the receiver joined them."""
+    __slots__ = ("message", "begin", "latest", "expects", "is_sound", "is_closed", "is_joined")
 
     def __init__(self, message, time, expects, is_sound):
         self.message, self.begin, self.latest, self.expects, self.is_sound = message, time, time, expects, is_sound
-        self.is_joined = False
+        self.is_closed = self.is_joined = False
 
 
 class Offers:
@@ -64,13 +64,13 @@ class Offers:
 
     def add(self, key, offset, length, more, time, message=None):
         """Whether a message is whole with this packet: it has the datagram, or its last fragment, and the others came before,
-        in order, within the limit, nothing with their key within it before, and the datagram kept its place. The offset is
-        None if the packet is refused."""
+        in order, within the limit, none with their key was in parts as the first came, and the datagram kept its place. The
+        offset is None if the packet is refused."""
         while self.chains and next(iter(self.chains.values())).latest + self.limit < time:
             self.chains.popitem(last=False)
         chain = self.chains.get(key)
         if offset == 0:
-            self.chains[key] = Chain(message, time, length if more else None, chain is None)
+            self.chains[key] = Chain(message, time, length if more else None, chain is None or chain.is_closed)
         elif offset and chain and chain.expects == offset and chain.message == message:
             chain.expects += length
         else:
@@ -82,7 +82,7 @@ class Offers:
         if more or offset is None:
             return False
         is_whole = offset == 0 or found.expects is not None and found.is_sound and time <= found.begin + self.limit
-        found.expects = None
+        found.expects, found.is_closed = None, is_whole
         return is_whole
 
     def lose_place(self, key):
