@@ -24,7 +24,7 @@ C, RUST, ADA = "examples/c/yelunnavi.h", "examples/rust/yelunnavi.rs", "examples
 WORDS = "examples/c/yelunnavi_words.h"
 PYTHON, BODY_OF_ADA = "tools/receiver/calls.py", "examples/ada/yelunnavi.adb"
 # Where the functions for memory are defined, in C and in Rust.
-MEMORY_OF_C = ("tools/heap.c", "examples/c/pool.c", "bench/peer/pass_pool.c",
+MEMORY_OF_C = ("tools/heap.c", "examples/c/pool.c", "peer/pass_pool.c",
                *(f"checks/parts/{name}" for name in ("memory.h", "drive.c", "closing.c")))
 MEMORY_OF_RUST = "examples/rust/play.rs"
 KINDS_OF_HANDLES = ("Receiver", "System", "Pass", "Reader", "Taker")
