@@ -8,7 +8,7 @@ import pytest
 from conftest import ROOT
 from verdict_words import KINDS
 
-COPIED = ("checks", "tools", "bench", "peer", "docs/FORMATS.md", "crates/es_base", "crates/output_lines")
+COPIED = ("checks", "tools", "bench", "peer", "docs/FORMATS.md", "crates/es_base", "crates/output_lines", "crates/test_inputs")
 
 
 @pytest.fixture(scope="module")
@@ -36,12 +36,18 @@ def test_the_tree_has_no_slip(tree):
 
 WORDS, FORMATS, PEER, ENUMS = "tools/verdict_words.py", "docs/FORMATS.md", "peer/afdx_peer.c", "peer/receiver.h"
 SPANS, CONDITIONS, PAGE = "tools/workbench/spans.py", "tools/workbench/conditions.py", "tools/drawing/page.py"
+VERDICT, LIMITS, STORED = "crates/es_base/src/verdict.rt", "crates/es_base/specs/Limits.antt", "crates/test_inputs/src/outputs.rt"
 OF_C, NETWORKS, TEST, TO_C = "bench/from_c", "checks/networks", "checks/tests/test_health.py", "checks/parts/drive.c"
 # Three words, of which a test of its own has no list.
 THREE, NAMED = KINDS[9:12], ", ".join(sorted(KINDS[9:12]))
 # A file, what stands there, what is put in its place, and what is told.
 SLIPS = [
     (WORDS, '"exhausted": "refused",\n', '"exhausted": "refused", "odd": "refused",\n', f"{FORMATS}: table of verdicts: missing ['odd']"),
+    (VERDICT, "    Exhausted,\n", "    Exhausted,\n    Odd,\n", f"{VERDICT}: VerdictKind: missing [], others ['Odd']"),
+    (VERDICT, "VERDICT_KINDS: usize = 13", "VERDICT_KINDS: usize = 14", f"{VERDICT}: VERDICT_KINDS: usize = 14, and there are 13"),
+    (LIMITS, "filter_causes = 5", "filter_causes = 6", f"{LIMITS}: filter_causes = 6, and there are 5"),
+    (STORED, "count 17 A 0 ", "count 17 A ", f"{STORED}: 1 lines that haven't 13 counts: count 17 A "),
+    (STORED, "filtered A 0", "filtered A 0 0", f"{STORED}: 1 lines that haven't 5 counts: filtered A "),
     (FORMATS, "`bad-udp`", "`bad-ucp`", "table of verdicts"),
     (PEER, 'TEXT("bad-udp', 'TEXT("bad-ucp', f"{PEER}: words from OUT_OF_SEQUENCE on: missing ['bad-udp'], others ['bad-ucp']"),
     (PEER, '        [NO_PORT] = TEXT("no-port\\n"),\n', "", "others ['no word of NO_PORT']"),
