@@ -2,11 +2,12 @@
 //! own). A mailbox is a triple buffer: a publication copies the message once for each of them, and nobody waits. No
 //! call takes memory after the opening.
 //!
-//! ```text
-//! let (mut writer, mut mailboxes) = open_mailboxes(alloc, 1471, ReaderCount::new(2)?)?;
-//! writer.publish(1000, &[7, 8, 9])      // 1
-//! mailboxes[1].reader.update();
-//! mailboxes[1].reader.latest()          // Some: number 1, time 1000, octets [7, 8, 9]
+//! ```rust
+//! let readers = ReaderCount::new(2).expect(rt, "1 to 8");
+//! let (mut writer, mut mailboxes) = open_mailboxes(alloc, 16, readers).expect(rt, OWN);
+//! let mailbox = mailboxes.pop().expect(rt, "a mailbox");
+//! ..
+//! assert!(rt; writer.publish(1000, &[7, 8, 9]) == 1);
 //! ```
 #![tactic(auto)]
 

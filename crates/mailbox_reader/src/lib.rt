@@ -4,14 +4,15 @@
 //! as it is until the next look, whatever is published meanwhile. No call waits, tries again or takes memory. Arrival
 //! times and the `now` of a call are of one clock.
 //!
-//! ```text
-//! let mut reader = MailboxReader::new(mailbox, 100_000);
+//! ```rust
+//! let mut reader = MailboxReader::new(mailbox, 20_000);
 //! let mut out = [0; 16];
-//! reader.read(2000, &mut out)      // Reading::Empty
-//! writer.publish(1000, &[7, 8])    // 1
-//! reader.read(2000, &mut out)      // Reading::Message { number: 1, time: 1000, len: 2, validity: Fresh }
+//! assert!(rt; reader.read(1000, &mut out) == Reading::Empty);
+//! ..
+//! assert!(rt; writer.publish(1000, &[7, 8, 9]) == 1);
+//! assert!(rt; reader.read(1000, &mut out) != Reading::Empty && out[2] == 9);
 //! reader.update();
-//! reader.latest()                  // Some: number 1, time 1000, octets [7, 8], in place
+//! assert!(rt; reader.latest().is_some());
 //! ```
 #![tactic(auto)]
 
