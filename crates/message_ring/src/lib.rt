@@ -20,6 +20,7 @@ mod wait;
 
 ghost use Rattle.std.specs.Prelude.{◌≡◌, ◌+◌, ◌*◌, ◌<◌, ◌≤◌, ℕ, length, take, drop, slice_get, Some, IfOk, OnOk, OnErr, IfSome, IfNone, IsOk, IsSome, IsTrue, IsFalse};
 ghost use Rattle.message_ring.specs.Ends.{octets_of_last, width};
+ghost use Rattle.es_base.specs.Limits.{deepest_queue, longest_queued};
 ghost use Rattle.es_base.specs.Queue.{BeginsWith};
 ghost use Rattle.message_ring.specs.Queue.{IsFullByLook, LooksForRoom, SeemsEmpty, SeemsFull, after_look, message, opened, with_put, with_taken};
 
@@ -101,7 +102,7 @@ pub fn open_ring(
     depth: usize,
     max: usize,
 ) -> Result<(RingPutter, RingTaker), AllocError>
-    requires { (0 < depth) × (depth ≤ 64) × (max ≤ 8192) }
+    requires { (0 < depth) × (depth ≤ deepest_queue) × (max ≤ longest_queued) }
     ensures putter { IfOk result (λ ends. (ends.0 ≡ opened ends.0.queue depth) × (ends.0.queue.max ≡ max)) }
     ensures taker { IfOk result (λ ends. ends.1 ≡ ends.0) }
 {

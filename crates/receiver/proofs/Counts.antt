@@ -3,6 +3,7 @@ use Rattle.std.proofs.Common.{◌≡◌, ◌∙◌, ap, sym, refl, ℕ, ◌+◌,
 use Rattle.std.proofs.lemmas.List.{length-append, map-append}
 use Rattle.std.proofs.Math.Nat.{max-eq_left, max-eq_right}
 use Rattle.es_base.specs.declared.event.Message.{Message}
+use Rattle.es_base.specs.Limits.{deepest_queue}
 use Rattle.es_base.specs.Queue.{BeginsWith}
 use Rattle.message_ring.specs.Ends.{AreShort, octets_of_last}
 use Rattle.message_ring.specs.Queue.{Known, with_put}
@@ -47,7 +48,7 @@ pub octets_with : (count : ℕ) (messages : List Message) (message : Message) �
 octets_with count messages message = rw (map-append size messages (message ∷ [])) (last_with_one count (map size messages) (size message))
 
 -- few enough to be counted
-pub octets_few : (count : ℕ) (messages : List Message) → AreShort most_octets (map size messages) → count ≤ 64 → octets_of_last count messages ≤ 64 * most_octets
+pub octets_few : (count : ℕ) (messages : List Message) → AreShort most_octets (map size messages) → count ≤ deepest_queue → octets_of_last count messages ≤ deepest_queue * most_octets
 octets_few count messages short few =
     let sizes = map size messages in
     let all = total_short most_octets _ (short_drop most_octets (length sizes - count) sizes short) in

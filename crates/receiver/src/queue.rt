@@ -1,5 +1,6 @@
 //! The end of a port's queue that puts messages, which counts those that wait.
 ghost use Rattle.std.specs.Prelude.{◌≡◌, ◌+◌, ◌-◌, ◌<◌, ◌≤◌, IfOk, IsFalse, IsTrue, length, max};
+ghost use Rattle.es_base.specs.Limits.{deepest_queue, longest_queued};
 ghost use Rattle.es_base.specs.Queue.{BeginsWith};
 ghost use Rattle.message_ring.specs.Queue.{IsFullByLook, LooksForRoom, SeemsFull, message, with_put};
 ghost use Rattle.receiver.specs.Queue.{IsGreatest, new_queue};
@@ -47,7 +48,7 @@ impl CountingPutter {
         depth: usize,
         max: usize,
     ) -> Result<(CountingPutter, RingTaker), Memory>
-        requires { (0 < depth) × (depth ≤ 64) × (max ≤ 8192) }
+        requires { (0 < depth) × (depth ≤ deepest_queue) × (max ≤ longest_queued) }
         ensures putter { IfOk result (λ ends. (ends.0 ≡ new_queue ends.0.known.queue depth) × (ends.0.known.queue.max ≡ max)) }
         ensures taker { IfOk result (λ ends. ends.1 ≡ ends.0.known) }
     {
