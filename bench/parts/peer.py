@@ -4,9 +4,9 @@ import shutil
 import subprocess
 import sys
 
-from parts.programs import BENCH
+from parts.programs import TREE
 
-PEER = os.path.join(BENCH, "peer")
+PEER = os.path.join(TREE, "peer")
 PROFILES = ["sampling", "queuing", "fragments", "mixed"]
 
 

@@ -1,9 +1,14 @@
 """What there is to run: the programs of programs.txt, what they use, and the scripts."""
 import os
+import sys
 
 BENCH = os.path.dirname(os.path.dirname(os.path.realpath(__file__)))
 TREE = os.path.dirname(BENCH)
 PARTS = ["src", "specs", "proofs"]
+
+# The scripts import words of the tools, whose folder stays as it is.
+sys.path.append(os.path.join(TREE, "tools"))
+sys.dont_write_bytecode = True
 
 
 def lines_of(path):

@@ -17,6 +17,7 @@ What a program forwarded is looked at in the past of a stretch, and where one be
 import collections
 
 from parts.options import TOOLS  # noqa: F401  its folder is among those that are looked in
+from verdict_words import NOT_FORWARDED
 from workbench import law
 
 MOST_GROUPS = 4
@@ -175,7 +176,7 @@ def places_with_room(networks, places, got):
 
 def judged(networks, verdicts, messages):
     """What arrived, and what is wrong with what the ports got."""
-    law = Arrivals(networks, [words[0] not in ("out-of-sequence", "redundant") for words in verdicts])
+    law = Arrivals(networks, [words[0] not in NOT_FORWARDED for words in verdicts])
     got, foreign = got_at(networks, verdicts, messages)
     counts, once, mixes, right = law.faults + collections.Counter(foreign=foreign), set(), mixable(networks), set()
     for place, message in got.items():

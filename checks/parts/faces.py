@@ -24,9 +24,11 @@ C, RUST, ADA = "examples/c/yelunnavi.h", "examples/rust/yelunnavi.rs", "examples
 WORDS = "examples/c/yelunnavi_words.h"
 PYTHON, BODY_OF_ADA = "tools/receiver/calls.py", "examples/ada/yelunnavi.adb"
 # Where the functions for memory are defined, in C and in Rust.
-MEMORY_OF_C = ("tools/heap.c", "examples/c/pool.c", "bench/peer/pass_pool.c",
+MEMORY_OF_C = ("tools/heap.c", "examples/c/pool.c", "peer/pass_pool.c",
                *(f"checks/parts/{name}" for name in ("memory.h", "drive.c", "closing.c")))
 MEMORY_OF_RUST = "examples/rust/play.rs"
+# The number of the interface: where it is defined, what tells of it, and what the newest release has.
+ABI, CHANGES, RELEASED = "crates/receiver_c/specs/Abi.antt", "CHANGELOG.md", "checks/interface_sum.txt"
 KINDS_OF_HANDLES = ("Receiver", "System", "Pass", "Reader", "Taker")
 HANDLES = {kind: f"crates/{'system_c' if kind in ('System', 'Pass') else 'slot_handles'}/src/{kind.lower()}_handle.rt"
            for kind in KINDS_OF_HANDLES}

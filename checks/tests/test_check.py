@@ -31,7 +31,7 @@ def test_nothing_is_found_where_nothing_is_wrong(written, tmp_path):
     assert slips(CONFIG) == slips(ROOT / "examples" / "turning.toml") == []
     assert slips_of(written, FITS, A, B) == slips_of(written, FITS, CAPTURES / "both.pcapng") == []
     for profile in ("sampling", "queuing", "fragments", "mixed"):
-        words = [ROOT / "bench" / "peer" / "gen_trace.py", "--frames", "200", "--profile", profile, "--out-dir", tmp_path]
+        words = [ROOT / "peer" / "gen_trace.py", "--frames", "200", "--profile", profile, "--out-dir", tmp_path]
         subprocess.run(words, check=True, capture_output=True)
         assert slips(tmp_path / "config.toml") == []
 

@@ -11,7 +11,8 @@ C, WORDS, RUST, ADA = faces.C, faces.WORDS, faces.RUST, faces.ADA
 HANDLES, CALLS = [*faces.HANDLES.values()], faces.CALLS[0]
 SOURCES = [*faces.CALLS, *HANDLES, faces.HELD, faces.REPLIES, faces.CODES, faces.NUMBERS, faces.VERDICTS, faces.FAULTS, faces.EXPLANATION, faces.ROWS,
            *faces.BOUNDS]
-READ = [*SOURCES, C, WORDS, RUST, ADA, faces.PYTHON, faces.BODY_OF_ADA, *faces.MEMORY_OF_C, faces.MEMORY_OF_RUST]
+READ = [*SOURCES, C, WORDS, RUST, ADA, faces.PYTHON, faces.BODY_OF_ADA, *faces.MEMORY_OF_C, faces.MEMORY_OF_RUST,
+        faces.ABI, faces.CHANGES, faces.RELEASED]
 
 # A file, what stands there, what is planted in its place where it stands first, and what is told of it.
 PLANTED = [
@@ -124,6 +125,13 @@ PLANTED = [
     (RUST, "pub const ABI: u32 = 6;", "pub const ABI: u32 = 1;", "number ABI: 1; in the source: 6"),
     (ADA, "   Abi : constant Unsigned_32 := 6;\n", "", "no number Abi"),
     (CALLS, "pub const ABI: u32 = 6;", "pub const ABI: u32 = 1;", "number YELUNNAVI_ABI: 6; in the source: 1"),
+    # the number of the interface
+    (faces.ABI, "abi = 6", "abi = 7", f"{faces.ABI}: the interface has the number 7; in the source: 6"),
+    (faces.CHANGES, "`YELUNNAVI_ABI` is 6.", "`YELUNNAVI_ABI` is 7.", f"{faces.CHANGES}: the interface has the number 7"),
+    (CALLS, "pub const ABI: u32 = 6;", "pub const ABI: u32 = 7;", f"{faces.ABI}: the interface has the number 6; in the source: 7"),
+    *((faces.VERDICTS, "13 => Some(VerdictKind::Exhausted)", "14 => Some(VerdictKind::Exhausted)", f"{place}: the interface isn't that of the number 6")
+      for place in (CALLS, faces.ABI, C, RUST, ADA, faces.CHANGES)),
+    (faces.CODES, "TOO_SHORT: u32 = 13", "TOO_SHORT: u32 = 14", f"{C}: the interface isn't that of the number 6"),
     # words
     (WORDS, 'return "checksum"', 'return "sum"', "word of HeaderFault::CHECKSUM: 'sum'; in the source: 'checksum'"),
     (WORDS, "    case YELUNNAVI_VERDICT_QUEUED: return \"queued\";\n", "", "no word of VerdictKind::QUEUED"),

@@ -11,6 +11,7 @@ from parts.faulty_networks import FAULTY, LONGEST_TURN, BothOut, Losing, OneOut,
 from parts.network_player import played
 from parts.random_networks import DROPPED, HOLDING, Copy, Frame
 from receiver import Receiver
+from verdict_words import NOT_FORWARDED
 from workbench import health, stream
 
 # ---- copies that count
@@ -144,7 +145,7 @@ def seen(networks, receiver, forwarded):
     for number, copy in enumerate(networks.copies, 1):
         one = stream.Arrival(1000 * copy.time, "AB".index(copy.net), number, networks.octets(copy), None, 0)
         reply = receiver.receive(one.net, copy.time, one.octets)
-        forwarded.append(reply.kind not in ("out-of-sequence", "redundant"))
+        forwarded.append(reply.kind not in NOT_FORWARDED)
         found.see(one, copy.time, reply)
     found.finish(copy.time)
     return found.links[17]

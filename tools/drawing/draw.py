@@ -3,11 +3,11 @@ from collections import Counter
 
 from drawing.gather import Gathered
 from drawing.page import page
-from verdict_words import NETWORKS
+from verdict_words import NETWORKS, kinds_of
 from workbench import files, frames, station, stream
 from workbench.health import Alone
 
-NO_FAULTS = ("sampled", "queued", "redundant", "fragment-held")
+NO_FAULTS = kinds_of("delivered", "redundant", "held")
 
 
 def draw(given):

@@ -7,29 +7,29 @@ from drawing.picture import (
     strip,
 )
 from drawing.style import PATTERNS, SCRIPT, STYLE
-from verdict_words import FILTER_CAUSES, FIRST_FORWARDED, KINDS, NETWORKS, OUT_OF_SEQUENCE, REDUNDANT
+from verdict_words import FILTER_CAUSES, FIRST_FORWARDED, KINDS, NETWORKS, NOT_FORWARDED, OUT_OF_SEQUENCE, REDUNDANT, kinds_of
 from workbench.conditions import CONDITIONS
 from workbench.stream import told_time
 
 # Sections that are open at first; points and stretches of all pictures of ports together.
 OPEN_LINKS, POINTS_OF_PORTS, STRETCHES_OF_PORTS = 3, 80_000, 4_000
 
-MEANINGS = [
-    ("delivered", "sampled, queued", "the frame was forwarded, and made a message at a port"),
-    ("held", "fragment-held", "it was forwarded, and its fragment waits for the rest of its datagram"),
-    ("refused", "bad-header CAUSE, bad-fragment, bad-udp, no-port, too-long, fragmented-sample, exhausted",
-     "it was forwarded, and refused later for this cause"),
-    ("overflow", "overflow", "it was forwarded, and the queue of its port was full, so that its message is lost"),
-    ("redundant", "redundant", "it passed integrity checking, and redundancy management didn't forward it"),
-    ("out", "out-of-sequence", "integrity checking discarded it: its sequence number may not come next on its network"),
-    ("lost", "(no verdict)", "a copy that didn’t come: the other network brought it, or frames after it came. It stands at the "
-     "time of the other copy, or of the frame that showed it, so that an outage of any length is seen"),
-    ("twice", "(besides its verdict)", "the second copy of a frame that was forwarded too: its message came twice"),
-    ("restart", "(besides its verdict)", "the sender began anew, with the number 0 or without"),
-    ("unfinished", "(besides its verdict)", "at this frame a datagram in parts was given up, or at its own first frame if it "
-     "never ended"),
-    ("filtered", "filtered CAUSE", "octets that are no frame of a configured link; no link's picture has them"),
-]
+# What each mark says of a frame; and by which words, where these are no kinds of verdicts.
+MEANINGS = {
+    "delivered": "the frame was forwarded, and made a message at a port",
+    "held": "it was forwarded, and its fragment waits for the rest of its datagram",
+    "refused": "it was forwarded, and refused later for this cause",
+    "overflow": "it was forwarded, and the queue of its port was full, so that its message is lost",
+    "redundant": "it passed integrity checking, and redundancy management didn't forward it",
+    "out": "integrity checking discarded it: its sequence number may not come next on its network",
+    "lost": "a copy that didn’t come: the other network brought it, or frames after it came. It stands at the time of the "
+            "other copy, or of the frame that showed it, so that an outage of any length is seen",
+    "twice": "the second copy of a frame that was forwarded too: its message came twice",
+    "restart": "the sender began anew, with the number 0 or without",
+    "unfinished": "at this frame a datagram in parts was given up, or at its own first frame if it never ended",
+    "filtered": "octets that are no frame of a configured link; no link's picture has them",
+}
+OTHER_WORDS = {"lost": "(no verdict)", "filtered": "filtered CAUSE"}
 
 
 def key(of_class):
@@ -132,10 +132,16 @@ def number_cell(number):
     return f'<td data-value="{number}" class="{"some" if number else "zero"}">{number:,}</td>'
 
 
+def words_of(name):
+    """The words of the verdicts that a mark stands for."""
+    kinds = [f"{kind} CAUSE" if kind == "bad-header" else kind for kind in kinds_of(name)]
+    return ", ".join(kinds) or OTHER_WORDS.get(name, "(besides its verdict)")
+
+
 def words(gathered):
     rows = "".join(f'<tr><td>{key(name)}</td><td class="word">{CLASSES[name][1]}</td>'
-                   f'<td class="word"><code>{escape(kinds)}</code></td><td class="word">{escape(meaning)}</td></tr>'
-                   for name, kinds, meaning in MEANINGS)
+                   f'<td class="word"><code>{escape(words_of(name))}</code></td><td class="word">{escape(meaning)}</td></tr>'
+                   for name, meaning in MEANINGS.items())
     bins = gathered.bins
     return f"""<details id="words"><summary>How to read the pictures</summary>
 <div class="scroll"><table><thead><tr><th></th><th class="word">mark</th><th class="word">verdicts</th>
@@ -201,7 +207,7 @@ def rows_of(drawn, network):
     names = [name for name in ROWS if ROWS[name] >= FIRST_FORWARDED]
     names.sort(key=lambda name: list(CLASSES).index(class_of(name)))
     return [Row(name, class_of(name), rows[name])
-            for name in (*names, "redundant", "out-of-sequence", LOST, TWICE, RESTART, UNFINISHED) if name in rows]
+            for name in (*names, *reversed(NOT_FORWARDED), LOST, TWICE, RESTART, UNFINISHED) if name in rows]
 
 
 def rate_of(net):

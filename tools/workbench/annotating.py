@@ -1,5 +1,5 @@
 """One capture of both networks in which each packet has its verdict as a comment, and why."""
-from verdict_words import NETWORKS
+from verdict_words import NETWORKS, NOT_FORWARDED
 from workbench import captures, copies, files, station, stream
 from workbench.faults import Fault
 from workbench.health import Alone, Health
@@ -44,7 +44,7 @@ def reason(one, note, link, reply):
         yield f"{delay} us after packet {other.packet} on {NETWORKS[1 - one.net]}"
         if delay > link.link.skew_max:
             yield "beyond SkewMax"
-        if other.is_forwarded and reply.kind not in ("out-of-sequence", "redundant") and link.link.redundancy:
+        if other.is_forwarded and reply.kind not in NOT_FORWARDED and link.link.redundancy:
             yield "delivered twice"
     elif note.what == copies.REPEATED:
         yield f"again, {(one.time - other.time) // 1000} us after packet {other.packet}"

@@ -1,4 +1,5 @@
 """The conditions of docs/DELIVERY.md that a capture can refute: under all of them each message comes once and whole."""
+from verdict_words import FULL, REFUSED
 from workbench import copies
 
 # Each condition by the word of the report, as the page says it.
@@ -17,8 +18,8 @@ CONDITIONS = {
     "queues": "no queue is full",
     "copies": "a copy of each frame comes",
 }
-REFUSED = {"bad-header": "packets", "bad-fragment": "packets", "bad-udp": "packets", "no-port": "packets",
-           "too-long": "packets", "fragmented-sample": "packets", "overflow": "queues"}
+# The condition that a frame of each kind breaks. No frame is to blame for want of memory.
+BROKEN_BY = {**{kind: "packets" for kind in REFUSED if kind != "exhausted"}, FULL: "queues"}
 
 
 # What is known by sequence numbers alone.
@@ -53,8 +54,8 @@ class Conditions:
 
     def look_at(self, note, reply, one, steps, before):
         """What a frame breaks. Its place is so many steps ahead of the newest before, which came at `before`."""
-        if reply.kind in REFUSED:
-            self.broken(REFUSED[reply.kind], one.where, f"{reply.kind} {reply.cause}".rstrip())
+        if reply.kind in BROKEN_BY:
+            self.broken(BROKEN_BY[reply.kind], one.where, f"{reply.kind} {reply.cause}".rstrip())
         if note.is_overtaken and note.what == copies.FIRST:
             self.broken("overtaking", one.where, "its first copy came after one of a later frame")
         if note.what == copies.LATE:

@@ -4,7 +4,7 @@ What is kept grows with the links and the ports, not with the frames.
 """
 from collections import Counter, deque
 
-from verdict_words import FIRST_FORWARDED, KINDS, NETWORKS, OUT_OF_SEQUENCE
+from verdict_words import FIRST_FORWARDED, FULL, KINDS, NETWORKS, OUT_OF_SEQUENCE, REFUSED
 from workbench import copies, frames, settings
 from workbench.conditions import BY_NUMBERS, CONDITIONS, Conditions
 from workbench.copies import Copies
@@ -22,7 +22,7 @@ JITTER = 500  # microseconds that a frame may come before its BAG is over, if `j
 LEAST_ODD = 16  # frames whose numbers don't go on; more than the others make no sense
 AHEAD = 128  # gaps after which a sequence number isn't ahead any more
 # The verdicts that say that a frame itself is at fault; and one that no receiver gives.
-FAULTS = frozenset(("bad-header", "bad-fragment", "bad-udp", "no-port", "too-long", "fragmented-sample", "exhausted"))
+FAULTS = frozenset(REFUSED)
 WRONG_SUM = "wrong-udp-checksum"
 
 

@@ -5,6 +5,8 @@ moment, without a read.
 """
 import heapq
 
+from verdict_words import DELIVERED, FULL
+
 FEW = 1000  # reads of a stretch in which nothing comes that are told one by one
 
 
@@ -103,9 +105,9 @@ class Partition:
     def came(self, now, reply):
         """What a frame delivered, or lost."""
         end = self.ends[reply.port]
-        if reply.kind == "overflow":
+        if reply.kind == FULL:
             end.overflows += 1
-        elif reply.kind in ("sampled", "queued"):
+        elif reply.kind in DELIVERED:
             end.came(now, reply.number)
             if not end.port.is_sampling and end.period is None:
                 self.serve(now, end)

@@ -1,9 +1,9 @@
 """What the law of a message that arrives (docs/DELIVERY.md) says of a link: the spans of time in which its conditions held,
 and what arrived in them. The receiver has healed where a span begins."""
+from verdict_words import DELIVERED, FULL, HELD
 from workbench.law import Stretch
 
 SHOWN = 5  # spans: the first ones and the latest
-DELIVERED, FULL, HELD = ("sampled", "queued"), "overflow", "fragment-held"
 
 
 class Spans(Stretch):

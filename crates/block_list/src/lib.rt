@@ -24,8 +24,8 @@ const MOST_BLOCKS: usize = usize::MAX / 2 / BLOCK;
 /// A list that grows by blocks.
 ///
 /// ```rust
-/// let mut list = BlockList::new(alloc);
-/// list.reserve_one(alloc)?;
+/// let mut list = BlockList::new(rt.alloc());
+/// list.reserve_one(rt.alloc())?;
 /// list.push_reserved('a');
 /// assert_eq!(rt; list.get(0), Some(&'a'));
 /// ```

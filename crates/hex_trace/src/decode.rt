@@ -26,8 +26,8 @@ const NO_DIGIT: u8 = 255;
 /// If a byte is no digit, or the number of digits is odd, the error is that of `hex`.
 ///
 /// ```rust
-/// let octets = decode_digits(alloc, b"6b697769")?;
-/// assert_eq!(rt; octets.as_slice(), b"kiwi".as_slice());
+/// let decoded = decode_digits(alloc, digits).expect(rt, "octets");
+/// assert!(rt; decoded.as_slice() == octets, "{digits:?}");
 /// ```
 pub fn decode_digits(alloc: Global, digits: &[u8]) -> Result<Vec<u8>, FromHexError>
     ensures ok { IfOk result (λ octets. decode_of digits.now ≡ Ok octets.items) }

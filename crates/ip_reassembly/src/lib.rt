@@ -8,32 +8,17 @@
 //!
 //! A receiver of plain IPv4 joins a datagram of 24 octets, whose end comes first:
 //!
-//! ```
-//! fn receive(alloc: Global) -> Result<(), Memory> {
-//!     // Pieces are waited for half a second.
-//!     let mut reassembly = Reassembly::new(alloc, 500_000)?;
-//!     let end = Packet {
-//!         source: 0x0a00_0001,
-//!         destination: 0x0a00_0002,
-//!         ident: 7,
-//!         more: false,
-//!         offset: 16,
-//!         octets: b"the end.",
-//!     };
-//!     // Octets 0 to 15 are missing.
-//!     let Offered::Held = reassembly.offer(&end, 1_000) else { .. };
-//!     let beginning = Packet {
-//!         more: true,
-//!         offset: 0,
-//!         octets: b"This is not yet ",
-//!         ..end
-//!     };
-//!     match reassembly.offer(&beginning, 1_200) {
-//!         // "This is not yet the end.", which was joined
-//!         Offered::Whole { octets, joined } => ..,
-//!         _ => ..,
+//! ```rust
+//! match offered {
+//!     Offered::Whole { octets, joined } => {
+//!         assert!(rt; joined);
+//!         assert!(rt; octets == b"This is not yet the end.".as_slice());
 //!     }
-//! }
+//! ..
+//! let mut reassembly = Reassembly::new(rt.alloc(), 500_000).expect(&rt, "memory");
+//! let held = matches!(reassembly.offer(&end(), 1_000), Offered::Held);
+//! assert!(rt; held);
+//! check_joined(&rt, reassembly.offer(&beginning(), 1_200));
 //! ```
 #![tactic(auto)]
 

@@ -5,11 +5,12 @@
 //! its return: no call leaves the value with a user. A visit takes no memory; it waits while the other user is at
 //! work, so it is passed `rt`, and nothing is promised of whose turn is next.
 //!
-//! ```text
-//! let Opened { lock, mut first, mut second } = Lock::open(alloc, value)?;
-//! lock.visit(&rt, &mut first, |value| value.change(1))      // on one thread
-//! lock.visit(&rt, &mut second, |value| value.change(2))     // on another
-//! let value = lock.settle(first, second);                   // both changes stand in it
+//! ```rust
+//! Lock::open(alloc, Book::new(alloc, shelf))
+//! ..
+//! lock.visit(rt, pass, |book: &mut Book| book.write(by, number))
+//! ..
+//! lock.settle(first, second)
 //! ```
 //!
 //! The tests of this crate (`test_link_lock`) have a whole example: a book in which two users write numbers, and whose

@@ -3,11 +3,16 @@
 //! memory or fails, and a call waits for the lock of its link and for nothing else; `try_receive` waits for nobody, and
 //! gives up while the other network has the link.
 //!
-//! ```text
-//! let Opened { system, mut a, mut b, ends } = LiveSystem::open(alloc, &config, ReaderCount::most())?;
-//! system.receive(&rt, &mut a, 1000, octets)       // on the thread of network A: Reply::Link { place: 0, .. }
-//! system.receive(&rt, &mut b, 1004, octets)       // on that of network B: Reply::Link { place: 1, .. }
-//! let settled = system.settle(a, b);              // the links, and what each pass counted
+//! ```rust
+//! let opened = LiveSystem::open(alloc, config, ReaderCount::most())?;
+//! ..
+//! let Opened { system, a, b, .. } = &mut self.opened;
+//! match net {
+//!     Net::A => system.receive(rt, a, now, octets),
+//!     Net::B => system.receive(rt, b, now, octets),
+//! }
+//! ..
+//! system.settle(a, b)
 //! ```
 #![tactic(auto)]
 

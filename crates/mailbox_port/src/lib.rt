@@ -4,15 +4,15 @@
 //! of the read, as READ_SAMPLING_MESSAGE of ARINC 653 does, or the message is read in place. No call takes memory after
 //! the opening. Arrival times and the `now` of a call are of one clock.
 //!
-//! ```text
-//! let (mut writer, mut mailboxes) = open_mailboxes(alloc, 1471, ReaderCount::new(2)?)?;
-//! let mut reader = MailboxReader::new(mailboxes.pop()?, 100_000);
+//! ```rust
+//! let mut reader = MailboxReader::new(mailbox, 20_000);
 //! let mut out = [0; 16];
-//! reader.read(2000, &mut out)      // Reading::Empty
-//! writer.publish(1000, &[7, 8])    // 1
-//! reader.read(2000, &mut out)      // Reading::Message { number: 1, time: 1000, len: 2, validity: Fresh }
+//! assert!(rt; reader.read(1000, &mut out) == Reading::Empty);
+//! ..
+//! assert!(rt; writer.publish(1000, &[7, 8, 9]) == 1);
+//! assert!(rt; reader.read(1000, &mut out) != Reading::Empty && out[2] == 9);
 //! reader.update();
-//! reader.latest()                  // Some: number 1, time 1000, octets [7, 8], in place
+//! assert!(rt; reader.latest().is_some());
 //! ```
 #![tactic(auto)]
 

@@ -102,11 +102,13 @@ impl MailboxReader {
     /// The reader's message, in place: it stays as it is until the next read or update, whatever is published
     /// meanwhile. None only if none was published when the reader looked last.
     ///
-    /// ```text
-    /// reader.update();
-    /// let latest = reader.latest()?;
-    /// reader.validity(2000, latest)      // Fresh
-    /// latest.octets()                    // no copy
+    /// ```rust
+    /// match reader.latest() {
+    ///     Some(latest) => {
+    ///         assert!(rt; latest.number() == number && latest.time() == time);
+    ///         assert!(rt; latest.octets() == octets, "{number}");
+    ///         assert!(rt; reader.validity(time.saturating_add(500), latest) == Fresh);
+    /// ..
     /// ```
     pub fn latest(&self) -> Option<&Latest>
         ensures some { IfSome result (λ latest. (latest.now.number ≡ length self.now.mailbox.reader.seen) ×

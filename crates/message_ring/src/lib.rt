@@ -2,13 +2,15 @@
 //! loss told (ARINC 664 Part 7, queuing service; depth own). One end puts and the other takes, and two threads may use
 //! both at once. No call waits for the other end, and none takes or frees memory.
 //!
-//! ```text
-//! let (mut putter, mut taker) = open_ring(alloc, 1, 100)?;
-//! putter.has_room()           // true
-//! putter.put(5, b"first");
-//! putter.has_room()           // false: a queue of one message is full
-//! taker.take(&mut out)        // Some(Taken { time: 5, len: 5 }), and `out` begins with b"first"
-//! taker.take(&mut out)        // None: the queue is empty
+//! ```rust
+//! let (mut putter, mut taker) = open_ring(rt.alloc(), 1, 3)?;
+//! ..
+//! assert!(rt; putter.has_room());
+//! putter.put(5, b"abc");
+//! assert!(rt; !putter.has_room());
+//! meet(&mut putter, &mut taker);
+//! assert_eq!(rt; taker.take(&mut out), Some(Taken { time: 5, len: 3 }));
+//! assert_eq!(rt; &out[..], &b"abc"[..]);
 //! ```
 #![tactic(auto)]
 

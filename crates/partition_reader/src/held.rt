@@ -74,10 +74,11 @@ impl HeldMessage {
 
     /// Fills `out` with octets of the message, from `first` on. Each word that has some of them is loaded once.
     ///
-    /// ```text
-    /// writer.publish(1000, &[7, 8, 9])
-    /// let Ok(mut held) = reader.hold() else { .. };
-    /// held.copy_range(1, &mut out)     // out: [u8; 2] is [8, 9]
+    /// ```rust
+    /// let mut whole = [0; 17];
+    /// assert!(rt; held.len() == 17);
+    /// held.copy_range(0, &mut whole);
+    /// assert!(rt; whole == seventeen());
     /// ```
     pub fn copy_range(&mut self, first: usize, out: &mut [u8])
         requires { first + length out.old ≤ slice_index (last_of self.old.end.seen) 0 }

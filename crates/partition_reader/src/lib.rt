@@ -3,12 +3,12 @@
 //! ARINC 653 does. A held message stays in place until it is released; it can't be dropped. No call waits or takes
 //! memory. Arrival times and the `now` of a call are of one clock.
 //!
-//! ```text
-//! let mut reader = PartitionReader::new(reader, 100_000, 16);
+//! ```rust
+//! let mut reader = PartitionReader::new(first, 20_000, 16);
 //! let mut out = [0; 16];
-//! reader.read(2000, &mut out)      // Reading::Empty
-//! writer.publish(1000, &[7, 8])    // Ok(1)
-//! reader.read(2000, &mut out)      // Reading::Message { number: 1, time: 1000, len: 2, validity: Fresh }
+//! assert!(rt; reader.read(1000, &mut out) == ReadingOfPort::Empty);
+//! assert_eq!(rt; writer.publish(1000, &[7, 8, 9]), Ok(1));
+//! check_reading(rt, reader.read(1000, &mut out), 1);
 //! ```
 #![tactic(auto)]
 

@@ -115,10 +115,15 @@ impl PartitionReader {
     /// Holds the newest message, without copying it. It looks again up to 8 times, and waits for nobody. If nothing is
     /// held it hands the reader back.
     ///
-    /// ```text
-    /// let Ok(held) = reader.hold() else { .. };
-    /// held.validity(2000)      // Fresh
-    /// let reader = held.release();
+    /// ```rust
+    /// match reader.hold() {
+    ///     Ok(mut held) => {
+    ///         ..
+    ///         let mut reader = held.release();
+    ///         check_reading(rt, reader.read(2000, &mut out), 1);
+    ///     }
+    ///     Err(_) => panic!(rt; "a message"),
+    /// }
     /// ```
     pub fn hold(self) -> Result<HeldMessage, (PartitionReader, NotHeld)>
         ensures held { IfOk result (λ held. IsSamePort self held × IsHeldAfter self.end held.end most_tries 2) }

@@ -4,12 +4,17 @@
 //! A call of `put` or `take` tries again while the other end is in the midst of a call, so both are
 //! passed `rt`. Neither takes memory. After more than 2^62 messages a call waits for ever.
 //!
-//! ```text
-//! let (mut putter, mut taker) = open_queue(alloc, 1)?;
-//! putter.put(&rt, first)      // Ok(())
-//! putter.put(&rt, second)     // Err(second): the queue is full
-//! taker.take(&rt)             // Some(first)
-//! taker.take(&rt)             // None: the queue is empty
+//! ```rust
+//! assert!(rt; putter.put(rt, message).is_ok() == has_room);
+//! ..
+//! let (mut putter, mut taker) = open_queue(alloc, 2).ok().expect(rt, OWN);
+//! ..
+//! check_put(rt, &mut putter, first, true);
+//! check_put(rt, &mut putter, second, true);
+//! check_put(rt, &mut putter, third, false);
+//! check_taken(rt, &mut taker, 1);
+//! check_taken(rt, &mut taker, 2);
+//! assert!(rt; taker.take(rt).is_none());
 //! ```
 #![tactic(auto)]
 

@@ -4,12 +4,16 @@
 //! held is whole, with its own number and time, and it was the newest when the reader looked last; `Empty` says
 //! that nothing was published at the one look, and `Busy` that each try found a newer message than the one before.
 //!
-//! ```text
-//! let (mut writer, mut readers) = open_port::<8>(alloc)?;
-//! let mut out = [0; 1471];
-//! readers[0].read(8, &mut out)         // Read::Empty
-//! writer.publish(1000, &[7, 8, 9])     // Ok(1)
-//! readers[0].read(8, &mut out)         // Read::Message { number: 1, time: 1000, len: 3 }
+//! ```rust
+//! open_port::<COUNT>(alloc).expect(rt, OWN)
+//! ..
+//! meet(&mut writer, &mut readers[0]);
+//! for number in 1..=20 {
+//!     assert_eq!(rt; writer.publish(1000, &[7, 8, 9]), Ok(number));
+//! }
+//! let (mut first, second) = first_two(readers);
+//! check_read(rt, &mut first, 20);
+//! check_held(rt, second, 20);
 //! ```
 //!
 //! The ends share one table of 64-bit words, which change in single atomic steps (`atomic_table`): `latest`, an

@@ -93,10 +93,12 @@ fn meet_seats<const READERS: usize>(
 /// Synchronizes a reader of this writer's port: it then knows all that was published. What it had seen
 /// is a beginning of that. The words of the port stay as they are, and no step is counted.
 ///
-/// ```text
-/// writer.publish(1000, &[7, 8, 9])
-/// meet(&mut writer, &mut reader);
-/// reader.read(1, &mut out)              // message 1 or a later one, never Read::Empty
+/// ```rust
+/// meet(writer, reader);
+/// match reader.read(1, &mut [0; 1471]) {
+///     Read::Empty => unreachable!(),
+///     answer => assert!(rt; answer == wanted, "{answer:?}"),
+/// }
 /// ```
 pub fn meet<const READERS: usize>(writer: &mut Writer<READERS>, reader: &mut Reader<READERS>)
     requires { reader.old.port ≡ writer.old.port }
@@ -111,9 +113,9 @@ pub fn meet<const READERS: usize>(writer: &mut Writer<READERS>, reader: &mut Rea
 /// the read. So nothing newer was published while it read, and it found the last message, or none if
 /// none was published.
 ///
-/// ```text
-/// writer.publish(1000, &[7, 8, 9])
-/// read_last(&mut writer, &mut reader, &mut out)      // Read::Message { number: 1, time: 1000, len: 3 }
+/// ```rust
+/// publish(rt, writer, 1000, &[7, 8, 9], 1);
+/// assert_eq!(rt; read_last(writer, reader, &mut out), message(1, 1000, 3));
 /// ```
 pub fn read_last<const READERS: usize>(
     writer: &mut Writer<READERS>,

@@ -104,12 +104,13 @@ impl<const READERS: usize> Reader<READERS> {
     /// Reads the newest message. It looks again up to `tries` times, 1 to 8, and waits for nobody.
     /// Octets of `out` past the message are unchanged; without a message, all of `out` is.
     ///
-    /// ```text
-    /// let mut out = [0; 1471];
-    /// reader.read(1, &mut out)              // Read::Empty
-    /// writer.publish(1000, &[7, 8, 9])      // Ok(1)
-    /// reader.read(1, &mut out)              // Read::Message { number: 1, time: 1000, len: 3 }
-    /// out[..4]                              // [7, 8, 9, 0]
+    /// ```rust
+    /// let mut out = [99; 1471];
+    /// check_read(rt, reader, &mut out, Read::Empty);
+    /// check_octets(rt, &out, [99, 99, 99, 99]);
+    /// publish(rt, writer, 1000, &[7, 8, 9], 1);
+    /// check_read(rt, reader, &mut out, message(1, 1000, 3));
+    /// check_octets(rt, &out, [7, 8, 9, 99]);
     /// ```
     pub fn read(&mut self, tries: u8, out: &mut [u8; 1471]) -> Read
         requires { AreTries tries }
@@ -135,11 +136,11 @@ impl<const READERS: usize> Reader<READERS> {
     /// Holds the newest message, without copying it. It looks again up to `tries` times, 1 to 8, and waits
     /// for nobody. If nothing is held it hands the reader back.
     ///
-    /// ```text
-    /// let Ok(mut held) = reader.hold(1) else { .. };
-    /// (held.number(), held.time(), held.len())      // (1, 1000, 3)
-    /// held.word(0)                                  // 0x0708_0900_0000_0000
-    /// let reader = held.release();
+    /// ```rust
+    /// let mut held = hold(rt, reader, 1);
+    /// assert_eq!(rt; (held.time(), held.len()), (1000, 17));
+    /// check_words(rt, &mut held, &words_of_seventeen());
+    /// let mut reader = held.release();
     /// ```
     pub fn hold(self, tries: u8) -> Result<Held<READERS>, (Reader<READERS>, NotHeld)>
         requires { AreTries tries }

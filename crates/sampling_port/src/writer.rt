@@ -75,10 +75,13 @@ impl<const READERS: usize> Writer<READERS> {
     /// 3 and so on. It waits for nobody, takes no memory, and nothing that a reader does can refuse it. It
     /// makes a step for each reader, one for each word, and one more.
     ///
-    /// ```text
-    /// writer.publish(1000, &[1, 2, 3])      // Ok(1)
-    /// writer.publish(2000, &[])             // Ok(2)
-    /// writer.publish(3000, &[0; 1472])      // Err(PublishFault::TooLong)
+    /// ```rust
+    /// publish(rt, writer, 1000, &[1, 2, 3], 1);
+    /// publish(rt, writer, 2000, &[], 2);
+    /// assert_eq!(rt;
+    ///     writer.publish(3000, &[0; 1472]),
+    ///     Err(PublishFault::TooLong)
+    /// );
     /// ```
     // rule: SAMP-21
     pub fn publish(&mut self, time: u64, octets: &[u8]) -> Result<u64, PublishFault>

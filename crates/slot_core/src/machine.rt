@@ -59,10 +59,11 @@ impl Core {
     /// `latest` takes memory. The refusal is the first in the order place, turn, latest, announced,
     /// memory. After a refusal the core is as before.
     ///
-    /// ```text
-    /// let mut core = Core::opening(alloc);
-    /// core.step(alloc, &CoreEvent::Scan { reader: 1 }) // Err(NotItsTurn): reader 0 is scanned first
-    /// core.step(alloc, &CoreEvent::Scan { reader: 0 }) // Ok(())
+    /// ```rust
+    /// Refused(WRITE_SLOT_0, NotItsTurn),
+    /// Step(Scan { reader: 0 }),
+    /// Refused(WRITE_SLOT_0, NotItsTurn),
+    /// Step(Scan { reader: 1 }),
     /// ```
     // rule: SAMP-7, SAMP-8, SAMP-9, SAMP-10, SAMP-11, SAMP-17
     pub fn step(&mut self, alloc: Global, event: &CoreEvent) -> Result<(), StepRefusal>

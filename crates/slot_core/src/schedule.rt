@@ -9,8 +9,11 @@ use std::alloc::Global;
 /// The core after these events, from the opening on. The error is the index of the first refused event,
 /// and its refusal.
 ///
-/// ```text
-/// run(alloc, &[CoreEvent::Scan { reader: 0 }, CoreEvent::StoreLatest]) // Err((1, NotItsTurn))
+/// ```rust
+/// Ok(run(alloc, steps)?.latest())
+/// ..
+/// let outcome = outcome_of(alloc, steps);
+/// assert!(rt; outcome == wanted, "{outcome:?}");
 /// ```
 pub fn run(alloc: Global, events: &[CoreEvent]) -> Result<Core, (usize, StepRefusal)>
     ensures core { IfOk result (λ core. LeadTo port_readers port_slots events.now core) }

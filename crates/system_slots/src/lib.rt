@@ -6,12 +6,12 @@
 //! network's thread has a frame's link, [`PassSlot::receive`] answers [`BUSY`](codes::BUSY), and nothing has happened;
 //! `system_c` exports them.
 //!
-//! ```text
-//! let mut system = SystemSlot::new();
-//! let mut a = PassSlot::new();
-//! system.open_text(alloc, toml, 1, &mut fault)            // DONE
-//! system.hand_pass(0, &mut a)                             // DONE: from now on `a` is of network A's thread
-//! a.receive(1000, octets, &mut frame)                     // DONE, and `frame` has the kind of the verdict
+//! ```rust
+//! let Running { system, a, b } = &mut running;
+//! assert!(rt; system.open_text(alloc, text.as_str().as_bytes(), 1, &mut fault) == DONE);
+//! assert!(rt; system.hand_pass(A, a) == DONE && system.hand_pass(B, b) == DONE);
+//! ..
+//! assert!(rt; pass.receive(now, octets, &mut reply) == DONE);
 //! ```
 #![tactic(auto)]
 

@@ -1,7 +1,8 @@
-//! A link's history, compared with what the link was given.
+//! A link's history, compared with what the link was given, and the list that it is.
 use block_list::BlockList;
 use es_base::Event;
 use std::process::Abort;
+use std::test::Fail;
 use test_inputs_end_system::Given;
 
 /// The events, of which the first has the place `first`, are those of these frames, each at its place.
@@ -15,4 +16,13 @@ pub(crate) fn check_events(
     for one in given {
         assert!(rt; one.stands_in(first, events), "{}", one.place);
     }
+}
+
+#[test]
+fn an_entry_stands_in_its_place(rt: HostRuntime) -> Result<(), Fail> {
+    let mut list = BlockList::new(rt.alloc());
+    list.reserve_one(rt.alloc())?;
+    list.push_reserved('a');
+    assert_eq!(rt; list.get(0), Some(&'a'));
+    Ok(())
 }

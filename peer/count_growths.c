@@ -12,7 +12,7 @@
 #include <string.h>
 #include <unistd.h>
 
-#include "../../checks/parts/own_code.h"
+#include "../checks/parts/own_code.h"
 
 void *__libc_malloc(size_t);
 void *__libc_realloc(void *, size_t);
