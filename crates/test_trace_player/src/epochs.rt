@@ -7,7 +7,8 @@ use es_base::Net;
 use es_base::Net::{A, B};
 use frame_reader::read_frame;
 use link_receiver::{Epoch, Event, LinkState};
-use output_lines::add_event;
+use network_calls::Reply;
+use output_lines::add_reply;
 use std::alloc::Global;
 use std::process::Abort;
 use std::sync::Wait;
@@ -97,7 +98,7 @@ fn trace_of(rt: &impl Abort, alloc: Global, net: Net, epochs: &[Epoch]) -> Strin
 
 /// The lines of the epochs' events, each at its place from the first epoch on.
 fn lines_of(rt: &impl Abort, alloc: Global, config: &Config, epochs: &[Epoch]) -> Vec<u8> {
-    let link = config.links().first().expect(rt, "a link");
+    let vl = config.links().first().expect(rt, "a link").vl();
     let mut lines = Vec::new(alloc);
     for epoch in epochs {
         let events = epoch.events();
@@ -108,9 +109,12 @@ fn lines_of(rt: &impl Abort, alloc: Global, config: &Config, epochs: &[Epoch]) -
                 verdict,
                 ..
             } = events.get(place).expect(rt, "an event");
-            let number = epoch.first().wrapping_add(place as u64);
-            let (vl, ports) = (link.vl(), link.ports());
-            add_event(&mut lines, ports, *time, *net, vl, number, *verdict).expect(rt, "memory");
+            let reply = Reply::Link {
+                vl,
+                place: epoch.first().wrapping_add(place as u64),
+                verdict: *verdict,
+            };
+            add_reply(&mut lines, config, *time, *net, reply).expect(rt, "memory");
         }
     }
     lines
