@@ -130,6 +130,8 @@ ROWS = [
     ("one lost on both", {}, [lose(BOTH, 120)], {"lost-both": 1}, "lost"),
     ("the window lost on both", {}, [lose(BOTH, 120, 121)], {"lost-both": 2, "dropped": 1, "out-of-sequence": 2}, "lost"),
     ("both out", {}, [lose(BOTH, 120, 419)], {"lost-both": 300, "dropped": 1, "out-of-sequence": 2}, "lost"),
+    ("both out, and gaps that are longer than a copy is waited for", {"gap": 128_000, "count": 100}, [lose(BOTH, 30, 49)],
+     {"lost-both": 20, "dropped": 1, "out-of-sequence": 2}, "lost", "bag_us = 128000"),
     ("the first after an outage lost on the other", {}, [lose(A, 150, 249), lose(B, 250)],
      {"lost-a": 100, "lost-b": 1, "dropped": 1, "out-of-sequence": 1}, "lost"),
     ("B late beyond SkewMax", {}, [alter(B, 300, 304, later=3200)], {"delay": 5, "twice": 5}, "twice"),

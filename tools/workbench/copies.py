@@ -156,6 +156,9 @@ class Copies:
             self.come(net, place, copy, newest)
         else:
             self.take(net, held, copy, self.ahead(held, copy.time), newest)
+        other = self.sides[1 - net]
+        if other.held and other.held[0] == held:
+            self.judge(1 - net, other, held)
 
     def take(self, net, number, copy, ahead, newest):
         """A frame that isn't a second copy: of a new place, or of one of which none came, or again."""
