@@ -225,6 +225,14 @@ def of_net(net):
     return lambda frames: [each for each in frames if each[1] == net]
 
 
+def exchanged(frames):
+    return [(time, 1 - net, octets) for time, net, octets in frames]
+
+
+def joined(frames):
+    return [(time, 0, octets) for time, _, octets in frames]
+
+
 def with_sums(frames):
     return [(time, net, octets + zlib.crc32(octets).to_bytes(4, "little")) for time, net, octets in frames]
 
@@ -245,10 +253,16 @@ FILES = [
     ("an empty file of B", {}, lambda frames: [capture(of_net(0)(frames)), b""], [], {"silent": 1}, {}, 1, "it has no packet"),
     ("B's clock ahead", SLOW, clock(shift=2000), [], {}, {}, 0, "--shift-b -2300"),
     ("B's clock faster", SLOW, clock(rate=40), [], {}, {"drift": 1}, 1, "by 40.0 parts per million: --shift-b 0,-40.0"),
+    ("B's clock faster, beyond SkewMax", SLOW, clock(rate=100), [], {}, {"drift": 1}, 1, "by 99.99 parts per million"),
     ("B's clock faster, and set right", SLOW, clock(rate=40), ["--shift-b", "0,-40"], {}, {}, 0, ""),
     ("check sequences that are taken for frames", {}, whole(with_sums), [], {"numbers": 1, "out-of-sequence": 1186},
      {}, 1, ""),
     ("check sequences", {}, whole(with_sums), ["--fcs", "yes"], {}, {}, 0, "check sequences cut off"),
+    ("networks that are exchanged", {}, whole(exchanged), [], {}, {}, 0, "interface 1; --networks source follows them"),
+    ("exchanged, and told by their addresses", {}, whole(exchanged), ["--networks", "source"], {}, {}, 0, ""),
+    ("both networks on one interface", {}, whole(joined), [], {"repeated": 600, "out-of-sequence": 600, "silent": 1}, {}, 1,
+     "600 say A and 600 say B; --networks source tells them apart"),
+    ("on one interface, and told by their addresses", {}, whole(joined), ["--networks", "source"], {}, {}, 0, ""),
     ("packets that the tap lost", {}, whole(lost=3), [], {}, {"tap": 3}, 1, "3 packets were lost while it was captured, on interface 1"),
     ("a tag", {}, one(70, lambda each: (*each[:2], each[2][:12] + b"\x81\0\0\5" + each[2][12:])), [], {"lost-a": 1},
      {"left-out": 1}, 1, "VLAN tag: packet 71"),

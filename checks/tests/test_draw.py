@@ -174,7 +174,7 @@ def test_what_the_sender_and_the_networks_did_is_named():
 
 
 def test_crossed_networks_are_told():
-    said = [b"Crossed networks" in done("draw", "--config", CONFIG, *(CAPTURES / f"{net}.pcap" for net in nets))
+    said = [b"crossed networks" in done("draw", "--config", CONFIG, *(CAPTURES / f"{net}.pcap" for net in nets))
             for nets in ("ab", "ba")]
     assert said == [False, True]
 

@@ -21,8 +21,9 @@ REFUSED = {"bad-header": "packets", "bad-fragment": "packets", "bad-udp": "packe
            "too-long": "packets", "fragmented-sample": "packets", "overflow": "queues"}
 
 
-# What is known by sequence numbers alone.
+# What is known by sequence numbers alone, and of these what is by two clocks.
 BY_NUMBERS = ("skew-max", "near", "overtaking", "losses", "copies")
+BY_CLOCKS = ("skew-max", "near")
 MOST_CAUSES = 5
 
 

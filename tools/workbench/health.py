@@ -6,7 +6,7 @@ from collections import Counter, deque
 
 from verdict_words import FIRST_FORWARDED, KINDS, NETWORKS, OUT_OF_SEQUENCE
 from workbench import copies, frames, settings
-from workbench.conditions import BY_NUMBERS, CONDITIONS, Conditions
+from workbench.conditions import BY_CLOCKS, BY_NUMBERS, CONDITIONS, Conditions
 from workbench.copies import Copies
 from workbench.delays import Delays
 from workbench.drifts import Drift
@@ -20,6 +20,7 @@ SENDER = slice(6, 11)  # octets of a source address that both networks share
 MOST_SENDERS = 8  # addresses of a link whose frames are told apart
 JITTER = 500  # microseconds that a frame may come before its BAG is over, if `jitter_us` isn't there
 LEAST_ODD = 16  # frames whose numbers don't go on; more than the others make no sense
+MIXED = 5  # at least one of so many frames of a network says the other one
 AHEAD = 128  # gaps after which a sequence number isn't ahead any more
 # The verdicts that say that a frame itself is at fault; and one that no receiver gives.
 FAULTS = frozenset(("bad-header", "bad-fragment", "bad-udp", "no-port", "too-long", "fragmented-sample", "exhausted"))
@@ -260,6 +261,10 @@ class Link(copies.Listener):
                 return f"the numbers of {odd} frames don't go on from those before"
         return None
 
+    def untimed(self):
+        """Why its delays, and what rests on them, aren't known, if they aren't."""
+        return self.nonsense() or (self.beyond and self.drift.rate() and "a clock is faster than the other") or None
+
     def sender_count(self):
         """How many addresses it has, or series of numbers."""
         return max(len(self.senders), 2 if self.mixed_at else 0)
@@ -276,16 +281,17 @@ class Link(copies.Listener):
                 for name in copies.COUNTED}
 
     def broken(self):
-        """The conditions that were broken, in the page's order; those of numbers that make no sense aren't told."""
-        is_nonsense = self.nonsense()
-        return {word: self.conditions.found[word] for word in CONDITIONS if word in self.conditions.found
-                and (not is_nonsense or word not in BY_NUMBERS)}
+        """The conditions that were broken, in the page's order, but for those by numbers or clocks that make no sense."""
+        hidden = BY_NUMBERS if self.nonsense() else BY_CLOCKS if self.untimed() else ()
+        found = self.conditions.found
+        return {word: found[word] for word in CONDITIONS if word in found and word not in hidden}
 
     def costs(self):
         """By what messages were lost: frames that came on neither network, or that the receiver dropped, refused or had no
         room for, and datagrams that were given up; and how many came twice."""
         return {"lost-both": self.summed("lost_both"), "dropped": self.summed("dropped"), "bad": self.of_kinds(*FAULTS),
-                "overflow": self.of_kinds("overflow"), "unfinished": self.unfinished.count, "twice": self.twice.count}
+                "overflow": self.of_kinds("overflow"), "unfinished": self.unfinished.count,
+                "twice": None if self.untimed() else self.twice.count}
 
     def law(self):
         """What came of the law (docs/FORMATS.md): `all` where its conditions held from the first frame to the last, and
@@ -297,7 +303,11 @@ class Link(copies.Listener):
         if self.nonsense():
             return "not known"
         costs = self.costs()
-        if any(count for word, count in costs.items() if word != "twice") or self.spans.arrived > self.spans.delivered:
+        if any(count for word, count in costs.items() if word != "twice"):
+            return "lost"
+        if self.untimed():
+            return "not known"
+        if self.spans.arrived > self.spans.delivered:
             return "lost"
         is_out = not all(net.frames for net in self.nets) or any(
             side.run >= self.link.window for one in self.senders.values() for side in one.sides)
@@ -343,6 +353,23 @@ class Health:
     def finish(self, now):
         for link in self.links.values():
             link.finish(self.latest, now)
+
+    def crossings(self):
+        """Each network whose frames say another interface by their source addresses, and in which words."""
+        swapped = frames.swapped(self.interfaces)
+        if len(swapped) == len(NETWORKS):
+            yield 0, ("crossed networks: most source addresses of A say interface 2, and most of B interface 1; "
+                      "--networks source follows them")
+        for net, (letter, found) in enumerate(zip(NETWORKS, self.interfaces)):
+            if MIXED * min(found[1], found[2]) > found.total():
+                yield net, (f"frames of both networks on {letter}, by their source addresses: {found[1]} say A and "
+                            f"{found[2]} say B; --networks source tells them apart")
+            elif swapped == [net]:
+                yield net, f"most source addresses of {letter} say interface {2 - net}, which is {NETWORKS[1 - net]}"
+
+    def hints(self):
+        """What is wrong with a network as a whole, or a clock, and what mends it."""
+        return [*(told for _, told in self.crossings()), *filter(None, [self.drift.hint()])]
 
 
 def link_of(octets):

@@ -33,8 +33,8 @@ def rate(net, is_marked=True):
 
 def delays(link):
     """The least, the median, that which 99 of 100 don't pass, and the greatest."""
-    found = link["delays_us"]
-    return "/".join(str(found[name]) for name in ("least", "median", "most_of_99", "greatest")) if found["pairs"] else "-"
+    found = [link["delays_us"][name] for name in ("least", "median", "most_of_99", "greatest")]
+    return "?" if link["untimed"] else "-" if None in found else "/".join(map(str, found))
 
 
 def age(link):
@@ -61,7 +61,7 @@ def cells(link):
     words = [f"{word} {count}" for word, count in told.amiss(link).items() if word not in SHOWN_ALONE]
     label = f"{link['vl']} {link['name']}" if link["name"] else str(link["vl"])
     return (label, rate(a), rate(b), count(a["lost"]), count(b["lost"]), count(link["lost_both"]), delays(link),
-            str(link["skew_max_us"]) if link["redundancy"] else "off", str(link["twice"]["count"]), age(link), queue(link),
+            str(link["skew_max_us"]) if link["redundancy"] else "off", count(link["twice"]["count"]), age(link), queue(link),
             law(link), ", ".join(words))
 
 
@@ -131,8 +131,11 @@ def lines_of_link(link):
     if link["nonsense"]:
         yield f"numbers make no sense: {link['nonsense']}; what they would tell is not known"
     yield f"lost on both networks: {count(link['lost_both'])}"
-    yield (f"B's copy came later by, in us, least/median/99 %/greatest: {delays(link)}; {found['pairs']} pairs, "
-           f"{found['beyond']} beyond SkewMax")
+    if link["untimed"]:
+        yield f"delays are not known: {link['untimed']}"
+    else:
+        yield (f"B's copy came later by, in us, least/median/99 %/greatest: {delays(link)}; {found['pairs']} pairs, "
+               f"{found['beyond']} beyond SkewMax")
     for key, what in EVENTS.items():
         if link[key]["count"]:
             yield f"{what}: {link[key]['count']}, at first {', '.join(link[key]['first'])}"
@@ -146,6 +149,9 @@ def lines_of_link(link):
 
 def lines_of_law(link):
     """In which spans of time the law held, what arrived by it, and what faults cost."""
+    if link["untimed"]:
+        yield f"law of docs/DELIVERY.md: {link['law']}"
+        return
     healed = f"; healed at {link['healed_us']} us" if link["healed_us"] is not None else ""
     if link["fragments_healed_us"] != link["healed_us"]:
         healed += f", for fragments at {link['fragments_healed_us']} us"

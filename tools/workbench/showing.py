@@ -7,7 +7,6 @@ from workbench.health import AHEAD, JITTER, Health
 from workbench.places import members
 
 MOST_KEPT = 1000  # constants, strange links and destinations that are counted
-MIXED = 5  # at least one of so many frames of a network says the other one
 
 
 class Shown:
@@ -72,18 +71,10 @@ def of_files(shown, constant):
             if found != constant and 2 * number > total:
                 yield (f"{source}: {number} of {total} frames have the constant field {found.hex()}, and the "
                        f"configuration {constant.hex()}")
-    swapped = frames.swapped(shown.health.interfaces)
     for net, letter in enumerate(NETWORKS):
-        found = shown.health.interfaces[net]
         if shown.frames[1 - net] and not shown.frames[net]:
             yield f"{sources[net]}: no frame of any link on {letter}"
-        if MIXED * min(found[1], found[2]) > shown.frames[net] > 0:
-            yield (f"{sources[net]}: frames of both networks on {letter}, by their source addresses: {found[1]} say A and "
-                   f"{found[2]} say B; --networks source tells them apart")
-        elif swapped == [net]:
-            yield f"{sources[net]}: most source addresses of {letter} say interface {2 - net}, which is {NETWORKS[1 - net]}"
-    if len(swapped) == len(NETWORKS):
-        yield f"{sources[0]}: crossed networks: most source addresses of A say interface 2, and most of B interface 1"
+    yield from (f"{sources[net]}: {told}" for net, told in shown.health.crossings())
     if shown.hint:
         yield f"{sources[1]}: {shown.hint}"
     if count := sum(counts[stream.BEHIND] for counts in shown.health.left_out):

@@ -140,7 +140,7 @@ class Watch:
                 before = self.frames.get((link["vl"], net), 0)
                 self.frames[link["vl"], net] = about["frames"]
                 about["rate"] = round((about["frames"] - before) / took, 1)
-        return {"time": time.time(), **found, "notes": self.notes}
+        return {"time": time.time(), **found, "notes": [*self.notes, *self.health.hints()]}
 
 
 def watch(given):
