@@ -41,4 +41,4 @@ class Faults:
         self.counts[kind] = self.counts.get(kind, 0) + 1
         if self.counts[kind] <= self.SHOWN:
             link = f" (link {reply.vl})" if reply and reply.vl is not None else ""
-            self.first.setdefault(kind, []).append(f"{one.where}{link}")
+            self.first.setdefault(kind, []).append(f"{one.where.packet}{link}")

@@ -83,10 +83,10 @@ class Listener:
     def settled(self, place, lost):
         """No more copies of it are waited for: on these networks it was lost."""
 
-    def lost_many(self, count, net, packet):
-        """So many places before this packet came on neither network."""
+    def lost_many(self, count, net, copy):
+        """So many places before this one came on neither network."""
 
-    def mixed(self, net, packet):
+    def mixed(self, net, copy):
         """Two series of numbers alternate on a network."""
 
     def run_ended(self, net, run, copy, cost):
@@ -114,7 +114,7 @@ class Copies:
         if side.held:
             self.judge(net, side, number)
         if is_refused and side.look_at_series(number):
-            self.listener.mixed(net, packet)
+            self.listener.mixed(net, copy)
         side.last = number
         other = self.sides[1 - net]
         if other.held and other.held[0] == number and not is_refused:
@@ -245,7 +245,7 @@ class Copies:
         if missing > HALF_TURN:
             self.settle(float("inf"))
             self.lose(missing - HALF_TURN)
-            self.listener.lost_many(missing - HALF_TURN, net, copy.packet)
+            self.listener.lost_many(missing - HALF_TURN, net, copy)
         by = net, copy.packet
         for back in range(min(missing, HALF_TURN), 0, -1):
             self.add((number - back - 1) % TURN + 1, time, by)

@@ -12,6 +12,7 @@ from workbench.delays import Delays
 from workbench.drifts import Drift
 from workbench.pieces import GIVEN_UP, ORDER, Pieces, has_wrong_sum
 from workbench.spans import Spans
+from workbench.stream import Where
 
 SHOWN = 5  # places of each kind
 CODES = {kind: code for code, kind in enumerate(KINDS)}
@@ -75,7 +76,7 @@ class Events:
     def add(self, text):
         self.count += 1
         if len(self.first) < SHOWN:
-            self.first.append(text)
+            self.first.append(str(text))
 
 
 class Link(copies.Listener):
@@ -200,7 +201,7 @@ class Link(copies.Listener):
         """A network that loses the window's number of frames or more is out: the next one is dropped on it."""
         if run < self.link.window:
             return
-        where = f"{copy.packet} of {NETWORKS[net]}" if copy else f"the end of {NETWORKS[net]}"
+        where = Where(copy.packet, net, copy.time) if copy else f"the end of {NETWORKS[net]}"
         how = f"the first after {run} were lost" if copy else f"{run} were lost, and no more came"
         self.conditions.broken("losses", where, how)
         self.outages.add(f"{run} before {where}, " + (f"{cost} frames not forwarded" if cost else "no frame lost"))
@@ -209,14 +210,15 @@ class Link(copies.Listener):
     def settled(self, place, lost):
         if not lost and all(place.copies):
             return
-        where = f"{place.by[1]} of {NETWORKS[place.by[0]]}"
+        where = Where(place.by[1], place.by[0], place.since)
         if lost and place.number == 0:
             self.conditions.broken("losses", where, f"{NETWORKS[lost[0]]} lost its copy, the first after a restart")
         if not any(place.copies):
             self.conditions.broken("copies", where, f"number {place.number} before it came on neither network")
 
-    def lost_many(self, count, net, packet):
-        self.conditions.broken("copies", f"{packet} of {NETWORKS[net]}", f"{count} frames before it came on neither network")
+    def lost_many(self, count, net, copy):
+        where = Where(copy.packet, net, copy.time)
+        self.conditions.broken("copies", where, f"{count} frames before it came on neither network")
 
     def given_up(self, why, first, where):
         """What is wrong with a datagram in parts."""
@@ -233,8 +235,8 @@ class Link(copies.Listener):
             else:
                 self.conditions.broken("whole", first, f"its datagram never ended ({why})")
 
-    def mixed(self, net, packet):
-        self.mixed_at = self.mixed_at or f"{packet} of {NETWORKS[net]}"
+    def mixed(self, net, copy):
+        self.mixed_at = self.mixed_at or Where(copy.packet, net, copy.time)
         self.conditions.broken("sender", self.mixed_at, "two series of numbers")
 
     def pass_time(self, time):
@@ -333,13 +335,13 @@ class Health:
             self.first = one.time
         if not reply:
             self.left_out[one.net][one.left_out] += 1
-            self.firsts.setdefault((one.net, one.left_out), f"{one.number}{link_of(one.octets)}")
+            self.firsts.setdefault((one.net, one.left_out), first_of(one))
             return None
         self.latest = one.time
         self.frames += 1
         if reply.vl is None:
             self.filtered[one.net][reply.cause] += 1
-            self.firsts.setdefault((one.net, reply.cause), f"{one.number}{link_of(one.octets)}")
+            self.firsts.setdefault((one.net, reply.cause), first_of(one))
             return None
         self.interfaces[one.net][frames.interface_of(one.octets)] += 1
         return self.links[reply.vl].see(now, one, reply)
@@ -355,26 +357,24 @@ class Health:
             link.finish(self.latest, now)
 
     def crossings(self):
-        """Each network whose frames say another interface by their source addresses, and in which words."""
-        swapped = frames.swapped(self.interfaces)
-        if len(swapped) == len(NETWORKS):
+        """Each network whose frames are told apart by their source addresses alone, and in which words."""
+        if len(frames.swapped(self.interfaces)) == len(NETWORKS):
             yield 0, ("crossed networks: most source addresses of A say interface 2, and most of B interface 1; "
                       "--networks source follows them")
         for net, (letter, found) in enumerate(zip(NETWORKS, self.interfaces)):
             if MIXED * min(found[1], found[2]) > found.total():
                 yield net, (f"frames of both networks on {letter}, by their source addresses: {found[1]} say A and "
                             f"{found[2]} say B; --networks source tells them apart")
-            elif swapped == [net]:
-                yield net, f"most source addresses of {letter} say interface {2 - net}, which is {NETWORKS[1 - net]}"
 
     def hints(self):
         """What is wrong with a network as a whole, or a clock, and what mends it."""
         return [*(told for _, told in self.crossings()), *filter(None, [self.drift.hint()])]
 
 
-def link_of(octets):
-    """In brackets, the link of a frame that may be none of the networks'."""
-    return f" (link {int.from_bytes(octets[4:6], 'big')})" if octets[:1] == b"\x03" and len(octets) > 5 else ""
+def first_of(one):
+    """A packet, and in brackets its link, which a frame may have that is none of the networks'."""
+    octets = one.octets
+    return str(one.where) + (f" (link {int.from_bytes(octets[4:6], 'big')})" if octets[:1] == b"\x03" and len(octets) > 5 else "")
 
 
 def is_cut(octets):

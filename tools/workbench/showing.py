@@ -74,7 +74,11 @@ def of_files(shown, constant):
     for net, letter in enumerate(NETWORKS):
         if shown.frames[1 - net] and not shown.frames[net]:
             yield f"{sources[net]}: no frame of any link on {letter}"
-    yield from (f"{sources[net]}: {told}" for net, told in shown.health.crossings())
+    crossings, swapped = dict(shown.health.crossings()), frames.swapped(shown.health.interfaces)
+    yield from (f"{sources[net]}: {told}" for net, told in crossings.items())
+    if len(swapped) == 1 and not crossings:
+        net, = swapped
+        yield f"{sources[net]}: most source addresses of {NETWORKS[net]} say interface {2 - net}, which is {NETWORKS[1 - net]}"
     if shown.hint:
         yield f"{sources[1]}: {shown.hint}"
     if count := sum(counts[stream.BEHIND] for counts in shown.health.left_out):
@@ -107,7 +111,7 @@ def of_link(shown, vl):
         yield from of_times(shown, link)
     for (of, pair), (first, number) in shown.strays.items():
         if of == vl:
-            yield f"no port for {pair}: {number} frames, the first {shown.packets.unit} {first.where}"
+            yield f"no port for {pair}: {number} frames, the first {shown.packets.unit} {first.where.packet}"
 
 
 def of_times(shown, link):
@@ -142,7 +146,7 @@ def of_port(shown, port):
     if port["name"] in shown.too_long:
         first, number = shown.too_long[port["name"]]
         which = f"{number} of its {came + number} messages were" if came else f"each of its {number} messages was"
-        yield f"{which} longer than max {port.get('max', 'of its kind')}, the first {shown.packets.unit} {first.where}"
+        yield f"{which} longer than max {port.get('max', 'of its kind')}, the first {shown.packets.unit} {first.where.packet}"
     elif not came and any(net.frames for net in shown.health.links[end.port.vl].nets):
         yield "no message came to it"
     if not end.port.is_sampling:

@@ -26,6 +26,20 @@ HINTS = {b"\xfd7zX": "compressed: unxz it", b"\x28\xb5\x2f\xfd": "compressed: in
          b"\xff\xfe": "UTF-16: iconv -f UTF-16 -t ASCII"}
 
 
+class Where(NamedTuple):
+    """A packet, for people: its number, its network and its time in nanoseconds."""
+    number: int
+    net: int
+    time: int
+
+    @property
+    def packet(self):
+        return f"{self.number} of {NETWORKS[self.net]}"
+
+    def __str__(self):
+        return f"{self.packet} at {moments.told(self.time)}"
+
+
 class Arrival(NamedTuple):
     """A packet of a network, 0 for A: its time in nanoseconds of 1970, its number in the capture, its octets without check
     sequence, why it was left out, and its length before the snapshot length cut it."""
@@ -38,7 +52,7 @@ class Arrival(NamedTuple):
 
     @property
     def where(self):
-        return f"{self.number} of {NETWORKS[self.net]}"
+        return Where(self.number, self.net, self.time)
 
 
 class Account:

@@ -18,7 +18,7 @@ def of_network(link, number, latest):
             "usual_gap_ms": net.usual,
             "jitter_us": max(0, bag - micro(net.least)) if bag and net.least is not None else None,
             "early": net.early, **counts, "silent_us": None if net.last is None else micro(latest - net.last),
-            "refused": {cause: {"count": count, "first": first} for cause, (count, first) in link.refused[number].items()},
+            "refused": {cause: {"count": count, "first": str(first)} for cause, (count, first) in link.refused[number].items()},
             "hidden": dict(link.hidden[number]), "verdicts": dict(link.kinds[number])}
 
 
@@ -40,7 +40,7 @@ def of_link(link, ports, latest):
     settings, nonsense, untimed = link.link, link.nonsense(), link.untimed()
     spans = link.spans.told(settings.reassembly if link.pieces.has_fragments else 0)
     broken = {word: {"count": one.count, **causes[0], "causes": causes} for word, one in link.broken().items()
-              if (causes := [{"first": first, "how": how} for how, first in one.causes.items()])}
+              if (causes := [{"first": str(first), "how": how} for how, first in one.causes.items()])}
     return {"vl": settings.vl, "name": link.own.get("name"), "bag_us": link.own.get("bag_us"),
             "redundancy": settings.redundancy, "skew_max_us": settings.skew_max, "window": settings.window,
             "reassembly_us": settings.reassembly,
