@@ -2,6 +2,7 @@
 
 A link's frames are a list of copies, which changes make faulty; then they become octets. Times are in microseconds.
 """
+import gzip
 import random
 import struct
 import zlib
@@ -249,6 +250,10 @@ FILES = [
     ("the second half first", {}, whole(lambda frames: frames[600:] + frames[:600]), ["--reorder", "100"], {},
      {"left-out": 600}, 1, "too late for its place: packet 601"),
     ("cut within a packet", {}, torn, [], {}, {"left-out": 1}, 5, "cut by the end of the capture: packet 1200"),
+    ("cut, and compressed", {}, lambda frames: [gzip.compress(capture(frames))[:-2000]], [], {}, {"left-out": 1}, 5,
+     "the compressed file is cut or damaged"),
+    ("damaged in a block's length", {}, lambda frames: [capture(frames)[:-60] + b"\xff" * 60], [], {}, {"left-out": 1}, 5,
+     "a block that doesn't end with its length; 1199 packets before were played"),
     ("no octet", {}, lambda frames: [b""], [], {"silent": 2}, {}, 1, "it has no packet"),
     ("an empty file of B", {}, lambda frames: [capture(of_net(0)(frames)), b""], [], {"silent": 1}, {}, 1, "it has no packet"),
     ("B's clock ahead", SLOW, clock(shift=2000), [], {}, {}, 0, "--shift-b -2300"),

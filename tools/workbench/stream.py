@@ -15,7 +15,7 @@ from workbench.shifts import BEHIND, Shift
 
 MOST_TIME = 2**64  # nanoseconds
 LATE, NO_TIME = "too late for its place", "no time that a trace can have"
-OTHER, TORN = "of another interface", "cut by the end of the capture"
+OTHER, TORN, BROKEN_OFF = "of another interface", "cut by the end of the capture", "not of its form from some place on"
 HELP = {reason: ": --reorder takes more packets, or a file of each network" for reason in (LATE, BEHIND)}
 SHOWN = 8
 # Nanoseconds that a packet of a pipe waits for earlier ones, and by which one may be behind the other network: dumpcap reads
@@ -289,8 +289,10 @@ class Stream:
         return found if any(found) else None
 
     def torn(self):
-        """How many packets the end of a file cuts."""
-        return sum(account.counts[TORN] for account in self.accounts)
+        """What of the files wasn't read, by why: packets that an end cuts, and files that aren't of their form up to it."""
+        found = {TORN: sum(account.counts[TORN] for account in self.accounts),
+                 BROKEN_OFF: sum(bool(account.broken) for account in self.accounts)}
+        return {why: count for why, count in found.items() if count}
 
     def __iter__(self):
         merged = self.feeds[0] if len(self.feeds) == 1 else heapq.merge(*self.feeds, key=operator.itemgetter(0, 1))

@@ -3,7 +3,6 @@ import re
 
 from verdict_words import NETWORKS
 from workbench.faults import WRONG_WORDS, Fault
-from workbench.stream import TORN
 
 
 def micro(nanoseconds):
@@ -59,16 +58,16 @@ def of_link(link, ports, latest):
             "broken": broken, "ports": ports}
 
 
-def of_all(health, partition, now, lost=None, torn=0):
+def of_all(health, partition, now, lost=None, torn=()):
     """Of all links, at a moment in microseconds since the first packet. `lost` are the packets that the tap lost, `torn`
-    those that the end of a file cuts."""
+    is what wasn't read of files, by why."""
     ports = [end.told(now) for end in partition.ends.values()] if partition else []
     links = [of_link(link, [port for port in ports if port["vl"] == link.link.vl], health.latest)
              for link in health.links.values()]
     counted = {name: {net: dict(counts) for net, counts in zip(NETWORKS, found)}
                for name, found in (("filtered", health.filtered), ("left_out", health.left_out))}
     if torn:
-        counted["left_out"]["neither"] = {TORN: torn}
+        counted["left_out"]["neither"] = torn
     firsts = {net: {cause: first for (each, cause), first in health.firsts.items() if each == number}
               for number, net in enumerate(NETWORKS)}
     return {"first_ns": health.first, "microseconds": now, "frames": health.frames, "links": links, **counted,
