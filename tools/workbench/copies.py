@@ -63,6 +63,14 @@ class Side:
         self.run = self.follow = self.cost = self.mixed = 0
         self.lost = self.longest = self.overtaken = self.repeated = self.late = self.astray = 0
 
+    def go_on(self, index, number):
+        """A copy of this place came."""
+        if self.began is None or index < self.began:
+            self.began = index
+        if index > self.newest:
+            self.newest = index
+        self.number, self.behind, self.follow = number, None, 0
+
     def look_at_series(self, number):
         """A refused frame: whether two series of numbers have alternated for some time."""
         if goes_on(number, self.left) and APART < (number - self.last) % TURN < TURN - APART:
@@ -81,7 +89,7 @@ class Listener:
     """Who is told what became of a link's places."""
 
     def settled(self, place, lost):
-        """No more copies of it are waited for: on these networks it was lost."""
+        """No more copies of it are waited for, and not both came: on these networks it was lost."""
 
     def lost_many(self, count, net, copy):
         """So many places before this one came on neither network."""
@@ -121,8 +129,7 @@ class Copies:
             self.judge(1 - net, other, number)
         if self.places and self.places[0].since < time - self.wait:
             self.settle(time - self.wait)
-        place = self.by_number.get(number)
-        if place and not place.copies[net] and place.copies[1 - net] and self.is_of(place, time):
+        if place := self.awaited(net, number, time):
             return self.come(net, place, copy, self.newest)
         ahead = self.ahead(number, time)
         if is_refused and ahead > 0 and not goes_on(number, side.number):
@@ -175,15 +182,12 @@ class Copies:
 
     def come(self, net, place, copy, newest):
         """A copy of a place that is known of. `newest` is the newest place when it came."""
-        side, other = self.sides[net], place.copies[1 - net]
+        side, other, index = self.sides[net], place.copies[1 - net], place.index
         place.copies[net] = copy
-        side.overtaken += place.index < side.newest
-        self.go_on(side, place)
-        return Note(COPY if other else FIRST, 0, place.index < newest, other, place.index)
-
-    def go_on(self, side, place):
-        side.began = place.index if side.began is None else min(place.index, side.began)
-        side.newest, side.number, side.behind, side.follow = max(side.newest, place.index), place.number, None, 0
+        if index < side.newest:
+            side.overtaken += 1
+        side.go_on(index, place.number)
+        return Note(COPY if other else FIRST, 0, index < newest, other, index)
 
     def fall_behind(self, net, number, copy):
         """It is of no place that is waited for. If others go on from it, the sender has begun anew with it, without a 0."""
@@ -240,8 +244,8 @@ class Copies:
         if is_reset:
             self.rate.clear()
             self.resets += 1
-        elif self.latest is not None and not missing:
-            self.quiet = max(self.quiet, time - self.latest)
+        elif self.latest is not None and not missing and time - self.latest > self.quiet:
+            self.quiet = time - self.latest
         if missing > HALF_TURN:
             self.settle(float("inf"))
             self.lose(missing - HALF_TURN)
@@ -254,7 +258,7 @@ class Copies:
         self.count_new(time)
         self.number, self.latest = number, time
         self.began = place.index if is_reset else self.began
-        self.go_on(self.sides[net], place)
+        self.sides[net].go_on(place.index, number)
         while len(self.places) > HALF_TURN + 1:
             self.end(self.places.popleft())
         return Note((RESET if number == 0 else ANEW) if is_reset else FIRST, missing, index=place.index)
@@ -262,15 +266,16 @@ class Copies:
     def count_new(self, time):
         """By how many new frames came, how close two came, and so many in a row."""
         self.seen += 1
+        rate = self.rate
         if self.latest is None:
             self.first = time
-        elif len(self.rate) == RATE_OF:
-            span = time - self.rate[0][1]
+        elif len(rate) == RATE_OF:
+            span = time - rate[0][1]
             if self.closest is None or span < self.closest:
                 self.closest = span
         else:
             self.least = min(time - self.latest, self.least or MOST_TIME)
-        self.rate.append((self.seen, time))
+        rate.append((self.seen, time))
 
     def odd(self):
         """How many frames came again, late or astray."""
@@ -305,8 +310,10 @@ class Copies:
     def end(self, place):
         if self.by_number.get(place.number) is place:
             del self.by_number[place.number]
-        lost, before = [], self.lost_both + self.dropped
         a, b = place.copies
+        if a and b and (a.is_forwarded or b.is_forwarded) and not self.sides[0].run and not self.sides[1].run:
+            return
+        lost, before = [], self.lost_both + self.dropped
         if not a and not b:
             self.lost_both += 1
         elif not (a and a.is_forwarded or b and b.is_forwarded):
@@ -323,7 +330,8 @@ class Copies:
                 lost.append(net)
         if lost and (a or b):
             self.sides[lost[0]].lost += 1
-        self.listener.settled(place, lost)
+        if lost or not a or not b:
+            self.listener.settled(place, lost)
 
     def lose(self, count):
         """So many places of which no copy came."""

@@ -208,8 +208,6 @@ class Link(copies.Listener):
         self.free_outages += not cost
 
     def settled(self, place, lost):
-        if not lost and all(place.copies):
-            return
         where = Where(place.by[1], place.by[0], place.since)
         if lost and place.number == 0:
             self.conditions.broken("losses", where, f"{NETWORKS[lost[0]]} lost its copy, the first after a restart")

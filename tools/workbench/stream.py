@@ -187,32 +187,45 @@ def of_trace(found, net, account):
 
 
 class Order:
-    """Puts arrivals in order of time."""
+    """Puts arrivals in order of time. Most come in order and wait in a row; those that don't wait in a heap beside it."""
 
     def __init__(self, account):
-        self.heap, self.latest, self.account = [], [0, 0], account
+        self.row, self.heap, self.latest, self.account = collections.deque(), [], [0, 0], account
         self.patience = [HOLD_OF_A_PIPE, HOLD_OF_A_PIPE]  # by how much each may be behind the other: none once it was
+
+    def __len__(self):
+        return len(self.row) + len(self.heap)
+
+    def add(self, one):
+        if not self.row or self.row[-1] <= one:
+            self.row.append(one)
+        else:
+            heapq.heappush(self.heap, one)
 
     def next(self):
         """The earliest; it is left out if it comes too late for its network."""
-        one = heapq.heappop(self.heap)
+        is_of_heap = self.heap and (not self.row or self.heap[0] < self.row[0])
+        one = heapq.heappop(self.heap) if is_of_heap else self.row.popleft()
         time, net, number, _, left_out, _ = one
         if not left_out:
             is_behind = time < self.latest[1 - net] - self.patience[net]
             self.patience[net] = 0 if is_behind else HOLD_OF_A_PIPE
             left_out = LATE if time < self.latest[net] else BEHIND if is_behind else None
             one = one._replace(left_out=left_out) if left_out else one
+        account = self.account
         if left_out:
-            self.account.leave_out(number, left_out)
+            account.leave_out(number, left_out)
         else:
             self.latest[net] = time
-            self.account.moved += number < self.account.newest
-            self.account.newest = max(number, self.account.newest)
+            if number > account.newest:
+                account.newest = number
+            else:
+                account.moved += 1
         return one
 
     def until(self, time):
         """All up to this time."""
-        while self.heap and self.heap[0].time <= time:
+        while self.heap and self.heap[0].time <= time or self.row and self.row[0].time <= time:
             yield self.next()
 
 
@@ -221,8 +234,8 @@ def in_order(found, window, pipe, account):
     order = Order(account)
     for one in found:
         if one:
-            heapq.heappush(order.heap, one)
-        if len(order.heap) > window:
+            order.add(one)
+        if len(order) > window:
             yield order.next()
         if pipe:
             is_quiet = files.is_quiet(pipe, HOLD_OF_A_PIPE / captures.SECOND)
