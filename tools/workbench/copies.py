@@ -21,6 +21,7 @@ MOST_WINDOW, APART = 4, 16  # numbers by which a frame goes on from another; by 
 # What a frame is: the first copy of its place, or the second; again on the same network; of a place that was given up; the
 # first one after a restart, with the number 0 or without; refused, and what it is will be seen; or cut, without a number.
 FIRST, COPY, REPEATED, LATE, RESET, ANEW, HELD, CUT = "first", "copy", "repeated", "late", "reset", "anew", "held", "cut"
+BEHIND = LATE, ANEW  # numbers that don't go on
 
 
 class Copy(NamedTuple):
@@ -129,7 +130,8 @@ class Copies:
             self.judge(1 - net, other, number)
         if self.places and self.places[0].since < time - self.wait:
             self.settle(time - self.wait)
-        if place := self.awaited(net, number, time):
+        place = self.by_number.get(number)
+        if place and not place.copies[net] and place.copies[1 - net] and self.is_of(place, time):
             return self.come(net, place, copy, self.newest)
         ahead = self.ahead(number, time)
         if is_refused and ahead > 0 and not goes_on(number, side.number):

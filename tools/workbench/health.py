@@ -39,18 +39,21 @@ class Network:
 
     def see(self, time):
         self.frames += 1
-        if len(self.times) == AHEAD:
-            span = time - self.times[0]
+        times = self.times
+        if len(times) == AHEAD:
+            span = time - times[0]
             if self.closest is None or span < self.closest:
                 self.closest = span
-        self.times.append(time)
+        times.append(time)
         if self.last is None:
             self.first = time
         else:
             gap = time - self.last
-            if self.least is None or gap < self.least:
+            if self.least is None:
+                self.least = self.most = gap
+            elif gap < self.least:
                 self.least = gap
-            if self.most is None or gap > self.most:
+            elif gap > self.most:
                 self.most = gap
             self.is_early = gap < self.least_wanted
             self.bags[(gap * 181 // 128_000_000).bit_length()] += 1  # the nearest of 2^n milliseconds, by ratio
@@ -98,36 +101,39 @@ class Link(copies.Listener):
 
     def see(self, now, one, reply):
         """Returns what the frame is beside the others."""
-        net, time, octets, packet = one.net, one.time, one.octets, one.number
-        code, number = CODES[reply.kind], octets[-1]
-        is_forwarded, is_bad = code >= FIRST_FORWARDED, reply.kind in FAULTS
-        self.nets[net].see(time)
-        self.kinds[net][reply.kind] += 1
+        time, net, packet, octets, _, _ = one
+        kind, its = reply.kind, self.nets[net]
+        code, is_bad = CODES[kind], kind in FAULTS
+        is_forwarded = code >= FIRST_FORWARDED
+        its.see(time)
+        self.kinds[net][kind] += 1
         if is_bad or code == OUT_OF_SEQUENCE and is_cut(octets):
             self.refuse(net, reply, octets, one.where)
             if is_cut(octets):
                 return self.see_cut(now, one, code, is_forwarded)
         if octets[SENDER] != self.sender:
             self.turn_to(octets[SENDER], one.where)
-        before, newest = self.copies.latest, self.copies.newest
-        note = self.copies.see(net, time, number, packet, is_forwarded, code == OUT_OF_SEQUENCE, is_bad)
-        what, fault = note.what, None
-        its = self.nets[net]
-        if its.is_early and note.index == self.copies.newest > newest >= 0 and time - before < its.least_wanted:
+        places = self.copies
+        before, newest = places.latest, places.newest
+        note = places.see(net, time, octets[-1], packet, is_forwarded, code == OUT_OF_SEQUENCE, is_bad)
+        what, _, is_overtaken, _, index = note
+        steps, fault = places.newest - newest, None
+        if its.is_early and index == places.newest > newest >= 0 and time - before < its.least_wanted:
             its.early += 1  # after the one before of its network, and after the newest frame
         if what == copies.COPY:
             fault = self.pair(one, is_forwarded, note.other)
         elif what in (copies.RESET, copies.ANEW):
             fault = self.restart(what, time - before, one.where)
-        self.conditions.look_at(note, reply, one, self.copies.newest - newest, before)
+        if is_overtaken or is_bad or steps > copies.HALF_TURN or what in copies.BEHIND or kind == "overflow":
+            self.conditions.look_at(note, reply, one, steps, before)
         if code != OUT_OF_SEQUENCE:
             if self.sender != self.passed:
                 fault, self.passed = self.passed and "sender", self.sender
-            if what == copies.FIRST and note.is_overtaken:
+            if is_overtaken and what == copies.FIRST:
                 fault = "overtaking"
             spans = self.spans
-            if is_forwarded or fault or not spans.is_on or note.index is None or note.index > spans.greatest:
-                self.follow_law(now, one, reply.kind, note, is_forwarded, fault)
+            if is_forwarded or fault or not spans.is_on or index is None or index > spans.greatest:
+                self.follow_law(now, one, kind, note, is_forwarded, fault)
             else:
                 spans.latest = now  # a second copy, as most are
         return note
@@ -335,14 +341,14 @@ class Health:
             self.left_out[one.net][one.left_out] += 1
             self.firsts.setdefault((one.net, one.left_out), first_of(one))
             return None
-        self.latest = one.time
+        self.latest, net, vl = one.time, one.net, reply.vl
         self.frames += 1
-        if reply.vl is None:
-            self.filtered[one.net][reply.cause] += 1
-            self.firsts.setdefault((one.net, reply.cause), first_of(one))
+        if vl is None:
+            self.filtered[net][reply.cause] += 1
+            self.firsts.setdefault((net, reply.cause), first_of(one))
             return None
-        self.interfaces[one.net][frames.interface_of(one.octets)] += 1
-        return self.links[reply.vl].see(now, one, reply)
+        self.interfaces[net][one.octets[frames.INTERFACE] >> 5] += 1
+        return self.links[vl].see(now, one, reply)
 
     def pass_time(self, time):
         """Lets it be so late, though nothing came."""
