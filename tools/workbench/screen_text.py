@@ -14,6 +14,7 @@ COMES = ("frames", "rate", "least_gap_us", "greatest_gap_us", "usual_gap_ms", "j
 LOSES = ("lost", "longest_run", "overtaken", "repeated", "late", "astray")
 EVENTS = {"twice": "delivered twice", "resets": "restarts", "unfinished": "datagrams given up",
           "identification_again": "identifications again", "fragments": "datagrams in fragments", "outages": "outages of a network"}
+TIE = "\xa0"  # between a word and its count, which stay on one line
 SHOWN_ALONE = ("lost-a", "lost-b", "lost-both", "twice", "law")
 
 
@@ -58,7 +59,7 @@ def law(link):
 def cells(link):
     """The line of a link."""
     a, b = link["networks"].values()
-    words = [f"{word} {count}" for word, count in told.amiss(link).items() if word not in SHOWN_ALONE]
+    words = [f"{word}{TIE}{count}" for word, count in told.amiss(link).items() if word not in SHOWN_ALONE]
     label = f"{link['vl']} {link['name']}" if link["name"] else str(link["vl"])
     return (label, rate(a), rate(b), count(a["lost"]), count(b["lost"]), count(link["lost_both"]), delays(link),
             str(link["skew_max_us"]) if link["redundancy"] else "off", count(link["twice"]["count"]), age(link), queue(link),
@@ -74,8 +75,8 @@ def table(heads, rows, room=None):
     for row in (heads, *rows):
         shown = [(cell, widths[head], head in LEFT) for head, cell in zip(heads, row) if head in widths]
         line = " ".join(cell.ljust(width) if is_left else cell.rjust(width) for cell, width, is_left in shown).rstrip()
-        yield line if not room or len(line) <= room else "\n".join(textwrap.wrap(
-            line, room, subsequent_indent="    ", break_on_hyphens=False))
+        yield (line if not room or len(line) <= room else "\n".join(textwrap.wrap(
+            line, room, subsequent_indent="    ", break_on_hyphens=False))).replace(TIE, " ")
 
 
 def links_in(links, room):
