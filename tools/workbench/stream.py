@@ -107,10 +107,16 @@ class Clock:
 
     def of(self, net, time):
         """Of a frame that is handed in."""
-        found = max(self.since(time), self.latest[net][1])
-        other, of_other = self.latest[1 - net]
-        if (time, net) > (other, 1 - net):
-            found = max(found, of_other + (net == 0))
+        if self.base is None:
+            self.base = time
+        found = (time - self.base) // 1000 if time > self.base else 0
+        (_, own), (other, of_other) = self.latest[net], self.latest[1 - net]
+        if found < own:
+            found = own
+        if time > other or time == other and net:
+            of_other += net == 0
+            if found < of_other:
+                found = of_other
         self.latest[net] = time, found
         return found
 
@@ -329,8 +335,8 @@ class Stream:
                 yield one
 
     def tell_beginning(self):
-        if self.is_of_captures:
-            print(f"yelunnavi: time 0 is {told_time(self.first or 0)}", file=sys.stderr)
+        if self.is_of_captures and self.first is not None:
+            print(f"yelunnavi: time 0 is {told_time(self.first)}", file=sys.stderr)
 
 
 @contextlib.contextmanager
