@@ -231,10 +231,10 @@ class Copies:
         return (time - self.latest) * (self.seen - seen) // max(1, self.latest - since)
 
     def most_since(self, time):
-        """How many frames the sender can have sent since the newest: by the BAG, or by twice its greatest rate."""
+        """How many frames the sender can have sent since the newest: by the BAG, or by its greatest rate."""
         if self.bag:
             return (time - self.latest) // (1000 * self.bag) + 2
-        return 2 * (time - self.latest) // max(1, self.gap()) + 2
+        return (time - self.latest) // max(1, self.gap()) + 2
 
     def gap(self):
         return self.closest // RATE_OF if self.closest else self.least or MOST_TIME
