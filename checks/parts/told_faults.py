@@ -146,6 +146,8 @@ ROWS = [
     ("a restart after a pause", {}, [restart(340, 90_000)], {"reset": 1}, "all"),
     ("a restart within SkewMax", {"first": 1}, [restart(48, 9000)], {"reset": 1, "dropped": 3}, "lost", "skew_max_us = 20000"),
     ("a restart without 0", {}, [restart(330, 700_000, 20)], {"reset": 1, "dropped": 1, "out-of-sequence": 2}, "lost"),
+    ("a restart without 0, further ahead than time allows", {"gap": 128_000, "count": 100}, [restart(40, 900_000, 100)],
+     {"numbers": 1, "out-of-sequence": 2}, "not known", "bag_us = 128000"),
     ("two senders by their addresses", {}, [also(sender=9, first=90, ident=20_000)],
      {"senders": 2, "out-of-sequence": 2398, "dropped": 1199}, "lost"),
     ("two series of numbers of one address", {}, [also(first=90, ident=20_000)],

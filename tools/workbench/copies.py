@@ -115,6 +115,7 @@ class Copies:
         self.lost_both = self.dropped = self.resets = 0
         self.strays = []  # the latest that were behind, with their networks and numbers
         self.seen, self.first, self.least, self.closest = 0, None, None, None  # new frames, and their times
+        self.skipped = None  # the first that skipped more numbers than there was time for, how many, and for how many
 
     # ---- a frame
 
@@ -236,6 +237,11 @@ class Copies:
             return (time - self.latest) // (1000 * self.bag) + 2
         return (time - self.latest) // max(1, self.gap()) + 2
 
+    def most_skipped(self, time):
+        """For how many frames there was time beside those that came, since the first by which the rate is known."""
+        seen, since = self.rate[0]
+        return max(0, (time - since) // (1000 * self.bag if self.bag else max(1, self.gap())) - self.seen + seen)
+
     def gap(self):
         return self.closest // RATE_OF if self.closest else self.least or MOST_TIME
 
@@ -248,6 +254,8 @@ class Copies:
             self.resets += 1
         elif self.latest is not None and not missing and time - self.latest > self.quiet:
             self.quiet = time - self.latest
+        elif missing > APART and not self.skipped and missing > (most := self.most_skipped(time)) + APART:
+            self.skipped = net, copy, missing, most
         if missing > HALF_TURN:
             self.settle(float("inf"))
             self.lose(missing - HALF_TURN)

@@ -263,6 +263,9 @@ class Link(copies.Listener):
         for one in self.senders.values():
             if one.lost_both > one.room():
                 return f"{one.lost_both} numbers are missing, where there was time for {max(0, one.room())} frames more"
+            if one.skipped:
+                net, copy, missing, most = one.skipped
+                return f"{missing} are skipped by {Where(copy.packet, net, copy.time)}, where there was time for {most} frames"
             if (odd := one.odd()) > max(LEAST_ODD, one.seen):
                 return f"the numbers of {odd} frames don't go on from those before"
         return None
