@@ -2,6 +2,7 @@
 
 A link's frames are a list of copies, which changes make faulty; then they become octets. Times are in microseconds.
 """
+import gzip
 import random
 import struct
 import zlib
@@ -130,6 +131,8 @@ ROWS = [
     ("one lost on both", {}, [lose(BOTH, 120)], {"lost-both": 1}, "lost"),
     ("the window lost on both", {}, [lose(BOTH, 120, 121)], {"lost-both": 2, "dropped": 1, "out-of-sequence": 2}, "lost"),
     ("both out", {}, [lose(BOTH, 120, 419)], {"lost-both": 300, "dropped": 1, "out-of-sequence": 2}, "lost"),
+    ("both out, and gaps that are longer than a copy is waited for", {"gap": 128_000, "count": 100}, [lose(BOTH, 30, 49)],
+     {"lost-both": 20, "dropped": 1, "out-of-sequence": 2}, "lost", "bag_us = 128000"),
     ("the first after an outage lost on the other", {}, [lose(A, 150, 249), lose(B, 250)],
      {"lost-a": 100, "lost-b": 1, "dropped": 1, "out-of-sequence": 1}, "lost"),
     ("B late beyond SkewMax", {}, [alter(B, 300, 304, later=3200)], {"delay": 5, "twice": 5}, "twice"),
@@ -143,6 +146,8 @@ ROWS = [
     ("a restart after a pause", {}, [restart(340, 90_000)], {"reset": 1}, "all"),
     ("a restart within SkewMax", {"first": 1}, [restart(48, 9000)], {"reset": 1, "dropped": 3}, "lost", "skew_max_us = 20000"),
     ("a restart without 0", {}, [restart(330, 700_000, 20)], {"reset": 1, "dropped": 1, "out-of-sequence": 2}, "lost"),
+    ("a restart without 0, further ahead than time allows", {"gap": 128_000, "count": 100}, [restart(40, 900_000, 100)],
+     {"numbers": 1, "out-of-sequence": 2}, "not known", "bag_us = 128000"),
     ("two senders by their addresses", {}, [also(sender=9, first=90, ident=20_000)],
      {"senders": 2, "out-of-sequence": 2398, "dropped": 1199}, "lost"),
     ("two series of numbers of one address", {}, [also(first=90, ident=20_000)],
@@ -223,6 +228,14 @@ def of_net(net):
     return lambda frames: [each for each in frames if each[1] == net]
 
 
+def exchanged(frames):
+    return [(time, 1 - net, octets) for time, net, octets in frames]
+
+
+def joined(frames):
+    return [(time, 0, octets) for time, _, octets in frames]
+
+
 def with_sums(frames):
     return [(time, net, octets + zlib.crc32(octets).to_bytes(4, "little")) for time, net, octets in frames]
 
@@ -239,14 +252,24 @@ FILES = [
     ("the second half first", {}, whole(lambda frames: frames[600:] + frames[:600]), ["--reorder", "100"], {},
      {"left-out": 600}, 1, "too late for its place: packet 601"),
     ("cut within a packet", {}, torn, [], {}, {"left-out": 1}, 5, "cut by the end of the capture: packet 1200"),
+    ("cut, and compressed", {}, lambda frames: [gzip.compress(capture(frames))[:-2000]], [], {}, {"left-out": 1}, 5,
+     "the compressed file is cut or damaged"),
+    ("damaged in a block's length", {}, lambda frames: [capture(frames)[:-60] + b"\xff" * 60], [], {}, {"left-out": 1}, 5,
+     "a block that doesn't end with its length; 1199 packets before were played"),
     ("no octet", {}, lambda frames: [b""], [], {"silent": 2}, {}, 1, "it has no packet"),
     ("an empty file of B", {}, lambda frames: [capture(of_net(0)(frames)), b""], [], {"silent": 1}, {}, 1, "it has no packet"),
     ("B's clock ahead", SLOW, clock(shift=2000), [], {}, {}, 0, "--shift-b -2300"),
     ("B's clock faster", SLOW, clock(rate=40), [], {}, {"drift": 1}, 1, "by 40.0 parts per million: --shift-b 0,-40.0"),
+    ("B's clock faster, beyond SkewMax", SLOW, clock(rate=100), [], {}, {"drift": 1}, 1, "by 99.99 parts per million"),
     ("B's clock faster, and set right", SLOW, clock(rate=40), ["--shift-b", "0,-40"], {}, {}, 0, ""),
     ("check sequences that are taken for frames", {}, whole(with_sums), [], {"numbers": 1, "out-of-sequence": 1186},
      {}, 1, ""),
     ("check sequences", {}, whole(with_sums), ["--fcs", "yes"], {}, {}, 0, "check sequences cut off"),
+    ("networks that are exchanged", {}, whole(exchanged), [], {}, {}, 0, "interface 1; --networks source follows them"),
+    ("exchanged, and told by their addresses", {}, whole(exchanged), ["--networks", "source"], {}, {}, 0, ""),
+    ("both networks on one interface", {}, whole(joined), [], {"repeated": 600, "out-of-sequence": 600, "silent": 1}, {}, 1,
+     "600 say A and 600 say B; --networks source tells them apart"),
+    ("on one interface, and told by their addresses", {}, whole(joined), ["--networks", "source"], {}, {}, 0, ""),
     ("packets that the tap lost", {}, whole(lost=3), [], {}, {"tap": 3}, 1, "3 packets were lost while it was captured, on interface 1"),
     ("a tag", {}, one(70, lambda each: (*each[:2], each[2][:12] + b"\x81\0\0\5" + each[2][12:])), [], {"lost-a": 1},
      {"left-out": 1}, 1, "VLAN tag: packet 71"),

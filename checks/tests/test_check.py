@@ -103,7 +103,8 @@ def test_mended_addresses_are_no_fault(written):
 def test_what_captures_show(written):
     assert slips_of(written, GOOD.replace(ONE, FITS), A, B) == ["22: link 18: no frame of it in the captures"]
     assert slips_of(written, FITS, B, A) == \
-        ["b.pcap: crossed networks: most source addresses of A say interface 2, and most of B interface 1"]
+        ["b.pcap: crossed networks: most source addresses of A say interface 2, and most of B interface 1; "
+         "--networks source follows them"]
     assert slips_of(written, FITS.replace("17", "16").replace("0.17", "0.16"), A, B) == [
         "a.pcap: packet 1: link 17 isn't in the configuration; frames: 17 of A and 15 of B",
         "3: link 16: no frame of it in the captures"]

@@ -169,12 +169,14 @@ def test_losses_are_those_that_were_made():
 def test_what_the_sender_and_the_networks_did_is_named():
     """A copy that made a second message, a restart, and which condition of the laws was broken first by what."""
     rows = page(CAPTURES / "faults.pcapng").rows
-    assert ["17", "delivered twice", "1", "33 of B"] in rows and ["17", "restart", "1", "64 of A after 44000 us"] in rows
-    assert ["skew-max", "1", "33 of B: 1700 us after its first copy"] in [[row[0], *row[2:]] for row in rows if len(row) == 4]
+    twice, restart = (f"{packet} at 2023-11-14T22:13:20." for packet in ("33 of B", "64 of A"))
+    assert ["17", "delivered twice", "1", f"{twice}033800"] in rows
+    assert ["17", "restart", "1", f"{restart}116100 after 44000 us"] in rows
+    assert ["skew-max", "1", f"{twice}033800: 1700 us after its first copy"] in [[row[0], *row[2:]] for row in rows if len(row) == 4]
 
 
 def test_crossed_networks_are_told():
-    said = [b"Crossed networks" in done("draw", "--config", CONFIG, *(CAPTURES / f"{net}.pcap" for net in nets))
+    said = [b"crossed networks" in done("draw", "--config", CONFIG, *(CAPTURES / f"{net}.pcap" for net in nets))
             for nets in ("ab", "ba")]
     assert said == [False, True]
 

@@ -14,11 +14,11 @@ from workbench.shifts import Shift
 from workbench.stream import Arrival
 
 A, B, MS = 0, 1, 1_000_000
-FAULTS = CAPTURES / "faults.pcapng"
+FAULTS, SECOND = CAPTURES / "faults.pcapng", "2023-11-14T22:13:20"
 
 
 class Ended(copies.Listener):
-    """The numbers of the places that were settled, with the networks that lost them; and the runs that ended."""
+    """The numbers of the places that a network lost, with the networks; and the runs that ended."""
 
     def __init__(self):
         self.places, self.runs, self.many = [], [], 0
@@ -100,7 +100,7 @@ def test_a_link_of_bursts():
 
 def test_numbers_that_came_nowhere_are_lost_on_both():
     made = link(pairs([1, 2, 3, 7, 8]))
-    assert lost(made) == (0, 0, 3) and made.listener.places[3:6] == [(4, (A, B)), (5, (A, B)), (6, (A, B))]
+    assert lost(made) == (0, 0, 3) and made.listener.places == [(4, (A, B)), (5, (A, B)), (6, (A, B))]
 
 
 def test_a_restart_loses_nothing():
@@ -193,18 +193,19 @@ def test_the_faults_of_the_example():
     told, links = health(FAULTS)
     one, two = links[17], links[18]
     assert [one["networks"][net]["lost"] for net in "AB"] == [6, 1] and one["lost_both"] == 1
-    assert one["twice"] == {"count": 1, "first": ["33 of B"]} and one["delays_us"]["beyond"] == 1
-    assert one["resets"]["first"] == ["64 of A after 44000 us"] and one["least_pause_us"] == 44000
+    assert one["twice"] == {"count": 1, "first": [f"33 of B at {SECOND}.033800"]} and one["delays_us"]["beyond"] == 1
+    assert one["resets"]["first"] == [f"64 of A at {SECOND}.116100 after 44000 us"] and one["least_pause_us"] == 44000
     assert one["delays_us"] == {"pairs": 20, "least": 200, "median": 200, "most_of_99": 1700, "greatest": 1700, "beyond": 1}
-    first = {"first": "60 of A", "how": "the first after 6 were lost"}
+    first = {"first": f"60 of A at {SECOND}.072100", "how": "the first after 6 were lost"}
     assert one["broken"]["losses"] == {"count": 1, **first, "causes": [first]}
     assert list(one["broken"]) == ["skew-max", "losses", "packets", "copies"] and one["law"] == "lost"
     assert list(two["broken"]) == ["losses"] and [two["networks"][net]["lost"] for net in "AB"] == [6, 0]
     assert [(span["from_us"], span["to_us"], span["ended_by"], span["packet"]) for span in one["spans"]] == \
-        [(0, 32_000, "skew-max", "33 of B"), (33_700, 148_200, None, None)] and one["healed_us"] == 33_700
+        [(0, 32_000, "skew-max", f"33 of B at {SECOND}.033800"), (33_700, 148_200, None, None)] and one["healed_us"] == 33_700
     assert [(link["arrived"], link["delivered"]) for link in (one, two)] == [(26, 26), (28, 28)]
     assert {word: count for word, count in one["costs"].items() if count} == {"lost-both": 1, "bad": 1, "twice": 1}
-    assert two["law"] == "no loss" and two["outages"] == {"count": 1, "first": ["6 before 62 of A, no frame lost"]}
+    assert two["law"] == "no loss" and two["outages"] == {
+        "count": 1, "first": [f"6 before 62 of A at {SECOND}.074100, no frame lost"]}
     assert told["frames"] == 97
 
 
@@ -282,7 +283,7 @@ def test_the_screens():
     assert "no loss not losses" in lines[2]
     lines = done("health", "--config", CONFIG, FAULTS, "--fail-on", "", "--link", "17").decode().splitlines()
     assert "  losses: few are lost: fewer in a row than the window, and never the first after a restart: 1 times, first by " \
-        "60 of A: the first after 6 were lost" in lines
+        f"60 of A at {SECOND}.072100: the first after 6 were lost" in lines
     assert "has no link 99" in fault(2, "health", "--config", CONFIG, FAULTS, "--link", "99")
 
 
@@ -308,15 +309,15 @@ def test_datagrams_that_never_end(written):
     """One whose second fragment is lost, past the limit; and one that four others push out."""
     found = made(written, [(1000, A, piece(1, 1, 0, True)), (2000, A, piece(2, 2, 0, True)), (3000, A, piece(3, 2, 1, False)),
                            (90_000, A, frame(7, 4, "", 1, 8))])
-    assert found["unfinished"] == {"count": 1, "first": ["1 of A (limit)"]} and "whole" in found["broken"]
+    assert found["unfinished"] == {"count": 1, "first": ["1 of A at 0.001000 s (limit)"]} and "whole" in found["broken"]
     found = made(written, [(1000 * place, A, piece(place, place, 0, True)) for place in range(1, 6)])
-    assert found["unfinished"]["first"] == ["1 of A (four others)"] and found["broken"]["parts"]["first"] == "5 of A"
+    assert found["unfinished"]["first"] == ["1 of A at 0.001000 s (four others)"] and found["broken"]["parts"]["first"] == "5 of A at 0.005000 s"
 
 
 def test_an_identification_that_comes_again(written):
     found = made(written, [(1000, A, piece(1, 1, 0, True)), (2000, A, piece(2, 1, 1, False)), (9000, A, piece(3, 1, 0, True)),
                            (9500, A, piece(4, 1, 1, False))])
-    assert found["identification_again"] == {"count": 1, "first": ["3 of A"]}
+    assert found["identification_again"] == {"count": 1, "first": ["3 of A at 0.009000 s"]}
     found = made(written, [(1000, A, piece(1, 1, 0, True)), (2000, A, piece(2, 1, 1, False)), (99_000, A, piece(3, 1, 0, True)),
                            (99_500, A, piece(4, 1, 1, False))])
     assert found["identification_again"]["count"] == 0
@@ -337,7 +338,7 @@ def test_a_copy_that_overtakes_and_a_silent_network(written):
     """Only first copies have to be in order: B's number 1 comes after A's 2, and costs nothing. Its 3 never came on A."""
     frames = [(1000, A, 1), (2000, A, 2), (2500, B, 1), (3000, B, 2), (3500, A, 4), (3600, B, 3), (90_000, A, 5)]
     found = made(written, [(time, net, frame(7, number, "", 1, 8)) for time, net, number in frames])
-    assert found["broken"]["overtaking"]["count"] == 1 and found["broken"]["overtaking"]["first"] == "3 of B"
+    assert found["broken"]["overtaking"]["count"] == 1 and found["broken"]["overtaking"]["first"] == "3 of B at 0.003600 s"
     assert found["costs"]["dropped"] == 1 and found["law"] == "lost" and found["networks"]["B"]["overtaken"] == 0
     assert [(span["from_us"], span["ended_by"]) for span in found["spans"]] == [(1000, "overtaking"), (90_000, None)]
     assert found["networks"]["B"]["silent_us"] == 86_400

@@ -5,6 +5,7 @@ import json
 import pytest
 from conftest import run
 from parts.told_faults import FILES, FIRST_VL, ROWS, capture, config, frames_of
+from workbench import screen_text
 from workbench.told import amiss, amiss_in_all
 
 # What else is told of a row alone.
@@ -13,7 +14,8 @@ BESIDES = {"none came": b"it has no packet", "B slower by two gaps, within SkewM
 
 # What check says of a file whose times are wrong or whose numbers make no sense: this, and nothing else.
 SLIPS = {"B appended to A": ": 499 packets are far behind the other network: --reorder ", "B's clock ahead": " 2300 us ahead ",
-         "B's clock faster": " 40.0 parts per million: ", "B's clock faster, and set right": "",
+         "B's clock faster": " 40.0 parts per million: ", "B's clock faster, beyond SkewMax": " 99.99 parts per million: ",
+         "B's clock faster, and set right": "",
          "check sequences that are taken for frames": ": link 300: its numbers make no sense: "}
 
 
@@ -48,6 +50,11 @@ def test_all_faults_together(written):
     for place, row in enumerate(ROWS):
         look_at(links[place], row)
     assert not found.stderr and not any(amiss_in_all(report).values())
+    shown = [f"{word} {count}" for link in report["links"] for word, count in amiss(link).items()
+             if word not in screen_text.SHOWN_ALONE]
+    for room in (80, 120):
+        lines = "\n".join(screen_text.links_in(report["links"], room)).split("\n")
+        assert max(map(len, lines)) <= room and all(any(one in line for line in lines) for one in shown)
 
 
 @pytest.mark.parametrize("name, made, files, options, of_link, of_all, status, error", FILES, ids=[row[0] for row in FILES])

@@ -1,10 +1,8 @@
 """Draws what became of the frames of two networks as one page for a browser."""
-from collections import Counter
-
 from drawing.gather import Gathered
 from drawing.page import page
-from verdict_words import NETWORKS, kinds_of
-from workbench import files, frames, station, stream
+from verdict_words import kinds_of
+from workbench import files, station, stream
 from workbench.health import Alone
 
 NO_FAULTS = kinds_of("delivered", "redundant", "held")
@@ -19,7 +17,7 @@ def draw(given):
             note = gathered.see(one, now, reply)
             faults.see(one, reply, alone and reply and alone.fault(one, now, reply, note))
     gathered.end(played.latest, packets)
-    faults.hint = packets.shift.hint() or gathered.drift.hint()
+    faults.hints = [*filter(None, [packets.shift.hint()]), *gathered.hints()]
     text = page(gathered, " and ".join(dict.fromkeys(packets.source(net) for net in (0, 1))), faults)
     with files.writing(given.to) as out:
         out.write(text.encode(errors="replace"))
@@ -27,18 +25,13 @@ def draw(given):
 
 
 class Faults:
-    """The first frames of each kind of fault, and what the source addresses say of their networks."""
-    SHOWN, hint = 10, ""
+    """The first frames of each kind of fault, and what is wrong with a network as a whole."""
+    SHOWN, hints = 10, ()
 
     def __init__(self):
-        self.counts, self.first, self.interfaces = {}, {}, {net: Counter() for net in NETWORKS}
-
-    def are_crossed(self):
-        return len(frames.swapped(self.interfaces.values())) == len(NETWORKS)
+        self.counts, self.first = {}, {}
 
     def see(self, one, reply, alone):
-        if reply and reply.vl is not None:
-            self.interfaces[NETWORKS[one.net]][frames.interface_of(one.octets)] += 1
         self.count(one, reply, f"{reply.kind} {reply.cause}".rstrip() if reply else f"left out: {one.left_out}")
         if alone:
             self.count(one, alone, f"{alone.kind} {alone.cause}".rstrip() + ", hidden by the other network’s copy")
@@ -49,4 +42,4 @@ class Faults:
         self.counts[kind] = self.counts.get(kind, 0) + 1
         if self.counts[kind] <= self.SHOWN:
             link = f" (link {reply.vl})" if reply and reply.vl is not None else ""
-            self.first.setdefault(kind, []).append(f"{one.where}{link}")
+            self.first.setdefault(kind, []).append(f"{one.where.packet}{link}")

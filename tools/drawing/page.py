@@ -100,11 +100,12 @@ def head(gathered, source):
 def overview_row(link, times):
     cells = [link.nets[0].frames, link.nets[1].frames, sum_of(link, FORWARDED_KINDS), sum_of(link, [REDUNDANT]),
              sum_of(link, [OUT_OF_SEQUENCE]), sum_of(link, KINDS_OF["refused"]), sum_of(link, KINDS_OF["overflow"]),
-             *(link.lost_on(net)["lost"] for net in (0, 1)), link.summed("lost_both"), link.beyond, link.twice.count,
-             link.unfinished.count, link.resets.count]
+             *(link.lost_on(net)["lost"] for net in (0, 1)), link.summed("lost_both"),
+             *((None, None) if link.untimed() else (link.beyond, link.twice.count)), link.unfinished.count,
+             None if link.nonsense() else link.resets.count]
     label = (f"Link {link.label} in small: {cells[0]} frames on A, {cells[1]} on B, {cells[4]} out of sequence, "
              f"{cells[5]} refused")
-    median = link.delays.median()
+    median = None if link.untimed() else link.delays.median()
     law = link.law()
     return (f'<tr><td class="word" data-value="{link.number}"><a href="#link-{link.number}">{escape(link.label)}</a></td>'
             f"<td>{strip(label, times, link)}</td>" + "".join(map(number_cell, cells))
@@ -165,14 +166,13 @@ def faults_part(faults, gathered, unit):
     rows = [[kind, f"{count:,}", ", ".join(faults.first[kind])] for kind, count in sorted(faults.counts.items())]
     lost = [[link.label, name, *counts] for link in gathered.links.values() for net, name in enumerate(NETWORKS)
             if any(counts := losses(link, net)) or link.nonsense()]
-    others = [[link.label, what, events.count, ", ".join(events.first)] for link in gathered.links.values() for what, events in
-              ((TWICE, link.twice), (RESTART, link.resets), (UNFINISHED, link.unfinished), ("identification again", link.again))
-              if events.count]
-    crossed = ("<p class=\"note\">Crossed networks: most source addresses of A say interface 2, and most of B interface 1."
-               "</p>" if faults.are_crossed() else "")
-    hint = f'<p class="note">{escape(faults.hint)}</p>' if faults.hint else ""
+    others = [[link.label, what, events.count, ", ".join(events.first)] for link in gathered.links.values()
+              for what, events, why_not in ((TWICE, link.twice, link.untimed()), (RESTART, link.resets, link.nonsense()),
+                                            (UNFINISHED, link.unfinished, None), ("identification again", link.again, None))
+              if events.count and not why_not]
+    hints = "".join(f'<p class="note">{escape(hint)}</p>' for hint in faults.hints)
     return "".join([
-        f'<h2 id="faults">Faults and losses, by {unit}</h2>{crossed}{hint}', table(["kind", "frames", f"first {unit}s"], rows),
+        f'<h2 id="faults">Faults and losses, by {unit}</h2>{hints}', table(["kind", "frames", f"first {unit}s"], rows),
         "<p>Copies that didn’t come, by their numbers and times; the most in a row; and frames that came after a later one of "
         "their network, again, or far off.</p>",
         table(["link", "network", "lost on it alone", "lost on both", "in a row", "overtaken", "again", "far off"], lost),
@@ -247,6 +247,8 @@ def conditions_part(drawn):
 
 def delays_figure(drawn):
     both = drawn.directions()
+    if why_not := drawn.untimed():
+        return f"<p>Delays are not known: {escape(why_not)}.</p>"
     if not drawn.delays.number:
         return "<p>No second copy of a frame of this link came.</p>"
     said = []

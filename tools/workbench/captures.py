@@ -22,7 +22,7 @@ SECTION, INTERFACE, OBSOLETE_PACKET, SIMPLE_PACKET, STATISTICS, PACKET = 0x0A0D0
 SECTION_MAGIC = b"\x0a\x0d\x0d\x0a"
 MAGICS = {SECTION_MAGIC, *PCAP}
 ORDERS = {b"\x4d\x3c\x2b\x1a": "<", b"\x1a\x2b\x3c\x4d": ">"}
-LENGTHS = {order: struct.Struct(order + "I") for order in "<>"}
+LENGTHS, BLOCKS = ({order: struct.Struct(order + fields) for order in "<>"} for fields in ("I", "II"))
 HEADS = {(order, kind): struct.Struct(order + fields) for order in "<>"
          for kind, fields in [(PACKET, "5I"), (OBSOLETE_PACKET, "HxxIIII"), (SIMPLE_PACKET, "I")]}
 END, COMMENT, NAME, DESCRIPTION, RESOLUTION, FCS_LENGTH, OFFSET = 0, 1, 2, 3, 9, 13, 14
@@ -99,24 +99,26 @@ def pcapng(file, magic, lost):
 
 def blocks(file, magic):
     """Byte order, kind and body of each block. The header of a section says the order of its blocks by a magic number."""
-    order = "<"
-    while magic:
-        if len(magic) < 4:
+    order, head, read = "<", magic + file.read(8 - len(magic)), file.read
+    while head:
+        if len(head) < 8:
             raise EOFError
-        length, order_magic = exactly(file, 4), b""
-        if magic == SECTION_MAGIC:
-            order_magic = exactly(file, 4)
+        least, rest = LEAST_BLOCK, 8
+        if head[:4] == SECTION_MAGIC:
+            order_magic, least, rest = exactly(file, 4), LEAST_SECTION, 12
             if order_magic not in ORDERS:
                 raise Broken("a section without its byte-order magic")
             order = ORDERS[order_magic]
-        size, = LENGTHS[order].unpack(length)
-        if size < (LEAST_SECTION if order_magic else LEAST_BLOCK) or size % 4 or size > MOST_BLOCK:
+        kind, size = BLOCKS[order].unpack(head)
+        if size < least or size % 4 or size > MOST_BLOCK:
             raise Broken(f"a block of an absurd length, {size} octets")
-        body = exactly(file, size - 8 - len(order_magic))
-        if body[-4:] != length:
+        body = read(size - rest)
+        if len(body) < size - rest:
+            raise EOFError
+        if body[-4:] != head[4:]:
             raise Broken("a block that doesn't end with its length")
-        yield order, LENGTHS[order].unpack(magic)[0], body[:-4]
-        magic = file.read(4)
+        yield order, kind, body[:-4]
+        head = read(8)
 
 
 def options(order, octets):

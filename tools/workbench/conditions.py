@@ -22,8 +22,9 @@ CONDITIONS = {
 BROKEN_BY = {**{kind: "packets" for kind in REFUSED if kind != "exhausted"}, FULL: "queues"}
 
 
-# What is known by sequence numbers alone.
+# What is known by sequence numbers alone, and of these what is by two clocks.
 BY_NUMBERS = ("skew-max", "near", "overtaking", "losses", "copies")
+BY_CLOCKS = ("skew-max", "near")
 MOST_CAUSES = 5
 
 

@@ -21,6 +21,7 @@ MOST_WINDOW, APART = 4, 16  # numbers by which a frame goes on from another; by 
 # What a frame is: the first copy of its place, or the second; again on the same network; of a place that was given up; the
 # first one after a restart, with the number 0 or without; refused, and what it is will be seen; or cut, without a number.
 FIRST, COPY, REPEATED, LATE, RESET, ANEW, HELD, CUT = "first", "copy", "repeated", "late", "reset", "anew", "held", "cut"
+BEHIND = LATE, ANEW  # numbers that don't go on
 
 
 class Copy(NamedTuple):
@@ -63,6 +64,14 @@ class Side:
         self.run = self.follow = self.cost = self.mixed = 0
         self.lost = self.longest = self.overtaken = self.repeated = self.late = self.astray = 0
 
+    def go_on(self, index, number):
+        """A copy of this place came."""
+        if self.began is None or index < self.began:
+            self.began = index
+        if index > self.newest:
+            self.newest = index
+        self.number, self.behind, self.follow = number, None, 0
+
     def look_at_series(self, number):
         """A refused frame: whether two series of numbers have alternated for some time."""
         if goes_on(number, self.left) and APART < (number - self.last) % TURN < TURN - APART:
@@ -81,12 +90,12 @@ class Listener:
     """Who is told what became of a link's places."""
 
     def settled(self, place, lost):
-        """No more copies of it are waited for: on these networks it was lost."""
+        """No more copies of it are waited for, and not both came: on these networks it was lost."""
 
-    def lost_many(self, count, net, packet):
-        """So many places before this packet came on neither network."""
+    def lost_many(self, count, net, copy):
+        """So many places before this one came on neither network."""
 
-    def mixed(self, net, packet):
+    def mixed(self, net, copy):
         """Two series of numbers alternate on a network."""
 
     def run_ended(self, net, run, copy, cost):
@@ -106,6 +115,7 @@ class Copies:
         self.lost_both = self.dropped = self.resets = 0
         self.strays = []  # the latest that were behind, with their networks and numbers
         self.seen, self.first, self.least, self.closest = 0, None, None, None  # new frames, and their times
+        self.skipped = None  # the first that skipped more numbers than there was time for, how many, and for how many
 
     # ---- a frame
 
@@ -114,7 +124,7 @@ class Copies:
         if side.held:
             self.judge(net, side, number)
         if is_refused and side.look_at_series(number):
-            self.listener.mixed(net, packet)
+            self.listener.mixed(net, copy)
         side.last = number
         other = self.sides[1 - net]
         if other.held and other.held[0] == number and not is_refused:
@@ -156,6 +166,9 @@ class Copies:
             self.come(net, place, copy, newest)
         else:
             self.take(net, held, copy, self.ahead(held, copy.time), newest)
+        other = self.sides[1 - net]
+        if other.held and other.held[0] == held:
+            self.judge(1 - net, other, held)
 
     def take(self, net, number, copy, ahead, newest):
         """A frame that isn't a second copy: of a new place, or of one of which none came, or again."""
@@ -172,15 +185,12 @@ class Copies:
 
     def come(self, net, place, copy, newest):
         """A copy of a place that is known of. `newest` is the newest place when it came."""
-        side, other = self.sides[net], place.copies[1 - net]
+        side, other, index = self.sides[net], place.copies[1 - net], place.index
         place.copies[net] = copy
-        side.overtaken += place.index < side.newest
-        self.go_on(side, place)
-        return Note(COPY if other else FIRST, 0, place.index < newest, other, place.index)
-
-    def go_on(self, side, place):
-        side.began = place.index if side.began is None else min(place.index, side.began)
-        side.newest, side.number, side.behind, side.follow = max(side.newest, place.index), place.number, None, 0
+        if index < side.newest:
+            side.overtaken += 1
+        side.go_on(index, place.number)
+        return Note(COPY if other else FIRST, 0, index < newest, other, index)
 
     def fall_behind(self, net, number, copy):
         """It is of no place that is waited for. If others go on from it, the sender has begun anew with it, without a 0."""
@@ -222,10 +232,15 @@ class Copies:
         return (time - self.latest) * (self.seen - seen) // max(1, self.latest - since)
 
     def most_since(self, time):
-        """How many frames the sender can have sent since the newest: by the BAG, or by twice its greatest rate."""
+        """How many frames the sender can have sent since the newest: by the BAG, or by its greatest rate."""
         if self.bag:
             return (time - self.latest) // (1000 * self.bag) + 2
-        return 2 * (time - self.latest) // max(1, self.gap()) + 2
+        return (time - self.latest) // max(1, self.gap()) + 2
+
+    def most_skipped(self, time):
+        """For how many frames there was time beside those that came, since the first by which the rate is known."""
+        seen, since = self.rate[0]
+        return max(0, (time - since) // (1000 * self.bag if self.bag else max(1, self.gap())) - self.seen + seen)
 
     def gap(self):
         return self.closest // RATE_OF if self.closest else self.least or MOST_TIME
@@ -237,12 +252,14 @@ class Copies:
         if is_reset:
             self.rate.clear()
             self.resets += 1
-        elif self.latest is not None and not missing:
-            self.quiet = max(self.quiet, time - self.latest)
+        elif self.latest is not None and not missing and time - self.latest > self.quiet:
+            self.quiet = time - self.latest
+        elif missing > APART and not self.skipped and missing > (most := self.most_skipped(time)) + APART:
+            self.skipped = net, copy, missing, most
         if missing > HALF_TURN:
             self.settle(float("inf"))
             self.lose(missing - HALF_TURN)
-            self.listener.lost_many(missing - HALF_TURN, net, copy.packet)
+            self.listener.lost_many(missing - HALF_TURN, net, copy)
         by = net, copy.packet
         for back in range(min(missing, HALF_TURN), 0, -1):
             self.add((number - back - 1) % TURN + 1, time, by)
@@ -251,7 +268,7 @@ class Copies:
         self.count_new(time)
         self.number, self.latest = number, time
         self.began = place.index if is_reset else self.began
-        self.go_on(self.sides[net], place)
+        self.sides[net].go_on(place.index, number)
         while len(self.places) > HALF_TURN + 1:
             self.end(self.places.popleft())
         return Note((RESET if number == 0 else ANEW) if is_reset else FIRST, missing, index=place.index)
@@ -259,15 +276,16 @@ class Copies:
     def count_new(self, time):
         """By how many new frames came, how close two came, and so many in a row."""
         self.seen += 1
+        rate = self.rate
         if self.latest is None:
             self.first = time
-        elif len(self.rate) == RATE_OF:
-            span = time - self.rate[0][1]
+        elif len(rate) == RATE_OF:
+            span = time - rate[0][1]
             if self.closest is None or span < self.closest:
                 self.closest = span
         else:
             self.least = min(time - self.latest, self.least or MOST_TIME)
-        self.rate.append((self.seen, time))
+        rate.append((self.seen, time))
 
     def odd(self):
         """How many frames came again, late or astray."""
@@ -302,8 +320,10 @@ class Copies:
     def end(self, place):
         if self.by_number.get(place.number) is place:
             del self.by_number[place.number]
-        lost, before = [], self.lost_both + self.dropped
         a, b = place.copies
+        if a and b and (a.is_forwarded or b.is_forwarded) and not self.sides[0].run and not self.sides[1].run:
+            return
+        lost, before = [], self.lost_both + self.dropped
         if not a and not b:
             self.lost_both += 1
         elif not (a and a.is_forwarded or b and b.is_forwarded):
@@ -320,7 +340,8 @@ class Copies:
                 lost.append(net)
         if lost and (a or b):
             self.sides[lost[0]].lost += 1
-        self.listener.settled(place, lost)
+        if lost or not a or not b:
+            self.listener.settled(place, lost)
 
     def lose(self, count):
         """So many places of which no copy came."""

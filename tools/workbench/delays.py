@@ -14,8 +14,10 @@ class Delays:
 
     def add(self, delay, number=1):
         self.number += number
-        self.least = delay if self.least is None else min(delay, self.least)
-        self.greatest = delay if self.greatest is None else max(delay, self.greatest)
+        if self.least is None or delay < self.least:
+            self.least = delay
+        if self.greatest is None or delay > self.greatest:
+            self.greatest = delay
         self.count(delay, number)
         while len(self.counts) > MOST_DELAYS:
             self.step *= 2

@@ -8,9 +8,10 @@ class Drift:
     """By how much later B's copies came, in microseconds, of pairs that are about as far from each other."""
 
     def __init__(self):
-        self.samples, self.step, self.due = [], 0, 0
+        self.samples, self.step, self.due, self.found = [], 0, 0, None
 
     def add(self, time, delay):
+        self.found = None
         self.samples.append((time, delay))
         if len(self.samples) == MOST_SAMPLES:
             self.samples = self.samples[::2]
@@ -19,6 +20,11 @@ class Drift:
 
     def rate(self):
         """How much faster B's clock seems, in parts per million; 0 if delays alone explain what was seen."""
+        if self.found is None:
+            self.found = self.look()
+        return self.found
+
+    def look(self):
         third = len(self.samples) // 3
         if 3 * third < FEWEST_SAMPLES:
             return 0

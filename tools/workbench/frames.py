@@ -1,7 +1,7 @@
 """What is read of a frame beside the receiver: its check sequence, and its interface."""
 from zlib import crc32
 
-SHORTEST = 60
+SHORTEST, INTERFACE = 60, 11  # octets, and the place of the one with the interface's number
 WHOLE_WITH_FCS = 0x2144DF1C  # the CRC-32 of every frame that is followed by its own check sequence
 MOST_OCTETS = (8192 - 21) // 2  # a line of a trace has at most 8192 bytes, a time and its space 21
 TAGS = (b"\x81\x00", b"\x88\xa8", b"\x91\x00")
@@ -24,7 +24,7 @@ def refusal(octets):
 
 def interface_of(octets):
     """What the source address says of its network: 1 for A, 2 for B."""
-    return octets[11] >> 5 if len(octets) > 11 else None
+    return octets[INTERFACE] >> 5 if len(octets) > INTERFACE else None
 
 
 def swapped(counts):

@@ -6,12 +6,13 @@ from collections import Counter, deque
 
 from verdict_words import FIRST_FORWARDED, FULL, KINDS, NETWORKS, OUT_OF_SEQUENCE, REFUSED
 from workbench import copies, frames, settings
-from workbench.conditions import BY_NUMBERS, CONDITIONS, Conditions
+from workbench.conditions import BY_CLOCKS, BY_NUMBERS, CONDITIONS, Conditions
 from workbench.copies import Copies
 from workbench.delays import Delays
 from workbench.drifts import Drift
 from workbench.pieces import GIVEN_UP, ORDER, Pieces, has_wrong_sum
 from workbench.spans import Spans
+from workbench.stream import Where
 
 SHOWN = 5  # places of each kind
 CODES = {kind: code for code, kind in enumerate(KINDS)}
@@ -20,6 +21,7 @@ SENDER = slice(6, 11)  # octets of a source address that both networks share
 MOST_SENDERS = 8  # addresses of a link whose frames are told apart
 JITTER = 500  # microseconds that a frame may come before its BAG is over, if `jitter_us` isn't there
 LEAST_ODD = 16  # frames whose numbers don't go on; more than the others make no sense
+MIXED = 5  # at least one of so many frames of a network says the other one
 AHEAD = 128  # gaps after which a sequence number isn't ahead any more
 # The verdicts that say that a frame itself is at fault; and one that no receiver gives.
 FAULTS = frozenset(REFUSED)
@@ -37,18 +39,21 @@ class Network:
 
     def see(self, time):
         self.frames += 1
-        if len(self.times) == AHEAD:
-            span = time - self.times[0]
+        times = self.times
+        if len(times) == AHEAD:
+            span = time - times[0]
             if self.closest is None or span < self.closest:
                 self.closest = span
-        self.times.append(time)
+        times.append(time)
         if self.last is None:
             self.first = time
         else:
             gap = time - self.last
-            if self.least is None or gap < self.least:
+            if self.least is None:
+                self.least = self.most = gap
+            elif gap < self.least:
                 self.least = gap
-            if self.most is None or gap > self.most:
+            elif gap > self.most:
                 self.most = gap
             self.is_early = gap < self.least_wanted
             self.bags[(gap * 181 // 128_000_000).bit_length()] += 1  # the nearest of 2^n milliseconds, by ratio
@@ -74,7 +79,7 @@ class Events:
     def add(self, text):
         self.count += 1
         if len(self.first) < SHOWN:
-            self.first.append(text)
+            self.first.append(str(text))
 
 
 class Link(copies.Listener):
@@ -96,36 +101,39 @@ class Link(copies.Listener):
 
     def see(self, now, one, reply):
         """Returns what the frame is beside the others."""
-        net, time, octets, packet = one.net, one.time, one.octets, one.number
-        code, number = CODES[reply.kind], octets[-1]
-        is_forwarded, is_bad = code >= FIRST_FORWARDED, reply.kind in FAULTS
-        self.nets[net].see(time)
-        self.kinds[net][reply.kind] += 1
+        time, net, packet, octets, _, _ = one
+        kind, its = reply.kind, self.nets[net]
+        code, is_bad = CODES[kind], kind in FAULTS
+        is_forwarded = code >= FIRST_FORWARDED
+        its.see(time)
+        self.kinds[net][kind] += 1
         if is_bad or code == OUT_OF_SEQUENCE and is_cut(octets):
             self.refuse(net, reply, octets, one.where)
             if is_cut(octets):
                 return self.see_cut(now, one, code, is_forwarded)
         if octets[SENDER] != self.sender:
             self.turn_to(octets[SENDER], one.where)
-        before, newest = self.copies.latest, self.copies.newest
-        note = self.copies.see(net, time, number, packet, is_forwarded, code == OUT_OF_SEQUENCE, is_bad)
-        what, fault = note.what, None
-        its = self.nets[net]
-        if its.is_early and note.index == self.copies.newest > newest >= 0 and time - before < its.least_wanted:
+        places = self.copies
+        before, newest = places.latest, places.newest
+        note = places.see(net, time, octets[-1], packet, is_forwarded, code == OUT_OF_SEQUENCE, is_bad)
+        what, _, is_overtaken, _, index = note
+        steps, fault = places.newest - newest, None
+        if its.is_early and index == places.newest > newest >= 0 and time - before < its.least_wanted:
             its.early += 1  # after the one before of its network, and after the newest frame
         if what == copies.COPY:
             fault = self.pair(one, is_forwarded, note.other)
         elif what in (copies.RESET, copies.ANEW):
             fault = self.restart(what, time - before, one.where)
-        self.conditions.look_at(note, reply, one, self.copies.newest - newest, before)
+        if is_overtaken or is_bad or steps > copies.HALF_TURN or what in copies.BEHIND or kind == "overflow":
+            self.conditions.look_at(note, reply, one, steps, before)
         if code != OUT_OF_SEQUENCE:
             if self.sender != self.passed:
                 fault, self.passed = self.passed and "sender", self.sender
-            if what == copies.FIRST and note.is_overtaken:
+            if is_overtaken and what == copies.FIRST:
                 fault = "overtaking"
             spans = self.spans
-            if is_forwarded or fault or not spans.is_on or note.index is None or note.index > spans.greatest:
-                self.follow_law(now, one, reply.kind, note, is_forwarded, fault)
+            if is_forwarded or fault or not spans.is_on or index is None or index > spans.greatest:
+                self.follow_law(now, one, kind, note, is_forwarded, fault)
             else:
                 spans.latest = now  # a second copy, as most are
         return note
@@ -199,23 +207,22 @@ class Link(copies.Listener):
         """A network that loses the window's number of frames or more is out: the next one is dropped on it."""
         if run < self.link.window:
             return
-        where = f"{copy.packet} of {NETWORKS[net]}" if copy else f"the end of {NETWORKS[net]}"
+        where = Where(copy.packet, net, copy.time) if copy else f"the end of {NETWORKS[net]}"
         how = f"the first after {run} were lost" if copy else f"{run} were lost, and no more came"
         self.conditions.broken("losses", where, how)
         self.outages.add(f"{run} before {where}, " + (f"{cost} frames not forwarded" if cost else "no frame lost"))
         self.free_outages += not cost
 
     def settled(self, place, lost):
-        if not lost and all(place.copies):
-            return
-        where = f"{place.by[1]} of {NETWORKS[place.by[0]]}"
+        where = Where(place.by[1], place.by[0], place.since)
         if lost and place.number == 0:
             self.conditions.broken("losses", where, f"{NETWORKS[lost[0]]} lost its copy, the first after a restart")
         if not any(place.copies):
             self.conditions.broken("copies", where, f"number {place.number} before it came on neither network")
 
-    def lost_many(self, count, net, packet):
-        self.conditions.broken("copies", f"{packet} of {NETWORKS[net]}", f"{count} frames before it came on neither network")
+    def lost_many(self, count, net, copy):
+        where = Where(copy.packet, net, copy.time)
+        self.conditions.broken("copies", where, f"{count} frames before it came on neither network")
 
     def given_up(self, why, first, where):
         """What is wrong with a datagram in parts."""
@@ -232,8 +239,8 @@ class Link(copies.Listener):
             else:
                 self.conditions.broken("whole", first, f"its datagram never ended ({why})")
 
-    def mixed(self, net, packet):
-        self.mixed_at = self.mixed_at or f"{packet} of {NETWORKS[net]}"
+    def mixed(self, net, copy):
+        self.mixed_at = self.mixed_at or Where(copy.packet, net, copy.time)
         self.conditions.broken("sender", self.mixed_at, "two series of numbers")
 
     def pass_time(self, time):
@@ -256,9 +263,16 @@ class Link(copies.Listener):
         for one in self.senders.values():
             if one.lost_both > one.room():
                 return f"{one.lost_both} numbers are missing, where there was time for {max(0, one.room())} frames more"
+            if one.skipped:
+                net, copy, missing, most = one.skipped
+                return f"{missing} are skipped by {Where(copy.packet, net, copy.time)}, where there was time for {most} frames"
             if (odd := one.odd()) > max(LEAST_ODD, one.seen):
                 return f"the numbers of {odd} frames don't go on from those before"
         return None
+
+    def untimed(self):
+        """Why its delays, and what rests on them, aren't known, if they aren't."""
+        return self.nonsense() or (self.beyond and self.drift.rate() and "a clock is faster than the other") or None
 
     def sender_count(self):
         """How many addresses it has, or series of numbers."""
@@ -276,16 +290,17 @@ class Link(copies.Listener):
                 for name in copies.COUNTED}
 
     def broken(self):
-        """The conditions that were broken, in the page's order; those of numbers that make no sense aren't told."""
-        is_nonsense = self.nonsense()
-        return {word: self.conditions.found[word] for word in CONDITIONS if word in self.conditions.found
-                and (not is_nonsense or word not in BY_NUMBERS)}
+        """The conditions that were broken, in the page's order, but for those by numbers or clocks that make no sense."""
+        hidden = BY_NUMBERS if self.nonsense() else BY_CLOCKS if self.untimed() else ()
+        found = self.conditions.found
+        return {word: found[word] for word in CONDITIONS if word in found and word not in hidden}
 
     def costs(self):
         """By what messages were lost: frames that came on neither network, or that the receiver dropped, refused or had no
         room for, and datagrams that were given up; and how many came twice."""
         return {"lost-both": self.summed("lost_both"), "dropped": self.summed("dropped"), "bad": self.of_kinds(*FAULTS),
-                "overflow": self.of_kinds("overflow"), "unfinished": self.unfinished.count, "twice": self.twice.count}
+                "overflow": self.of_kinds("overflow"), "unfinished": self.unfinished.count,
+                "twice": None if self.untimed() else self.twice.count}
 
     def law(self):
         """What came of the law (docs/FORMATS.md): `all` where its conditions held from the first frame to the last, and
@@ -297,7 +312,11 @@ class Link(copies.Listener):
         if self.nonsense():
             return "not known"
         costs = self.costs()
-        if any(count for word, count in costs.items() if word != "twice") or self.spans.arrived > self.spans.delivered:
+        if any(count for word, count in costs.items() if word != "twice"):
+            return "lost"
+        if self.untimed():
+            return "not known"
+        if self.spans.arrived > self.spans.delivered:
             return "lost"
         is_out = not all(net.frames for net in self.nets) or any(
             side.run >= self.link.window for one in self.senders.values() for side in one.sides)
@@ -323,16 +342,16 @@ class Health:
             self.first = one.time
         if not reply:
             self.left_out[one.net][one.left_out] += 1
-            self.firsts.setdefault((one.net, one.left_out), f"{one.number}{link_of(one.octets)}")
+            self.firsts.setdefault((one.net, one.left_out), first_of(one))
             return None
-        self.latest = one.time
+        self.latest, net, vl = one.time, one.net, reply.vl
         self.frames += 1
-        if reply.vl is None:
-            self.filtered[one.net][reply.cause] += 1
-            self.firsts.setdefault((one.net, reply.cause), f"{one.number}{link_of(one.octets)}")
+        if vl is None:
+            self.filtered[net][reply.cause] += 1
+            self.firsts.setdefault((net, reply.cause), first_of(one))
             return None
-        self.interfaces[one.net][frames.interface_of(one.octets)] += 1
-        return self.links[reply.vl].see(now, one, reply)
+        self.interfaces[net][one.octets[frames.INTERFACE] >> 5] += 1
+        return self.links[vl].see(now, one, reply)
 
     def pass_time(self, time):
         """Lets it be so late, though nothing came."""
@@ -344,10 +363,25 @@ class Health:
         for link in self.links.values():
             link.finish(self.latest, now)
 
+    def crossings(self):
+        """Each network whose frames are told apart by their source addresses alone, and in which words."""
+        if len(frames.swapped(self.interfaces)) == len(NETWORKS):
+            yield 0, ("crossed networks: most source addresses of A say interface 2, and most of B interface 1; "
+                      "--networks source follows them")
+        for net, (letter, found) in enumerate(zip(NETWORKS, self.interfaces)):
+            if MIXED * min(found[1], found[2]) > found.total():
+                yield net, (f"frames of both networks on {letter}, by their source addresses: {found[1]} say A and "
+                            f"{found[2]} say B; --networks source tells them apart")
 
-def link_of(octets):
-    """In brackets, the link of a frame that may be none of the networks'."""
-    return f" (link {int.from_bytes(octets[4:6], 'big')})" if octets[:1] == b"\x03" and len(octets) > 5 else ""
+    def hints(self):
+        """What is wrong with a network as a whole, or a clock, and what mends it."""
+        return [*(told for _, told in self.crossings()), *filter(None, [self.drift.hint()])]
+
+
+def first_of(one):
+    """A packet, and in brackets its link, which a frame may have that is none of the networks'."""
+    octets = one.octets
+    return str(one.where) + (f" (link {int.from_bytes(octets[4:6], 'big')})" if octets[:1] == b"\x03" and len(octets) > 5 else "")
 
 
 def is_cut(octets):

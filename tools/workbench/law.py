@@ -25,6 +25,10 @@ class Stretch:
     def see(self, index, time, was_forwarded, fault=None):
         """Of a copy that passes: whether it is the first of its frame that counts. The index is None if it is of no frame of
         the sender's; `fault` is what else it breaks beside those that count."""
+        if self.is_on and not fault and index is not None and self.greatest < index <= self.greatest + FAR:
+            self.forwarded = time if was_forwarded else self.forwarded
+            self.latest, self.greatest, self.newest = time, index, time
+            return True
         if self.is_on and index is not None and index > self.greatest + FAR and time <= self.newest + self.skew:
             fault = fault or "near"
         if self.is_on and (fault or index is None):

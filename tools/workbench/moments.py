@@ -29,6 +29,13 @@ def since_1970(found):
     return (zoned - EPOCH) // datetime.timedelta(microseconds=1) * 1000
 
 
+def told(time):
+    """As a command line takes it, to the microsecond: a date and a time, or the seconds of a trace."""
+    if time < DAY:
+        return f"{time // 1000 / 1e6:.6f} s"
+    return f"{EPOCH + datetime.timedelta(microseconds=time // 1000):%Y-%m-%dT%H:%M:%S.%f}"
+
+
 def in_capture(found, first):
     """Nanoseconds of 1970, in a capture with this first packet."""
     kind, value = found

@@ -14,6 +14,7 @@ COMES = ("frames", "rate", "least_gap_us", "greatest_gap_us", "usual_gap_ms", "j
 LOSES = ("lost", "longest_run", "overtaken", "repeated", "late", "astray")
 EVENTS = {"twice": "delivered twice", "resets": "restarts", "unfinished": "datagrams given up",
           "identification_again": "identifications again", "fragments": "datagrams in fragments", "outages": "outages of a network"}
+TIE = "\xa0"  # between a word and its count, which stay on one line
 SHOWN_ALONE = ("lost-a", "lost-b", "lost-both", "twice", "law")
 
 
@@ -33,8 +34,8 @@ def rate(net, is_marked=True):
 
 def delays(link):
     """The least, the median, that which 99 of 100 don't pass, and the greatest."""
-    found = link["delays_us"]
-    return "/".join(str(found[name]) for name in ("least", "median", "most_of_99", "greatest")) if found["pairs"] else "-"
+    found = [link["delays_us"][name] for name in ("least", "median", "most_of_99", "greatest")]
+    return "?" if link["untimed"] else "-" if None in found else "/".join(map(str, found))
 
 
 def age(link):
@@ -58,10 +59,10 @@ def law(link):
 def cells(link):
     """The line of a link."""
     a, b = link["networks"].values()
-    words = [f"{word} {count}" for word, count in told.amiss(link).items() if word not in SHOWN_ALONE]
+    words = [f"{word}{TIE}{count}" for word, count in told.amiss(link).items() if word not in SHOWN_ALONE]
     label = f"{link['vl']} {link['name']}" if link["name"] else str(link["vl"])
     return (label, rate(a), rate(b), count(a["lost"]), count(b["lost"]), count(link["lost_both"]), delays(link),
-            str(link["skew_max_us"]) if link["redundancy"] else "off", str(link["twice"]["count"]), age(link), queue(link),
+            str(link["skew_max_us"]) if link["redundancy"] else "off", count(link["twice"]["count"]), age(link), queue(link),
             law(link), ", ".join(words))
 
 
@@ -74,8 +75,8 @@ def table(heads, rows, room=None):
     for row in (heads, *rows):
         shown = [(cell, widths[head], head in LEFT) for head, cell in zip(heads, row) if head in widths]
         line = " ".join(cell.ljust(width) if is_left else cell.rjust(width) for cell, width, is_left in shown).rstrip()
-        yield line if not room or len(line) <= room else "\n".join(textwrap.wrap(
-            line, room, subsequent_indent="    ", break_on_hyphens=False))
+        yield (line if not room or len(line) <= room else "\n".join(textwrap.wrap(
+            line, room, subsequent_indent="    ", break_on_hyphens=False))).replace(TIE, " ")
 
 
 def links_in(links, room):
@@ -131,8 +132,11 @@ def lines_of_link(link):
     if link["nonsense"]:
         yield f"numbers make no sense: {link['nonsense']}; what they would tell is not known"
     yield f"lost on both networks: {count(link['lost_both'])}"
-    yield (f"B's copy came later by, in us, least/median/99 %/greatest: {delays(link)}; {found['pairs']} pairs, "
-           f"{found['beyond']} beyond SkewMax")
+    if link["untimed"]:
+        yield f"delays are not known: {link['untimed']}"
+    else:
+        yield (f"B's copy came later by, in us, least/median/99 %/greatest: {delays(link)}; {found['pairs']} pairs, "
+               f"{found['beyond']} beyond SkewMax")
     for key, what in EVENTS.items():
         if link[key]["count"]:
             yield f"{what}: {link[key]['count']}, at first {', '.join(link[key]['first'])}"
@@ -146,6 +150,9 @@ def lines_of_link(link):
 
 def lines_of_law(link):
     """In which spans of time the law held, what arrived by it, and what faults cost."""
+    if link["untimed"]:
+        yield f"law of docs/DELIVERY.md: {link['law']}"
+        return
     healed = f"; healed at {link['healed_us']} us" if link["healed_us"] is not None else ""
     if link["fragments_healed_us"] != link["healed_us"]:
         healed += f", for fragments at {link['fragments_healed_us']} us"

@@ -7,7 +7,6 @@ from workbench.health import AHEAD, JITTER, Health
 from workbench.places import members
 
 MOST_KEPT = 1000  # constants, strange links and destinations that are counted
-MIXED = 5  # at least one of so many frames of a network says the other one
 
 
 class Shown:
@@ -72,18 +71,14 @@ def of_files(shown, constant):
             if found != constant and 2 * number > total:
                 yield (f"{source}: {number} of {total} frames have the constant field {found.hex()}, and the "
                        f"configuration {constant.hex()}")
-    swapped = frames.swapped(shown.health.interfaces)
     for net, letter in enumerate(NETWORKS):
-        found = shown.health.interfaces[net]
         if shown.frames[1 - net] and not shown.frames[net]:
             yield f"{sources[net]}: no frame of any link on {letter}"
-        if MIXED * min(found[1], found[2]) > shown.frames[net] > 0:
-            yield (f"{sources[net]}: frames of both networks on {letter}, by their source addresses: {found[1]} say A and "
-                   f"{found[2]} say B; --networks source tells them apart")
-        elif swapped == [net]:
-            yield f"{sources[net]}: most source addresses of {letter} say interface {2 - net}, which is {NETWORKS[1 - net]}"
-    if len(swapped) == len(NETWORKS):
-        yield f"{sources[0]}: crossed networks: most source addresses of A say interface 2, and most of B interface 1"
+    crossings, swapped = dict(shown.health.crossings()), frames.swapped(shown.health.interfaces)
+    yield from (f"{sources[net]}: {told}" for net, told in crossings.items())
+    if len(swapped) == 1 and not crossings:
+        net, = swapped
+        yield f"{sources[net]}: most source addresses of {NETWORKS[net]} say interface {2 - net}, which is {NETWORKS[1 - net]}"
     if shown.hint:
         yield f"{sources[1]}: {shown.hint}"
     if count := sum(counts[stream.BEHIND] for counts in shown.health.left_out):
@@ -116,7 +111,7 @@ def of_link(shown, vl):
         yield from of_times(shown, link)
     for (of, pair), (first, number) in shown.strays.items():
         if of == vl:
-            yield f"no port for {pair}: {number} frames, the first {shown.packets.unit} {first.where}"
+            yield f"no port for {pair}: {number} frames, the first {shown.packets.unit} {first.where.packet}"
 
 
 def of_times(shown, link):
@@ -151,7 +146,7 @@ def of_port(shown, port):
     if port["name"] in shown.too_long:
         first, number = shown.too_long[port["name"]]
         which = f"{number} of its {came + number} messages were" if came else f"each of its {number} messages was"
-        yield f"{which} longer than max {port.get('max', 'of its kind')}, the first {shown.packets.unit} {first.where}"
+        yield f"{which} longer than max {port.get('max', 'of its kind')}, the first {shown.packets.unit} {first.where.packet}"
     elif not came and any(net.frames for net in shown.health.links[end.port.vl].nets):
         yield "no message came to it"
     if not end.port.is_sampling:

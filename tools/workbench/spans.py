@@ -29,7 +29,7 @@ class Spans(Stretch):
 
     def ended(self, where):
         """At which packet."""
-        self.latest_ended.update(ended_by=self.fault, packet=where)
+        self.latest_ended.update(ended_by=self.fault, packet=str(where))
         self.fault = None
 
     def take(self, kind, was_forwarded, is_whole):

@@ -20,12 +20,13 @@ class Station:
         """The time of an arrival in microseconds since the first, and its reply; none if it was left out."""
         if one.left_out:
             return self.clock.since(one.time), None
-        now = self.clock.of(one.net, one.time)
-        self.latest = max(self.latest, now)
-        partition = self.partition
+        net, partition = one.net, self.partition
+        now = self.clock.of(net, one.time)
+        if now > self.latest:
+            self.latest = now
         if partition and now > partition.due[0][0]:
             partition.wake(now - 1)
-        reply = self.receiver.receive(one.net, now, one.octets)
+        reply = self.receiver.receive(net, now, one.octets)
         if partition and reply.port:
             partition.came(now, reply)
         return now, reply

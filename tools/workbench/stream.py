@@ -15,7 +15,7 @@ from workbench.shifts import BEHIND, Shift
 
 MOST_TIME = 2**64  # nanoseconds
 LATE, NO_TIME = "too late for its place", "no time that a trace can have"
-OTHER, TORN = "of another interface", "cut by the end of the capture"
+OTHER, TORN, BROKEN_OFF = "of another interface", "cut by the end of the capture", "not of its form from some place on"
 HELP = {reason: ": --reorder takes more packets, or a file of each network" for reason in (LATE, BEHIND)}
 SHOWN = 8
 # Nanoseconds that a packet of a pipe waits for earlier ones, and by which one may be behind the other network: dumpcap reads
@@ -24,6 +24,20 @@ HOLD_OF_A_PIPE = 300_000_000
 HINTS = {b"\xfd7zX": "compressed: unxz it", b"\x28\xb5\x2f\xfd": "compressed: install zstd, or unzstd it",
          b"\xef\xbb\xbf": "a byte order mark: sed '1s/^\\xef\\xbb\\xbf//'",
          b"\xff\xfe": "UTF-16: iconv -f UTF-16 -t ASCII"}
+
+
+class Where(NamedTuple):
+    """A packet, for people: its number, its network and its time in nanoseconds."""
+    number: int
+    net: int
+    time: int
+
+    @property
+    def packet(self):
+        return f"{self.number} of {NETWORKS[self.net]}"
+
+    def __str__(self):
+        return f"{self.packet} at {moments.told(self.time)}"
 
 
 class Arrival(NamedTuple):
@@ -38,7 +52,7 @@ class Arrival(NamedTuple):
 
     @property
     def where(self):
-        return f"{self.number} of {NETWORKS[self.net]}"
+        return Where(self.number, self.net, self.time)
 
 
 class Account:
@@ -93,10 +107,16 @@ class Clock:
 
     def of(self, net, time):
         """Of a frame that is handed in."""
-        found = max(self.since(time), self.latest[net][1])
-        other, of_other = self.latest[1 - net]
-        if (time, net) > (other, 1 - net):
-            found = max(found, of_other + (net == 0))
+        if self.base is None:
+            self.base = time
+        found = (time - self.base) // 1000 if time > self.base else 0
+        (_, own), (other, of_other) = self.latest[net], self.latest[1 - net]
+        if found < own:
+            found = own
+        if time > other or time == other and net:
+            of_other += net == 0
+            if found < of_other:
+                found = of_other
         self.latest[net] = time, found
         return found
 
@@ -173,32 +193,45 @@ def of_trace(found, net, account):
 
 
 class Order:
-    """Puts arrivals in order of time."""
+    """Puts arrivals in order of time. Most come in order and wait in a row; those that don't wait in a heap beside it."""
 
     def __init__(self, account):
-        self.heap, self.latest, self.account = [], [0, 0], account
+        self.row, self.heap, self.latest, self.account = collections.deque(), [], [0, 0], account
         self.patience = [HOLD_OF_A_PIPE, HOLD_OF_A_PIPE]  # by how much each may be behind the other: none once it was
+
+    def __len__(self):
+        return len(self.row) + len(self.heap)
+
+    def add(self, one):
+        if not self.row or self.row[-1] <= one:
+            self.row.append(one)
+        else:
+            heapq.heappush(self.heap, one)
 
     def next(self):
         """The earliest; it is left out if it comes too late for its network."""
-        one = heapq.heappop(self.heap)
+        is_of_heap = self.heap and (not self.row or self.heap[0] < self.row[0])
+        one = heapq.heappop(self.heap) if is_of_heap else self.row.popleft()
         time, net, number, _, left_out, _ = one
         if not left_out:
             is_behind = time < self.latest[1 - net] - self.patience[net]
             self.patience[net] = 0 if is_behind else HOLD_OF_A_PIPE
             left_out = LATE if time < self.latest[net] else BEHIND if is_behind else None
             one = one._replace(left_out=left_out) if left_out else one
+        account = self.account
         if left_out:
-            self.account.leave_out(number, left_out)
+            account.leave_out(number, left_out)
         else:
             self.latest[net] = time
-            self.account.moved += number < self.account.newest
-            self.account.newest = max(number, self.account.newest)
+            if number > account.newest:
+                account.newest = number
+            else:
+                account.moved += 1
         return one
 
     def until(self, time):
         """All up to this time."""
-        while self.heap and self.heap[0].time <= time:
+        while self.heap and self.heap[0].time <= time or self.row and self.row[0].time <= time:
             yield self.next()
 
 
@@ -207,8 +240,8 @@ def in_order(found, window, pipe, account):
     order = Order(account)
     for one in found:
         if one:
-            heapq.heappush(order.heap, one)
-        if len(order.heap) > window:
+            order.add(one)
+        if len(order) > window:
             yield order.next()
         if pipe:
             is_quiet = files.is_quiet(pipe, HOLD_OF_A_PIPE / captures.SECOND)
@@ -275,8 +308,10 @@ class Stream:
         return found if any(found) else None
 
     def torn(self):
-        """How many packets the end of a file cuts."""
-        return sum(account.counts[TORN] for account in self.accounts)
+        """What of the files wasn't read, by why: packets that an end cuts, and files that aren't of their form up to it."""
+        found = {TORN: sum(account.counts[TORN] for account in self.accounts),
+                 BROKEN_OFF: sum(bool(account.broken) for account in self.accounts)}
+        return {why: count for why, count in found.items() if count}
 
     def __iter__(self):
         merged = self.feeds[0] if len(self.feeds) == 1 else heapq.merge(*self.feeds, key=operator.itemgetter(0, 1))
@@ -300,8 +335,8 @@ class Stream:
                 yield one
 
     def tell_beginning(self):
-        if self.is_of_captures:
-            print(f"yelunnavi: time 0 is {told_time(self.first or 0)}", file=sys.stderr)
+        if self.is_of_captures and self.first is not None:
+            print(f"yelunnavi: time 0 is {told_time(self.first)}", file=sys.stderr)
 
 
 @contextlib.contextmanager

@@ -35,7 +35,7 @@ def summed(given):
             if alone and reply and reply.vl is not None and (fault := alone.fault(one, now, reply, note)):
                 found.links[reply.vl].hidden[one.net][f"{fault.kind} {fault.cause}".rstrip()] += 1
     found.finish(played.latest)
-    if hint := found.drift.hint():
+    for hint in found.hints():
         print(f"yelunnavi: {hint}", file=sys.stderr)
     return told.of_all(found, played.partition, played.latest, packets.lost(), packets.torn()), packets.status
 

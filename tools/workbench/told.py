@@ -3,7 +3,6 @@ import re
 
 from verdict_words import NETWORKS
 from workbench.faults import WRONG_WORDS, Fault
-from workbench.stream import TORN
 
 
 def micro(nanoseconds):
@@ -18,52 +17,57 @@ def of_network(link, number, latest):
             "usual_gap_ms": net.usual,
             "jitter_us": max(0, bag - micro(net.least)) if bag and net.least is not None else None,
             "early": net.early, **counts, "silent_us": None if net.last is None else micro(latest - net.last),
-            "refused": {cause: {"count": count, "first": first} for cause, (count, first) in link.refused[number].items()},
+            "refused": {cause: {"count": count, "first": str(first)} for cause, (count, first) in link.refused[number].items()},
             "hidden": dict(link.hidden[number]), "verdicts": dict(link.kinds[number])}
 
 
 def of_delays(link):
     """How much later B's copy came, negative if it came first."""
     found = link.delays
+    if link.untimed():
+        return dict.fromkeys(("pairs", "least", "median", "most_of_99", "greatest", "beyond"))
     median, most_of_99 = (found.median(), found.below(0.99)) if found.number else (None, None)
     return {"pairs": found.number, "least": found.least, "median": median, "most_of_99": most_of_99,
             "greatest": found.greatest, "beyond": link.beyond}
 
 
-def of_events(events):
-    return {"count": events.count, "first": events.first}
+def of_events(events, why_not=None):
+    return {"count": None, "first": []} if why_not else {"count": events.count, "first": events.first}
 
 
 def of_link(link, ports, latest):
-    settings = link.link
+    settings, nonsense, untimed = link.link, link.nonsense(), link.untimed()
+    spans = link.spans.told(settings.reassembly if link.pieces.has_fragments else 0)
     broken = {word: {"count": one.count, **causes[0], "causes": causes} for word, one in link.broken().items()
-              if (causes := [{"first": first, "how": how} for how, first in one.causes.items()])}
+              if (causes := [{"first": str(first), "how": how} for how, first in one.causes.items()])}
     return {"vl": settings.vl, "name": link.own.get("name"), "bag_us": link.own.get("bag_us"),
             "redundancy": settings.redundancy, "skew_max_us": settings.skew_max, "window": settings.window,
             "reassembly_us": settings.reassembly,
             "networks": {net: of_network(link, number, latest) for number, net in enumerate(NETWORKS)},
             "senders": [sender.hex(":") for sender in link.senders], "sender_count": link.sender_count(),
-            "nonsense": link.nonsense(),
-            "lost_both": link.summed("lost_both"), "delays_us": of_delays(link), "twice": of_events(link.twice),
-            "resets": of_events(link.resets), "least_pause_us": link.least_pause, "unfinished": of_events(link.unfinished),
+            "nonsense": nonsense, "untimed": untimed,
+            "lost_both": link.summed("lost_both"), "delays_us": of_delays(link), "twice": of_events(link.twice, untimed),
+            "resets": of_events(link.resets, nonsense), "least_pause_us": None if nonsense else link.least_pause,
+            "unfinished": of_events(link.unfinished),
             "identification_again": of_events(link.again), "fragments": of_events(link.fragments),
             "bad": sum(count for refused in link.refused for count, _ in refused.values()),
             "out_of_sequence": link.of_kinds("out-of-sequence"), "overflows": link.of_kinds("overflow"),
             "law": link.law(), "costs": link.costs(),
-            **link.spans.told(settings.reassembly if link.pieces.has_fragments else 0),
-            "outages": of_events(link.outages), "free_outages": link.free_outages, "broken": broken, "ports": ports}
+            **(dict.fromkeys(spans) if untimed else spans),
+            "outages": of_events(link.outages, nonsense), "free_outages": None if nonsense else link.free_outages,
+            "broken": broken, "ports": ports}
 
 
-def of_all(health, partition, now, lost=None, torn=0):
+def of_all(health, partition, now, lost=None, torn=()):
     """Of all links, at a moment in microseconds since the first packet. `lost` are the packets that the tap lost, `torn`
-    those that the end of a file cuts."""
+    is what wasn't read of files, by why."""
     ports = [end.told(now) for end in partition.ends.values()] if partition else []
     links = [of_link(link, [port for port in ports if port["vl"] == link.link.vl], health.latest)
              for link in health.links.values()]
     counted = {name: {net: dict(counts) for net, counts in zip(NETWORKS, found)}
                for name, found in (("filtered", health.filtered), ("left_out", health.left_out))}
     if torn:
-        counted["left_out"]["neither"] = {TORN: torn}
+        counted["left_out"]["neither"] = torn
     firsts = {net: {cause: first for (each, cause), first in health.firsts.items() if each == number}
               for number, net in enumerate(NETWORKS)}
     return {"first_ns": health.first, "microseconds": now, "frames": health.frames, "links": links, **counted,
@@ -118,8 +122,8 @@ def is_silent(net):
 
 
 def counted(link):
-    """Each word with its count."""
-    return {word: 0 if link["nonsense"] and word in BY_NUMBERS else int(count(link)) for word, count in AMISS.items()}
+    """Each word with its count; what isn't known is none."""
+    return {word: 0 if link["nonsense"] and word in BY_NUMBERS else int(count(link) or 0) for word, count in AMISS.items()}
 
 
 def amiss(link):

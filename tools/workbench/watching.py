@@ -1,6 +1,5 @@
 """Watches two interfaces live: the health of all links, refreshed each second, on a screen, as JSON lines, to Prometheus."""
 import contextlib
-import heapq
 import json
 import queue
 import signal
@@ -64,7 +63,7 @@ class Tapped:
                 yield from self.order.until(float("inf"))
             else:
                 one = self.corrected(one)
-                heapq.heappush(self.order.heap, one)
+                self.order.add(one)
                 yield from self.order.until(one.time - self.tap.patience)
 
     def close(self, take):
@@ -80,7 +79,7 @@ class Tapped:
         while not self.found.empty():
             self.behind += isinstance(self.found.get(), stream.Arrival)
         lost, untaken = self.tap.close()
-        self.behind += untaken + len(self.order.heap)
+        self.behind += untaken + len(self.order)
         return lost
 
     def time(self):
@@ -140,7 +139,7 @@ class Watch:
                 before = self.frames.get((link["vl"], net), 0)
                 self.frames[link["vl"], net] = about["frames"]
                 about["rate"] = round((about["frames"] - before) / took, 1)
-        return {"time": time.time(), **found, "notes": self.notes}
+        return {"time": time.time(), **found, "notes": [*self.notes, *self.health.hints()]}
 
 
 def watch(given):
