@@ -9,7 +9,11 @@ for `readers` at a sampling port: how many readers it gets, 1 to 8; without it a
 """
 import ipaddress
 import sys
-import tomllib
+
+try:
+    import tomllib
+except ImportError:  # PyPy, which is behind: Debian's python3-tomli is the same
+    import tomli as tomllib
 
 CONSTANT, WINDOW = "03000000", 2
 LARGEST = {"sampling": 1471, "queuing": 8192}

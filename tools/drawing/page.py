@@ -344,12 +344,12 @@ def links_part(gathered, times):
 
 def filtered_part(gathered, times):
     head = '<h2 id="filtered">Filtered frames</h2>'
-    if not any(counts.total() for counts in gathered.filtered):
+    if not any(sum(counts.values()) for counts in gathered.filtered):
         return f"{head}<p>No frame was filtered.</p>"
     bands, said = [], []
     for network, name in enumerate(NETWORKS):
         found = filtered_rows(gathered.filtered_rows[network])
-        number = gathered.filtered[network].total()
+        number = sum(gathered.filtered[network].values())
         bands.append((f"Network {name}: {number:,} filtered", found))
         said.append(f"On network {name} {plural(number, 'frame was', 'frames were')} filtered"
                     + (": " + listed(f"{row.total:,} {row.name}" for row in found) if number else "") + ".")

@@ -29,4 +29,4 @@ def interface_of(octets):
 
 def swapped(counts):
     """The networks most of whose frames say the other's interface. `counts` are those of the interfaces by network."""
-    return [net for net, found in enumerate(counts) if 2 * found[2 - net] > found.total()]
+    return [net for net, found in enumerate(counts) if 2 * found[2 - net] > sum(found.values())]

@@ -369,7 +369,7 @@ class Health:
             yield 0, ("crossed networks: most source addresses of A say interface 2, and most of B interface 1; "
                       "--networks source follows them")
         for net, (letter, found) in enumerate(zip(NETWORKS, self.interfaces)):
-            if MIXED * min(found[1], found[2]) > found.total():
+            if MIXED * min(found[1], found[2]) > sum(found.values()):
                 yield net, (f"frames of both networks on {letter}, by their source addresses: {found[1]} say A and "
                             f"{found[2]} say B; --networks source tells them apart")
 

@@ -3,7 +3,11 @@ import contextlib
 import functools
 import operator
 import re
-import tomllib
+
+try:
+    import tomllib
+except ImportError:  # PyPy, which is behind: Debian's python3-tomli is the same
+    import tomli as tomllib
 
 from workbench.faults import Fault
 
