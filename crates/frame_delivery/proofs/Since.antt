@@ -11,12 +11,12 @@ use Rattle.es_base.specs.Copies.{Forwarded, elapsed, greatest_time, is_ahead, is
 use Rattle.es_base.specs.Redundancy.{forwarded, is_forwarded, is_forwarded_after}
 use Rattle.es_base.specs.Settings.{Settings}
 use Rattle.frame_delivery.specs.Sending.{Copy, EachCopy, HaveNumbers, Numbering, events_of_copies, events_since, number_of_frame}
-use Rattle.frame_delivery.specs.Once.{AreInOrder, FirstsInOrder, as_forwarded, first_copies, has_come, is_new, new_copies, newest_time}
+use Rattle.frame_delivery.specs.Once.{AreInOrder, ComesInTime, FirstsInOrder, as_forwarded, first_copies, has_come, is_new, new_copies, newest_time}
 use Rattle.frame_delivery.specs.Network.{BeginNear, ComeTimely, HasNoOvertaking, IsNeverLate, IsOnItsWay, IsOverSoon, KeepsTimes, Timing, time_of_all}
 use Rattle.frame_delivery.specs.Running.{EachForwarded}
 use Rattle.frame_delivery.specs.Since.{ComeAfter, IsFirstPassing, PassTimely, counts, forwarded_since, passing_since}
 use Rattle.frame_delivery.proofs.Cases.{by_if}
-use Rattle.frame_delivery.proofs.Forwarding.{ComesInTime, first_is_new, new_in_order, newest_of}
+use Rattle.frame_delivery.proofs.Forwarding.{first_is_new, new_in_order, newest_of}
 use Rattle.frame_delivery.proofs.Firsts.{first_are_new, new_are_first, new_is_first}
 use Rattle.frame_delivery.proofs.Running.{all_over, first_when_over}
 use Rattle.frame_delivery.proofs.Times.{all_in_time, apart_not_late, begin_near, none_overtaken, not_late}

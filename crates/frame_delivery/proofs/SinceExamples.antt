@@ -9,7 +9,7 @@ use Rattle.frame_delivery.specs.Network.{BeginNear, BringsInRow, ComeTimely, IsN
 use Rattle.frame_delivery.specs.Once.{FirstsInOrder}
 use Rattle.frame_delivery.specs.Since.{ComeAfter, PassTimely, passing_since}
 use Rattle.frame_delivery.specs.Conditions.{Condition, IsMet, MeetAllBut, covers, firsts, is_asked_for_all, late, late_restart, losses, near, restarts}
-use Rattle.frame_delivery.specs.Examples.{after_skew_max, after_strange, behind_a_restart, far_apart, far_behind, frame_at, from_57, from_one, from_ten, link, of_later_time, one_network_out, overtaken, received, restarted, soon_restarted, strange, stranger_passes, timed, timing, wide_link}
+use Rattle.frame_delivery.specs.Examples.{after_skew_max, after_strange, far_apart, frame_at, from_57, from_one, from_ten, link, of_later_time, one_network_out, overtaken, received, restarted, soon_restarted, strange, stranger_passes, timed, timing}
 use Rattle.frame_delivery.proofs.Times.{apart_not_late, short_firsts}
 use Rattle.frame_delivery.proofs.Since.{short_in_order, short_is_near, since_is_near}
 
@@ -122,8 +122,8 @@ later_is_lost = (
 -- ---- where all pass
 
 pub needed_too : (passing_since (link 1000) [] after_skew_max ≡ after_skew_max) × (passing_since (link 1000) [] overtaken ≡ overtaken) × (passing_since (link 128000) [] far_apart ≡ far_apart)
-    × (passing_since (link 1000) [] soon_restarted ≡ soon_restarted) × (passing_since wide_link [] far_behind ≡ far_behind) × (passing_since (link 1000) [] behind_a_restart ≡ behind_a_restart)
-needed_too = (refl, refl, refl, refl, refl, refl)
+    × (passing_since (link 1000) [] soon_restarted ≡ soon_restarted)
+needed_too = (refl, refl, refl, refl)
 
 -- ---- where a stranger's frame passes on the other network
 

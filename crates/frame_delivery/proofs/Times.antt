@@ -3,9 +3,8 @@ use Rattle.std.proofs.Common.{◌≡◌, ◌∙◌, ap, ℕ, zero, suc, ◌+◌,
 use Rattle.std.specs.Prelude.{max}
 use Rattle.std.proofs.lemmas.Bool.{cases_Bool, cases_lt, lt-ltb, le-ltb, ltb-false, eq-eqb, or_left, or_right}
 use Rattle.frame_delivery.specs.Sending.{Copy, EachCopy, Numbering, RunsOn}
-use Rattle.frame_delivery.specs.Once.{FirstsInOrder, IsNotOvertaken, greatest_index, has_come, newest_time}
+use Rattle.frame_delivery.specs.Once.{ComesInTime, FirstsInOrder, IsInTime, IsNotOvertaken, greatest_index, has_come, newest_time}
 use Rattle.frame_delivery.specs.Network.{BeginNear, BeginsNear, IsNeverLate, FitsSkew, HasNoOvertaking, IsOnItsWay, IsOverSoon, KeepsGap, KeepsPause, KeepsTimes, Timing, time_of_all}
-use Rattle.frame_delivery.proofs.Forwarding.{ComesInTime, IsInTime}
 use Rattle.frame_delivery.proofs.Near.{near_the_newest}
 
 -- a frame of which a copy may be taken after one of another is at most 127 before that, with no restart between

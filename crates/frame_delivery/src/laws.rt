@@ -202,8 +202,8 @@ pub fn the_conditions_can_be_met()
 /// `forwarding_recovers` says, though one more strange frame comes meanwhile, which is out of sequence. But a frame of
 /// which a copy passes can be lost if one was forwarded before with a later time than the copies have that come; or while
 /// SkewMax runs since a stranger's frame that passes, though on the other network. And the copies of
-/// `each_condition_is_needed` all pass where SkewMax is too short or too long, a first copy is overtaken, a copy is late, or
-/// networks begin far apart: so each of these conditions is needed of copies that pass, too.
+/// `each_condition_is_needed` all pass where SkewMax is too short or too long, a first copy is overtaken, or networks begin far
+/// apart: so each of these conditions is needed of copies that pass, too.
 pub fn a_link_recovers_in_examples()
     ensures one_network_out { MeetAllBut is_asked_for_all losses (link 1000) from_one timing one_network_out × BringsInRow from_one 2 nets.A one_network_out
         × (forwarded (link 1000) (events_of_copies one_network_out) ≡ frame_at 5 4100 ∷ frame_at 4 3100 ∷ frame_at 3 2100 ∷ frame_at 2 1100 ∷ frame_at 1 100 ∷ []) }
@@ -215,8 +215,7 @@ pub fn a_link_recovers_in_examples()
         × (forwarded (link 1000) (events_since restarted of_later_time) ≡ frame_at 57 100 ∷ frame_at 50 5000 ∷ []) }
     ensures while_a_stranger_passes { BringsInRow from_one 2 nets.A stranger_passes × (passing_since (link 1000) [] stranger_passes ≡ stranger_passes)
         × (forwarded (link 1000) (events_of_copies stranger_passes) ≡ frame_at 50 200 ∷ frame_at 1 100 ∷ []) }
-    ensures all_pass { (passing_since (link 1000) [] after_skew_max ≡ after_skew_max) × (passing_since (link 1000) [] overtaken ≡ overtaken) × (passing_since (link 128000) [] far_apart ≡ far_apart) × (passing_since (link 1000) [] soon_restarted ≡ soon_restarted)
-        × (passing_since wide_link [] far_behind ≡ far_behind) × (passing_since (link 1000) [] behind_a_restart ≡ behind_a_restart) }
+    ensures all_pass { (passing_since (link 1000) [] after_skew_max ≡ after_skew_max) × (passing_since (link 1000) [] overtaken ≡ overtaken) × (passing_since (link 128000) [] far_apart ≡ far_apart) × (passing_since (link 1000) [] soon_restarted ≡ soon_restarted) }
 {}
 
 /// Counterexamples with one condition not met, by a microsecond or by one frame, and all others that the law asks met:
