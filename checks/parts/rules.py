@@ -27,7 +27,7 @@ CALLS = {
         "receiver_c::yelunnavi_receiver_open", "receiver_c::yelunnavi_receiver_open_table", "system_c::yelunnavi_system_open",
         "system_c::yelunnavi_system_open_table"),
     "each call of a partition": (
-        "mailbox_port::MailboxReader::read", "partition_reader::PartitionReader::read", "message_ring::RingTaker::take",
+        "mailbox_port::MailboxReader::read", "sampling_port::PartitionReader::read", "message_ring::RingTaker::take",
         "queuing_port::Taker::take"),
     "each call of a partition from C": ("receiver_c::yelunnavi_reader_read", "receiver_c::yelunnavi_queue_take"),
     "each call that takes a history out": ("link_receiver::LinkState::take_epoch", "end_system::EndSystem::settle"),

@@ -90,6 +90,12 @@ def cited(text, names, modules):
     return found | {(*modules[head], tail) for head, tail in NAME.findall(text) if head in modules and tail}
 
 
+def module_of(path):
+    """The module of a source file, as `crate::module`, or `crate::module::module` in a folder."""
+    crate, _, *modules = path.relative_to(CRATES).with_suffix("").parts
+    return "::".join((crate, *modules))
+
+
 # ---- definitions
 
 
@@ -198,7 +204,7 @@ def functions_of(path):
             # Of a law what it says it under is half of what it says.
             said = [body if is_laws else conclusion(body) for word, _, body in clauses if word == "ensures"]
             is_test = any(before.strip() == "#[test]" for before in lines[max(0, at - 3):at])
-            whole = "::".join(filter(None, (crate, path.stem if is_test or is_laws else block, name)))
+            whole = f"{module_of(path)}::{name}" if is_test or is_laws else "::".join(filter(None, (crate, block, name)))
             yield Function(crate, whole, path, at + 1, seen == "pub " or is_trait, is_test, tags_above(lines, at, "//"),
                            said_above(lines, at), clauses, where_they_stand(cited("\n".join(said), names, modules)))
 

@@ -27,6 +27,7 @@ use crate::ends::PortEnd;
 use crate::epoch::{Epoch, EpochFault};
 use crate::history::{MOST_EVENTS, reserve_event};
 use crate::outlet::{Outlet, give, open_outlets};
+use crate::walk::deliveries_after;
 use block_list::BlockList;
 use es_base::{
     Arrival, Decision, Event, LinkSettings, Memory, Message, Net, Octets, PortKind, PortNo,
@@ -35,7 +36,6 @@ use es_base::{
 use frame_reader::{Frame, frame_in};
 use ip_reassembly::WaitingDatagrams;
 use link_core::{Place, RulesState, settled};
-use link_deliveries::deliveries_after;
 use past_log::Past;
 use queuing_port::Taker;
 use sampling_port::Reader;
@@ -175,7 +175,7 @@ impl LinkState {
         deliveries_after(
             alloc,
             self.settings(),
-            Some(self.pieces_before()),
+            self.pieces_before(),
             self.history(),
             port,
         )

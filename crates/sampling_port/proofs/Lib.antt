@@ -4,3 +4,4 @@ pub mod Stores
 pub mod Looks
 pub mod Moments
 pub mod Octets
+pub mod Ranges

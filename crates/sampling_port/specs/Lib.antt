@@ -6,3 +6,4 @@ pub mod Reads
 pub mod Ends
 pub mod Moments
 pub mod Seeks
+pub mod Partition

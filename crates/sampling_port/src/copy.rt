@@ -1,5 +1,6 @@
 //! Words and octets of a held message.
 ghost use Rattle.std.specs.Prelude.{◌≡◌, ℕ, ◌+◌, ◌-◌, ◌*◌, ◌/◌, ◌%◌, ◌^◌, ◌<◌, ◌≤◌, length, slice_index};
+ghost use Rattle.slot_core.specs.Limits.{longest_message};
 ghost use Rattle.slot_core.specs.State.{last_of};
 ghost use Rattle.sampling_port.specs.Ends.{IsCopy};
 ghost use Rattle.sampling_port.specs.Rule.{slots_for};
@@ -10,7 +11,7 @@ use crate::reader_seat::ReaderSeat;
 /// Writes the first `count` octets of a word, the first one most significant, over those of `out` from
 /// `first` on.
 fn write_octets(out: &mut [u8; 1471], first: usize, word: u64, count: usize)
-    requires { (count ≤ 8) × (first + count ≤ 1471) }
+    requires { (count ≤ 8) × (first + count ≤ longest_message) }
     ensures within { (i : ℕ) → i < count → slice_index out.new (first + i) ≡ word / 256 ^ (7 - i) % 256 }
     ensures before { (k : ℕ) → k < first → slice_index out.new k ≡ slice_index out.old k }
     ensures after { (k : ℕ) → first + count ≤ k → slice_index out.new k ≡ slice_index out.old k }

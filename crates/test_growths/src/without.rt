@@ -12,10 +12,11 @@ use frame_reader::{Packet, read_frame, read_packet};
 use ip_reassembly::{Offered, Reassembly};
 use mailbox_port::{MOST_MESSAGES, MailboxReader, ReaderCount, open_mailboxes};
 use message_ring::open_ring;
-use partition_reader::{PartitionReader, Reading as ReadingOfPort};
 use queuing_port::{Putter, Taker, open_queue};
 use receiver::{PortOutlet, Reading, Receiver, RingTaker, Taken, VerdictKind};
-use sampling_port::{MOST_TRIES, Read, Reader, Writer, meet, open_port};
+use sampling_port::{
+    MOST_TRIES, PartitionReader, Read, Reader, Reading as ReadingOfPort, Writer, meet, open_port,
+};
 use slot_core::READERS;
 use std::alloc::Global;
 use std::process::Abort;

@@ -1,52 +1,17 @@
 //! A walk through a history goes on from the pieces that waited before it.
-use crate::epochs::{Step, check_epoch, check_number, check_step};
+use crate::epochs::{Step, check_epoch, check_step};
 use crate::frames::opened;
 use crate::histories::{JOINED_PAYLOAD, Wanted, check_messages};
 use Step::{Nav, Packet};
-use es_base::LinkSettings;
 use es_base::Net::A;
 use es_base::Verdict::FragmentHeld;
-use frame_reader::read_frame;
-use link_core::RulesState;
-use link_deliveries::deliveries_after;
 use link_receiver::LinkState;
 use std::alloc::Global;
 use std::process::Abort;
 use std::sync::Wait;
 use test_inputs::fragments::PacketName::{First, First3, First4, First5, Last};
-use test_inputs::rows::{FOR_NAV, NAV, PacketRow, packet_row};
-use test_inputs::{CONSTANT, ETHERNET, LINK, PAYLOAD, frame_of};
-
-/// One frame more, with a packet that is held.
-fn keep(
-    rt: &impl Abort,
-    alloc: Global,
-    settings: &LinkSettings,
-    kept: &mut RulesState,
-    row: PacketRow,
-) {
-    let (net, now, number, ip, octets, padding, _) = packet_row(row);
-    let texts = [ETHERNET, ip, octets, padding];
-    let frame = frame_of(alloc, &texts, number).expect(rt, "octets");
-    let frame = read_frame(CONSTANT, &frame).expect(rt, "a frame");
-    let step = kept.look(settings, net, now, &frame);
-    let _ = kept.offer(&step, None);
-    kept.note(net, FragmentHeld);
-}
-
-/// State after frames with these packets, each of which is held.
-fn kept_of(
-    rt: &impl Abort,
-    alloc: Global,
-    settings: &LinkSettings,
-    packets: &[PacketRow],
-) -> RulesState {
-    let mut kept = RulesState::open(alloc, settings).expect(rt, "memory");
-    for row in packets {
-        keep(rt, alloc, settings, &mut kept, *row);
-    }
-    kept
-}
+use test_inputs::rows::{FOR_NAV, NAV, PacketRow};
+use test_inputs::{LINK, PAYLOAD};
 
 /// These packets come, an epoch is taken out, and then this frame comes.
 fn gone_on(
@@ -64,24 +29,13 @@ fn gone_on(
     state
 }
 
-/// A walk through the history, from the pieces that wait, gives these messages for `nav`.
-fn check_walk(
-    rt: &impl Abort,
-    alloc: Global,
-    state: &LinkState,
-    kept: &RulesState,
-    wanted: &[Wanted],
-) {
-    let settings = state.settings();
-    let waiting = kept.reassembly().waiting(alloc).expect(rt, "memory");
-    let before = Some(&waiting);
-    let messages = deliveries_after(alloc, settings, before, state.history(), NAV).expect(
-        rt, "memory",
-    );
+/// A walk through the history gives these messages for `nav`.
+fn check_walk(rt: &impl Abort, alloc: Global, state: &LinkState, wanted: &[Wanted]) {
+    let messages = state.deliveries(alloc, NAV).expect(rt, "memory");
     check_messages(rt, alloc, &messages, wanted);
 }
 
-/// After these packets, each held, and this frame, a walk from the packets' pieces that wait gives these messages.
+/// After an epoch of these packets, each held, and this frame, a walk gives these messages.
 fn check_after(
     rt: &(impl Abort + Wait),
     alloc: Global,
@@ -90,9 +44,7 @@ fn check_after(
     wanted: &[Wanted],
 ) {
     let state = gone_on(rt, alloc, packets, after);
-    let kept = kept_of(rt, alloc, state.settings(), packets);
-    check_number(rt, "held", kept.tally().count(A, 5), packets.len() as u64);
-    check_walk(rt, alloc, &state, &kept, wanted);
+    check_walk(rt, alloc, &state, wanted);
 }
 
 fn four_that_wait() -> [PacketRow; 4] {
@@ -120,11 +72,7 @@ fn a_walk_goes_on_from_what_waits(rt: HostRuntime) {
 fn check_from_the_beginning(rt: &(impl Abort + Wait), alloc: Global) {
     let (mut state, _) = opened(rt, alloc, LINK);
     check_step(rt, alloc, &mut state, Nav(A, 1100, 1, FOR_NAV));
-    let settings = state.settings();
-    let messages = deliveries_after(alloc, settings, None, state.history(), NAV).expect(
-        rt, "memory",
-    );
-    check_messages(rt, alloc, &messages, &[(1100, PAYLOAD)]);
+    check_walk(rt, alloc, &state, &[(1100, PAYLOAD)]);
 }
 
 // rule: HIST-4

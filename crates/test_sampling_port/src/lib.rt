@@ -17,6 +17,8 @@ mod held;
 #[cfg(test)]
 mod messages;
 #[cfg(test)]
+mod partition;
+#[cfg(test)]
 mod seats;
 #[cfg(test)]
 mod threads;

@@ -1,11 +1,13 @@
-use Rattle.std.proofs.Common.{◌≡◌, ◌∙◌, ◌++◌, ap, sym, reverse, List, Some}
+use Rattle.std.proofs.Common.{◌≡◌, ◌∙◌, ◌++◌, ap, sym, reverse, List}
 use Rattle.std.specs.Prelude.{drop}
 use Rattle.std.proofs.Math.Seq.{drop-append_seam}
 use Rattle.std.proofs.lemmas.Result.{IfOk-weaker}
 use Rattle.es_base.specs.declared.event.Event.{Event}
 use Rattle.es_base.specs.Deliveries.{deliveries, number_delivered}
+use Rattle.es_base.specs.Reassembly.{groups_in}
 use Rattle.es_base.specs.Run.{IsRun}
-use Rattle.link_deliveries.specs.Before.{AreSince, KeepsPieces}
+use Rattle.ip_reassembly.specs.Kept.{StandsFor}
+use Rattle.link_receiver.specs.Walk.{AreSince}
 use Rattle.link_receiver.specs.Link.{deliveries_since}
 use Rattle.link_receiver.proofs.link.LinkState.deliveries.Goals as goal
 
@@ -20,7 +22,7 @@ returns c =
     let settings = link.settings in
     let port = c.args.port in
     IfOk-weaker c.deliveries_after.result
-    (λ messages. (earlier : List Event) → KeepsPieces (Some c.pieces_before.result.now) settings earlier → IsRun settings (reverse link.history ++ earlier) → AreSince settings earlier (reverse link.history) port messages.items)
+    (λ messages. (earlier : List Event) → StandsFor c.pieces_before.result.now settings.reassembly (groups_in settings earlier) → IsRun settings (reverse link.history ++ earlier) → AreSince settings earlier (reverse link.history) port messages.items)
     (λ messages. messages.items ≡ deliveries_since link port)
     (λ messages has.
     let since = has link.before c.pieces_before.ensures c.history.ensures.run in

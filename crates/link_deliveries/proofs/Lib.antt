@@ -1,4 +1,0 @@
-pub mod Offers
-pub mod Verdicts
-pub mod History
-pub mod Since

@@ -1,6 +1,0 @@
-use Rattle.std.proofs.Common.{◌≡◌}
-use Rattle.test_queuing_port.proofs.threads.put_in_order.Given as goal
-
--- the putter is still that of its queue
-abbrev pub invariant-loop : goal.invariant-loop
-invariant-loop g l = l.putter.queue ≡ l.fn.putter.queue
