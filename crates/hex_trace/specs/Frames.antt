@@ -1,5 +1,5 @@
 -- The frames of a trace.
-use Rattle.std.specs.Prelude.{◌<◌, ℕ, List, [], ◌∷◌, ◌++◌, Option, None, Some, length, map}
+use Rattle.std.specs.Prelude.{◌<◌, ℕ, List, [], ◌∷◌, ◌++◌, length, map}
 use Rattle.std.specs.List.{All}
 use Rattle.octet_block.specs.declared.LentOctets.{LentOctets}
 use Rattle.octet_block.specs.OctetBlock.{OctetBlock, TimedOctets}
@@ -21,11 +21,6 @@ frame_of_octets octets = timed_frame octets.time octets.octets
 
 abbrev pub frames_of_block : OctetBlock → List TimedFrame
 frames_of_block block = map frame_of_octets block.items
-
--- when the first of these frames came
-abbrev pub first_time : List TimedFrame → Option ℕ
-first_time [] = None
-first_time (frame ∷ frames) = Some frame.time
 
 -- the frames of all blocks, one block after another
 abbrev pub joined_blocks : List OctetBlock → List TimedFrame

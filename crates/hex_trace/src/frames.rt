@@ -1,7 +1,7 @@
 //! The frames of a trace, in their order.
 ghost use Rattle.std.specs.Prelude.{◌≡◌, ◌<◌, ◌++◌, [], ◌∷◌, IfOk, OnOk, drop, length, slice_get, true};
 ghost use Rattle.std.specs.Option.{option_map};
-ghost use Rattle.hex_trace.specs.Frames.{first_time, frames_of_block, lent_as, timed_frame};
+ghost use Rattle.hex_trace.specs.Frames.{frames_of_block, lent_as, timed_frame};
 
 use crate::line::MOST_OCTETS;
 use es_base::Memory;
@@ -108,13 +108,6 @@ impl Model for Frames {
 }
 
 impl Frames {
-    /// Arrival time of the next frame, in microseconds.
-    pub fn time(&self) -> Option<u64>
-        ensures { result ≡ first_time self.now }
-    {
-        self.first().map(|frame| frame.time)
-    }
-
     /// The next frame.
     pub fn first(&self) -> Option<LentFrame<'_>>
         ensures { option_map lent_as result ≡ slice_get self.now 0 }

@@ -7,8 +7,7 @@ use es_base::Net;
 use es_base::Net::{A, B};
 use frame_reader::read_frame;
 use link_receiver::{Epoch, Event, LinkState};
-use network_calls::Reply;
-use output_lines::add_reply;
+use output_lines::add_event;
 use std::alloc::Global;
 use std::process::Abort;
 use std::sync::Wait;
@@ -98,7 +97,7 @@ fn trace_of(rt: &impl Abort, alloc: Global, net: Net, epochs: &[Epoch]) -> Strin
 
 /// The lines of the epochs' events, each at its place from the first epoch on.
 fn lines_of(rt: &impl Abort, alloc: Global, config: &Config, epochs: &[Epoch]) -> Vec<u8> {
-    let vl = config.links().first().expect(rt, "a link").vl();
+    let link = config.links().first().expect(rt, "a link");
     let mut lines = Vec::new(alloc);
     for epoch in epochs {
         let events = epoch.events();
@@ -109,12 +108,9 @@ fn lines_of(rt: &impl Abort, alloc: Global, config: &Config, epochs: &[Epoch]) -
                 verdict,
                 ..
             } = events.get(place).expect(rt, "an event");
-            let reply = Reply::Link {
-                vl,
-                place: epoch.first().wrapping_add(place as u64),
-                verdict: *verdict,
-            };
-            add_reply(&mut lines, config, *time, *net, reply).expect(rt, "memory");
+            let number = epoch.first().wrapping_add(place as u64);
+            let (vl, ports) = (link.vl(), link.ports());
+            add_event(&mut lines, ports, *time, *net, vl, number, *verdict).expect(rt, "memory");
         }
     }
     lines

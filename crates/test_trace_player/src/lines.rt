@@ -1,9 +1,8 @@
 //! Lines of the output, printed.
 use es_base::Net::{A, B};
 use es_base::{FILTER_CAUSES, LinkNo, PortNo, Verdict, VerdictTally};
-use network_calls::Reply;
 use output_lines::{
-    BusyLine, CountLine, EmptyLine, FilteredCountLine, QueueLine, add_line, add_reply, add_words,
+    BusyLine, CountLine, EmptyLine, FilteredCountLine, QueueLine, add_event, add_line, add_words,
 };
 use std::alloc::Global;
 use std::fmt::Display;
@@ -21,13 +20,9 @@ fn check_event(rt: &impl Abort, alloc: Global, verdict: Verdict, text: &str) {
     let config = read_config(alloc, BUILT_IN)
         .ok()
         .expect(rt, "a configuration");
-    let reply = Reply::Link {
-        vl: LinkNo(17),
-        place: 3,
-        verdict,
-    };
+    let link = config.links().first().expect(rt, "a link");
     let mut lines = Vec::new(alloc);
-    add_reply(&mut lines, &config, 7, A, reply).expect(rt, "memory");
+    add_event(&mut lines, link.ports(), 7, A, LinkNo(17), 3, verdict).expect(rt, "memory");
     assert!(rt; lines.as_slice() == text.as_bytes());
 }
 
