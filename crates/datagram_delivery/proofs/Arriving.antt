@@ -1,7 +1,7 @@
 -- A message that arrives is delivered.
 use Rattle.std.proofs.Common.{◌≡◌, ◌∙◌, ap, sym, subst, append-nil, append_assoc, ℕ, ◌<◌, Bool, true, List, [], ◌∷◌, ◌++◌, refl}
 use Rattle.std.specs.Prelude.{◌&&◌, if◌then◌else◌}
-use Rattle.std.proofs.lemmas.Bool.{eq-eqb}
+use Rattle.std.proofs.lemmas.Bool.{and_from, eq-eqb}
 use Rattle.es_base.specs.declared.place.PortNo.{PortNo}
 use Rattle.es_base.specs.declared.event.Event.{Event}
 use Rattle.es_base.specs.declared.event.Message.{Message}
@@ -12,7 +12,7 @@ use Rattle.es_base.specs.Deliveries.{delivered, deliveries, is_same_port, number
 use Rattle.es_base.specs.Settings.{Settings}
 use Rattle.frame_delivery.specs.Messages.{has_room}
 use Rattle.frame_delivery.proofs.Delivered.{takes}
-use Rattle.frame_delivery.proofs.Since.{first_since}
+use Rattle.frame_delivery.proofs.Since.{new_if}
 use Rattle.datagram_delivery.specs.Arriving.{Arrives, past_before}
 use Rattle.datagram_delivery.specs.Datagrams.{Completes}
 use Rattle.datagram_delivery.specs.Splitting.{Offer}
@@ -46,9 +46,9 @@ pub arriving_brings : (settings : Settings) (past : List Event) (payload : Paylo
 arriving_brings settings past payload time one =
     let before : List Event = past_before one in
     let offer : Offer = record { packet = one.packet one.copy.index; time = one.copy.event.time; room = one.copy.event.room } in
-    let offered = packets_before settings one.numbering one.timing one.packet one.old one.copy one.before one.pass one.carry one.first in
-    completed_in settings before (arrival_of one.copy.event) one.copy.event.room (one.packet one.copy.index) payload
-    (first_since settings one.numbering one.timing one.old one.copy one.before one.pass one.first) offered.0
+    let is = new_if settings one.numbering one.timing one.old one.copy one.before one.pass ∙ and_from _ _ one.counted one.new in
+    let offered = packets_before settings one.numbering one.timing one.packet one.old one.copy one.before one.pass one.carry is in
+    completed_in settings before (arrival_of one.copy.event) one.copy.event.room (one.packet one.copy.index) payload is offered.0
     (subst (λ (offers : List Offer). Completes settings payload offers offer) (sym offered.1) one.completes)
 
 -- right after what was delivered before

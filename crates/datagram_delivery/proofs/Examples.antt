@@ -21,6 +21,7 @@ use Rattle.datagram_delivery.specs.Parts.{HaveParts, IsPartOf}
 use Rattle.datagram_delivery.specs.Examples.{among_one_another, datagram_at, datagram_octets, datagram_of, eight, first_key, first_third, five_begun, fragment, in_two_fragments, last_third, link_of_100, link_with_queue, sixteen_octets, one_identification, packet_sent, part_sent, second_third, message_in_two, three_begun, payload_sent}
 use Rattle.datagram_delivery.proofs.Interleaved.{brought_by}
 use Rattle.frame_delivery.proofs.Since.{all_pass_timely, since_is_near}
+use Rattle.frame_delivery.proofs.Times.{apart_not_late}
 
 -- ---- a message in two fragments
 
@@ -39,7 +40,7 @@ split_passes : PassTimely link_with_queue numbering timing [] in_two_fragments
 split_passes =
     all_pass_timely link_with_queue numbering timing [] in_two_fragments
     (record { redundancy = refl; first = omega arith; numbers = numbers_split; times = split_times; fits = record { covers = omega arith; restarts = omega arith } })
-    (omega arith) (since_is_near link_with_queue numbering timing [] in_two_fragments split_times (omega arith)) (tt, (tt, tt))
+    (apart_not_late timing (omega arith)) (since_is_near link_with_queue numbering timing [] in_two_fragments split_times (omega arith)) (tt, (tt, tt))
 
 split_carries : CarryPackets packet_sent in_two_fragments
 unfolding packets.ones_sum words.u16_at words.u32_at

@@ -11,7 +11,7 @@ use Rattle.es_base.specs.Deliveries.{deliveries, number_delivered}
 use Rattle.es_base.specs.Settings.{Settings}
 use Rattle.frame_delivery.specs.Messages.{goes_to}
 use Rattle.frame_delivery.specs.Network.{Timing}
-use Rattle.frame_delivery.specs.Once.{first_copies}
+use Rattle.frame_delivery.specs.Once.{new_copies}
 use Rattle.frame_delivery.specs.Sending.{Copy, Numbering, events_since}
 use Rattle.frame_delivery.specs.Since.{PassTimely, forwarded_since, passing_since}
 use Rattle.datagram_delivery.specs.Splitting.{Offer, groups_after_offers}
@@ -75,7 +75,7 @@ all_ended settings port older (carried ∷ before) sends few =
     one_more settings port older carried before sends.0 (all_ended settings port older before sends.1 (omega (arith, few))) (omega (arith, few))
 
 pub interleaved_delivered : (settings : Settings) (numbering : Numbering) (timing : Timing) (packet : ℕ → PacketParts) (old : List Event) (copies : List Copy) (carried : List Carried) (port : PortNo)
-    → PassTimely settings numbering timing old copies → CarryPackets packet (forwarded_since settings old copies) → offers_of packet (first_copies (passing_since settings old copies)) ≡ carried_offers carried
+    → PassTimely settings numbering timing old copies → CarryPackets packet (forwarded_since settings old copies) → offers_of packet (new_copies (passing_since settings old copies)) ≡ carried_offers carried
     → AreInterleaved settings (offered_in settings old) carried → number_delivered settings old port + length carried ≤ most_samples
     → deliveries settings (events_since copies old) port ≡ deliveries settings old port ++ messages_ended port carried
 interleaved_delivered settings numbering timing packet old copies carried port pass carry same sends few =

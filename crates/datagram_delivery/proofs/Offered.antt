@@ -17,11 +17,11 @@ use Rattle.es_base.specs.Outcome.{Payload, brings, brought, frame_payload, outco
 use Rattle.es_base.specs.Deliveries.{delivered, deliveries, number_delivered}
 use Rattle.es_base.specs.Settings.{Settings}
 use Rattle.frame_delivery.specs.Sending.{Copy, Numbering, events_since}
-use Rattle.frame_delivery.specs.Once.{first_copies}
+use Rattle.frame_delivery.specs.Once.{new_copies}
 use Rattle.frame_delivery.specs.Network.{Timing}
-use Rattle.frame_delivery.specs.Since.{IsFirstPassing, PassTimely, forwarded_since, passing_since}
+use Rattle.frame_delivery.specs.Since.{PassTimely, forwarded_since, passing_since}
 use Rattle.frame_delivery.proofs.Delivered.{forwarded_brings, nothing_delivered}
-use Rattle.frame_delivery.proofs.Since.{first_since, firsts_before, firsts_since}
+use Rattle.frame_delivery.proofs.Since.{news_before, news_since}
 use Rattle.datagram_delivery.specs.Splitting.{Offer, groups_after_offers, joined, pieces_of}
 use Rattle.datagram_delivery.specs.Datagrams.{CarryPackets, messages_by, offers_of, Completes}
 use Rattle.datagram_delivery.specs.Offers.{offer_with, offered_in}
@@ -87,25 +87,19 @@ offers_since settings packet old (copy ∷ before) carry =
 
 pub packets_since : (settings : Settings) (numbering : Numbering) (timing : Timing) (packet : ℕ → PacketParts) (old : List Event) (copies : List Copy) → PassTimely settings numbering timing old copies
     → CarryPackets packet (forwarded_since settings old copies)
-    → offered_in settings (events_since copies old) ≡ offers_of packet (first_copies (passing_since settings old copies)) ++ offered_in settings old
+    → offered_in settings (events_since copies old) ≡ offers_of packet (new_copies (passing_since settings old copies)) ++ offered_in settings old
 packets_since settings numbering timing packet old copies pass carry =
     offers_since settings packet old copies carry
-    ∙ ap (λ (some : List Copy). offers_of packet some ++ offered_in settings old) (firsts_since settings numbering timing old copies pass).0
+    ∙ ap (λ (some : List Copy). offers_of packet some ++ offered_in settings old) (news_since settings numbering timing old copies pass).0
 
--- before the first copy of a frame that counts, and this one is forwarded
-first_carries : (settings : Settings) (numbering : Numbering) (timing : Timing) (packet : ℕ → PacketParts) (old : List Event) (copy : Copy) (before : List Copy) → PassTimely settings numbering timing old (copy ∷ before)
-    → CarryPackets packet (forwarded_since settings old (copy ∷ before)) → IsFirstPassing settings old before copy → CarryPackets packet (copy ∷ forwarded_since settings old before)
-first_carries settings numbering timing packet old copy before pass carry is_first =
-    let is = first_since settings numbering timing old copy before pass is_first in
-    rw is at carry
-
+-- before one that is forwarded
 pub packets_before : (settings : Settings) (numbering : Numbering) (timing : Timing) (packet : ℕ → PacketParts) (old : List Event) (copy : Copy) (before : List Copy)
-    → PassTimely settings numbering timing old (copy ∷ before) → CarryPackets packet (forwarded_since settings old (copy ∷ before)) → IsFirstPassing settings old before copy
+    → PassTimely settings numbering timing old (copy ∷ before) → CarryPackets packet (forwarded_since settings old (copy ∷ before)) → is_forwarded settings (events_since before old) (arrival_of copy.event) ≡ true
     → (packet_in copy.event.frame ≡ Ok (packet copy.index))
-    × (offered_in settings (events_since before old) ≡ offers_of packet (first_copies (passing_since settings old before)) ++ offered_in settings old)
-packets_before settings numbering timing packet old copy before pass carry is_first =
-    let carries = first_carries settings numbering timing packet old copy before pass carry is_first in
-    (carries.0, offers_since settings packet old before carries.1 ∙ ap (λ (some : List Copy). offers_of packet some ++ offered_in settings old) (firsts_before settings numbering timing old copy before pass))
+    × (offered_in settings (events_since before old) ≡ offers_of packet (new_copies (passing_since settings old before)) ++ offered_in settings old)
+packets_before settings numbering timing packet old copy before pass carry is =
+    let carries : CarryPackets packet (copy ∷ forwarded_since settings old before) = rw is at carry in
+    (carries.0, offers_since settings packet old before carries.1 ∙ ap (λ (some : List Copy). offers_of packet some ++ offered_in settings old) (news_before settings numbering timing old copy before pass))
 
 -- ---- a packet that completes a message
 

@@ -7,12 +7,12 @@ use Rattle.es_base.specs.Packet.{PacketParts}
 use Rattle.es_base.specs.Copies.{elapsed}
 use Rattle.es_base.specs.Fragments.{is_bad, is_whole, key_of, piece_of, Piece}
 use Rattle.es_base.specs.Groups.{Found, Group, bad, begin_of, begins, datagram_with, fate, fate_if, found_for, group_with, groups_after, has_key, is_over, is_same_key, joins, pieces_with, whole}
-use Rattle.datagram_delivery.specs.Splitting.{Offer, are_some, groups_after_offers, is_of}
+use Rattle.datagram_delivery.specs.Splitting.{Offer, groups_after_offers, is_of}
 use Rattle.datagram_delivery.specs.Datagrams.{IsUnused}
 use Rattle.datagram_delivery.specs.Parts.{IsPartOf}
 use Rattle.datagram_delivery.proofs.Each.{AreDistinct, EachGroup, each_at, each_more, each_push, each_remove, each_room, each_set}
 use Rattle.datagram_delivery.proofs.Standing.{joins_from, kept_after}
-use Rattle.datagram_delivery.proofs.Unused.{Begun, all_begun, begin_same, distinct_all, unused_at}
+use Rattle.datagram_delivery.proofs.Unused.{Begun, all_begun, are_some, begin_same, distinct_all, unused_at}
 use Rattle.datagram_delivery.proofs.Slices.{AreSlices, IsSlice, made_is}
 use Rattle.datagram_delivery.proofs.Rows.{take_all}
 

@@ -1,5 +1,5 @@
 -- An identification that wasn't used within the limit finds no group, or one that is over.
-use Rattle.std.proofs.Common.{◌≡◌, ◌∙◌, ap, sym, subst, ℕ, ◌+◌, ◌<◌, inl, inr, true, List, [], ◌∷◌, ◌++◌, remove, Option, None, Some, refl, arith}
+use Rattle.std.proofs.Common.{◌≡◌, ◌∙◌, ap, sym, subst, ℕ, ◌+◌, ◌<◌, inl, inr, Bool, true, false, List, [], ◌∷◌, ◌++◌, remove, Option, None, Some, refl, arith}
 use Rattle.std.specs.Prelude.{◌⊎◌, slice_get, slice_set}
 use Rattle.std.proofs.lemmas.Bool.{both_ways, lt-ltb}
 use Rattle.es_base.specs.declared.fragment.DatagramKey.{DatagramKey}
@@ -7,7 +7,7 @@ use Rattle.es_base.specs.Copies.{elapsed}
 use Rattle.es_base.specs.Fragments.{Piece, key_of, piece_of}
 use Rattle.es_base.specs.Groups.{Found, Group, begin_of, begin_or, begins, found_at, found_for, found_if, group_with, groups_after, has_key, is_over, is_same_key, joins, place_of, with_room}
 use Rattle.es_base.proofs.Firsts.{found_at as found_place, passes_found}
-use Rattle.datagram_delivery.specs.Splitting.{Offer, are_some, groups_after_offers, is_of, none_in_parts, is_beginning}
+use Rattle.datagram_delivery.specs.Splitting.{Offer, groups_after_offers, is_of, none_in_parts, is_beginning}
 use Rattle.datagram_delivery.specs.Datagrams.{IsUnused}
 use Rattle.datagram_delivery.proofs.Each.{AreDistinct, EachGroup, IsAbsent, distinct_remove, distinct_set, each_at, each_more, each_push, each_remove, each_room, each_set, room_kept}
 use Rattle.datagram_delivery.proofs.Datagrams.{offers_join}
@@ -18,6 +18,10 @@ use Rattle.datagram_delivery.proofs.Standing.{begins_absent, distinct_push, kept
 abbrev pub IsAmong : Offer → List Offer → Type 0
 IsAmong offer [] = ⊥
 IsAmong offer (other ∷ before) = (other ≡ offer) ⊎ IsAmong offer before
+
+abbrev pub are_some : List Piece → Bool
+are_some [] = false
+are_some (piece ∷ earlier) = true
 
 -- it began with one of these offers
 pub record Begun (before : List Offer) (group : Group) : Type 0 where

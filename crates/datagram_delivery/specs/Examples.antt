@@ -83,14 +83,35 @@ a_part_before = (came_with nets.A 0 (253 ∷ []) 20).event ∷ (came_with nets.B
 abbrev pub after_a_part : List Copy
 after_a_part = came_with nets.B 1 second_frame 61500 ∷ came_with nets.A 0 first_frame 60100 ∷ []
 
--- frames that are sent from 60000 on, more than the limit of 50000 later
-abbrev pub timing_after_a_part : Timing
-timing_after_a_part = record { sent = λ index. 60000 + 1000 * index; gap = 1000; pause = 2000; least = 100; greatest = 900; wait = 100 }
-
 -- ---- two messages whose fragments come among one another
 
 abbrev pub among_one_another : List Carried
 among_one_another = part_sent 2 1 400 ∷ part_sent 1 1 300 ∷ part_sent 2 0 200 ∷ part_sent 1 0 100 ∷ []
+
+-- ---- a frame that is overtaken, among others
+
+-- eight octets of one value
+abbrev pub eight : ℕ → List ℕ
+eight value = value ∷ value ∷ value ∷ value ∷ value ∷ value ∷ value ∷ value ∷ []
+
+-- a frame of 60 octets with a message of eight octets of this value, and this sequence number, as a network brings it:
+-- octet 11 tells which
+abbrev pub frame_with : ℕ → ℕ → ℕ → List ℕ
+frame_with network value number =
+    (3 ∷ 0 ∷ 0 ∷ 0 ∷ 0 ∷ 17 ∷ 2 ∷ 0 ∷ 0 ∷ 0 ∷ 1 ∷ network ∷ 8 ∷ 0 ∷ 69 ∷ 0 ∷ 0 ∷ 36 ∷ 0 ∷ 1 ∷ 0 ∷ 0 ∷ 1 ∷ 17 ∷ 205 ∷ 213 ∷ 10 ∷ 1 ∷ 1 ∷ 1 ∷ 224 ∷ 224 ∷ 0 ∷ 17 ∷ 19 ∷ 136 ∷ 19 ∷ 138 ∷ 0 ∷ 16 ∷ 0 ∷ 0 ∷ [])
+    ++ eight value
+    ++ (0 ∷ 0 ∷ 0 ∷ 0 ∷ 0 ∷ 0 ∷ 0 ∷ 0 ∷ 0 ∷ number ∷ [])
+
+-- its message
+abbrev pub payload_with : ℕ → Payload
+payload_with value = record { port = record { 0 = 0 }; kind = Queuing 4; joined = false; octets = eight value }
+
+-- of three frames, sent 500 microseconds apart, B loses the second, and A brings it after B's third; and the next one
+abbrev pub one_overtaken : List Copy
+one_overtaken = came_with nets.A 1 (frame_with 32 1 255) 1150 ∷ came_with nets.B 2 (frame_with 64 2 1) 1100 ∷ came_with nets.A 0 (frame_with 32 0 254) 100 ∷ []
+
+abbrev pub one_after : Copy
+one_after = came_with nets.B 3 (frame_with 64 3 2) 1600
 
 -- ---- one thing isn't met
 
@@ -126,10 +147,6 @@ five_begun = fragment 5 0 true 5 ∷ three_begun ++ fragment 1 0 true 1 ∷ []
 -- a link whose limit of time for a datagram in parts is 100 microseconds
 abbrev pub link_of_100 : Settings
 link_of_100 = record link_with_queue { reassembly = 100 }
-
--- eight octets of one value
-abbrev pub eight : ℕ → List ℕ
-eight value = value ∷ value ∷ value ∷ value ∷ value ∷ value ∷ value ∷ value ∷ []
 
 -- the octets of a datagram: the UDP header, and a message of this value
 abbrev pub datagram_of : ℕ → List ℕ

@@ -11,7 +11,7 @@ use Rattle.es_base.specs.Packet.{PacketParts}
 use Rattle.es_base.specs.Settings.{Settings}
 use Rattle.frame_delivery.specs.Messages.{goes_to}
 use Rattle.frame_delivery.specs.Network.{Timing}
-use Rattle.frame_delivery.specs.Once.{first_copies}
+use Rattle.frame_delivery.specs.Once.{new_copies}
 use Rattle.frame_delivery.specs.Sending.{Copy, Numbering, events_of_copies}
 use Rattle.frame_delivery.specs.Since.{PassTimely, forwarded_since, passing_since}
 use Rattle.datagram_delivery.specs.Datagrams.{CarryPackets, Completes, IsNextFront, offers_of}
@@ -46,8 +46,8 @@ messages_ended port (carried ∷ before) =
     else if goes_to port carried.payload carried.offer.room then messages_ended port before ++ record { time = carried.offer.time; octets = carried.payload.octets } ∷ []
     else messages_ended port before
 
--- These events of a link are copies of a sender's frames, of which those that pass come in time; and the first of them
--- have the packets of these datagrams.
+-- These events of a link are copies of a sender's frames, of which those that pass come in time; and those of them that are
+-- of a later frame than all before have the packets of these datagrams.
 pub record BringDatagrams (settings : Settings) (past : List Event) (carried : List Carried) : Type 0 where
   pub copies : List Copy
   pub is : past ≡ events_of_copies copies
@@ -56,6 +56,6 @@ pub record BringDatagrams (settings : Settings) (past : List Event) (carried : L
   pub pass : PassTimely settings numbering timing [] copies
   pub packet : ℕ → PacketParts
   pub carry : CarryPackets packet (forwarded_since settings [] copies)
-  pub offered : offers_of packet (first_copies (passing_since settings [] copies)) ≡ carried_offers carried
+  pub offered : offers_of packet (new_copies (passing_since settings [] copies)) ≡ carried_offers carried
   pub sent : AreInterleaved settings [] carried
   pub few : length carried ≤ most_samples

@@ -16,7 +16,7 @@ ghost use Rattle.es_base.specs.Redundancy.{is_forwarded};
 ghost use Rattle.es_base.specs.Outcome.{Payload, brings, outcome};
 ghost use Rattle.es_base.specs.Deliveries.{deliveries, number_delivered};
 ghost use Rattle.frame_delivery.specs.Sending.{Copy, Numbering, events_of_copies, events_since};
-ghost use Rattle.frame_delivery.specs.Once.{first_copies};
+ghost use Rattle.frame_delivery.specs.Once.{FirstsInOrder, new_copies};
 ghost use Rattle.frame_delivery.specs.Network.{ComeWhole, KeepsGap, KeepsPause, KeepsTimes, Timing};
 ghost use Rattle.frame_delivery.specs.Since.{PassTimely, forwarded_since, passing_since};
 ghost use Rattle.datagram_delivery.specs.Splitting.{IsLastFragment, Offer, groups_after_offers, none_in_parts, joined, other_keys, pieces_of};
@@ -27,7 +27,7 @@ ghost use Rattle.datagram_delivery.specs.Interleaved.{AreInterleaved, BringDatag
 ghost use Rattle.datagram_delivery.specs.Parts.{AreWhole, ComeAfterLimit, HaveParts, HavePartsSince, IsMessageOfDatagram, WereSentIn};
 ghost use Rattle.datagram_delivery.specs.Counting.{CarryParts, Counting, CountsUp, IsOverBefore, KeepsCount, TurnsOverLate};
 ghost use Rattle.frame_delivery.specs.Examples.{numbering, timing};
-ghost use Rattle.datagram_delivery.specs.Examples.{a_part_before, after_a_part, among_one_another, counted_anew, counting_anew, datagram_at, datagram_before_restart, datagram_octets, eight, first_key, five_begun, fragment, in_two_fragments, link_of_100, link_with_queue, message_in_two, sixteen_octets, one_identification, payload_sent, restarting, three_begun, timing_with_pause};
+ghost use Rattle.datagram_delivery.specs.Examples.{a_part_before, after_a_part, among_one_another, counted_anew, counting_anew, datagram_at, datagram_before_restart, datagram_octets, eight, first_key, five_begun, fragment, in_two_fragments, link_of_100, link_with_queue, message_in_two, sixteen_octets, one_after, one_identification, one_overtaken, payload_sent, payload_with, restarting, three_begun, timing_with_pause};
 
 /// A datagram that is split into fragments is joined whole: each fragment but the last is held, and the last brings
 /// exactly the octets of all, one after the other. They come in order and within the limit of time, none is missing,
@@ -58,27 +58,28 @@ pub fn deliveries_are_of_what_was_offered()
     ensures groups { (settings : Settings) (past : List Event) → groups_in settings past ≡ groups_after_offers settings.reassembly [] (offered_in settings past) }
 {}
 
-/// After any past the packet of each frame of which a copy passes, from the first on that is forwarded, is offered once,
-/// in the order of sending, at the time of the first that passes: whatever is lost of others, and whatever the packets
-/// are.
+/// After any past the packet of each frame of which a copy passes before all copies of later frames, from the first on that
+/// is forwarded, is offered once, in the order of sending, at the time of the first that passes: whatever is lost of others,
+/// and whatever the packets are.
 pub fn each_passing_packet_is_offered_once()
     ensures { (settings : Settings) (numbering : Numbering) (timing : Timing) (packet : ℕ → PacketParts) (old : List Event) (copies : List Copy) → PassTimely settings numbering timing old copies
         → CarryPackets packet (forwarded_since settings old copies)
-        → offered_in settings (events_since copies old) ≡ offers_of packet (first_copies (passing_since settings old copies)) ++ offered_in settings old }
+        → offered_in settings (events_since copies old) ≡ offers_of packet (new_copies (passing_since settings old copies)) ++ offered_in settings old }
 {}
 
 /// If a sender sends its datagrams whole, or the fragments of up to four of them among one another, as its sub-virtual
-/// links do, a port gets after any past exactly the messages whose last packet comes: each once, whole, in the order of
-/// ending, with the time of the first copy of its last fragment that passes; but for those whose queue was full then.
+/// links do, a port gets after any past exactly the messages whose last packet comes before all copies of later frames: each
+/// once, whole, in the order of ending, with the time of the first copy of its last fragment that passes; but for those whose
+/// queue was full then.
 pub fn each_datagram_among_others_is_delivered_once()
     ensures { (settings : Settings) (numbering : Numbering) (timing : Timing) (packet : ℕ → PacketParts) (old : List Event) (copies : List Copy) (carried : List Carried) (port : PortNo)
-        → PassTimely settings numbering timing old copies → CarryPackets packet (forwarded_since settings old copies) → offers_of packet (first_copies (passing_since settings old copies)) ≡ carried_offers carried
+        → PassTimely settings numbering timing old copies → CarryPackets packet (forwarded_since settings old copies) → offers_of packet (new_copies (passing_since settings old copies)) ≡ carried_offers carried
         → AreInterleaved settings (offered_in settings old) carried → number_delivered settings old port + length carried ≤ most_samples
         → deliveries settings (events_since copies old) port ≡ deliveries settings old port ++ messages_ended port carried }
 {}
 
 /// So a message that arrives is delivered to its port: whatever came before its sender's copies, whatever was lost of
-/// others, and whatever comes after it. No fault of a sender or a network, once it is over, voids this. It stands right
+/// others, or came after one of a later frame, and whatever comes after it. No fault of a sender or a network, once it is over, voids this. It stands right
 /// after what was delivered before it: so each that arrives has a place of its own. For any frame that is forwarded
 /// brings the message that its packet completes, whatever groups stand.
 pub fn each_message_that_arrives_is_delivered()
@@ -118,13 +119,17 @@ pub fn a_count_of_identifications_mixes_nothing()
         → KeepsCount limit numbering timing counting }
 {}
 
-/// The conditions can be met: by four frames that two networks bring, each with a loss, over the end of the sequence
-/// numbers, and all four are forwarded; and by a message in two fragments, of which each network loses one,
-/// also after a part of another with its identification, of which the rest was lost, and a frame of no sender.
+/// The conditions can be met: by a message in two fragments, of which each network loses one, also after a part of another
+/// with its identification, of which the rest was lost, and a frame of no sender; by two messages among one another; and by a
+/// message after a frame that is lost, since its one copy comes after one of a later frame: those before it are delivered,
+/// and so is this.
 pub fn the_conditions_can_be_met()
     ensures in_fragments { BringDatagrams link_with_queue (events_of_copies in_two_fragments) message_in_two }
     ensures among { AreInterleaved link_with_queue [] among_one_another }
     ensures arrives { Arrives link_with_queue (events_since after_a_part a_part_before) payload_sent 61500 }
+    ensures after_overtaken { Arrives link_with_queue (events_of_copies (one_after ∷ one_overtaken)) (payload_with 3) 1600 × (FirstsInOrder (passing_since link_with_queue [] one_overtaken) → ⊥)
+        × (deliveries link_with_queue (events_of_copies (one_after ∷ one_overtaken)) (record { 0 = 0 })
+        ≡ record { time = 100; octets = eight 0 } ∷ record { time = 1100; octets = eight 2 } ∷ record { time = 1600; octets = eight 3 } ∷ []) }
     ensures parts { HaveParts 50000 (λ e. datagram_octets) (events_of_copies in_two_fragments) }
     ensures delivered { deliveries link_with_queue (events_of_copies in_two_fragments) (record { 0 = 0 }) ≡ record { time = 1500; octets = sixteen_octets } ∷ [] }
 {}

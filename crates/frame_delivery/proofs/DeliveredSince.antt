@@ -15,7 +15,7 @@ use Rattle.frame_delivery.specs.Sending.{Copy, Numbering, events_since}
 use Rattle.frame_delivery.specs.Once.{first_copies}
 use Rattle.frame_delivery.specs.Network.{Timing}
 use Rattle.frame_delivery.specs.Messages.{CarryWhole, goes_to, messages_of}
-use Rattle.frame_delivery.specs.Since.{PassTimely, forwarded_since, passing_since}
+use Rattle.frame_delivery.specs.Since.{PassInOrder, forwarded_since, passing_since}
 use Rattle.frame_delivery.proofs.Delivered.{forwarded_outcome, nothing_delivered, takes}
 use Rattle.frame_delivery.proofs.Since.{firsts_since}
 
@@ -64,7 +64,7 @@ delivered_since settings payload port old (copy ∷ before) carry few =
     ∙ append-nil (deliveries settings past port) ∙ rest))
     (cases_Bool (is_forwarded settings (events_since before old) (arrival_of copy.event)))
 
-pub messages_since : (settings : Settings) (numbering : Numbering) (timing : Timing) (payload : ℕ → Payload) (old : List Event) (copies : List Copy) (port : PortNo) → PassTimely settings numbering timing old copies
+pub messages_since : (settings : Settings) (numbering : Numbering) (timing : Timing) (payload : ℕ → Payload) (old : List Event) (copies : List Copy) (port : PortNo) → PassInOrder settings numbering timing old copies
     → CarryWhole settings payload (forwarded_since settings old copies) → number_delivered settings old port + length copies ≤ most_samples
     → deliveries settings (events_since copies old) port ≡ deliveries settings old port ++ messages_of payload port (first_copies (passing_since settings old copies))
 messages_since settings numbering timing payload old copies port pass carry few =

@@ -1,14 +1,17 @@
 -- The examples.
-use Rattle.std.proofs.Common.{◌≡◌, ◌+◌, ◌≤◌, sym, zero, suc, inl, inr, true, [], ◌∷◌, refl, arith}
+use Rattle.std.proofs.Common.{◌≡◌, ◌∙◌, ap, ℕ, ◌+◌, ◌≤◌, ◌<◌, sym, zero, suc, inl, inr, true, List, [], ◌∷◌, ◌++◌, refl, arith, ⊎_elim}
 use Rattle.std.specs.Prelude.{◌⊎◌}
 use Rattle.std.proofs.lemmas.Bool.{false≢true}
 use Rattle.es_base.specs.declared.place.Net.TheVariants as nets
 use Rattle.es_base.specs.Redundancy.{forwarded}
-use Rattle.frame_delivery.specs.Sending.{EachCopy, HaveNumbers, RunsOn, events_of_copies}
-use Rattle.frame_delivery.specs.Network.{BeginNear, ComeWhole, HasNoOvertaking, IsOnItsWay, KeepOrderTogether, KeepsOrder, KeepsTimes, LosesNoneOf, LosesFew, Timing, time_of_all, copies_on}
-use Rattle.frame_delivery.specs.Conditions.{Condition, IsMet, MeetAllBut, covers, firsts, is_asked_for_all, late, late_restart, losses, near, restarts}
+use Rattle.es_base.specs.Settings.{Settings}
+use Rattle.frame_delivery.specs.Sending.{Copy, HaveNumbers, Numbering, RunsOn, events_of_copies}
+use Rattle.frame_delivery.specs.Once.{as_forwarded}
+use Rattle.frame_delivery.specs.Network.{BeginNear, ComeWhole, HasNoOvertaking, KeepOrderTogether, KeepsOrder, KeepsTimes, LosesNoneOf, LosesFew, Timing, copies_on}
+use Rattle.frame_delivery.specs.Conditions.{AreCopies, Condition, IsMet, MeetAllBut, covers, firsts, late, late_restart, losses, near, restarts}
 use Rattle.frame_delivery.specs.Examples.{after_skew_max, behind_a_restart, far_apart, far_behind, frame_at, from_57, from_one, link, numbering, overtaken, slower_network, slower_on_b, soon_restarted, timed, timing, two_lost, wide_link, with_losses}
-use Rattle.frame_delivery.proofs.Since.{short_is_near}
+use Rattle.frame_delivery.proofs.Main.{firsts_are_forwarded}
+use Rattle.frame_delivery.proofs.Since.{forwarded_are, short_is_near}
 use Rattle.frame_delivery.proofs.Firsts.{come_at_most}
 use Rattle.frame_delivery.proofs.Together.{firsts_together}
 use Rattle.frame_delivery.proofs.Times.{apart_not_late, short_firsts}
@@ -18,75 +21,33 @@ use Rattle.frame_delivery.proofs.Times.{apart_not_late, short_firsts}
 numbers_met : HaveNumbers numbering with_losses
 numbers_met = (refl, (refl, (refl, (refl, (refl, (refl, tt))))))
 
-ways_met : EachCopy (λ before copy. IsOnItsWay timing copy) with_losses
-ways_met = ((omega arith, omega arith), ((omega arith, omega arith), ((omega arith, omega arith), ((omega arith, omega arith), ((omega arith, omega arith), ((omega arith, omega arith), tt))))))
-
-order_met : EachCopy (λ before copy. time_of_all before ≤ copy.event.time + timing.wait) with_losses
-order_met = (omega arith, (omega arith, (omega arith, (omega arith, (omega arith, (omega arith, tt))))))
-
 losses_met : LosesFew numbering 2 with_losses
-losses_met = (
-  inl (omega arith, λ index after within. refl),
-  (
-    inl (omega arith, λ index after within. refl),
-    (
-      inl (omega arith, λ index after within. refl),
-      (
-        inl (omega arith, λ index after within. refl),
-        (tt, (tt, tt)),
-      ),
-    ),
-  ),
-)
+losses_met = (inl (omega arith, λ index after within. refl), (inl (omega arith, λ index after within. refl), (inl (omega arith, λ index after within. refl), (inl (omega arith, λ index after within. refl), (tt, (tt, tt))))))
 
-near_met : BeginNear 1000 with_losses
-near_met = (λ cut soon. omega arith, (λ cut soon. omega arith, (λ cut soon. omega arith, (λ cut soon. omega arith, (λ cut soon. omega arith, (tt, tt))))))
+near_met : (skew_max : ℕ) → BeginNear skew_max with_losses
+near_met skew_max = (λ cut soon. omega arith, (λ cut soon. omega arith, (λ cut soon. omega arith, (λ cut soon. omega arith, (λ cut soon. omega arith, (tt, tt))))))
 
-times_met : KeepsTimes numbering timing with_losses
-times_met = record { gaps = λ index. omega arith; pauses = λ index is. absurd (false≢true is); ways = ways_met; order = order_met }
-
-pub all_met : ComeWhole (link 1000) numbering timing with_losses
-all_met = record {
-  timely = record {
-    redundancy = refl;
-    first = omega arith;
-    numbers = numbers_met;
-    times = times_met;
-    fits = record { covers = omega arith; restarts = omega arith };
-  };
-  near = near_met;
-  losses = losses_met;
-  on_time = apart_not_late timing (omega arith);
-  firsts = short_firsts numbering timing with_losses times_met (omega arith);
+times_met : (pause : ℕ) → KeepsTimes numbering (timed 1000 pause 100 900 100) with_losses
+times_met pause = record {
+  gaps = λ index. omega arith;
+  pauses = λ index is. absurd (false≢true is);
+  ways = ((omega arith, omega arith), ((omega arith, omega arith), ((omega arith, omega arith), ((omega arith, omega arith), ((omega arith, omega arith), ((omega arith, omega arith), tt))))));
+  order = (omega arith, (omega arith, (omega arith, (omega arith, (omega arith, (omega arith, tt))))));
 }
 
--- with a SkewMax of a second
-abbrev long_timing : Timing
-long_timing = timed 1000 2000000 100 900 100
-
-long_times : KeepsTimes numbering long_timing with_losses
-long_times = record { gaps = λ index. omega arith; pauses = λ index is. absurd (false≢true is); ways = ways_met; order = order_met }
-
-long_near : BeginNear 1000000 with_losses
-long_near = (λ cut soon. omega arith, (λ cut soon. omega arith, (λ cut soon. omega arith, (λ cut soon. omega arith, (λ cut soon. omega arith, (tt, tt))))))
-
-pub long_met : ComeWhole (link 1000000) numbering (timed 1000 2000000 100 900 100) with_losses
-long_met = record {
-  timely = record {
-    redundancy = refl;
-    first = omega arith;
-    numbers = numbers_met;
-    times = long_times;
-    fits = record { covers = omega arith; restarts = omega arith };
-  };
-  near = long_near;
+pub all_met : (skew_max pause : ℕ) → 800 ≤ skew_max → skew_max + 800 < pause → ComeWhole (link skew_max) numbering (timed 1000 pause 100 900 100) with_losses
+all_met skew_max pause covering over = record {
+  timely = record { redundancy = refl; first = omega arith; numbers = numbers_met; times = times_met pause; fits = record { covers = omega (arith, covering); restarts = omega (arith, over) } };
+  near = near_met skew_max;
   losses = losses_met;
-  on_time = apart_not_late long_timing (omega arith);
-  firsts = short_firsts numbering long_timing with_losses long_times (omega arith);
+  on_time = apart_not_late (timed 1000 pause 100 900 100) (omega arith);
+  firsts = short_firsts numbering (timed 1000 pause 100 900 100) with_losses (times_met pause) (omega arith);
 }
 
-pub long_forwarded : forwarded (link 1000000) (events_of_copies with_losses) ≡ frame_at 2 3100 ∷ frame_at 1 2200 ∷ frame_at 255 1500 ∷ frame_at 254 100 ∷ []
-long_forwarded = refl
+pub met_forwarded : (skew_max : ℕ) → 800 ≤ skew_max → forwarded (link skew_max) (events_of_copies with_losses) ≡ frame_at 2 3100 ∷ frame_at 1 2200 ∷ frame_at 255 1500 ∷ frame_at 254 100 ∷ []
+met_forwarded skew_max covering =
+    let whole = all_met skew_max (skew_max + 801) covering (omega arith) in
+    forwarded_are (link skew_max) [] with_losses ∙ ap (λ (some : List Copy). as_forwarded some ++ []) (firsts_are_forwarded (link skew_max) numbering (timed 1000 (skew_max + 801) 100 900 100) with_losses whole).0
 
 -- where one network is slower than the other by more than a gap
 abbrev apart_by_more : Timing
@@ -131,71 +92,58 @@ slower_met = (
   refl,
 )
 
-pub met_forwarded : forwarded (link 1000) (events_of_copies with_losses) ≡ frame_at 2 3100 ∷ frame_at 1 2200 ∷ frame_at 255 1500 ∷ frame_at 254 100 ∷ []
-met_forwarded = refl
-
 -- ---- one thing isn't
+
+-- of a condition, in an example of the one that isn't met: it is this one, or it is met
+abbrev OneOrMet : Condition → Settings → Numbering → Timing → List Copy → Condition → Type 0
+OneOrMet one settings numbering timing copies condition = (condition ≡ one) ⊎ IsMet condition settings numbering timing copies
+
+pub all_but : (one : Condition) (settings : Settings) (numbering : Numbering) (timing : Timing) (copies : List Copy) → AreCopies settings numbering timing copies
+    → OneOrMet one settings numbering timing copies covers × OneOrMet one settings numbering timing copies restarts → OneOrMet one settings numbering timing copies near
+    → OneOrMet one settings numbering timing copies losses → OneOrMet one settings numbering timing copies firsts
+    → OneOrMet one settings numbering timing copies late × OneOrMet one settings numbering timing copies late_restart → (IsMet one settings numbering timing copies → ⊥)
+    → MeetAllBut one settings numbering timing copies
+all_but one settings numbering timing copies are skew is_near few in_order soon not_met =
+    record { are = are; others = λ other differ. ⊎_elim (λ same. absurd (differ same)) (λ met. met) (of_each other); not_met = not_met }
+  where
+    of_each : (condition : Condition) → OneOrMet one settings numbering timing copies condition
+    of_each covers = skew.0
+    of_each restarts = skew.1
+    of_each near = is_near
+    of_each losses = few
+    of_each firsts = in_order
+    of_each late = soon.0
+    of_each late_restart = soon.1
 
 after_skew_max_times : KeepsTimes from_one (timed 2000 4000 100 1101 0) after_skew_max
 after_skew_max_times = record { gaps = λ index. omega arith; pauses = λ index is. absurd (false≢true is); ways = ((omega arith, omega arith), ((omega arith, omega arith), tt)); order = (omega arith, (omega arith, tt)) }
 
-after_skew_max_others : (other : Condition) → is_asked_for_all other ≡ true → (other ≡ covers → ⊥) → IsMet other (link 1000) from_one (timed 2000 4000 100 1101 0) after_skew_max
-after_skew_max_others covers asked differ = absurd (differ refl)
-after_skew_max_others restarts asked differ = omega arith
-after_skew_max_others near asked differ = short_is_near (link 1000) from_one (timed 2000 4000 100 1101 0) after_skew_max after_skew_max_times (omega arith)
-after_skew_max_others losses asked differ = (tt, (tt, tt))
-after_skew_max_others firsts asked differ = short_firsts from_one (timed 2000 4000 100 1101 0) after_skew_max after_skew_max_times (omega arith)
-after_skew_max_others late asked differ = omega arith
-after_skew_max_others late_restart asked differ = omega arith
-
-pub forwarded_twice : MeetAllBut is_asked_for_all covers (link 1000) from_one (timed 2000 4000 100 1101 0) after_skew_max
+pub forwarded_twice : MeetAllBut covers (link 1000) from_one (timed 2000 4000 100 1101 0) after_skew_max
     × (forwarded (link 1000) (events_of_copies after_skew_max) ≡ frame_at 1 1101 ∷ frame_at 1 100 ∷ [])
 forwarded_twice = (
-  record {
-    are = record { redundancy = refl; first = omega arith; numbers = (refl, (refl, tt)); times = after_skew_max_times };
-    asked = refl;
-    others = after_skew_max_others;
-    not_met = λ is. absurd (omega (arith, is));
-  },
+  all_but covers (link 1000) from_one (timed 2000 4000 100 1101 0) after_skew_max (record { redundancy = refl; first = omega arith; numbers = (refl, (refl, tt)); times = after_skew_max_times }) (inl refl, inr (omega arith))
+      (inr (short_is_near (link 1000) from_one (timed 2000 4000 100 1101 0) after_skew_max after_skew_max_times (omega arith)))
+      (inr (tt, (tt, tt))) (inr (short_firsts from_one (timed 2000 4000 100 1101 0) after_skew_max after_skew_max_times (omega arith)))
+      (inr (omega arith), inr (omega arith)) (λ is. absurd (omega (arith, is))),
   refl,
 )
 
 overtaken_times : KeepsTimes from_one (timed 1000 4000 100 1100 0) overtaken
 overtaken_times = record { gaps = λ index. omega arith; pauses = λ index is. absurd (false≢true is); ways = ((omega arith, omega arith), ((omega arith, omega arith), ((omega arith, omega arith), ((omega arith, omega arith), ((omega arith, omega arith), tt))))); order = (omega arith, (omega arith, (omega arith, (omega arith, (omega arith, tt))))) }
 
-overtaken_others : (other : Condition) → is_asked_for_all other ≡ true → (other ≡ firsts → ⊥) → IsMet other (link 1000) from_one (timed 1000 4000 100 1100 0) overtaken
-overtaken_others covers asked differ = omega arith
-overtaken_others restarts asked differ = omega arith
-overtaken_others near asked differ = short_is_near (link 1000) from_one (timed 1000 4000 100 1100 0) overtaken overtaken_times (omega arith)
-overtaken_others losses asked differ = ((inl (omega arith, λ index after within. refl)), ((inl (omega arith, λ index after within. refl)), ((inl (omega arith, λ index after within. refl)), (tt, (tt, tt)))))
-overtaken_others firsts asked differ = absurd (differ refl)
-overtaken_others late asked differ = omega arith
-overtaken_others late_restart asked differ = omega arith
-
-pub overtaken_is_lost : MeetAllBut is_asked_for_all firsts (link 1000) from_one (timed 1000 4000 100 1100 0) overtaken × KeepsOrder overtaken
+pub overtaken_is_lost : MeetAllBut firsts (link 1000) from_one (timed 1000 4000 100 1100 0) overtaken × KeepsOrder overtaken
     × (forwarded (link 1000) (events_of_copies overtaken) ≡ frame_at 3 2100 ∷ frame_at 1 100 ∷ [])
 overtaken_is_lost = (
-  record {
-    are = record { redundancy = refl; first = omega arith; numbers = (refl, (refl, (refl, (refl, (refl, tt))))); times = overtaken_times };
-    asked = refl;
-    others = overtaken_others;
-    not_met = λ is. false≢true (is.1.0 refl);
-  },
+  all_but firsts (link 1000) from_one (timed 1000 4000 100 1100 0) overtaken (record { redundancy = refl; first = omega arith; numbers = (refl, (refl, (refl, (refl, (refl, tt))))); times = overtaken_times }) (inr (omega arith), inr (omega arith))
+      (inr (short_is_near (link 1000) from_one (timed 1000 4000 100 1100 0) overtaken overtaken_times (omega arith)))
+      (inr (inl (omega arith, λ index after within. refl), (inl (omega arith, λ index after within. refl), (inl (omega arith, λ index after within. refl), (tt, (tt, tt)))))) (inl refl)
+      (inr (omega arith), inr (omega arith)) (λ is. false≢true (is.1.0 refl)),
   (omega arith, (omega arith, (omega arith, (tt, (tt, tt))))),
   refl,
 )
 
 two_lost_times : KeepsTimes from_one timing two_lost
 two_lost_times = record { gaps = λ index. omega arith; pauses = λ index is. absurd (false≢true is); ways = ((omega arith, omega arith), ((omega arith, omega arith), ((omega arith, omega arith), ((omega arith, omega arith), tt)))); order = (omega arith, (omega arith, (omega arith, (omega arith, tt)))) }
-
-two_lost_others : (other : Condition) → is_asked_for_all other ≡ true → (other ≡ losses → ⊥) → IsMet other (link 1000) from_one timing two_lost
-two_lost_others covers asked differ = omega arith
-two_lost_others restarts asked differ = omega arith
-two_lost_others near asked differ = short_is_near (link 1000) from_one timing two_lost two_lost_times (omega arith)
-two_lost_others losses asked differ = absurd (differ refl)
-two_lost_others firsts asked differ = short_firsts from_one timing two_lost two_lost_times (omega arith)
-two_lost_others late asked differ = omega arith
-two_lost_others late_restart asked differ = omega arith
 
 two_are_too_many : LosesFew from_one 2 two_lost → ⊥
 two_are_too_many is = go is.0
@@ -204,110 +152,64 @@ two_are_too_many is = go is.0
     go (inl few) = let three = few.0 in absurd (omega (arith, three))
     go (inr again) = cc
 
-pub after_two_is_lost : MeetAllBut is_asked_for_all losses (link 1000) from_one timing two_lost
+pub after_two_is_lost : MeetAllBut losses (link 1000) from_one timing two_lost
     × (forwarded (link 1000) (events_of_copies two_lost) ≡ frame_at 1 100 ∷ [])
 after_two_is_lost = (
-  record {
-    are = record { redundancy = refl; first = omega arith; numbers = (refl, (refl, (refl, (refl, tt)))); times = two_lost_times };
-    asked = refl;
-    others = two_lost_others;
-    not_met = two_are_too_many;
-  },
+  all_but losses (link 1000) from_one timing two_lost (record { redundancy = refl; first = omega arith; numbers = (refl, (refl, (refl, (refl, tt)))); times = two_lost_times }) (inr (omega arith), inr (omega arith))
+      (inr (short_is_near (link 1000) from_one timing two_lost two_lost_times (omega arith)))
+      (inl refl) (inr (short_firsts from_one timing two_lost two_lost_times (omega arith)))
+      (inr (omega arith), inr (omega arith)) two_are_too_many,
   refl,
 )
 
 far_apart_times : KeepsTimes from_one (timed 1000 200000 100 100 0) far_apart
 far_apart_times = record { gaps = λ index. omega arith; pauses = λ index is. absurd (false≢true is); ways = ((omega arith, omega arith), ((omega arith, omega arith), tt)); order = (omega arith, (omega arith, tt)) }
 
-far_apart_others : (other : Condition) → is_asked_for_all other ≡ true → (other ≡ near → ⊥) → IsMet other (link 128000) from_one (timed 1000 200000 100 100 0) far_apart
-far_apart_others covers asked differ = omega arith
-far_apart_others restarts asked differ = omega arith
-far_apart_others near asked differ = absurd (differ refl)
-far_apart_others losses asked differ = (tt, (tt, tt))
-far_apart_others firsts asked differ = short_firsts from_one (timed 1000 200000 100 100 0) far_apart far_apart_times (omega arith)
-far_apart_others late asked differ = omega arith
-far_apart_others late_restart asked differ = omega arith
-
-pub far_is_lost : MeetAllBut is_asked_for_all near (link 128000) from_one (timed 1000 200000 100 100 0) far_apart
+pub far_is_lost : MeetAllBut near (link 128000) from_one (timed 1000 200000 100 100 0) far_apart
     × (forwarded (link 128000) (events_of_copies far_apart) ≡ frame_at 1 100 ∷ [])
 far_is_lost = (
-  record {
-    are = record { redundancy = refl; first = omega arith; numbers = (refl, (refl, tt)); times = far_apart_times };
-    asked = refl;
-    others = far_apart_others;
-    not_met = λ is. let most = is.0.0 tt (omega arith) in absurd (omega (arith, most));
-  },
+  all_but near (link 128000) from_one (timed 1000 200000 100 100 0) far_apart (record { redundancy = refl; first = omega arith; numbers = (refl, (refl, tt)); times = far_apart_times }) (inr (omega arith), inr (omega arith))
+      (inl refl)
+      (inr (tt, (tt, tt))) (inr (short_firsts from_one (timed 1000 200000 100 100 0) far_apart far_apart_times (omega arith)))
+      (inr (omega arith), inr (omega arith)) (λ is. let most = is.0.0 tt (omega arith) in absurd (omega (arith, most))),
   refl,
 )
 
 soon_restarted_times : KeepsTimes from_57 (timed 1000 1000 100 100 0) soon_restarted
 soon_restarted_times = record { gaps = λ index. omega arith; pauses = λ index is. omega arith; ways = ((omega arith, omega arith), ((omega arith, omega arith), tt)); order = (omega arith, (omega arith, tt)) }
 
-soon_restarted_others : (other : Condition) → is_asked_for_all other ≡ true → (other ≡ restarts → ⊥) → IsMet other (link 1000) from_57 (timed 1000 1000 100 100 0) soon_restarted
-soon_restarted_others covers asked differ = omega arith
-soon_restarted_others restarts asked differ = absurd (differ refl)
-soon_restarted_others near asked differ = short_is_near (link 1000) from_57 (timed 1000 1000 100 100 0) soon_restarted soon_restarted_times (omega arith)
-soon_restarted_others losses asked differ = (inr refl, (tt, tt))
-soon_restarted_others firsts asked differ = short_firsts from_57 (timed 1000 1000 100 100 0) soon_restarted soon_restarted_times (omega arith)
-soon_restarted_others late asked differ = omega arith
-soon_restarted_others late_restart asked differ = omega arith
-
-pub restart_is_lost : MeetAllBut is_asked_for_all restarts (link 1000) from_57 (timed 1000 1000 100 100 0) soon_restarted
+pub restart_is_lost : MeetAllBut restarts (link 1000) from_57 (timed 1000 1000 100 100 0) soon_restarted
     × (forwarded (link 1000) (events_of_copies soon_restarted) ≡ frame_at 57 100 ∷ [])
 restart_is_lost = (
-  record {
-    are = record { redundancy = refl; first = omega arith; numbers = (refl, (refl, tt)); times = soon_restarted_times };
-    asked = refl;
-    others = soon_restarted_others;
-    not_met = λ is. absurd (omega (arith, is));
-  },
+  all_but restarts (link 1000) from_57 (timed 1000 1000 100 100 0) soon_restarted (record { redundancy = refl; first = omega arith; numbers = (refl, (refl, tt)); times = soon_restarted_times }) (inr (omega arith), inl refl)
+      (inr (short_is_near (link 1000) from_57 (timed 1000 1000 100 100 0) soon_restarted soon_restarted_times (omega arith)))
+      (inr (inr refl, (tt, tt))) (inr (short_firsts from_57 (timed 1000 1000 100 100 0) soon_restarted soon_restarted_times (omega arith)))
+      (inr (omega arith), inr (omega arith)) (λ is. absurd (omega (arith, is))),
   refl,
 )
 
 far_behind_times : KeepsTimes from_one (timed 1000 300000 100 128100 0) far_behind
 far_behind_times = record { gaps = λ index. omega arith; pauses = λ index is. absurd (false≢true is); ways = ((omega arith, omega arith), ((omega arith, omega arith), ((omega arith, omega arith), ((omega arith, omega arith), tt)))); order = (omega arith, (omega arith, (omega arith, (omega arith, tt)))) }
 
-far_behind_others : (other : Condition) → is_asked_for_all other ≡ true → (other ≡ late → ⊥) → IsMet other wide_link from_one (timed 1000 300000 100 128100 0) far_behind
-far_behind_others covers asked differ = omega arith
-far_behind_others restarts asked differ = omega arith
-far_behind_others near asked differ = ((λ cut soon. omega arith, (λ cut soon. omega arith, (λ cut soon. omega arith, (tt, tt)))), (λ cut soon. omega arith, (λ cut soon. omega arith, (λ cut soon. omega arith, (tt, tt)))))
-far_behind_others losses asked differ = (tt, (inl (omega arith, λ index after within. refl), (inl (omega arith, λ index after within. refl), (tt, tt))))
-far_behind_others firsts asked differ = (λ old. refl, (λ old. absurd (false≢true (sym old)), (λ old. absurd (false≢true (sym old)), (λ old. absurd (false≢true (sym old)), tt))))
-far_behind_others late asked differ = absurd (differ refl)
-far_behind_others late_restart asked differ = omega arith
-
-pub far_behind_is_forwarded : MeetAllBut is_asked_for_all late wide_link from_one (timed 1000 300000 100 128100 0) far_behind
+pub far_behind_is_forwarded : MeetAllBut late wide_link from_one (timed 1000 300000 100 128100 0) far_behind
     × (forwarded wide_link (events_of_copies far_behind) ≡ frame_at 1 128100 ∷ frame_at 129 128100 ∷ frame_at 65 64100 ∷ frame_at 1 100 ∷ [])
 far_behind_is_forwarded = (
-  record {
-    are = record { redundancy = refl; first = omega arith; numbers = (refl, (refl, (refl, (refl, tt)))); times = far_behind_times };
-    asked = refl;
-    others = far_behind_others;
-    not_met = λ is. absurd (omega (arith, is));
-  },
+  all_but late wide_link from_one (timed 1000 300000 100 128100 0) far_behind (record { redundancy = refl; first = omega arith; numbers = (refl, (refl, (refl, (refl, tt)))); times = far_behind_times }) (inr (omega arith), inr (omega arith))
+      (inr ((λ cut soon. omega arith, (λ cut soon. omega arith, (λ cut soon. omega arith, (tt, tt)))), (λ cut soon. omega arith, (λ cut soon. omega arith, (λ cut soon. omega arith, (tt, tt))))))
+      (inr (tt, (inl (omega arith, λ index after within. refl), (inl (omega arith, λ index after within. refl), (tt, tt))))) (inr (λ old. refl, (λ old. absurd (false≢true (sym old)), (λ old. absurd (false≢true (sym old)), (λ old. absurd (false≢true (sym old)), tt)))))
+      (inl refl, inr (omega arith)) (λ is. absurd (omega (arith, is))),
   refl,
 )
 
 behind_a_restart_times : KeepsTimes from_57 (timed 2000 2000 100 100 2000) behind_a_restart
 behind_a_restart_times = record { gaps = λ index. omega arith; pauses = λ index is. omega arith; ways = ((omega arith, omega arith), ((omega arith, omega arith), ((omega arith, omega arith), tt))); order = (omega arith, (omega arith, (omega arith, tt))) }
 
-behind_a_restart_others : (other : Condition) → is_asked_for_all other ≡ true → (other ≡ late_restart → ⊥) → IsMet other (link 1000) from_57 (timed 2000 2000 100 100 2000) behind_a_restart
-behind_a_restart_others covers asked differ = omega arith
-behind_a_restart_others restarts asked differ = omega arith
-behind_a_restart_others near asked differ = short_is_near (link 1000) from_57 (timed 2000 2000 100 100 2000) behind_a_restart behind_a_restart_times (omega arith)
-behind_a_restart_others losses asked differ = (tt, (inr refl, (tt, tt)))
-behind_a_restart_others firsts asked differ = (λ old. refl, (λ old. absurd (false≢true (sym old)), (λ old. absurd (false≢true (sym old)), tt)))
-behind_a_restart_others late asked differ = omega arith
-behind_a_restart_others late_restart asked differ = absurd (differ refl)
-
-pub behind_a_restart_is_forwarded : MeetAllBut is_asked_for_all late_restart (link 1000) from_57 (timed 2000 2000 100 100 2000) behind_a_restart
+pub behind_a_restart_is_forwarded : MeetAllBut late_restart (link 1000) from_57 (timed 2000 2000 100 100 2000) behind_a_restart
     × (forwarded (link 1000) (events_of_copies behind_a_restart) ≡ frame_at 57 100 ∷ frame_at 0 2100 ∷ frame_at 57 100 ∷ [])
 behind_a_restart_is_forwarded = (
-  record {
-    are = record { redundancy = refl; first = omega arith; numbers = (refl, (refl, (refl, tt))); times = behind_a_restart_times };
-    asked = refl;
-    others = behind_a_restart_others;
-    not_met = λ is. absurd (omega (arith, is));
-  },
+  all_but late_restart (link 1000) from_57 (timed 2000 2000 100 100 2000) behind_a_restart (record { redundancy = refl; first = omega arith; numbers = (refl, (refl, (refl, tt))); times = behind_a_restart_times }) (inr (omega arith), inr (omega arith))
+      (inr (short_is_near (link 1000) from_57 (timed 2000 2000 100 100 2000) behind_a_restart behind_a_restart_times (omega arith)))
+      (inr (tt, (inr refl, (tt, tt)))) (inr (λ old. refl, (λ old. absurd (false≢true (sym old)), (λ old. absurd (false≢true (sym old)), tt))))
+      (inr (omega arith), inl refl) (λ is. absurd (omega (arith, is))),
   refl,
 )

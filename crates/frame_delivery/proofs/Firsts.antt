@@ -1,7 +1,7 @@
 -- Where no copy of a frame is overtaken, the new copies are the first copies.
 use Rattle.std.proofs.Common.{◌≡◌, ◌∙◌, sym, ap, ℕ, ◌<◌, ◌≤◌, Bool, true, false, not, List, [], ◌∷◌, refl, ⊎_elim, arith, suc, length, drop}
-use Rattle.std.specs.Prelude.{◌==◌, ◌||◌, max}
-use Rattle.std.proofs.lemmas.Bool.{cases_Bool, cases_lt, lt-ltb, le-ltb, ltb-true, ltb-false, eqb-true, eqb-false, eq-eqb, or_cases, or_left, or_parts, both_ways}
+use Rattle.std.specs.Prelude.{◌==◌, ◌||◌, max, if◌then◌else◌}
+use Rattle.std.proofs.lemmas.Bool.{cases_Bool, cases_lt, lt-ltb, le-ltb, ltb-true, ltb-false, eqb-true, eqb-false, eq-eqb, or_cases, or_left, or_parts, or_right, both_ways}
 use Rattle.frame_delivery.specs.Sending.{Copy, EachCopy}
 use Rattle.frame_delivery.proofs.Cases.{by_if}
 use Rattle.frame_delivery.specs.Once.{FirstsInOrder, IsNotOvertaken, IsOvertaken, first_copies, greatest_index, has_come, is_new, new_copies}
@@ -13,6 +13,16 @@ come_at_most index (copy ∷ before) come =
     (λ (is : (copy.index == index) ≡ true). let e = eqb-true copy.index index is in omega arith)
     (λ (is : has_come index before ≡ true). let rest = come_at_most index before is in omega arith)
     (or_cases (copy.index == index) (has_come index before) come)
+
+-- a frame of which a copy came among some of the copies came
+pub come_among : (test : Bool) (index : ℕ) (copy : Copy) (some before : List Copy) → (has_come index some ≡ true → has_come index before ≡ true) → has_come index (if test then copy ∷ some else some) ≡ true
+    → has_come index (copy ∷ before) ≡ true
+come_among true index copy some before rest come =
+    ⊎_elim
+    (λ (here : (copy.index == index) ≡ true). or_left _ _ here)
+    (λ (there : has_come index some ≡ true). or_right _ _ (rest there))
+    (or_cases (copy.index == index) (has_come index some) come)
+come_among false index copy some before rest come = or_right _ _ (rest come)
 
 -- a new copy is the first of its frame
 pub new_has_not_come : (index : ℕ) (copies : List Copy) → is_new index copies ≡ true → has_come index copies ≡ false
@@ -109,6 +119,14 @@ greatest_is_new copy (other ∷ before) =
     let e : max copy.index greatest ≡ greatest = omega arith in
     rw (le-ltb greatest copy.index more) (ap (λ (index : ℕ). has_come index (new_copies (other ∷ before))) e ∙ greatest_is_new other before))
     (cases_lt greatest copy.index)
+
+new_came : (index : ℕ) (copies : List Copy) → has_come index (new_copies copies) ≡ true → has_come index copies ≡ true
+new_came index [] come = come
+new_came index (copy ∷ before) come = come_among (is_new copy.index before) index copy (new_copies before) before (new_came index before) come
+
+-- a copy of the latest frame came
+pub latest_has_come : (copy : Copy) (before : List Copy) → has_come (greatest_index (copy ∷ before)) (copy ∷ before) ≡ true
+latest_has_come copy before = new_came (greatest_index (copy ∷ before)) (copy ∷ before) (greatest_is_new copy before)
 
 old_is_overtaken : (index : ℕ) (copy : Copy) (before : List Copy) → is_new copy.index before ≡ false → has_come index (new_copies before) ≡ false → copy.index ≡ index → index < greatest_index before
 old_is_overtaken index copy [] old lost same = cc

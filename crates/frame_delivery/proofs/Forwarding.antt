@@ -4,10 +4,24 @@ use Rattle.std.specs.Prelude.{◌||◌, nat_lt, max}
 use Rattle.std.proofs.lemmas.Bool.{cases_Bool, cases_lt, lt-ltb, le-ltb, ltb-false, or_left, or_right, or_from}
 use Rattle.es_base.specs.Frame.{sequence_number_of}
 use Rattle.es_base.specs.Copies.{is_ahead, elapsed, greatest_time, is_first_copy}
-use Rattle.frame_delivery.specs.Sending.{Copy, HaveNumbers, Numbering, number_of_frame}
-use Rattle.frame_delivery.specs.Once.{AreInOrder, ComesInTime, as_forwarded, greatest_index, is_new, new_copies, newest_time}
+use Rattle.frame_delivery.specs.Sending.{Copy, HaveNumbers, Numbering, RunsOn, number_of_frame}
+use Rattle.frame_delivery.specs.Once.{AreInOrder, as_forwarded, greatest_index, is_new, new_copies, newest_time}
 use Rattle.frame_delivery.proofs.Cases.{by_if}
 use Rattle.frame_delivery.proofs.Numbers.{ahead_of_earlier, not_ahead_of_later}
+
+-- ---- what redundancy management needs
+
+-- what redundancy management needs of a copy, after others came: if it isn't new, it comes no later than SkewMax
+-- after the new ones; and one that comes no later than this is of a frame at most 127 after the latest or before it,
+-- with no restart of the sender between the two
+pub record IsInTime (numbering : Numbering) (skew_max : ℕ) (before : List Copy) (copy : Copy) : Type 0 where
+  pub late : is_new copy.index before ≡ false → copy.event.time ≤ newest_time before + skew_max
+  pub after : copy.event.time ≤ newest_time before + skew_max → (copy.index ≤ greatest_index before + 127) × RunsOn numbering (greatest_index before) copy.index
+  pub behind : copy.event.time ≤ newest_time before + skew_max → (greatest_index before ≤ copy.index + 127) × RunsOn numbering copy.index (greatest_index before)
+
+abbrev pub ComesInTime : Numbering → ℕ → List Copy → Copy → Type 0
+ComesInTime numbering skew_max [] copy = Unit {0}
+ComesInTime numbering skew_max (other ∷ before) copy = IsInTime numbering skew_max (other ∷ before) copy
 
 -- ---- the newest of some copies
 

@@ -3,7 +3,6 @@ pub mod Numbers
 pub mod Running
 pub mod Forwarding
 pub mod Passing
-pub mod Near
 pub mod Times
 pub mod Firsts
 pub mod Since
@@ -13,8 +12,6 @@ pub mod Together
 pub mod Delivered
 pub mod DeliveredSince
 pub mod Whole
-pub mod OneNetworkWhole
 pub mod Messages
-pub mod Conditions
 pub mod Examples
 pub mod SinceExamples

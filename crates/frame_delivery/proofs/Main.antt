@@ -8,12 +8,14 @@ use Rattle.es_base.specs.Settings.{Settings}
 use Rattle.frame_delivery.specs.Sending.{Copy, EachCopy, HaveNumbers, Numbering, events_of_copies}
 use Rattle.frame_delivery.specs.Once.{AreInOrder, FirstsInOrder, as_forwarded, first_copies, greatest_index, has_come, is_new, new_copies, newest_time}
 use Rattle.frame_delivery.specs.Network.{BeginNear, BeginsNear, ComeTimely, ComeWhole, HasAge, IsNeverLate, IsOnItsWay, KeepsOrder, KeepsTimes, LosesFew, Timing}
-use Rattle.frame_delivery.specs.Since.{PassTimely, counts, forwarded_since, passing_since}
+use Rattle.frame_delivery.specs.Since.{PassInOrder, counts, forwarded_since, passing_since}
+use Rattle.frame_delivery.specs.Conditions as conditions
+use Rattle.frame_delivery.specs.Conditions.{AreCopies, Condition, IsMet}
 use Rattle.frame_delivery.proofs.Firsts.{each_first, first_are_new, new_are_first, new_has_not_come, new_is_first}
 use Rattle.frame_delivery.proofs.Forwarding.{new_by_news, same_greatest}
-use Rattle.frame_delivery.proofs.Near.{near_the_newest}
 use Rattle.frame_delivery.proofs.Passing.{copy_passes, new_passes}
-use Rattle.frame_delivery.proofs.Since.{by_counts, counts_alone, firsts_since, news_since, none_before, timely_since}
+use Rattle.frame_delivery.proofs.Since.{all_pass_timely, by_counts, counts_alone, firsts_since, news_since, none_before}
+use Rattle.frame_delivery.proofs.Times.{near_the_newest}
 
 -- ---- some copies that leave out none that is the first of its frame
 
@@ -91,16 +93,13 @@ module _ (settings : Settings) (numbering : Numbering) where
 
 -- so what is asked of all holds of those that pass, and their first copies are those of all
 pub whole_passes : (settings : Settings) (numbering : Numbering) (timing : Timing) (copies : List Copy) → ComeWhole settings numbering timing copies
-    → PassTimely settings numbering timing [] copies × (first_copies (passing_since settings [] copies) ≡ first_copies copies)
+    → PassInOrder settings numbering timing [] copies × (first_copies (passing_since settings [] copies) ≡ first_copies copies)
 whole_passes settings numbering timing copies come =
     let numbers = come.timely.numbers in
     let same = all_but_further settings numbering copies numbers come.losses come.firsts in (
       record {
-        timely = timely_since settings numbering timing [] copies come.timely;
-        on_time = come.on_time;
+        timely = all_pass_timely settings numbering timing [] copies come.timely come.on_time (passing_near settings numbering copies numbers come.losses come.firsts come.near) (none_before settings copies);
         firsts = first_are_new (passing_since settings [] copies) (same.news ∙ new_are_first copies come.firsts ∙ sym same.firsts);
-        near = passing_near settings numbering copies numbers come.losses come.firsts come.near;
-        after = none_before settings (passing_since settings [] copies);
       },
       same.firsts,
     )
@@ -122,7 +121,7 @@ pub new_ones_forwarded : (settings : Settings) (numbering : Numbering) (timing :
     → KeepsOrder copies → LosesFew numbering settings.window copies → forwarded_since settings [] copies ≡ new_copies copies
 new_ones_forwarded settings numbering timing copies timely on_time near keeps losses =
     let all = all_pass settings numbering copies timely.numbers keeps losses in
-    (news_since settings numbering timing [] copies (timely_since settings numbering timing [] copies timely) on_time (subst (BeginNear settings.skew_max) (sym all) near) (none_before settings (passing_since settings [] copies))).0
+    (news_since settings numbering timing [] copies (all_pass_timely settings numbering timing [] copies timely on_time (subst (BeginNear settings.skew_max) (sym all) near) (none_before settings copies))).0
     ∙ ap new_copies all
 
 -- ---- the age of a message
@@ -135,3 +134,15 @@ ages timing now (copy ∷ before) ways =
 
 pub first_ages : (numbering : Numbering) (timing : Timing) (copies : List Copy) (now : ℕ) → KeepsTimes numbering timing copies → EachCopy (λ before copy. HasAge timing now copy) (first_copies copies)
 first_ages numbering timing copies now times = each_first (HasAge timing now) copies (ages timing now copies times.ways)
+
+-- ---- the conditions, one by one, are what is asked
+
+pub come_whole : (settings : Settings) (numbering : Numbering) (timing : Timing) (copies : List Copy) → AreCopies settings numbering timing copies
+    → ((condition : Condition) → IsMet condition settings numbering timing copies) → ComeWhole settings numbering timing copies
+come_whole settings numbering timing copies are met = record {
+  timely = record { redundancy = are.redundancy; first = are.first; numbers = are.numbers; times = are.times; fits = record { covers = met conditions.covers; restarts = met conditions.restarts } };
+  near = (met conditions.near).0;
+  losses = met conditions.losses;
+  on_time = record { frames = met conditions.late; restarts = met conditions.late_restart };
+  firsts = met conditions.firsts;
+}

@@ -1,4 +1,4 @@
--- After any past, from the first copy on that is forwarded, the first copy of each frame that passes is forwarded.
+-- After any past, from the first copy on that is forwarded, the new copies of those that pass are forwarded.
 use Rattle.std.proofs.Common.{◌≡◌, ◌∙◌, sym, ap, subst, ℕ, ◌+◌, ◌<◌, ◌≤◌, Bool, true, false, not, List, [], ◌∷◌, ◌++◌, inl, refl, ⊎_elim, arith}
 use Rattle.std.specs.Prelude.{◌&&◌, ◌||◌, ◌⊎◌, nat_lt, max}
 use Rattle.std.proofs.lemmas.Bool.{and_from, and_right, cases_Bool}
@@ -11,15 +11,15 @@ use Rattle.es_base.specs.Copies.{Forwarded, elapsed, greatest_time, is_ahead, is
 use Rattle.es_base.specs.Redundancy.{forwarded, is_forwarded, is_forwarded_after}
 use Rattle.es_base.specs.Settings.{Settings}
 use Rattle.frame_delivery.specs.Sending.{Copy, EachCopy, HaveNumbers, Numbering, events_of_copies, events_since, number_of_frame}
-use Rattle.frame_delivery.specs.Once.{AreInOrder, ComesInTime, FirstsInOrder, as_forwarded, first_copies, has_come, is_new, new_copies, newest_time}
+use Rattle.frame_delivery.specs.Once.{AreInOrder, FirstsInOrder, as_forwarded, first_copies, is_new, new_copies, newest_time}
 use Rattle.frame_delivery.specs.Network.{BeginNear, ComeTimely, HasNoOvertaking, IsNeverLate, IsOnItsWay, IsOverSoon, KeepsTimes, Timing, time_of_all}
 use Rattle.frame_delivery.specs.Running.{EachForwarded}
-use Rattle.frame_delivery.specs.Since.{ComeAfter, IsFirstPassing, PassTimely, counts, forwarded_since, passing_since}
+use Rattle.frame_delivery.specs.Since.{ComeAfter, PassInOrder, PassTimely, counts, forwarded_since, passing_since}
 use Rattle.frame_delivery.proofs.Cases.{by_if}
-use Rattle.frame_delivery.proofs.Forwarding.{first_is_new, new_in_order, newest_of}
-use Rattle.frame_delivery.proofs.Firsts.{first_are_new, new_are_first, new_is_first}
+use Rattle.frame_delivery.proofs.Forwarding.{ComesInTime, first_is_new, new_in_order, newest_of}
+use Rattle.frame_delivery.proofs.Firsts.{first_are_new, new_are_first}
 use Rattle.frame_delivery.proofs.Running.{all_over, first_when_over}
-use Rattle.frame_delivery.proofs.Times.{all_in_time, apart_not_late, begin_near, none_overtaken, not_late}
+use Rattle.frame_delivery.proofs.Times.{all_in_time, begin_near, none_overtaken, not_late}
 
 -- ---- whether a copy counts
 
@@ -172,71 +172,46 @@ module _ (settings : Settings) (numbering : Numbering) (old : List Event) (on : 
 
 -- ---- from what is asked of the sender and of the networks
 
-sound_timely : (settings : Settings) (numbering : Numbering) (timing : Timing) (old : List Event) (copies : List Copy) → ComeTimely settings numbering timing (passing_since settings old copies) → IsNeverLate timing
-    → BeginNear settings.skew_max (passing_since settings old copies) → ComeAfter settings old (passing_since settings old copies) → AreSound settings numbering old (passing_since settings old copies)
-sound_timely settings numbering timing old copies timely on_time near after =
+sound_timely : (settings : Settings) (numbering : Numbering) (timing : Timing) (old : List Event) (copies : List Copy) → PassTimely settings numbering timing old copies
+    → AreSound settings numbering old (passing_since settings old copies)
+sound_timely settings numbering timing old copies pass =
+    let timely = pass.timely in
     let times = timely.times in
     let some : List Copy = passing_since settings old copies in
-    (timely.numbers, old_times settings old some after, all_in_time numbering timing times.gaps times.pauses settings.skew_max some timely.fits (not_late numbering timing times.gaps times.pauses on_time) near times.ways times.order)
+    (timely.numbers, old_times settings old some pass.after, all_in_time numbering timing times.gaps times.pauses settings.skew_max some timely.fits (not_late numbering timing times.gaps times.pauses pass.on_time) pass.near times.ways times.order)
 
-sound_pass : (settings : Settings) (numbering : Numbering) (timing : Timing) (old : List Event) (copies : List Copy) → PassTimely settings numbering timing old copies
-    → AreSound settings numbering old (passing_since settings old copies)
-sound_pass settings numbering timing old copies pass = sound_timely settings numbering timing old copies pass.timely pass.on_time pass.near pass.after
-
--- where copies may be overtaken, the new ones are forwarded
-pub news_since : (settings : Settings) (numbering : Numbering) (timing : Timing) (old : List Event) (copies : List Copy) → ComeTimely settings numbering timing (passing_since settings old copies) → IsNeverLate timing
-    → BeginNear settings.skew_max (passing_since settings old copies) → ComeAfter settings old (passing_since settings old copies)
+-- the new ones are forwarded
+pub news_since : (settings : Settings) (numbering : Numbering) (timing : Timing) (old : List Event) (copies : List Copy) → PassTimely settings numbering timing old copies
     → (forwarded_since settings old copies ≡ new_copies (passing_since settings old copies)) × AreInOrder (new_copies (passing_since settings old copies))
-news_since settings numbering timing old copies timely on_time near after =
-    (new_since settings numbering old timely.redundancy timely.first copies (sound_timely settings numbering timing old copies timely on_time near after), new_in_order (passing_since settings old copies))
-
-pub firsts_since : (settings : Settings) (numbering : Numbering) (timing : Timing) (old : List Event) (copies : List Copy) → PassTimely settings numbering timing old copies
-    → (forwarded_since settings old copies ≡ first_copies (passing_since settings old copies)) × AreInOrder (first_copies (passing_since settings old copies))
-firsts_since settings numbering timing old copies pass =
-    subst (λ (some : List Copy). (forwarded_since settings old copies ≡ some) × AreInOrder some) (new_are_first (passing_since settings old copies) pass.firsts)
-    (news_since settings numbering timing old copies pass.timely pass.on_time pass.near pass.after)
-
--- so they are the first copies only if these come in order
-pub order_is_needed : (settings : Settings) (numbering : Numbering) (timing : Timing) (old : List Event) (copies : List Copy) → ComeTimely settings numbering timing (passing_since settings old copies) → IsNeverLate timing
-    → BeginNear settings.skew_max (passing_since settings old copies) → ComeAfter settings old (passing_since settings old copies) → forwarded_since settings old copies ≡ first_copies (passing_since settings old copies)
-    → FirstsInOrder (passing_since settings old copies)
-order_is_needed settings numbering timing old copies timely on_time near after same =
-    first_are_new (passing_since settings old copies) (sym (news_since settings numbering timing old copies timely on_time near after).0 ∙ same)
+news_since settings numbering timing old copies pass =
+    let timely = pass.timely in
+    (new_since settings numbering old timely.redundancy timely.first copies (sound_timely settings numbering timing old copies pass), new_in_order (passing_since settings old copies))
 
 -- so were those before the last copy
-pub firsts_before : (settings : Settings) (numbering : Numbering) (timing : Timing) (old : List Event) (copy : Copy) (before : List Copy) → PassTimely settings numbering timing old (copy ∷ before)
-    → forwarded_since settings old before ≡ first_copies (passing_since settings old before)
-firsts_before settings numbering timing old copy before pass =
-    let sound = sound_pass settings numbering timing old (copy ∷ before) pass in
-    let firsts = pass.firsts in
+pub news_before : (settings : Settings) (numbering : Numbering) (timing : Timing) (old : List Event) (copy : Copy) (before : List Copy) → PassTimely settings numbering timing old (copy ∷ before)
+    → forwarded_since settings old before ≡ new_copies (passing_since settings old before)
+news_before settings numbering timing old copy before pass =
     let timely = pass.timely in
-    new_since settings numbering old timely.redundancy timely.first before (sound_before settings numbering old timely.redundancy timely.first copy before sound)
-    ∙ new_are_first (passing_since settings old before) (by_counts settings old copy before (λ some. FirstsInOrder some → FirstsInOrder (passing_since settings old before)) (λ is at. at.1) (λ is at. at) firsts)
+    new_since settings numbering old timely.redundancy timely.first before (sound_before settings numbering old timely.redundancy timely.first copy before (sound_timely settings numbering timing old (copy ∷ before) pass))
 
--- so a copy is forwarded exactly if it is the first of its frame that counts
-first_if : (settings : Settings) (numbering : Numbering) (timing : Timing) (old : List Event) (copy : Copy) (before : List Copy) → PassTimely settings numbering timing old (copy ∷ before)
+-- and the last is forwarded exactly if it counts and is new
+pub new_if : (settings : Settings) (numbering : Numbering) (timing : Timing) (old : List Event) (copy : Copy) (before : List Copy) → PassTimely settings numbering timing old (copy ∷ before)
     → is_forwarded settings (events_since before old) (arrival_of copy.event)
-    ≡ (counts settings (events_since before old) (arrival_of copy.event) (passing_since settings old before) && not (has_come copy.index (passing_since settings old before)))
-first_if settings numbering timing old copy before pass =
-    let sound = sound_pass settings numbering timing old (copy ∷ before) pass in
-    let firsts = pass.firsts in
+    ≡ (counts settings (events_since before old) (arrival_of copy.event) (passing_since settings old before) && is_new copy.index (passing_since settings old before))
+new_if settings numbering timing old copy before pass =
     let timely = pass.timely in
-    let rest = new_since settings numbering old timely.redundancy timely.first before (sound_before settings numbering old timely.redundancy timely.first copy before sound) in
-    as_new settings numbering old timely.redundancy timely.first copy before rest sound
-    ∙ ⊎_elim
-    (λ (count : counts settings (events_since before old) (arrival_of copy.event) (passing_since settings old before) ≡ true).
-    ap (λ (b : Bool). counts settings (events_since before old) (arrival_of copy.event) (passing_since settings old before) && b) (new_is_first copy (passing_since settings old before) (rw count at firsts).0))
-    (λ (fails : counts settings (events_since before old) (arrival_of copy.event) (passing_since settings old before) ≡ false). rw fails refl)
-    (cases_Bool (counts settings (events_since before old) (arrival_of copy.event) (passing_since settings old before)))
+    as_new settings numbering old timely.redundancy timely.first copy before (news_before settings numbering timing old copy before pass) (sound_timely settings numbering timing old (copy ∷ before) pass)
 
-pub first_since : (settings : Settings) (numbering : Numbering) (timing : Timing) (old : List Event) (copy : Copy) (before : List Copy) → PassTimely settings numbering timing old (copy ∷ before)
-    → IsFirstPassing settings old before copy → is_forwarded settings (events_since before old) (arrival_of copy.event) ≡ true
-first_since settings numbering timing old copy before pass first = first_if settings numbering timing old copy before pass ∙ and_from _ _ first.0 (ap not first.1)
+-- where the first copies come in order, they are the new ones
+pub firsts_since : (settings : Settings) (numbering : Numbering) (timing : Timing) (old : List Event) (copies : List Copy) → PassInOrder settings numbering timing old copies
+    → (forwarded_since settings old copies ≡ first_copies (passing_since settings old copies)) × AreInOrder (first_copies (passing_since settings old copies))
+firsts_since settings numbering timing old copies pass =
+    subst (λ (some : List Copy). (forwarded_since settings old copies ≡ some) × AreInOrder some) (new_are_first (passing_since settings old copies) pass.firsts) (news_since settings numbering timing old copies pass.timely)
 
--- and no other copy of it
-pub other_since : (settings : Settings) (numbering : Numbering) (timing : Timing) (old : List Event) (copy : Copy) (before : List Copy) → PassTimely settings numbering timing old (copy ∷ before)
-    → has_come copy.index (passing_since settings old before) ≡ true → is_forwarded settings (events_since before old) (arrival_of copy.event) ≡ false
-other_since settings numbering timing old copy before pass come = first_if settings numbering timing old copy before pass ∙ and_right _ _ (ap not come)
+-- and only there
+pub order_is_needed : (settings : Settings) (numbering : Numbering) (timing : Timing) (old : List Event) (copies : List Copy) → PassTimely settings numbering timing old copies
+    → forwarded_since settings old copies ≡ first_copies (passing_since settings old copies) → FirstsInOrder (passing_since settings old copies)
+order_is_needed settings numbering timing old copies pass same = first_are_new (passing_since settings old copies) (sym (news_since settings numbering timing old copies pass).0 ∙ same)
 
 -- ---- what is asked of all copies is asked of those that pass
 
@@ -264,12 +239,11 @@ timely_since settings numbering timing old copies timely = record {
   fits = timely.fits;
 }
 
-pub all_pass_timely : (settings : Settings) (numbering : Numbering) (timing : Timing) (old : List Event) (copies : List Copy) → ComeTimely settings numbering timing copies → HasNoOvertaking timing
+pub all_pass_timely : (settings : Settings) (numbering : Numbering) (timing : Timing) (old : List Event) (copies : List Copy) → ComeTimely settings numbering timing copies → IsNeverLate timing
     → BeginNear settings.skew_max (passing_since settings old copies) → ComeAfter settings old copies → PassTimely settings numbering timing old copies
-all_pass_timely settings numbering timing old copies timely apart near after = record {
+all_pass_timely settings numbering timing old copies timely on_time near after = record {
   timely = timely_since settings numbering timing old copies timely;
-  on_time = apart_not_late timing apart;
-  firsts = short_in_order settings numbering timing old copies timely.times apart;
+  on_time = on_time;
   near = near;
   after = each_since (λ copy. EachForwarded settings (λ e. e.time ≤ copy.event.time) old) settings old copies after;
 }

@@ -7,9 +7,10 @@ use Rattle.es_base.specs.Redundancy.{forwarded}
 use Rattle.frame_delivery.specs.Sending.{RunsOn, events_of_copies, events_since}
 use Rattle.frame_delivery.specs.Network.{BeginNear, BringsInRow, ComeTimely, IsNeverLate, KeepsTimes, LosesFew, Timing}
 use Rattle.frame_delivery.specs.Once.{FirstsInOrder}
-use Rattle.frame_delivery.specs.Since.{ComeAfter, PassTimely, passing_since}
-use Rattle.frame_delivery.specs.Conditions.{Condition, IsMet, MeetAllBut, covers, firsts, is_asked_for_all, late, late_restart, losses, near, restarts}
-use Rattle.frame_delivery.specs.Examples.{after_skew_max, after_strange, far_apart, frame_at, from_57, from_one, from_ten, link, of_later_time, one_network_out, overtaken, received, restarted, soon_restarted, strange, stranger_passes, timed, timing}
+use Rattle.frame_delivery.specs.Since.{ComeAfter, PassInOrder, passing_since}
+use Rattle.frame_delivery.specs.Conditions.{MeetAllBut, covers, firsts, losses, near, restarts}
+use Rattle.frame_delivery.specs.Examples.{after_skew_max, after_strange, behind_a_restart, far_apart, far_behind, frame_at, from_57, from_one, from_ten, link, of_later_time, one_network_out, overtaken, received, restarted, soon_restarted, strange, stranger_passes, timed, timing, wide_link}
+use Rattle.frame_delivery.proofs.Examples.{all_but}
 use Rattle.frame_delivery.proofs.Times.{apart_not_late, short_firsts}
 use Rattle.frame_delivery.proofs.Since.{short_in_order, short_is_near, since_is_near}
 
@@ -22,15 +23,6 @@ out_times = record {
   ways = ((omega arith, omega arith), ((omega arith, omega arith), ((omega arith, omega arith), ((omega arith, omega arith), ((omega arith, omega arith), ((omega arith, omega arith), ((omega arith, omega arith), tt)))))));
   order = (omega arith, (omega arith, (omega arith, (omega arith, (omega arith, (omega arith, (omega arith, tt)))))));
 }
-
-out_others : (other : Condition) → is_asked_for_all other ≡ true → (other ≡ losses → ⊥) → IsMet other (link 1000) from_one timing one_network_out
-out_others covers asked differ = omega arith
-out_others restarts asked differ = omega arith
-out_others near asked differ = short_is_near (link 1000) from_one timing one_network_out out_times (omega arith)
-out_others losses asked differ = absurd (differ refl)
-out_others firsts asked differ = short_firsts from_one timing one_network_out out_times (omega arith)
-out_others late asked differ = omega arith
-out_others late_restart asked differ = omega arith
 
 three_are_too_many : LosesFew from_one 2 one_network_out → ⊥
 three_are_too_many is = go is.0
@@ -49,15 +41,12 @@ in_row_on_a = record {
   );
 }
 
-pub one_is_enough : MeetAllBut is_asked_for_all losses (link 1000) from_one timing one_network_out × BringsInRow from_one 2 nets.A one_network_out
+pub one_is_enough : MeetAllBut losses (link 1000) from_one timing one_network_out × BringsInRow from_one 2 nets.A one_network_out
     × (forwarded (link 1000) (events_of_copies one_network_out) ≡ frame_at 5 4100 ∷ frame_at 4 3100 ∷ frame_at 3 2100 ∷ frame_at 2 1100 ∷ frame_at 1 100 ∷ [])
 one_is_enough = (
-  record {
-    are = record { redundancy = refl; first = omega arith; numbers = (refl, (refl, (refl, (refl, (refl, (refl, (refl, tt))))))); times = out_times };
-    asked = refl;
-    others = out_others;
-    not_met = three_are_too_many;
-  },
+  all_but losses (link 1000) from_one timing one_network_out (record { redundancy = refl; first = omega arith; numbers = (refl, (refl, (refl, (refl, (refl, (refl, (refl, tt))))))); times = out_times })
+      (inr (omega arith), inr (omega arith)) (inr (short_is_near (link 1000) from_one timing one_network_out out_times (omega arith))) (inl refl)
+      (inr (short_firsts from_one timing one_network_out out_times (omega arith))) (inr (omega arith), inr (omega arith)) three_are_too_many,
   in_row_on_a,
   refl,
 )
@@ -75,22 +64,18 @@ strange_times = record {
   order = (omega arith, (omega arith, tt));
 }
 
-strange_pass : PassTimely (link 1500) from_ten slow strange after_strange
+strange_pass : PassInOrder (link 1500) from_ten slow strange after_strange
 strange_pass = record {
   timely = record {
-    redundancy = refl;
-    first = omega arith;
-    numbers = (refl, (refl, tt));
-    times = strange_times;
-    fits = record { covers = omega arith; restarts = omega arith };
+    timely = record { redundancy = refl; first = omega arith; numbers = (refl, (refl, tt)); times = strange_times; fits = record { covers = omega arith; restarts = omega arith } };
+    on_time = apart_not_late slow (omega arith);
+    near = (short_is_near (link 1500) from_ten slow (received nets.A 2 12 2100 ∷ received nets.B 1 11 1900 ∷ []) strange_times (omega arith)).0;
+    after = ((λ is. omega arith, (λ is. omega arith, tt)), ((λ is. omega arith, (λ is. omega arith, tt)), tt));
   };
-  on_time = apart_not_late slow (omega arith);
   firsts = short_firsts from_ten slow (received nets.A 2 12 2100 ∷ received nets.B 1 11 1900 ∷ []) strange_times (omega arith);
-  near = (short_is_near (link 1500) from_ten slow (received nets.A 2 12 2100 ∷ received nets.B 1 11 1900 ∷ []) strange_times (omega arith)).0;
-  after = ((λ is. omega arith, (λ is. omega arith, tt)), ((λ is. omega arith, (λ is. omega arith, tt)), tt));
 }
 
-pub strange_recovers : PassTimely (link 1500) from_ten (timed 1000 3000 100 900 100) strange after_strange
+pub strange_recovers : PassInOrder (link 1500) from_ten (timed 1000 3000 100 900 100) strange after_strange
     × (passing_since (link 1500) strange after_strange ≡ received nets.A 2 12 2100 ∷ received nets.B 1 11 1900 ∷ [])
     × (forwarded (link 1500) (events_since after_strange strange) ≡ frame_at 12 2100 ∷ frame_at 11 1900 ∷ frame_at 50 60 ∷ frame_at 200 50 ∷ [])
 strange_recovers = (strange_pass, refl, refl)
@@ -122,8 +107,8 @@ later_is_lost = (
 -- ---- where all pass
 
 pub needed_too : (passing_since (link 1000) [] after_skew_max ≡ after_skew_max) × (passing_since (link 1000) [] overtaken ≡ overtaken) × (passing_since (link 128000) [] far_apart ≡ far_apart)
-    × (passing_since (link 1000) [] soon_restarted ≡ soon_restarted)
-needed_too = (refl, refl, refl, refl)
+    × (passing_since (link 1000) [] soon_restarted ≡ soon_restarted) × (passing_since wide_link [] far_behind ≡ far_behind) × (passing_since (link 1000) [] behind_a_restart ≡ behind_a_restart)
+needed_too = (refl, refl, refl, refl, refl, refl)
 
 -- ---- where a stranger's frame passes on the other network
 

@@ -1,28 +1,35 @@
 -- What the times of the sender and of the networks give.
-use Rattle.std.proofs.Common.{◌≡◌, ◌∙◌, ap, ℕ, zero, suc, ◌+◌, ◌-◌, ◌*◌, ◌<◌, ◌≤◌, true, false, List, [], ◌∷◌, ⊎_elim, arith}
+use Rattle.std.proofs.Common.{◌≡◌, ◌∙◌, ap, ℕ, zero, suc, ◌+◌, ◌-◌, ◌*◌, ◌<◌, ◌≤◌, true, false, List, [], ◌∷◌, Option, None, Some, ⊎_elim, arith}
 use Rattle.std.specs.Prelude.{max}
-use Rattle.std.proofs.lemmas.Bool.{cases_Bool, cases_lt, lt-ltb, le-ltb, ltb-false, eq-eqb, or_left, or_right}
+use Rattle.std.proofs.lemmas.Bool.{cases_Bool, cases_lt, lt-ltb, le-ltb, ltb-false}
+use Rattle.es_base.specs.Integrity.{latest}
 use Rattle.frame_delivery.specs.Sending.{Copy, EachCopy, Numbering, RunsOn}
-use Rattle.frame_delivery.specs.Once.{ComesInTime, FirstsInOrder, IsInTime, IsNotOvertaken, greatest_index, has_come, newest_time}
-use Rattle.frame_delivery.specs.Network.{BeginNear, BeginsNear, IsNeverLate, FitsSkew, HasNoOvertaking, IsOnItsWay, IsOverSoon, KeepsGap, KeepsPause, KeepsTimes, Timing, time_of_all}
-use Rattle.frame_delivery.proofs.Near.{near_the_newest}
+use Rattle.frame_delivery.specs.Once.{FirstsInOrder, IsNotOvertaken, greatest_index, has_come, newest_time}
+use Rattle.frame_delivery.specs.Network.{BeginNear, BeginsNear, IsAfterCut, IsNeverLate, FitsSkew, HasNoOvertaking, IsOnItsWay, IsOverSoon, KeepsGap, KeepsPause, KeepsTimes, Timing, indices_on, time_of_all}
+use Rattle.frame_delivery.proofs.Firsts.{latest_has_come}
+use Rattle.frame_delivery.proofs.Forwarding.{ComesInTime, IsInTime}
+use Rattle.frame_delivery.proofs.Passing.{IsAtMost, latest_at_most}
 
 -- a frame of which a copy may be taken after one of another is at most 127 before that, with no restart between
 abbrev pub AreNotLate : Numbering → Timing → Type 0
 AreNotLate numbering timing =
     (index other : ℕ) → timing.sent other + timing.least ≤ timing.sent index + timing.greatest + timing.wait → (other ≤ index + 127) × RunsOn numbering index other
 
--- a copy of the latest frame came
-pub latest_has_come : (copy : Copy) (before : List Copy) → has_come (greatest_index (copy ∷ before)) (copy ∷ before) ≡ true
-latest_has_come copy [] = or_left _ _ (eq-eqb copy.index (max copy.index 0) (omega arith))
-latest_has_come copy (other ∷ before) =
-    let greatest : ℕ = greatest_index (other ∷ before) in
-    ⊎_elim
-    (λ (less : greatest < copy.index). or_left _ _ (eq-eqb copy.index (max copy.index greatest) (omega arith)))
-    (λ (more : copy.index ≤ greatest).
-    let e : max copy.index greatest ≡ greatest = omega arith in
-    or_right _ _ (ap (λ (index : ℕ). has_come index (other ∷ before)) e ∙ latest_has_come other before))
-    (cases_lt greatest copy.index)
+-- a copy that comes while SkewMax runs is of one of the 127 frames after the newest, or of an earlier one
+pub near_the_newest : (skew_max : ℕ) (other : Copy) (before : List Copy) (copy : Copy) → BeginsNear skew_max (other ∷ before) copy
+    → copy.event.time ≤ newest_time (other ∷ before) + skew_max → copy.index ≤ greatest_index (other ∷ before) + 127
+near_the_newest skew_max other before copy near soon =
+    go (latest (indices_on (other ∷ before) copy.event.net)) (latest_at_most (other ∷ before) copy.event.net) near
+  where
+    go : (last : Option ℕ) → IsAtMost last (greatest_index (other ∷ before))
+        → (IsAfterCut last copy.index → copy.event.time ≤ newest_time (other ∷ before) + skew_max → copy.index ≤ greatest_index (other ∷ before) + 127)
+        → copy.index ≤ greatest_index (other ∷ before) + 127
+    go None most near = near tt soon
+    go (Some last) most near =
+        ⊎_elim
+        (λ (cut : last + 127 < copy.index). near cut soon)
+        (λ (close : copy.index ≤ last + 127). omega (arith, close, most))
+        (cases_lt (last + 127) copy.index)
 
 -- where no copy overtakes, none is late
 pub apart_not_late : (timing : Timing) → HasNoOvertaking timing → IsNeverLate timing

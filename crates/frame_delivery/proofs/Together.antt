@@ -11,16 +11,12 @@ use Rattle.frame_delivery.specs.Sending.{Copy, Numbering}
 use Rattle.frame_delivery.specs.Once.{FirstsInOrder, IsNotOvertaken, greatest_index, has_come}
 use Rattle.frame_delivery.specs.Network.{Delays, IsLater, KeepOrderTogether, KeepsBefore, KeepsDelays, KeepsGap, KeepsOrder, KeepsTimes, LosesNoneOf, Timing, copies_on, indices_on, time_of_all}
 use Rattle.frame_delivery.specs.Since.{passing_since}
-use Rattle.frame_delivery.proofs.Cases.{by_if}
-use Rattle.frame_delivery.proofs.OneNetwork.{itself, same_net}
+use Rattle.frame_delivery.proofs.Firsts.{come_among, latest_has_come}
+use Rattle.frame_delivery.proofs.Passing.{by_net, itself, same_net}
 use Rattle.frame_delivery.proofs.Since.{by_counts, each_since, times_since}
-use Rattle.frame_delivery.proofs.Times.{latest_has_come, sent_apart}
+use Rattle.frame_delivery.proofs.Times.{sent_apart}
 
 -- ---- the copies of one network
-
-by_net : (net : Net) (copy : Copy) (before : List Copy) (Hold : List Copy → Type 0) → (is_same_net copy.event.net net ≡ true → Hold (copy ∷ copies_on net before)) → (is_same_net copy.event.net net ≡ false → Hold (copies_on net before))
-    → Hold (copies_on net (copy ∷ before))
-by_net net copy before Hold = by_if Hold (is_same_net copy.event.net net) (copy ∷ copies_on net before) (copies_on net before)
 
 on_before : (net : Net) (index : ℕ) (copy : Copy) (before : List Copy) → has_come index (copies_on net before) ≡ true → has_come index (copies_on net (copy ∷ before)) ≡ true
 on_before net index copy before come =
@@ -28,14 +24,7 @@ on_before net index copy before come =
 
 come_on : (net : Net) (index : ℕ) (copies : List Copy) → has_come index (copies_on net copies) ≡ true → has_come index copies ≡ true
 come_on net index [] come = come
-come_on net index (copy ∷ before) come =
-    by_net net copy before (λ some. has_come index some ≡ true → has_come index (copy ∷ before) ≡ true)
-    (λ is here.
-    ⊎_elim
-    (λ (same : (copy.index == index) ≡ true). or_left _ _ same)
-    (λ (there : has_come index (copies_on net before) ≡ true). or_right _ _ (come_on net index before there))
-    (or_cases (copy.index == index) (has_come index (copies_on net before)) here))
-    (λ is there. or_right _ _ (come_on net index before there)) come
+come_on net index (copy ∷ before) come = come_among (is_same_net copy.event.net net) index copy (copies_on net before) before (come_on net index before) come
 
 -- a copy is of a later frame than all before it on its network
 later_on : (net : Net) (copy : Copy) (before : List Copy) → KeepsOrder (copy ∷ before) → is_same_net copy.event.net net ≡ true → IsLater (latest (indices_on before net)) copy.index

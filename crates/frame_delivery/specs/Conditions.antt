@@ -1,5 +1,5 @@
--- The conditions on the sender and the networks, each with a name, and copies that meet all that a law asks but one.
-use Rattle.std.specs.Prelude.{◌≡◌, ◌+◌, ◌*◌, ◌≤◌, ◌<◌, max, Bool, true, false, List, []}
+-- The conditions that `no_frame_is_lost` asks, each with a name, and copies that meet all but one.
+use Rattle.std.specs.Prelude.{◌≡◌, ◌+◌, ◌*◌, ◌≤◌, ◌<◌, max, true, List, []}
 use Rattle.es_base.specs.Settings.{Settings}
 use Rattle.frame_delivery.specs.Sending.{Copy, HaveNumbers, Numbering}
 use Rattle.frame_delivery.specs.Once.{FirstsInOrder}
@@ -32,43 +32,17 @@ IsMet firsts settings numbering timing copies = FirstsInOrder copies
 IsMet late settings numbering timing copies = timing.greatest + timing.wait < timing.least + 128 * timing.gap
 IsMet late_restart settings numbering timing copies = timing.greatest + timing.wait < timing.least + max timing.gap timing.pause
 
--- those that `no_frame_is_lost` asks
-abbrev pub is_asked_for_all : Condition → Bool
-is_asked_for_all covers = true
-is_asked_for_all restarts = true
-is_asked_for_all near = true
-is_asked_for_all losses = true
-is_asked_for_all firsts = true
-is_asked_for_all late = true
-is_asked_for_all late_restart = true
-
--- those that `no_frame_is_forwarded_twice` asks
-abbrev pub is_asked_for_once : Condition → Bool
-is_asked_for_once covers = true
-is_asked_for_once restarts = true
-is_asked_for_once near = true
-is_asked_for_once losses = false
-is_asked_for_once firsts = false
-is_asked_for_once late = true
-is_asked_for_once late_restart = true
-
--- what both laws ask besides: redundancy management is on, and the copies are those of a sender's frames, and come at
--- the times that are named
+-- what is asked besides: redundancy management is on, and the copies are those of a sender's frames, and come at the times
+-- that are named
 pub record AreCopies (settings : Settings) (numbering : Numbering) (timing : Timing) (copies : List Copy) : Type 0 where
   pub redundancy : settings.redundancy ≡ true
   pub first : numbering.first ≤ 255
   pub numbers : HaveNumbers numbering copies
   pub times : KeepsTimes numbering timing copies
 
--- all conditions that a law asks are met
-abbrev pub MeetAll : (Condition → Bool) → Settings → Numbering → Timing → List Copy → Type 0
-MeetAll is_asked settings numbering timing copies =
-    AreCopies settings numbering timing copies × ((condition : Condition) → is_asked condition ≡ true → IsMet condition settings numbering timing copies)
-
--- all are met but this one
+-- all is met but this one
 -- rule: DELIV-15
-pub record MeetAllBut (is_asked : Condition → Bool) (one : Condition) (settings : Settings) (numbering : Numbering) (timing : Timing) (copies : List Copy) : Type 0 where
+pub record MeetAllBut (one : Condition) (settings : Settings) (numbering : Numbering) (timing : Timing) (copies : List Copy) : Type 0 where
   pub are : AreCopies settings numbering timing copies
-  pub asked : is_asked one ≡ true
-  pub others : (other : Condition) → is_asked other ≡ true → (other ≡ one → ⊥) → IsMet other settings numbering timing copies
+  pub others : (other : Condition) → (other ≡ one → ⊥) → IsMet other settings numbering timing copies
   pub not_met : IsMet one settings numbering timing copies → ⊥

@@ -82,9 +82,9 @@ from_one = record { first = 1; restarts = λ index. false }
 abbrev pub after_skew_max : List Copy
 after_skew_max = received nets.B 0 1 1101 ∷ received nets.A 0 1 100 ∷ []
 
--- A brings three frames, 1100 microseconds on their way; B, which takes 100, loses the second
+-- B brings three frames, 1100 microseconds on their way; A, which takes 100, loses the second
 abbrev pub overtaken : List Copy
-overtaken = received nets.A 2 3 3100 ∷ received nets.A 1 2 2100 ∷ received nets.B 2 3 2100 ∷ received nets.A 0 1 1100 ∷ received nets.B 0 1 100 ∷ []
+overtaken = received nets.B 2 3 3100 ∷ received nets.B 1 2 2100 ∷ received nets.A 2 3 2100 ∷ received nets.B 0 1 1100 ∷ received nets.A 0 1 100 ∷ []
 
 -- each network loses two frames in a row, which is the window
 abbrev pub two_lost : List Copy
@@ -114,12 +114,12 @@ from_57 = record { first = 57; restarts = λ index. index == 1 }
 abbrev pub soon_restarted : List Copy
 soon_restarted = received nets.A 1 0 1100 ∷ received nets.A 0 57 100 ∷ []
 
--- A's first frame comes just after B brought one 128 frames later; with a window of 64, so that the list is short
+-- B's first frame comes just after A brought one 128 frames later; with a window of 64, so that the list is short
 abbrev pub wide_link : Settings
 wide_link = record (link 128000) { window = 64 }
 
 abbrev pub far_behind : List Copy
-far_behind = received nets.A 0 1 128100 ∷ received nets.B 128 129 128100 ∷ received nets.B 64 65 64100 ∷ received nets.B 0 1 100 ∷ []
+far_behind = received nets.B 0 1 128100 ∷ received nets.A 128 129 128100 ∷ received nets.A 64 65 64100 ∷ received nets.A 0 1 100 ∷ []
 
 -- B's copy of the last frame before a restart is taken after A's of the first after it
 abbrev pub behind_a_restart : List Copy

@@ -1,5 +1,5 @@
 //! Which networks bring each frame once, in order, and what a port gets of frames that have whole messages.
-ghost use Rattle.std.specs.Prelude.{◌≡◌, ℕ, ◌<◌, ◌≤◌, ◌+◌, true, false, List, [], ◌∷◌, ◌++◌, length, Some};
+ghost use Rattle.std.specs.Prelude.{◌≡◌, ℕ, ◌<◌, ◌≤◌, ◌+◌, ◌&&◌, true, false, List, [], ◌∷◌, ◌++◌, length, Some};
 ghost use Rattle.es_base.specs.declared.place.Net.{Net};
 ghost use Rattle.es_base.specs.declared.place.Net.TheVariants as nets;
 ghost use Rattle.es_base.specs.declared.place.PortNo.{PortNo};
@@ -15,11 +15,11 @@ ghost use Rattle.es_base.specs.Redundancy.{forwarded, is_forwarded};
 ghost use Rattle.es_base.specs.Outcome.{Payload};
 ghost use Rattle.es_base.specs.Deliveries.{deliveries, number_delivered};
 ghost use Rattle.frame_delivery.specs.Sending.{Copy, EachCopy, HaveNumbers, Numbering, RunsOn, events_of_copies, events_since, number_of_frame};
-ghost use Rattle.frame_delivery.specs.Once.{AreInOrder, FirstsInOrder, IsOvertaken, as_forwarded, first_copies, has_come, new_copies};
+ghost use Rattle.frame_delivery.specs.Once.{AreInOrder, FirstsInOrder, IsOvertaken, as_forwarded, first_copies, has_come, is_new, new_copies};
 ghost use Rattle.frame_delivery.specs.Running.{EachForwarded, SomeForwarded};
-ghost use Rattle.frame_delivery.specs.Since.{ComeAfter, IsFirstPassing, PassTimely, counts, forwarded_since, passing_since};
+ghost use Rattle.frame_delivery.specs.Since.{ComeAfter, PassInOrder, PassTimely, counts, forwarded_since, passing_since};
 ghost use Rattle.frame_delivery.specs.Network.{BeginNear, BringsInRow, ComeTimely, ComeWhole, Delays, HasAge, HasNoOvertaking, IsNeverLate, IsOverSoon, KeepOrderTogether, KeepsBefore, KeepsDelays, KeepsOrder, KeepsTimes, LosesFew, MayFollow, Timing, copies_on, indices_on};
-ghost use Rattle.frame_delivery.specs.Conditions.{MeetAll, MeetAllBut, covers, firsts, is_asked_for_all, is_asked_for_once, late, late_restart, losses, near, restarts};
+ghost use Rattle.frame_delivery.specs.Conditions.{AreCopies, Condition, IsMet, MeetAllBut, covers, firsts, late, late_restart, losses, near, restarts};
 ghost use Rattle.frame_delivery.specs.Messages.{AllCame, CarryWhole, HaveRoom, messages_of, octets_of_messages, octets_sent};
 ghost use Rattle.frame_delivery.specs.Examples.{after_skew_max, after_strange, behind_a_restart, far_apart, far_behind, frame_at, from_57, from_one, from_ten, link, numbering, of_later_time, one_network_out, overtaken, received, restarted, slower_network, slower_on_b, soon_restarted, strange, stranger_passes, timed, timing, two_lost, wide_link, with_losses};
 
@@ -48,11 +48,14 @@ pub fn skew_max_runs_from_each_forwarded_frame()
 
 /// No frame is forwarded twice, and none after a later one, whatever the networks lose, bring twice or out of order: of
 /// the copies that pass those are forwarded that are of a later frame than all before, if they come at times that fit
-/// SkewMax, none is too late, and networks begin near each other. With no old past all copies that pass count.
+/// SkewMax, none is too late, and networks begin near each other. So a frame is lost whose copies come after one of a later
+/// frame, and no other for it. With no old past all copies that pass count.
 pub fn no_frame_is_forwarded_twice()
-    ensures forwarded { (settings : Settings) (numbering : Numbering) (timing : Timing) (old : List Event) (copies : List Copy) → ComeTimely settings numbering timing (passing_since settings old copies) → IsNeverLate timing
-        → BeginNear settings.skew_max (passing_since settings old copies) → ComeAfter settings old (passing_since settings old copies)
+    ensures forwarded { (settings : Settings) (numbering : Numbering) (timing : Timing) (old : List Event) (copies : List Copy) → PassTimely settings numbering timing old copies
         → (forwarded_since settings old copies ≡ new_copies (passing_since settings old copies)) × AreInOrder (new_copies (passing_since settings old copies)) }
+    ensures each { (settings : Settings) (numbering : Numbering) (timing : Timing) (old : List Event) (copy : Copy) (before : List Copy) → PassTimely settings numbering timing old (copy ∷ before)
+        → is_forwarded settings (events_since before old) (arrival_of copy.event)
+        ≡ (counts settings (events_since before old) (arrival_of copy.event) (passing_since settings old before) && is_new copy.index (passing_since settings old before)) }
     ensures nothing_before { (settings : Settings) (copy : Copy) (before : List Copy)
         → counts settings (events_of_copies before) (arrival_of copy.event) (passing_since settings [] before) ≡ passes settings (events_of_copies before) (arrival_of copy.event) }
     ensures redundancy_keeps { (settings : Settings) (old : List Event) (copies : List Copy) → forwarded settings (events_since copies old) ≡ as_forwarded (forwarded_since settings old copies) ++ forwarded settings old }
@@ -63,7 +66,7 @@ pub fn no_frame_is_forwarded_twice()
 /// then the first copy of each frame passes.
 pub fn no_frame_is_lost()
     ensures pass { (settings : Settings) (numbering : Numbering) (timing : Timing) (copies : List Copy) → ComeWhole settings numbering timing copies
-        → PassTimely settings numbering timing [] copies × (first_copies (passing_since settings [] copies) ≡ first_copies copies) }
+        → PassInOrder settings numbering timing [] copies × (first_copies (passing_since settings [] copies) ≡ first_copies copies) }
     ensures forwarded { (settings : Settings) (numbering : Numbering) (timing : Timing) (copies : List Copy) → ComeWhole settings numbering timing copies
         → (forwarded_since settings [] copies ≡ first_copies copies) × AreInOrder (first_copies copies) }
     ensures all { (copies : List Copy) (index : ℕ) → has_come index (first_copies copies) ≡ has_come index copies }
@@ -86,34 +89,24 @@ pub fn one_network_is_enough()
     ensures passes_again { (settings : Settings) (numbering : Numbering) (old : List Event) (copy : Copy) (before : List Copy) (last : ℕ) → HaveNumbers numbering (copies_on copy.event.net (copy ∷ before))
         → latest (indices_on before copy.event.net) ≡ Some last → last < copy.index → MayFollow numbering settings.window (Some last) copy.index
         → passes settings (events_since before old) (arrival_of copy.event) ≡ true }
-    ensures brings { (settings : Settings) (numbering : Numbering) (timing : Timing) (copies : List Copy) (net : Net) (index : ℕ) → PassTimely settings numbering timing [] copies
+    ensures brings { (settings : Settings) (numbering : Numbering) (timing : Timing) (copies : List Copy) (net : Net) (index : ℕ) → PassInOrder settings numbering timing [] copies
         → BringsInRow numbering settings.window net copies → has_come index (copies_on net copies) ≡ true → has_come index (forwarded_since settings [] copies) ≡ true }
 {}
 
 /// Whatever came before on the link, frames of a stranger or numbers that don't follow: from the first copy on that is
 /// forwarded then, the first copy of each frame that passes is forwarded, and no other, in order.
 pub fn forwarding_recovers()
-    ensures forwarded { (settings : Settings) (numbering : Numbering) (timing : Timing) (old : List Event) (copies : List Copy) → PassTimely settings numbering timing old copies
+    ensures forwarded { (settings : Settings) (numbering : Numbering) (timing : Timing) (old : List Event) (copies : List Copy) → PassInOrder settings numbering timing old copies
         → (forwarded_since settings old copies ≡ first_copies (passing_since settings old copies)) × AreInOrder (first_copies (passing_since settings old copies)) }
-    ensures each { (settings : Settings) (numbering : Numbering) (timing : Timing) (old : List Event) (copies : List Copy) (index : ℕ) → PassTimely settings numbering timing old copies
+    ensures each { (settings : Settings) (numbering : Numbering) (timing : Timing) (old : List Event) (copies : List Copy) (index : ℕ) → PassInOrder settings numbering timing old copies
         → has_come index (forwarded_since settings old copies) ≡ has_come index (passing_since settings old copies) }
-    ensures first { (settings : Settings) (numbering : Numbering) (timing : Timing) (old : List Event) (copy : Copy) (before : List Copy) → PassTimely settings numbering timing old (copy ∷ before)
-        → IsFirstPassing settings old before copy → is_forwarded settings (events_since before old) (arrival_of copy.event) ≡ true }
-    ensures no_other { (settings : Settings) (numbering : Numbering) (timing : Timing) (old : List Event) (copy : Copy) (before : List Copy) → PassTimely settings numbering timing old (copy ∷ before)
-        → has_come copy.index (passing_since settings old before) ≡ true → is_forwarded settings (events_since before old) (arrival_of copy.event) ≡ false }
 {}
 
 /// A link has recovered at the latest with the first copy that passes once SkewMax is over since all that was forwarded
-/// before: each frame of which a copy passes from then on is forwarded. A copy passes if the one before it on its network
-/// is of one of the `window` frames before.
+/// before: each that passes from then on counts. A copy passes if the one before it on its network is of one of the
+/// `window` frames before (`one_network_is_enough`).
 pub fn a_link_recovers_within_skew_max()
-    ensures at_the_latest { (settings : Settings) (old : List Event) (copy : Copy) (before : List Copy) → passes settings (events_since before old) (arrival_of copy.event) ≡ true
-        → EachForwarded settings (λ e. e.time + settings.skew_max < copy.event.time) old → passing_since settings old (copy ∷ before) ≡ copy ∷ passing_since settings old before }
-    ensures within_skew_max { (settings : Settings) (numbering : Numbering) (timing : Timing) (old : List Event) (copy : Copy) (before : List Copy) → PassTimely settings numbering timing old (copy ∷ before)
-        → passes settings (events_since before old) (arrival_of copy.event) ≡ true → EachForwarded settings (λ e. e.time + settings.skew_max < copy.event.time) old
-        → has_come copy.index (forwarded_since settings old (copy ∷ before)) ≡ true }
-    ensures heals { (settings : Settings) (numbering : Numbering) (old : List Event) (copy : Copy) (before : List Copy) (last : ℕ) → HaveNumbers numbering (copies_on copy.event.net (copy ∷ before))
-        → latest (indices_on before copy.event.net) ≡ Some last → last < copy.index → MayFollow numbering settings.window (Some last) copy.index
+    ensures { (settings : Settings) (old : List Event) (copy : Copy) (before : List Copy) → passes settings (events_since before old) (arrival_of copy.event) ≡ true
         → EachForwarded settings (λ e. e.time + settings.skew_max < copy.event.time) old → passing_since settings old (copy ∷ before) ≡ copy ∷ passing_since settings old before }
 {}
 
@@ -130,9 +123,8 @@ pub fn first_copies_come_in_order()
     ensures each_network_of_passing { (settings : Settings) (numbering : Numbering) (timing : Timing) (delays : Delays) (old : List Event) (copies : List Copy) → KeepsTimes numbering timing copies → KeepsOrder copies
         → KeepsDelays timing delays copies → KeepsBefore timing delays nets.A nets.B (passing_since settings old copies) → KeepsBefore timing delays nets.B nets.A (passing_since settings old copies)
         → FirstsInOrder (passing_since settings old copies) }
-    ensures no_less_would_do { (settings : Settings) (numbering : Numbering) (timing : Timing) (old : List Event) (copies : List Copy) → ComeTimely settings numbering timing (passing_since settings old copies) → IsNeverLate timing
-        → BeginNear settings.skew_max (passing_since settings old copies) → ComeAfter settings old (passing_since settings old copies) → forwarded_since settings old copies ≡ first_copies (passing_since settings old copies)
-        → FirstsInOrder (passing_since settings old copies) }
+    ensures no_less_would_do { (settings : Settings) (numbering : Numbering) (timing : Timing) (old : List Event) (copies : List Copy) → PassTimely settings numbering timing old copies
+        → forwarded_since settings old copies ≡ first_copies (passing_since settings old copies) → FirstsInOrder (passing_since settings old copies) }
 {}
 
 /// Networks begin near each other if SkewMax is over before 128 frames more are sent. So it is only for a longer
@@ -154,7 +146,7 @@ pub fn each_message_has_its_age()
 /// in the order of sending, whole, with the time of the first that passes; but for those whose queue was full then. It
 /// is lost only if no copy passes, whatever was lost of others.
 pub fn each_passing_message_is_delivered_once()
-    ensures { (settings : Settings) (numbering : Numbering) (timing : Timing) (payload : ℕ → Payload) (old : List Event) (copies : List Copy) (port : PortNo) → PassTimely settings numbering timing old copies
+    ensures { (settings : Settings) (numbering : Numbering) (timing : Timing) (payload : ℕ → Payload) (old : List Event) (copies : List Copy) (port : PortNo) → PassInOrder settings numbering timing old copies
         → CarryWhole settings payload (forwarded_since settings old copies) → number_delivered settings old port + length copies ≤ most_samples
         → deliveries settings (events_since copies old) port ≡ deliveries settings old port ++ messages_of payload port (first_copies (passing_since settings old copies)) }
 {}
@@ -168,32 +160,28 @@ pub fn all_messages_are_delivered()
 
 /// So all that was sent is delivered though one network is out, if the other brings each frame, and no queue is full.
 pub fn all_messages_are_delivered_by_one_network()
-    ensures { (settings : Settings) (numbering : Numbering) (timing : Timing) (payload : ℕ → Payload) (copies : List Copy) (port : PortNo) (net : Net) (n : ℕ) → PassTimely settings numbering timing [] copies
+    ensures { (settings : Settings) (numbering : Numbering) (timing : Timing) (payload : ℕ → Payload) (copies : List Copy) (port : PortNo) (net : Net) (n : ℕ) → PassInOrder settings numbering timing [] copies
         → BringsInRow numbering settings.window net copies → AllCame n copies → AllCame n (copies_on net copies) → CarryWhole settings payload copies → length copies ≤ most_samples → HaveRoom payload copies
         → octets_of_messages (deliveries settings (events_of_copies copies) port) ≡ octets_sent payload port n }
 {}
 
-/// The conditions that `no_frame_is_lost` and `no_frame_is_forwarded_twice` ask, one by one: where each of them is met,
-/// the law holds. So the examples below leave none out. And those of `forwarding_recovers`, asked of all copies.
+/// The conditions that `no_frame_is_lost` asks, one by one: where each of them is met, the law holds. So the examples below
+/// leave none out. And those of `no_frame_is_forwarded_twice`, asked of all copies.
 pub fn these_are_the_conditions()
-    ensures all { (settings : Settings) (numbering : Numbering) (timing : Timing) (copies : List Copy) → MeetAll is_asked_for_all settings numbering timing copies → ComeWhole settings numbering timing copies }
-    ensures once { (settings : Settings) (numbering : Numbering) (timing : Timing) (copies : List Copy) → MeetAll is_asked_for_once settings numbering timing copies
-        → ComeTimely settings numbering timing (passing_since settings [] copies) × IsNeverLate timing × BeginNear settings.skew_max (passing_since settings [] copies) × ComeAfter settings [] (passing_since settings [] copies) }
-    ensures passing { (settings : Settings) (numbering : Numbering) (timing : Timing) (old : List Event) (copies : List Copy) → ComeTimely settings numbering timing copies → HasNoOvertaking timing
+    ensures all { (settings : Settings) (numbering : Numbering) (timing : Timing) (copies : List Copy) → AreCopies settings numbering timing copies
+        → ((condition : Condition) → IsMet condition settings numbering timing copies) → ComeWhole settings numbering timing copies }
+    ensures passing { (settings : Settings) (numbering : Numbering) (timing : Timing) (old : List Event) (copies : List Copy) → ComeTimely settings numbering timing copies → IsNeverLate timing
         → BeginNear settings.skew_max (passing_since settings old copies) → ComeAfter settings old copies → PassTimely settings numbering timing old copies }
 {}
 
 /// The conditions can be met: by four frames that two networks bring, each with a loss, over the end of the sequence
-/// numbers, and all four are forwarded; and with a SkewMax of a second, a thousand gaps, as well as with one of a gap. And by
-/// a network that is slower than the other by more than a gap: its copies come after those of later frames, but none of
-/// them is the first of its frame.
+/// numbers, and all four are forwarded; with any SkewMax that covers what the times on the way differ by. And by a network that is slower than the other by more than a gap: its copies come
+/// after those of later frames, but none of them is the first of its frame.
 pub fn the_conditions_can_be_met()
-    ensures met { ComeWhole (link 1000) numbering timing with_losses }
-    ensures with_a_long_skew_max { ComeWhole (link 1000000) numbering (timed 1000 2000000 100 900 100) with_losses }
+    ensures met { (skew_max pause : ℕ) → 800 ≤ skew_max → skew_max + 800 < pause → ComeWhole (link skew_max) numbering (timed 1000 pause 100 900 100) with_losses }
     ensures with_a_slower_network { ComeWhole (link 1200) from_one (timed 1000 4000 100 1300 0) slower_network × KeepOrderTogether (timed 1000 4000 100 1300 0) slower_on_b slower_network
         × (HasNoOvertaking (timed 1000 4000 100 1300 0) → ⊥) × (forwarded (link 1200) (events_of_copies slower_network) ≡ frame_at 3 2100 ∷ frame_at 2 1100 ∷ frame_at 1 100 ∷ []) }
-    ensures forwarded { forwarded (link 1000) (events_of_copies with_losses) ≡ frame_at 2 3100 ∷ frame_at 1 2200 ∷ frame_at 255 1500 ∷ frame_at 254 100 ∷ [] }
-    ensures forwarded_with_it { forwarded (link 1000000) (events_of_copies with_losses) ≡ frame_at 2 3100 ∷ frame_at 1 2200 ∷ frame_at 255 1500 ∷ frame_at 254 100 ∷ [] }
+    ensures forwarded { (skew_max : ℕ) → 800 ≤ skew_max → forwarded (link skew_max) (events_of_copies with_losses) ≡ frame_at 2 3100 ∷ frame_at 1 2200 ∷ frame_at 255 1500 ∷ frame_at 254 100 ∷ [] }
 {}
 
 /// No frame is lost while one network is out for longer than the window and the other brings each: this breaks that few
@@ -202,12 +190,12 @@ pub fn the_conditions_can_be_met()
 /// `forwarding_recovers` says, though one more strange frame comes meanwhile, which is out of sequence. But a frame of
 /// which a copy passes can be lost if one was forwarded before with a later time than the copies have that come; or while
 /// SkewMax runs since a stranger's frame that passes, though on the other network. And the copies of
-/// `each_condition_is_needed` all pass where SkewMax is too short or too long, a first copy is overtaken, or networks begin far
-/// apart: so each of these conditions is needed of copies that pass, too.
+/// `each_condition_is_needed` all pass where SkewMax is too short or too long, a first copy is overtaken, networks begin far
+/// apart, or a copy is too late: so each of these conditions is needed of copies that pass, too.
 pub fn a_link_recovers_in_examples()
-    ensures one_network_out { MeetAllBut is_asked_for_all losses (link 1000) from_one timing one_network_out × BringsInRow from_one 2 nets.A one_network_out
+    ensures one_network_out { MeetAllBut losses (link 1000) from_one timing one_network_out × BringsInRow from_one 2 nets.A one_network_out
         × (forwarded (link 1000) (events_of_copies one_network_out) ≡ frame_at 5 4100 ∷ frame_at 4 3100 ∷ frame_at 3 2100 ∷ frame_at 2 1100 ∷ frame_at 1 100 ∷ []) }
-    ensures after_strange_frames { PassTimely (link 1500) from_ten (timed 1000 3000 100 900 100) strange after_strange
+    ensures after_strange_frames { PassInOrder (link 1500) from_ten (timed 1000 3000 100 900 100) strange after_strange
         × (passing_since (link 1500) strange after_strange ≡ received nets.A 2 12 2100 ∷ received nets.B 1 11 1900 ∷ [])
         × (forwarded (link 1500) (events_since after_strange strange) ≡ frame_at 12 2100 ∷ frame_at 11 1900 ∷ frame_at 50 60 ∷ frame_at 200 50 ∷ []) }
     ensures after_a_later_time { ComeTimely (link 1000) from_57 (timed 3000 3000 100 100 0) restarted × IsNeverLate (timed 3000 3000 100 100 0) × FirstsInOrder (passing_since (link 1000) of_later_time restarted) × BeginNear 1000 (passing_since (link 1000) of_later_time restarted)
@@ -215,22 +203,23 @@ pub fn a_link_recovers_in_examples()
         × (forwarded (link 1000) (events_since restarted of_later_time) ≡ frame_at 57 100 ∷ frame_at 50 5000 ∷ []) }
     ensures while_a_stranger_passes { BringsInRow from_one 2 nets.A stranger_passes × (passing_since (link 1000) [] stranger_passes ≡ stranger_passes)
         × (forwarded (link 1000) (events_of_copies stranger_passes) ≡ frame_at 50 200 ∷ frame_at 1 100 ∷ []) }
-    ensures all_pass { (passing_since (link 1000) [] after_skew_max ≡ after_skew_max) × (passing_since (link 1000) [] overtaken ≡ overtaken) × (passing_since (link 128000) [] far_apart ≡ far_apart) × (passing_since (link 1000) [] soon_restarted ≡ soon_restarted) }
+    ensures all_pass { (passing_since (link 1000) [] after_skew_max ≡ after_skew_max) × (passing_since (link 1000) [] overtaken ≡ overtaken) × (passing_since (link 128000) [] far_apart ≡ far_apart) × (passing_since (link 1000) [] soon_restarted ≡ soon_restarted)
+        × (passing_since wide_link [] far_behind ≡ far_behind) × (passing_since (link 1000) [] behind_a_restart ≡ behind_a_restart) }
 {}
 
 /// Counterexamples with one condition not met, by a microsecond or by one frame, and all others that the law asks met:
 /// a frame of which a copy comes is lost, or one is forwarded twice or after a later one.
 pub fn each_condition_is_needed()
-    ensures second_copy_after_skew_max { MeetAllBut is_asked_for_all covers (link 1000) from_one (timed 2000 4000 100 1101 0) after_skew_max
+    ensures second_copy_after_skew_max { MeetAllBut covers (link 1000) from_one (timed 2000 4000 100 1101 0) after_skew_max
         × (forwarded (link 1000) (events_of_copies after_skew_max) ≡ frame_at 1 1101 ∷ frame_at 1 100 ∷ []) }
-    ensures overtaken_though_one_network_loses_nothing { MeetAllBut is_asked_for_all firsts (link 1000) from_one (timed 1000 4000 100 1100 0) overtaken × KeepsOrder overtaken
+    ensures overtaken_though_one_network_loses_nothing { MeetAllBut firsts (link 1000) from_one (timed 1000 4000 100 1100 0) overtaken × KeepsOrder overtaken
         × (forwarded (link 1000) (events_of_copies overtaken) ≡ frame_at 3 2100 ∷ frame_at 1 100 ∷ []) }
-    ensures window_lost_on_both_networks { MeetAllBut is_asked_for_all losses (link 1000) from_one timing two_lost × (forwarded (link 1000) (events_of_copies two_lost) ≡ frame_at 1 100 ∷ []) }
-    ensures begun_far_apart { MeetAllBut is_asked_for_all near (link 128000) from_one (timed 1000 200000 100 100 0) far_apart × (forwarded (link 128000) (events_of_copies far_apart) ≡ frame_at 1 100 ∷ []) }
-    ensures restart_in_skew_max { MeetAllBut is_asked_for_all restarts (link 1000) from_57 (timed 1000 1000 100 100 0) soon_restarted
+    ensures window_lost_on_both_networks { MeetAllBut losses (link 1000) from_one timing two_lost × (forwarded (link 1000) (events_of_copies two_lost) ≡ frame_at 1 100 ∷ []) }
+    ensures begun_far_apart { MeetAllBut near (link 128000) from_one (timed 1000 200000 100 100 0) far_apart × (forwarded (link 128000) (events_of_copies far_apart) ≡ frame_at 1 100 ∷ []) }
+    ensures restart_in_skew_max { MeetAllBut restarts (link 1000) from_57 (timed 1000 1000 100 100 0) soon_restarted
         × (forwarded (link 1000) (events_of_copies soon_restarted) ≡ frame_at 57 100 ∷ []) }
-    ensures late_by_128_frames { MeetAllBut is_asked_for_all late wide_link from_one (timed 1000 300000 100 128100 0) far_behind
+    ensures late_by_128_frames { MeetAllBut late wide_link from_one (timed 1000 300000 100 128100 0) far_behind
         × (forwarded wide_link (events_of_copies far_behind) ≡ frame_at 1 128100 ∷ frame_at 129 128100 ∷ frame_at 65 64100 ∷ frame_at 1 100 ∷ []) }
-    ensures late_by_a_restart { MeetAllBut is_asked_for_all late_restart (link 1000) from_57 (timed 2000 2000 100 100 2000) behind_a_restart
+    ensures late_by_a_restart { MeetAllBut late_restart (link 1000) from_57 (timed 2000 2000 100 100 2000) behind_a_restart
         × (forwarded (link 1000) (events_of_copies behind_a_restart) ≡ frame_at 57 100 ∷ frame_at 0 2100 ∷ frame_at 57 100 ∷ []) }
 {}

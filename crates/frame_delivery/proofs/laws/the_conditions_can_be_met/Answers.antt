@@ -1,11 +1,5 @@
-use Rattle.frame_delivery.proofs.Examples.{all_met, long_forwarded, long_met, met_forwarded, slower_met}
+use Rattle.frame_delivery.proofs.Examples.{all_met, met_forwarded, slower_met}
 use Rattle.frame_delivery.proofs.laws.the_conditions_can_be_met.Goals as goal
 
 pub returns : goal.returns
-returns c = record {
-  met = all_met;
-  with_a_long_skew_max = long_met;
-  with_a_slower_network = slower_met;
-  forwarded = met_forwarded;
-  forwarded_with_it = long_forwarded;
-}
+returns c = record { met = all_met; with_a_slower_network = slower_met; forwarded = met_forwarded }
