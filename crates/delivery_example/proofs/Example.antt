@@ -13,19 +13,20 @@ use Rattle.es_base.specs.Outcome as outcomes
 use Rattle.es_base.specs.Packet as packets
 use Rattle.es_base.specs.Past.{AreFramesOf}
 use Rattle.es_base.specs.Run.{IsRun}
-use Rattle.frame_delivery.specs.Network.{KeepsTimes}
-use Rattle.frame_delivery.specs.Once.{first_copies}
+use Rattle.frame_delivery.specs.Network.{KeepsTimes, Timing}
+use Rattle.frame_delivery.specs.Once.{new_copies}
 use Rattle.frame_delivery.specs.Sending.{Copy, HaveNumbers, events_of_copies}
 use Rattle.frame_delivery.specs.Since.{PassTimely, passing_since}
-use Rattle.frame_delivery.specs.Examples.{numbering}
+use Rattle.frame_delivery.specs.Examples.{numbering, timed}
 use Rattle.frame_delivery.proofs.Since.{all_pass_timely, each_forwarded, none_before, since_is_near}
+use Rattle.frame_delivery.proofs.Times.{apart_not_late}
 use Rattle.datagram_delivery.specs.Splitting.{Offer}
 use Rattle.datagram_delivery.specs.Datagrams.{CarryPackets, IsInParts, offers_of}
 use Rattle.datagram_delivery.specs.Examples.{packet_sent, part_sent}
 use Rattle.datagram_delivery.specs.Interleaved.{AreInterleaved, BringDatagrams, carried_offers}
 use Rattle.datagram_delivery.proofs.Interleaved.{brought_by}
 use Rattle.delivery_example.proofs.Rooms.{three}
-use Rattle.delivery_example.specs.Example.{arrival_on_a, first_arrival_on_b, first_on_a, first_on_b, link_with_nav, nav_message, nav, past, past_if_b_is_first, second_arrival_on_b, second_on_b, second_time_on_b, first_time_on_b, time_on_a, sent, sent_if_b_is_first, timing_of_sender}
+use Rattle.delivery_example.specs.Example.{arrival_on_a, first_arrival_on_b, first_on_a, first_on_b, link_with_nav, nav_message, nav, past, past_if_b_is_first, second_arrival_on_b, second_on_b, second_time_on_b, first_time_on_b, time_on_a, sent, sent_if_b_is_first}
 
 -- ---- the events, with whatever verdicts
 
@@ -34,6 +35,10 @@ events one two third = three arrival_on_a first_arrival_on_b second_arrival_on_b
 
 abbrev pub events_if_b_is_first : Verdict → Verdict → Verdict → List Event
 events_if_b_is_first one two third = three first_arrival_on_b arrival_on_a second_arrival_on_b (true, true, true) (one, two, third)
+
+-- frames that are sent 10 milliseconds apart, 100 to 900 microseconds on their way, and up to 800 taken late
+abbrev timing_of_sender : Timing
+timing_of_sender = timed 10000 20000 100 900 800
 
 -- as copies of frames with these indices
 abbrev copies_of : List ℕ → List Event → List Copy
@@ -72,7 +77,7 @@ pass_timely : (copies : List Copy) → HaveNumbers numbering copies → KeepsTim
 pass_timely copies numbers times =
     all_pass_timely link_with_nav numbering timing_of_sender [] copies
     (record { redundancy = refl; first = omega arith; numbers = numbers; times = times; fits = record { covers = omega arith; restarts = omega arith } })
-    (omega arith) (since_is_near link_with_nav numbering timing_of_sender [] copies times (omega arith)) (none_before link_with_nav copies)
+    (apart_not_late timing_of_sender (omega arith)) (since_is_near link_with_nav numbering timing_of_sender [] copies times (omega arith)) (none_before link_with_nav copies)
 
 carry : (one two third : Verdict) → CarryPackets packet_sent (copies_of indices (events one two third))
 unfolding first_on_a first_on_b second_on_b packets.ones_sum words.u16_at words.u32_at
@@ -82,11 +87,11 @@ carry_if_b_is_first : (one two third : Verdict) → CarryPackets packet_sent (co
 unfolding first_on_a first_on_b second_on_b packets.ones_sum words.u16_at words.u32_at
 carry_if_b_is_first one two third = (refl, (refl, (refl, tt)))
 
-offered : (one two third : Verdict) → offers_of packet_sent (first_copies (passing_since link_with_nav [] (copies_of indices (events one two third)))) ≡ carried_offers sent
+offered : (one two third : Verdict) → offers_of packet_sent (new_copies (passing_since link_with_nav [] (copies_of indices (events one two third)))) ≡ carried_offers sent
 unfolding first_on_a first_on_b second_on_b
 offered one two third = refl
 
-offered_if_b_is_first : (one two third : Verdict) → offers_of packet_sent (first_copies (passing_since link_with_nav [] (copies_of indices (events_if_b_is_first one two third)))) ≡ carried_offers sent_if_b_is_first
+offered_if_b_is_first : (one two third : Verdict) → offers_of packet_sent (new_copies (passing_since link_with_nav [] (copies_of indices (events_if_b_is_first one two third)))) ≡ carried_offers sent_if_b_is_first
 unfolding first_on_a first_on_b second_on_b
 offered_if_b_is_first one two third = refl
 
@@ -117,7 +122,7 @@ are_sent time soon = (
     begun = record { begins = refl; free = refl; fronts = (λ is. record { next = record { begins = refl; good = refl; soon = omega arith }; more = refl }, tt) }
 
 bring_copies : (copies : List Copy) (time : ℕ) → HaveNumbers numbering copies → KeepsTimes numbering timing_of_sender copies → CarryPackets packet_sent copies
-    → offers_of packet_sent (first_copies (passing_since link_with_nav [] copies)) ≡ carried_offers (part_sent 1 1 second_time_on_b ∷ part_sent 1 0 time ∷ []) → second_time_on_b ≤ time + 50000
+    → offers_of packet_sent (new_copies (passing_since link_with_nav [] copies)) ≡ carried_offers (part_sent 1 1 second_time_on_b ∷ part_sent 1 0 time ∷ []) → second_time_on_b ≤ time + 50000
     → BringDatagrams link_with_nav (events_of_copies copies) (part_sent 1 1 second_time_on_b ∷ part_sent 1 0 time ∷ [])
 bring_copies copies time numbers times carry offered soon = record {
   copies = copies;

@@ -12,8 +12,6 @@ use Rattle.es_base.specs.Config.{Configuration}
 use Rattle.es_base.specs.Past.{arrived, event_of}
 use Rattle.es_base.specs.Port.{Port}
 use Rattle.es_base.specs.Settings.{Settings}
-use Rattle.frame_delivery.specs.Examples.{timed}
-use Rattle.frame_delivery.specs.Network.{Timing}
 use Rattle.datagram_delivery.specs.Examples.{first_frame, link_with_queue, part_sent, second_frame, sixteen_octets}
 use Rattle.datagram_delivery.specs.Interleaved.{Carried}
 
@@ -76,10 +74,6 @@ first_arrival_on_b = arrived nets.B first_time_on_b first_on_b
 
 abbrev pub second_arrival_on_b : Arrival
 second_arrival_on_b = arrived nets.B second_time_on_b second_on_b
-
--- frames that are sent 10 milliseconds apart, 100 to 900 microseconds on their way, and up to 800 taken late
-abbrev pub timing_of_sender : Timing
-timing_of_sender = timed 10000 20000 100 900 800
 
 -- ---- what comes of it
 

@@ -10,12 +10,12 @@ ghost use Rattle.delivery_laws.specs.Histories.{DeliversEach};
 ghost use Rattle.delivery_laws.specs.Holding.{EachHolds};
 
 /// Each port of a link was given what the packets of the forwarded frames bring, each offered once, and no other
-/// message, however many frames the threads of both networks gave to the system since its opening, and whatever
-/// epochs they took out. So each message that arrives (`Arrives`) was given to its port, at a place of its own: a
-/// copy passed of its frame, or of the frame of each of its fragments, since any fault was over, and its queue had
-/// room. What was lost of others doesn't matter, nor what came later. And if the copies that pass are of a sender's
-/// frames, in time and order, and each packet is the next of its datagram (`BringDatagrams`), exactly the messages of
-/// these datagrams were given, in the order of ending.
+/// message, however many frames the threads of both networks gave to the system since its opening, and whatever epochs
+/// they took out. So each message that arrives (`Arrives`) was given to its port, at a place of its own: a copy passed
+/// of its frame, or of the frame of each of its fragments, since any fault was over and before those of later frames,
+/// and its queue had room. Which others were lost or overtaken doesn't matter, nor what came later. And if the copies
+/// that pass are of a sender's frames, in time, and each packet of those that aren't overtaken is the next of its
+/// datagram (`BringDatagrams`), exactly the messages of these datagrams were given, in the order of ending.
 pub fn each_message_is_given_once()
     ensures { (system : System) (first last : Passes) (ends : List LinkEnds) (steps : List (Net × Step)) (links : List Link) (a b : KnownCounts) →
         AreOpened system first ends → Ran system first steps last → HasSettled system last links a b → DeliversEach system steps ends links }

@@ -14,13 +14,13 @@ ghost use Rattle.datagram_delivery.specs.Interleaved.{BringDatagrams, Carried};
 ghost use Rattle.delivery_laws.specs.Reported.{AreWritten, IsReported, lines_offered, lines_sent};
 
 /// The report's lines on a link's ports are those of the packets of the forwarded frames in both traces, each offered
-/// once, and of no other message. They are in the output of the traces, which `trace_player::play` writes; nobody
-/// takes a message from a queue of the player. So each message that arrives (`Arrives`) is among those that are
-/// written for its port: a copy passed of its frame, or of the frame of each of its fragments, since any fault was
-/// over, and its queue had room. What was lost of others doesn't matter, nor what came later. And if the copies that
-/// pass are of a sender's frames, in time and order, and each packet is the next of its datagram (`BringDatagrams`),
-/// exactly the messages of these datagrams are written, in the order of ending. A queuing port's messages have a line
-/// each; of a sampling port's the newest has one.
+/// once, and of no other message. They are in the output of the traces, which `trace_player::play` writes; nobody takes
+/// a message from a queue of the player. So each message that arrives (`Arrives`) is among those that are written for
+/// its port: a copy passed of its frame, or of the frame of each of its fragments, since any fault was over and before
+/// those of later frames, and its queue had room. Which others were lost or overtaken doesn't matter, nor what came
+/// later. And if the copies that pass are of a sender's frames, in time, and each packet of those that aren't overtaken
+/// is the next of its datagram (`BringDatagrams`), exactly the messages of these datagrams are written, in the order of
+/// ending. A queuing port's messages have a line each; of a sampling port's the newest has one.
 pub fn each_message_is_reported_once()
     ensures offered { (constant : List ℕ) (link : Settings) (frames : List Arrival) (at : ℕ) → link_lines at link (past_after constant link frames) ≡ lines_offered link (past_after constant link frames) at }
     ensures lines { (constant : List ℕ) (link : Settings) (frames : List Arrival) (carried : List Carried) (at : ℕ) → BringDatagrams link (past_after constant link frames) carried

@@ -48,8 +48,8 @@ pub fn skew_max_runs_from_each_forwarded_frame()
 
 /// No frame is forwarded twice, and none after a later one, whatever the networks lose, bring twice or out of order: of
 /// the copies that pass those are forwarded that are of a later frame than all before, if they come at times that fit
-/// SkewMax, none is too late, and networks begin near each other. So a frame is lost whose copies come after one of a later
-/// frame, and no other for it. With no old past all copies that pass count.
+/// SkewMax, none is too late, and networks begin near each other. So a frame whose copies all come after one of a later frame
+/// is lost, and costs no other. With no old past all copies that pass count.
 pub fn no_frame_is_forwarded_twice()
     ensures forwarded { (settings : Settings) (numbering : Numbering) (timing : Timing) (old : List Event) (copies : List Copy) → PassTimely settings numbering timing old copies
         → (forwarded_since settings old copies ≡ new_copies (passing_since settings old copies)) × AreInOrder (new_copies (passing_since settings old copies)) }

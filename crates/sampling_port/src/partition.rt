@@ -13,15 +13,14 @@ mod copy;
 mod held;
 mod reading;
 
-pub use held::HeldMessage;
-pub use reading::Reading;
-
 use crate::meeting::meet;
 use crate::reader::{MOST_TRIES, NotHeld, Read, Reader};
 use crate::writer::Writer;
 use copy::read_moved;
 use core::mem::replace_with;
 use es_base::freshness;
+pub use held::HeldMessage;
+pub use reading::Reading;
 use slot_core::READERS;
 use std::marker::Model;
 

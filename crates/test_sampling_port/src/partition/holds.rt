@@ -1,5 +1,7 @@
 //! A message that is held.
-use crate::partition::port::{MAX, check_range, check_read, hold, message, open, publish, seventeen};
+use crate::partition::port::{
+    MAX, check_range, check_read, hold, message, open, publish, seventeen,
+};
 use sampling_port::Freshness::{Fresh, Stale};
 use sampling_port::{HeldMessage, NotHeld, PartitionReader, Writer};
 use slot_core::READERS;

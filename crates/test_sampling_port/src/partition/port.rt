@@ -1,9 +1,7 @@
 //! A port with one partition's reader, and what it reads.
 ghost use Rattle.std.specs.Prelude.{◌≤◌};
 
-use sampling_port::{
-    Freshness, HeldMessage, PartitionReader, Reader, Reading, Writer, open_port,
-};
+use sampling_port::{Freshness, HeldMessage, PartitionReader, Reader, Reading, Writer, open_port};
 use slot_core::READERS;
 use std::alloc::Global;
 use std::process::Abort;
