@@ -16,7 +16,7 @@ use Rattle.es_base.specs.Deliveries.{delivered, deliveries, is_same_port, number
 use Rattle.es_base.specs.Run.{IsRun, decided, settled}
 use Rattle.link_core.specs.Told.{IsLawfulAfter, tells_delivered}
 use Rattle.link_receiver.specs.Walk.{IsMessageOf}
-use Rattle.link_receiver.proofs.History.{all_reverse, parts_after}
+use Rattle.link_receiver.proofs.Walks.{all_reverse, parts_after}
 use Rattle.link_core.proofs.Brought.{IsOutcome, outcome_is}
 use Rattle.link_core.proofs.Verdicts.{told_at}
 use Rattle.es_base.specs.Settings.{Settings}

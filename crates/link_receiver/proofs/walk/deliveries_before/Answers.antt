@@ -2,7 +2,7 @@ use Rattle.std.proofs.Common.{◌≡◌, ◌<◌, ◌+◌, ◌∷◌, ◌++◌, 
 use Rattle.es_base.specs.Deliveries.{deliveries}
 use Rattle.link_receiver.proofs.Since.{since_more}
 use Rattle.std.specs.List.{slice_get}
-use Rattle.link_receiver.proofs.History.{frame_at, lawful_at, never_both, past_more, there_is}
+use Rattle.link_receiver.proofs.Walks.{frame_at, lawful_at, never_both, past_more, there_is}
 use Rattle.link_receiver.proofs.walk.deliveries_before.Goals as goal
 use Rattle.link_receiver.proofs.walk.deliveries_before.Goals.{in-Some+in_ok-message+in_ok-add, in_default}
 

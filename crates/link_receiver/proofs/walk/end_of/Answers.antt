@@ -1,7 +1,7 @@
 use Rattle.std.proofs.Common.{◌≡◌, ◌∙◌, ◌-◌, ◌<◌, suc, sym, length, false, arith}
 use Rattle.es_base.specs.declared.event.Event.{Event}
 use Rattle.link_core.specs.Told.{tells_delivered}
-use Rattle.link_receiver.proofs.History.{there_is, none_from}
+use Rattle.link_receiver.proofs.Walks.{there_is, none_from}
 use Rattle.link_receiver.proofs.walk.end_of.Goals as goal
 
 pub events-preserved : goal.events-preserved
