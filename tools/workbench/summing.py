@@ -30,14 +30,16 @@ def summed(given):
     played = station.Station(given.config)
     found, alone = Health(played), Alone(played.octets) if given.each else None
     with stream.opened(given) as packets:
-        for one, now, reply in played.seen(packets):
+        take = played.taking(packets)
+        for one in packets:
+            now, reply = take(one)
             note = found.see(one, now, reply)
             if alone and reply and reply.vl is not None and (fault := alone.fault(one, now, reply, note)):
                 found.links[reply.vl].hidden[one.net][f"{fault.kind} {fault.cause}".rstrip()] += 1
     found.finish(played.latest)
     for hint in found.hints():
         print(f"yelunnavi: {hint}", file=sys.stderr)
-    return told.of_all(found, played.partition, played.latest, packets.lost(), packets.torn()), packets.status
+    return told.of_all(found, played.partition, played.latest, packets.lost(), packets.beside()), packets.status
 
 
 def shown(found, given):
