@@ -8,7 +8,7 @@ import sys
 import pytest
 from conftest import CAPTURES, CONFIG, ROOT, done, fault, run
 from test_draw import TWO, frame
-from workbench import copies
+from workbench import captures, copies
 from workbench.copies import Copies
 from workbench.shifts import Shift
 from workbench.stream import Arrival
@@ -354,6 +354,25 @@ def test_an_overtaken_frame_costs_its_message_and_ends_a_span_only_beyond_skew_m
     assert found["arrived"] == found["delivered"]
     if not ends:
         assert (found["arrived"], found["costs"]["dropped"], found["law"]) == (4, 1, "lost")
+
+
+def test_packets_of_other_interfaces_are_left_out_of_both_networks(written):
+    """Of four interfaces, two of which are A's and B's: by their interface, with the first; and by the source address, too."""
+    found = [(net, time, frame(7, number, "", 1, 8)) for number, (net, time) in enumerate(
+        [(0, 10), (2, 20), (1, 30), (3, 40), (2, 50), (0, 60)], 1)]
+    head = [captures.written_section("test"), *(captures.written_interface(name, name) for name in "abcd")]
+    capture = written("x.pcapng", b"".join(head + [
+        captures.written_packet(net, 1000 * time, bytes.fromhex(octets), None, "") for net, time, octets in found]))
+    words = ["--config", written("c", TWO), capture]
+    told = json.loads(run("health", "--json", *words).stdout)
+    assert told["left_out"]["neither"] == {"of interface 2": 2, "of interface 3": 1} and told["frames"] == 3
+    assert told["first_packets"]["neither"] == {"of interface 2": "2 at 0.000020 s", "of interface 3": "4 at 0.000040 s"}
+    shown = run("health", *words).stdout.decode()
+    assert "left out on neither: of interface 2 2, first 2 at 0.000020 s; of interface 3 1, first 4 at 0.000040 s" in shown
+    allowed = run("health", *words, "--fail-on", "left-out=3"), run("health", *words, "--fail-on", "left-out=2")
+    assert [one.returncode for one in allowed] == [0, 1]
+    by_source = json.loads(run("health", "--json", "--networks", "source", *words).stdout)
+    assert "neither" not in by_source["left_out"] and by_source["frames"] == 6
 
 
 # ---- many captures
