@@ -56,9 +56,9 @@ class Packet(NamedTuple):
 
 
 def packets(file, magic, lost=None):
-    """The packets of a capture whose first four octets were read, as tuples of the fields of Packet, since names take time. Ends with `EOFError` where the file is cut short,
-    and with `Broken` where it isn't of its form. A block without a packet gives None. In `lost` packets are counted, by
-    interface, of which whoever captured says that they were lost."""
+    """The packets of a capture whose first four octets were read, each a tuple of the fields of Packet, since names take time.
+    Ends with `EOFError` where the file is cut short, and with `Broken` where it isn't of its form. A block without a packet gives
+    None. In `lost` packets are counted, by interface, of which whoever captured says that they were lost."""
     return pcap(file, *PCAP[magic]) if magic in PCAP else pcapng(file, magic, Counter() if lost is None else lost)
 
 
@@ -145,7 +145,8 @@ def usual_packets(octets, order, number, interfaces):
             break
         number += 1
         begin += USUAL_HEAD
-        found.append((number, own, high * about.upper + low * about.unit + about.offset, octets[begin:begin + kept], length, about))
+        time = high * about.upper + low * about.unit + about.offset
+        found.append((number, own, time, octets[begin:begin + kept], length, about))
         begin = after
     return found, begin
 

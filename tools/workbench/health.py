@@ -137,9 +137,7 @@ class Link(copies.Listener):
         if what == COPY:
             fault = self.pair(one, is_forwarded, other)
         elif what != FIRST:
-            is_odd = True
-            if what == RESET or what == ANEW:
-                fault = self.restart(what, time - before, one.where)
+            is_odd, fault = True, self.restart(what, time - before, one.where) if what in (RESET, ANEW) else None
         if is_overtaken or is_odd or steps > HALF_TURN:
             self.conditions.look_at(note, reply, one, steps, before)
         if not is_refused:

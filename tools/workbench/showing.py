@@ -18,9 +18,7 @@ class Shown:
         self.constants, self.strangers = ({}, {}), ({}, {})  # by network
         self.strays, self.too_long = {}, {}
         with stream.opened(given) as packets:
-            take = played.taking(packets)
-            for one in packets:
-                now, reply = take(one)
+            for one, now, reply in played.seen(packets):
                 self.health.see(one, now, reply)
                 if reply:
                     self.see(one, reply)

@@ -32,16 +32,11 @@ class Station:
             partition.came(now, reply)
         return now, reply
 
-    def taking(self, found):
-        """What takes the arrivals of a stream, which begins."""
-        self.clock = stream.Clock(found.is_of_captures)
-        return self.take
-
     def seen(self, found):
         """Each arrival of a stream with its time and its reply."""
-        take = self.taking(found)
+        self.clock = stream.Clock(found.is_of_captures)
         for one in found:
-            now, reply = take(one)
+            now, reply = self.take(one)
             yield one, now, reply
 
 

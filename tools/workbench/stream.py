@@ -330,20 +330,17 @@ class Stream:
         return found if any(found) else None
 
     def beside(self):
-        """What of the files is of neither network, by why, each with its first packet: packets of other interfaces, those that
-        an end cuts, and files that aren't of their form up to it."""
-        found = {}
+        """What of the files is of neither network, with its first packet: packets of other interfaces, those that an end cuts,
+        and files that aren't of their form up to it."""
         for account in self.accounts:
-            others = ((f"of interface {interface}", *other) for interface, other in account.others.items())
-            for why, count, first in (*others, (TORN, account.counts[TORN], None), (BROKEN_OFF, bool(account.broken), None)):
-                if count:
-                    before, earlier = found.get(why, (0, first))
-                    found[why] = before + count, earlier
-        return found
+            yield from ((f"of interface {interface}", *other) for interface, other in account.others.items())
+            yield TORN, account.counts[TORN], None
+            yield BROKEN_OFF, int(bool(account.broken)), None
 
     def __iter__(self):
         merged = self.feeds[0] if len(self.feeds) == 1 else heapq.merge(*self.feeds, key=operator.itemgetter(0, 1))
-        found = iter(self.between(merged) if self.given.since or self.given.until else merged)
+        since, until = self.given.since, self.given.until
+        found = iter(moments.between(merged, since, until) if since or until else merged)
         for one in found if self.is_of_captures else ():
             if self.first is None:
                 self.first = one.time
@@ -352,18 +349,6 @@ class Stream:
             if not self.shift.looks:
                 break
         yield from found
-
-    def between(self, merged):
-        """The arrivals from one moment to another."""
-        began, ended = None, None
-        for one in merged:
-            if began is None:
-                began, ended = (found and moments.in_capture(found, one.time) for found in (self.given.since, self.given.until))
-                began = began or 0
-            if ended is not None and one.time > ended:
-                return
-            if one.time >= began:
-                yield one
 
     def tell_beginning(self):
         if self.is_of_captures and self.first is not None:

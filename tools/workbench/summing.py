@@ -30,9 +30,7 @@ def summed(given):
     played = station.Station(given.config)
     found, alone = Health(played), Alone(played.octets) if given.each else None
     with stream.opened(given) as packets:
-        take = played.taking(packets)
-        for one in packets:
-            now, reply = take(one)
+        for one, now, reply in played.seen(packets):
             note = found.see(one, now, reply)
             if alone and reply and reply.vl is not None and (fault := alone.fault(one, now, reply, note)):
                 found.links[reply.vl].hidden[one.net][f"{fault.kind} {fault.cause}".rstrip()] += 1

@@ -60,8 +60,8 @@ def of_link(link, ports, latest):
 
 
 def of_all(health, partition, now, lost=None, beside=()):
-    """Of all links, at a moment in microseconds since the first packet. `lost` are the packets that the tap lost, `beside`
-    is what of files is of neither network, by why."""
+    """Of all links, at a moment in microseconds since the first packet. `lost` are the packets that the tap lost; `beside`
+    what is of neither network: why, how many, and the first."""
     ports = [end.told(now) for end in partition.ends.values()] if partition else []
     links = [of_link(link, [port for port in ports if port["vl"] == link.link.vl], health.latest)
              for link in health.links.values()]
@@ -69,9 +69,12 @@ def of_all(health, partition, now, lost=None, beside=()):
                for name, found in (("filtered", health.filtered), ("left_out", health.left_out))}
     firsts = {net: {cause: first for (each, cause), first in health.firsts.items() if each == number}
               for number, net in enumerate(NETWORKS)}
-    if beside:
-        counted["left_out"]["neither"] = {why: count for why, (count, _) in beside.items()}
-        firsts["neither"] = {why: first for why, (_, first) in beside.items() if first}
+    for why, count, first in beside:
+        if count:
+            neither = counted["left_out"].setdefault("neither", {})
+            neither[why] = neither.get(why, 0) + count
+            if first:
+                firsts.setdefault("neither", {}).setdefault(why, first)
     return {"first_ns": health.first, "microseconds": now, "frames": health.frames, "links": links, **counted,
             "first_packets": firsts, "lost_by_tap": lost, "drift_ppm": health.drift.rate()}
 
