@@ -1,11 +1,13 @@
 """The law of a single message, worked out for random networks: which messages arrive, and what is wrong with what a
 program made of them.
 
-The law itself is that of the tools, tools/workbench/law.py. Copies *count* that pass integrity checking (docs/RECEIVER.md), from the first on that is forwarded, or that comes when
-SkewMax is over since all that was forwarded. They are a stretch as long as each is a copy of the sender's frames, at a
-time that fits, on networks that begin near each other. All before a stretch is its past, where anything may have come.
+The law itself is that of the tools, tools/workbench/law.py. Copies *count* that pass integrity checking (docs/RECEIVER.md),
+from the first on that is forwarded, or that comes when SkewMax is over since all that was forwarded. They are a stretch as
+long as each is a copy of the sender's frames, at a time that fits, on networks that begin near each other. All before a
+stretch is its past, where anything may have come.
 
-- Of each frame the first copy that counts is forwarded, and no other.
+- A copy that counts is forwarded if it is of a later frame than all before it that count, and no other is. So a frame
+  whose copies all come after one of a later frame is lost, and no frame after it for that.
 - A message arrives with such a copy, if its frame has the datagram whole or its last fragment. Of a datagram in
   fragments all others were offered before, in order and within the reassembly limit; none with its addresses and
   identification was in parts as the first came (those before it came whole, or none came within the limit); and another
@@ -36,9 +38,9 @@ def follows(number, before, window):
 
 
 def keeps_times(networks):
-    """Whether the times of sender and networks fit SkewMax, and first copies come in order."""
+    """Whether the times of sender and networks fit SkewMax, and no copy comes too late."""
     fits = networks.spread <= networks.skew and networks.spread + networks.skew < networks.pause
-    return fits and (networks.spread < networks.gap or networks.keeps_order)
+    return fits and networks.spread < 128 * networks.gap
 
 
 # ---- packets that are offered
@@ -108,20 +110,20 @@ class Arrivals:
             self.take(place, copy, was_forwarded)
 
     def take(self, place, copy, was_forwarded):
-        passes, stretch, is_first = self.passes(copy), self.stretch, False
+        passes, stretch, is_new = self.passes(copy), self.stretch, False
         if passes:
             was_on = stretch.is_on
-            is_first = stretch.see(copy.index if self.is_in_time(copy) else None, copy.time, was_forwarded)
+            is_new = stretch.see(copy.index if self.is_in_time(copy) else None, copy.time, was_forwarded)
             self.number += was_on and not stretch.is_on
             if stretch.is_on:
                 self.stretches[place] = self.number
         if stretch.is_on:
-            self.faults["lost"] += is_first and not was_forwarded
-            self.faults["twice"] += was_forwarded and not is_first
-        if is_first or (was_forwarded and not stretch.is_on):
+            self.faults["lost"] += is_new and not was_forwarded
+            self.faults["twice"] += was_forwarded and not is_new
+        if is_new or (was_forwarded and not stretch.is_on):
             frame = self.networks.frames[copy.index]
             is_whole = self.offers.take((self.networks.source(copy.index), frame.ident), frame, copy.time)
-            if is_first and is_whole:
+            if is_new and is_whole:
                 self.places.add(place)
 
     def passes(self, copy):

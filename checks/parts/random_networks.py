@@ -44,8 +44,6 @@ class Networks:
     # The share of frames before which the sender restarts, the least window, and the network that brings all copies as
     # late as it may, if there is one.
     restart, least_window, slower = 0.01, 1, None
-    # Whether first copies come in order though D isn't below the gap.
-    keeps_order = False
 
     def __init__(self, r):
         self.r, self.messages = r, []
@@ -247,7 +245,6 @@ class CutOff(Networks):
 
 class KeepingOrder(Networks):
     """all hold: each network keeps the order, D is a gap or more"""
-    keeps_order = True
 
     def drawn_spread(self):
         return self.r.randint(self.gap, 2 * self.gap - 2)

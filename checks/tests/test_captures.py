@@ -17,7 +17,7 @@ BOTH = CAPTURES / "both.pcapng"
 
 def read(path):
     with open(path, "rb") as file:
-        return [*filter(None, captures.packets(file, file.read(4)))]
+        return [captures.Packet(*one) for one in captures.packets(file, file.read(4)) if one]
 
 
 def play(*names):
@@ -237,7 +237,7 @@ def test_forged_pcap(written):
 
 def test_a_broken_file_has_its_status_wherever_it_is_told():
     with pytest.raises(Fault) as told:
-        list(captures.packets(io.BytesIO(section()[8:] + bytes(20)), section()[:4]))
+        list(captures.packets(io.BufferedReader(io.BytesIO(section()[8:] + bytes(20))), section()[:4]))
     assert told.value.status == 5
 
 

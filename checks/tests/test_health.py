@@ -8,7 +8,7 @@ import sys
 import pytest
 from conftest import CAPTURES, CONFIG, ROOT, done, fault, run
 from test_draw import TWO, frame
-from workbench import copies
+from workbench import captures, copies
 from workbench.copies import Copies
 from workbench.shifts import Shift
 from workbench.stream import Arrival
@@ -27,7 +27,7 @@ class Ended(copies.Listener):
         self.places.append((place.number, tuple(lost)))
 
     def run_ended(self, net, run, copy, cost):
-        self.runs.append((net, run, copy and copy.packet))
+        self.runs.append((net, run, copy and copy[copies.PACKET]))
 
     def lost_many(self, count, net, packet):
         self.many += count
@@ -36,7 +36,7 @@ class Ended(copies.Listener):
 def link(frames, skew_max=2000):
     """A link after frames: milliseconds, network and number, and `refused` if integrity checking refused it."""
     made = Copies(skew_max, Ended())
-    made.notes = [made.see(net, int(time * MS), number, packet, True, refused == [True])
+    made.notes = [copies.Note(*made.see(net, int(time * MS), number, packet, True, refused == [True]))
                   for packet, (time, net, number, *refused) in enumerate(frames, 1)]
     made.finish(int((frames[-1][0] + 1000) * MS), skew_max)
     return made
@@ -340,8 +340,39 @@ def test_a_copy_that_overtakes_and_a_silent_network(written):
     found = made(written, [(time, net, frame(7, number, "", 1, 8)) for time, net, number in frames])
     assert found["broken"]["overtaking"]["count"] == 1 and found["broken"]["overtaking"]["first"] == "3 of B at 0.003600 s"
     assert found["costs"]["dropped"] == 1 and found["law"] == "lost" and found["networks"]["B"]["overtaken"] == 0
-    assert [(span["from_us"], span["ended_by"]) for span in found["spans"]] == [(1000, "overtaking"), (90_000, None)]
-    assert found["networks"]["B"]["silent_us"] == 86_400
+    assert [(span["from_us"], span["ended_by"]) for span in found["spans"]] == [(1000, None)]
+    assert (found["arrived"], found["delivered"]) == (4, 4) and found["networks"]["B"]["silent_us"] == 86_400
+
+
+@pytest.mark.parametrize("late, ends", [(2000, []), (2001, ["skew-max"])])
+def test_an_overtaken_frame_costs_its_message_and_ends_a_span_only_beyond_skew_max(written, late, ends):
+    """Number 2 comes on B alone, after A's 3; those after it arrive."""
+    frames = [(1000, A, 1), (1100, B, 1), (3000, A, 3), (3000 + late, B, 2), (8500, A, 4), (8600, B, 4), (10_000, A, 5)]
+    found = made(written, [(time, net, frame(7, number, "", 1, 8)) for time, net, number in frames])
+    assert [span["ended_by"] for span in found["spans"] if span["ended_by"]] == ends
+    assert found["broken"]["overtaking"]["count"] == 1 and set(found["broken"]) == {"overtaking", *ends}
+    assert found["arrived"] == found["delivered"]
+    if not ends:
+        assert (found["arrived"], found["costs"]["dropped"], found["law"]) == (4, 1, "lost")
+
+
+def test_packets_of_other_interfaces_are_left_out_of_both_networks(written):
+    """Of four interfaces, two of which are A's and B's: by their interface, with the first; and by the source address, too."""
+    found = [(net, time, frame(7, number, "", 1, 8)) for number, (net, time) in enumerate(
+        [(0, 10), (2, 20), (1, 30), (3, 40), (2, 50), (0, 60)], 1)]
+    head = [captures.written_section("test"), *(captures.written_interface(name, name) for name in "abcd")]
+    capture = written("x.pcapng", b"".join(head + [
+        captures.written_packet(net, 1000 * time, bytes.fromhex(octets), None, "") for net, time, octets in found]))
+    words = ["--config", written("c", TWO), capture]
+    told = json.loads(run("health", "--json", *words).stdout)
+    assert told["left_out"]["neither"] == {"of interface 2": 2, "of interface 3": 1} and told["frames"] == 3
+    assert told["first_packets"]["neither"] == {"of interface 2": "2 at 0.000020 s", "of interface 3": "4 at 0.000040 s"}
+    shown = run("health", *words).stdout.decode()
+    assert "left out on neither: of interface 2 2, first 2 at 0.000020 s; of interface 3 1, first 4 at 0.000040 s" in shown
+    allowed = run("health", *words, "--fail-on", "left-out=3"), run("health", *words, "--fail-on", "left-out=2")
+    assert [one.returncode for one in allowed] == [0, 1]
+    by_source = json.loads(run("health", "--json", "--networks", "source", *words).stdout)
+    assert "neither" not in by_source["left_out"] and by_source["frames"] == 6
 
 
 # ---- many captures

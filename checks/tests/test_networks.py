@@ -9,16 +9,17 @@ from conftest import PROGRAM
 from parts.arrivals import Arrivals, Offers, judged
 from parts.faulty_networks import FAULTY, LONGEST_TURN, BothOut, Losing, OneOut, RestartingInParts, Strange
 from parts.network_player import played
-from parts.random_networks import DROPPED, HOLDING, Copy, Frame
+from parts.random_networks import DROPPED, HOLDING, Copy, Frame, Overtaking
 from receiver import Receiver
 from verdict_words import NOT_FORWARDED
 from workbench import health, stream
 
 # ---- copies that count
 
-# A frame each 1,000 us, 100 to 900 on its way, each a message; those of another sender have a star.
+# A frame each 1,000 us, each a message; those of another sender have a star. Latencies differ by four fifths of SkewMax.
 AFTER_STRANGE = "A 200* 50, B 50* 60, A 10 100, B 10 900, A 11 1100, B 11 1900, A 12 2100, B 99* 2500, B 12 2900"
 WHILE_ONE_PASSES = "A 10 100, B 50* 200, A 11 1100"
+OVERTAKEN = "A 10 100, B 10 900, A 12 2100, B 11 2200, A 13 3100, B 12 3200"
 ONE_OUT = "A 10 100, B 10 900, A 11 1100, A 12 2100, A 13 3100, B 13 3900, A 14 4100, B 14 4900"
 
 
@@ -31,8 +32,8 @@ def by_hand(text, skew):
         copies.append(Copy(int(time), net, index))
     frames = [Frame(index, index, 0, False, b"") for index in range(len(numbers))]
     return types.SimpleNamespace(
-        copies=copies, numbers=numbers, frames=frames, count=10, window=2, skew=skew, limit=50_000, spread=800, pause=3000,
-        gap=1000, keeps_order=False, least=100, sent=[1000 * index for index in range(10)], source=lambda index: index >= 10)
+        copies=copies, numbers=numbers, frames=frames, count=10, window=2, skew=skew, limit=50_000, spread=4 * skew // 5, pause=3000,
+        gap=1000, least=100, sent=[1000 * index for index in range(10)], source=lambda index: index >= 10)
 
 
 # The places of the copies that were forwarded, of those with which a message arrives, and the faults of the first.
@@ -41,6 +42,8 @@ EXAMPLES = [
     (AFTER_STRANGE, 1500, {0, 1, 6}, {5, 6}, {"lost": 1}),
     (AFTER_STRANGE, 1500, {0, 1, 4, 6}, {4, 6}, {}),
     (WHILE_ONE_PASSES, 1000, {0, 1}, {0}, {}),
+    (OVERTAKEN, 1500, {0, 2, 4}, {0, 2, 4}, {}),
+    (OVERTAKEN, 1500, {0, 2, 3}, {0, 2, 4}, {"lost": 1, "twice": 1}),
     (ONE_OUT, 1000, {0, 2, 3, 4, 6}, {0, 2, 3, 4, 6}, {}),
     (ONE_OUT, 1000, {0, 2, 4, 6, 7}, {0, 2, 3, 4, 6}, {"lost": 1, "twice": 1}),
 ]
@@ -136,7 +139,7 @@ def test_what_health_says_arrived_was_delivered(kind):
         with Receiver(networks.config()) as receiver:
             spans = seen(networks, receiver, forwarded).spans
         assert spans.arrived == spans.delivered
-        if kind in (*HOLDING, OneOut, BothOut, Losing):
+        if kind in (*HOLDING, Overtaking, OneOut, BothOut, Losing):
             assert spans.delivered + spans.full == len(Arrivals(networks, forwarded).places)
 
 

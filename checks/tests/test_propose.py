@@ -3,6 +3,7 @@ import tomllib
 
 import pytest
 from conftest import CAPTURES, done, run
+from parts.told_faults import FIRST_VL, ROWS, capture, frames_of
 from workbench import proposing
 
 
@@ -34,3 +35,24 @@ def test_a_guess_says_so(written):
     assert "link" not in tomllib.loads(text)
     text = done("propose", CAPTURES / "a.pcap").decode()
     assert "a guess: no pair of copies came" in text
+
+
+# Rows of the table of faults whose frames aren't one sender's, with a word of the reason.
+NOT_ONE = {"two senders by their addresses": "2 senders", "two series of numbers of one address": "2 senders",
+           "another sender goes on": "2 senders", "numbers that don't count": "don't go on",
+           "a restart without 0, further ahead than time allows": "numbers are missing", "nothing": None}
+
+
+@pytest.mark.parametrize("name, reason", NOT_ONE.items())
+def test_a_link_that_isnt_one_senders_is_named(name, reason, written):
+    """Beside a link without a fault. `check` tells none of both then, and what is named again once the name is taken away."""
+    place, row = next((place, row) for place, row in enumerate(ROWS) if row[0] == name)
+    names = [written("x.pcapng", capture(sorted(frames_of(place, row) + frames_of(len(ROWS), ROWS[0]))))]
+    text = done("propose", *names).decode()
+    links = {link["vl"]: link.get("not_one_sender", "") for link in tomllib.loads(text)["link"]}
+    assert reason in links[FIRST_VL + place] if reason else not any(links.values())
+    assert not links[FIRST_VL + len(ROWS)]
+    assert not done("check", written("made.toml", text), *names)
+    lines = "\n".join(line for line in text.splitlines() if not line.startswith("not_one_sender"))
+    found = run("check", written("plain.toml", lines), *names)
+    assert found.returncode == bool(reason) and (not reason or reason in found.stdout.decode())

@@ -31,7 +31,7 @@ class Tap:
 
 
 def tapped(tap):
-    found = watching.Tapped(tap, argparse.Namespace(shift_b=(0, 0), fcs=None, untag=False))
+    found = watching.Tapped(tap, argparse.Namespace(shift_b=(0, 0), fcs=None, untag=False, networks="interface"))
     return [(one.time, one.net) for one in found.until(time.monotonic() + 5)], found
 
 
@@ -48,7 +48,7 @@ def test_a_clock_that_is_set_moves_no_time(monkeypatch):
     hour = 3600 * 10**9
     given = [*((at, A) for at in times[:2]), *((at - hour, A) for at in times[2:4]), *((at + hour, A) for at in times[4:])]
     tap = Tap(given)
-    one = watching.Tapped(tap, argparse.Namespace(shift_b=(0, 0), fcs=None, untag=False))
+    one = watching.Tapped(tap, argparse.Namespace(shift_b=(0, 0), fcs=None, untag=False, networks="interface"))
     time.sleep(0.2)  # all were read
     seen, real = [], one.found.get
 
@@ -107,7 +107,7 @@ def test_packets_that_dumpcap_counts_and_does_not_write_are_told(tmp_path, monke
     made.write_text(f"#!/bin/sh\ntrap '' TERM\ncat '{CAPTURES / 'both.pcapng'}'\ncat >&2 <<END\n{CAPTURED.decode()}END\n")
     made.chmod(0o755)
     monkeypatch.setenv("PATH", f"{tmp_path}:{os.environ['PATH']}")
-    one = watching.Tapped(taps.Dumpcap(["a", "b"]), argparse.Namespace(shift_b=(0, 0), fcs=None, untag=False))
+    one = watching.Tapped(taps.Dumpcap(["a", "b"]), argparse.Namespace(shift_b=(0, 0), fcs=None, untag=False, networks="interface"))
     while one.found.qsize() < 32:
         time.sleep(0.01)
     taken = []

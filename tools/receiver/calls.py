@@ -8,9 +8,11 @@ from verdict_words import PORT_KINDS
 
 A, B = range(2)
 NETWORKS = "AB"
+made = tuple.__new__  # a named tuple by one call
 # The fields of struct yelunnavi_verdict, yelunnavi_taken and yelunnavi_read, which are read at each call, laid as in C: I is a
 # uint32_t, Q a uint64_t, N a size_t. checks/interface compares them.
 VERDICT, TAKEN, READ = (struct.Struct(fields).unpack_from for fields in ("IINIIQQ", "IQN", "IIQQN"))
+ABOUT = struct.calcsize("IINII")  # octets of a verdict, up to its place
 
 
 class Refused(Exception):
@@ -178,13 +180,16 @@ class Frames(Slot):
         self.verdict_octets, self.receive_call = self.ffi.buffer(self.verdict), self.found("receive")
         self.verdicts, self.filters, self.faults = (words(f"{name}_word") for name in ("verdict", "filter", "header"))
         self.named = {number for number, word in self.verdicts.items() if word in PORT_KINDS}
+        self.names = [[port.name for port in ports] for ports in links.ports_of]
+        self.replies = {}  # by the octets of a verdict up to its place
 
     def reply(self):
+        """What became of the latest frame."""
         kind, cause, link, vl, port, place, number = VERDICT(self.verdict_octets)
         if not kind:
             return Reply("filtered", self.filters[cause])
-        return Reply(self.verdicts[kind], self.faults[cause] if cause else "", vl, place,
-                     self.of.ports_of[link][port].name if kind in self.named else "", number)
+        return made(Reply, (self.verdicts[kind], self.faults[cause] if cause else "", vl, place,
+                            self.names[link][port] if kind in self.named else "", number))
 
     def counted(self, by_number, name, *given):
         """The counts of a call by the words of the numbers that it is asked for last."""
@@ -203,6 +208,14 @@ class Receiver(Links, Frames):
         if code := self.receive_call(self.handle, net, now, octets, len(octets), self.verdict):
             raise Refused(code)
         return self.reply()
+
+    def receive_briefly(self, net, now, octets):
+        """As `receive`, but the reply stands for all frames of which the same has become: its place and its number are those of the
+        first one."""
+        if code := self.receive_call(self.handle, net, now, octets, len(octets), self.verdict):
+            raise Refused(code)
+        key = self.verdict_octets[:ABOUT]
+        return self.replies.get(key) or self.replies.setdefault(key, self.reply())
 
     def counts(self):
         """The frames of each link and network by their kinds; those that were filtered by their causes, of link None."""
@@ -273,10 +286,12 @@ class Reader(End):
 
     def __init__(self, receiver, name):
         super().__init__(receiver, name, "read")
+        self.read_call = self.found("read")
 
     def read(self, now):
         """The newest message, with whether it is valid at `now`; None if there is none."""
-        self.call("read", now, self.out, self.size, self.told)
+        if code := self.read_call(self.handle, now, self.out, self.size, self.told):
+            raise Refused(code)
         found, valid, number, time, length = READ(self.told_octets)
         return Read(number, time, bool(valid), self.octets[:length]) if found else None
 
@@ -286,9 +301,11 @@ class Taker(End):
 
     def __init__(self, receiver, name):
         super().__init__(receiver, name, "taken")
+        self.take_call = self.found("take")
 
     def take(self):
         """The oldest message that waits; None if there is none."""
-        self.call("take", self.out, self.size, self.told)
+        if code := self.take_call(self.handle, self.out, self.size, self.told):
+            raise Refused(code)
         found, time, length = TAKEN(self.told_octets)
         return Taken(time, self.octets[:length]) if found else None

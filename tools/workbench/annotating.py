@@ -9,7 +9,7 @@ SAID = {copies.RESET: "the sender began anew", copies.ANEW: "the sender began an
 
 
 def annotate(given):
-    played = station.Station(given.config)
+    played = station.Station(given.config, is_brief=False)
     found, alone = Health(played), Alone(played.octets) if given.each else None
     with files.writing(given.to) as out, stream.opened(given) as packets:
         out.writelines(blocks(station.of_link(given, played, packets), packets, found, alone))
@@ -38,19 +38,20 @@ def reason(one, note, link, reply):
     """Why a frame has its verdict, beside which packets."""
     if not note:
         return
-    other = note.other
-    if note.what == copies.COPY:
-        delay = (one.time - other.time) // 1000
-        yield f"{delay} us after packet {other.packet} on {NETWORKS[1 - one.net]}"
+    what, missing, is_overtaken, other, _ = note
+    time, packet, was_forwarded, _ = other or (0, 0, False, False)
+    delay = (one.time - time) // 1000
+    if what == copies.COPY:
+        yield f"{delay} us after packet {packet} on {NETWORKS[1 - one.net]}"
         if delay > link.link.skew_max:
             yield "beyond SkewMax"
-        if other.is_forwarded and reply.kind not in NOT_FORWARDED and link.link.redundancy:
+        if was_forwarded and reply.kind not in NOT_FORWARDED and link.link.redundancy:
             yield "delivered twice"
-    elif note.what == copies.REPEATED:
-        yield f"again, {(one.time - other.time) // 1000} us after packet {other.packet}"
-    if note.missing:
-        yield f"{note.missing} before it missing"
-    if note.is_overtaken:
+    elif what == copies.REPEATED:
+        yield f"again, {delay} us after packet {packet}"
+    if missing:
+        yield f"{missing} before it missing"
+    if is_overtaken:
         yield "after a later frame"
-    if note.what in SAID:
-        yield SAID[note.what]
+    if what in SAID:
+        yield SAID[what]

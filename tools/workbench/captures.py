@@ -12,18 +12,20 @@ from workbench.faults import Broken
 
 ETHERNET = 1
 MOST_OCTETS, MOST_BLOCK = 262_144, 1 << 24  # of a packet and of a block, as Wireshark takes them
-LEAST_BLOCK, LEAST_SECTION, MOST_INTERFACES = 12, 28, 1 << 16
+LEAST_BLOCK, LEAST_SECTION, USUAL_HEAD, USUAL_BLOCK, MOST_INTERFACES = 12, 28, 28, 32, 1 << 16
 SECOND = 10**9
 
 # Each magic number of pcap: its byte order, and the nanoseconds of the smaller part of its times.
 PCAP = {b"\xd4\xc3\xb2\xa1": ("<", 1000), b"\xa1\xb2\xc3\xd4": (">", 1000),
         b"\x4d\x3c\xb2\xa1": ("<", 1), b"\xa1\xb2\x3c\x4d": (">", 1)}
 SECTION, INTERFACE, OBSOLETE_PACKET, SIMPLE_PACKET, STATISTICS, PACKET = 0x0A0D0D0A, 1, 2, 3, 5, 6
+PACKETS = frozenset((PACKET, SIMPLE_PACKET, OBSOLETE_PACKET))
 SECTION_MAGIC = b"\x0a\x0d\x0d\x0a"
 MAGICS = {SECTION_MAGIC, *PCAP}
 ORDERS = {b"\x4d\x3c\x2b\x1a": "<", b"\x1a\x2b\x3c\x4d": ">"}
 LENGTHS, BLOCKS = ({order: struct.Struct(order + fields) for order in "<>"} for fields in ("I", "II"))
-HEADS = {(order, kind): struct.Struct(order + fields) for order in "<>"
+USUAL = {order: struct.Struct(order + "7I") for order in "<>"}  # of a block with a packet, up to its octets
+HEADS = {kind: {order: struct.Struct(order + fields) for order in "<>"}
          for kind, fields in [(PACKET, "5I"), (OBSOLETE_PACKET, "HxxIIII"), (SIMPLE_PACKET, "I")]}
 END, COMMENT, NAME, DESCRIPTION, RESOLUTION, FCS_LENGTH, OFFSET = 0, 1, 2, 3, 9, 13, 14
 # Of an interface's statistics: how many packets were lost there, and in the system above it.
@@ -37,7 +39,9 @@ class Interface(NamedTuple):
     fcs: Optional[bool]
     snapshot: int = 0
     units: int = SECOND  # of a second, of times in pcapng
-    offset: int = 0  # of times in pcapng, in seconds
+    offset: int = 0  # of times in pcapng, in nanoseconds
+    unit: int = 0  # in nanoseconds, 0 if it is no whole number of them; and the unit of the upper half of a time
+    upper: int = 0
 
 
 class Packet(NamedTuple):
@@ -52,9 +56,9 @@ class Packet(NamedTuple):
 
 
 def packets(file, magic, lost=None):
-    """The packets of a capture whose first four octets were read. Ends with `EOFError` where the file is cut short,
-    and with `Broken` where it isn't of its form. A block without a packet gives None. In `lost` packets are counted, by
-    interface, of which whoever captured says that they were lost."""
+    """The packets of a capture whose first four octets were read, each a tuple of the fields of Packet, since names take time.
+    Ends with `EOFError` where the file is cut short, and with `Broken` where it isn't of its form. A block without a packet gives
+    None. In `lost` packets are counted, by interface, of which whoever captured says that they were lost."""
     return pcap(file, *PCAP[magic]) if magic in PCAP else pcapng(file, magic, Counter() if lost is None else lost)
 
 
@@ -76,15 +80,22 @@ def pcap(file, order, unit):
         seconds, part, kept, length = head.unpack(first)
         if kept > MOST_OCTETS:
             raise Broken(f"packet {number} has an absurd length, {kept} octets")
-        yield Packet(number, 0, seconds * SECOND + part * unit, exactly(file, kept), length, about)
+        yield number, 0, seconds * SECOND + part * unit, exactly(file, kept), length, about
 
 
 def pcapng(file, magic, lost):
     """Each section of a file numbers its interfaces anew, and packets are numbered on, as tshark does."""
     interfaces, number, lost_here = [], 0, Counter()
     for order, kind, body in blocks(file, magic):
-        is_packet = kind in (PACKET, SIMPLE_PACKET, OBSOLETE_PACKET)
-        number += is_packet
+        if kind in PACKETS:
+            number += 1
+            yield packet(order, kind, body, number, interfaces)
+            found, octets = usual_packets(file.peek(), order, number, interfaces)
+            yield from found[:-1]
+            file.read(octets)  # before the last one, after which nothing may come for a while
+            yield from found[-1:]
+            number += len(found)
+            continue
         if kind == SECTION:
             interfaces, lost_here = [], Counter()
         elif kind == INTERFACE:
@@ -94,31 +105,50 @@ def pcapng(file, magic, lost):
             if own < len(interfaces):
                 lost[own] += count - lost_here[own]
                 lost_here[own] = count
-        yield packet(order, kind, body, number, interfaces) if is_packet else None
+        yield None
 
 
 def blocks(file, magic):
     """Byte order, kind and body of each block. The header of a section says the order of its blocks by a magic number."""
     order, head, read = "<", magic + file.read(8 - len(magic)), file.read
-    while head:
-        if len(head) < 8:
-            raise EOFError
-        least, rest = LEAST_BLOCK, 8
-        if head[:4] == SECTION_MAGIC:
-            order_magic, least, rest = exactly(file, 4), LEAST_SECTION, 12
+    while len(head) == 8:
+        kind, size = BLOCKS[order].unpack(head)
+        least, rest = LEAST_BLOCK, 12
+        if kind == SECTION:
+            order_magic, least, rest = exactly(file, 4), LEAST_SECTION, 16
             if order_magic not in ORDERS:
                 raise Broken("a section without its byte-order magic")
             order = ORDERS[order_magic]
-        kind, size = BLOCKS[order].unpack(head)
+            kind, size = BLOCKS[order].unpack(head)
         if size < least or size % 4 or size > MOST_BLOCK:
             raise Broken(f"a block of an absurd length, {size} octets")
-        body = read(size - rest)
-        if len(body) < size - rest:
-            raise EOFError
-        if body[-4:] != head[4:]:
+        body, end = read(size - rest), read(4)
+        if end != head[4:]:
+            if len(end) < 4:
+                raise EOFError
             raise Broken("a block that doesn't end with its length")
-        yield order, kind, body[:-4]
+        yield order, kind, body
         head = read(8)
+    if head:
+        raise EOFError
+
+
+def usual_packets(octets, order, number, interfaces):
+    """The packets that stand whole and without a fault at the beginning of these octets, and how many octets they are."""
+    found, begin, room, count = [], 0, len(octets), len(interfaces)
+    head, end = USUAL[order].unpack_from, LENGTHS[order].unpack_from
+    while begin + USUAL_BLOCK <= room:
+        kind, size, own, high, low, kept, length = head(octets, begin)
+        after = begin + size
+        if (kind != PACKET or own >= count or not USUAL_BLOCK + kept <= size <= MOST_OCTETS or size & 3 or after > room
+                or end(octets, after - 4)[0] != size or not (about := interfaces[own]).unit):
+            break
+        number += 1
+        begin += USUAL_HEAD
+        time = high * about.upper + low * about.unit + about.offset
+        found.append((number, own, time, octets[begin:begin + kept], length, about))
+        begin = after
+    return found, begin
 
 
 def options(order, octets):
@@ -145,10 +175,11 @@ def interface(order, body, before):
         if code == RESOLUTION and len(value) == 1:
             units = (2 if value[0] & 0x80 else 10) ** (value[0] & 0x7F)
         elif code == OFFSET and len(value) == 8:
-            offset = struct.unpack(order + "q", value)[0]
+            offset = struct.unpack(order + "q", value)[0] * SECOND
         elif code == FCS_LENGTH and len(value) == 1:
             fcs = value[0] in (4, 32)  # octets, or bits: both are written
-    return Interface(link_type, fcs, snapshot, units, offset)
+    unit = 0 if SECOND % units else SECOND // units
+    return Interface(link_type, fcs, snapshot, units, offset, unit, unit << 32)
 
 
 def statistics(order, body):
@@ -161,22 +192,25 @@ def statistics(order, body):
 
 
 def packet(order, kind, body, number, interfaces):
-    head = HEADS[order, kind]
+    head = HEADS[kind][order]
     size = head.size
     if len(body) < size:
         raise Broken(f"packet {number} has no room for its lengths")
-    found = head.unpack_from(body)
-    own = 0 if kind == SIMPLE_PACKET else found[0]
+    if kind == SIMPLE_PACKET:
+        own, (length,) = 0, head.unpack_from(body)
+    else:
+        own, high, low, kept, length = head.unpack_from(body)
     if own >= len(interfaces):
         raise Broken(f"packet {number} is of interface {own}, which the capture hasn't")
-    about = interfaces[own]
+    about, time = interfaces[own], None
     if kind == SIMPLE_PACKET:
-        kept, time = min(found[0], about.snapshot or found[0]), None
+        kept = min(length, about.snapshot or length)
     else:
-        kept, time = found[3], (found[1] << 32 | found[2]) * SECOND // about.units + about.offset * SECOND
-    if kept > MOST_OCTETS or size + kept > len(body):
+        time = (high << 32 | low) * SECOND // about.units + about.offset
+    octets = body[size:size + kept]
+    if kept > MOST_OCTETS or len(octets) < kept:
         raise Broken(f"packet {number} has an absurd length, {kept} octets")
-    return Packet(number, own, time, body[size:size + kept], found[-1], about)
+    return number, own, time, octets, length, about
 
 
 # ---- writing

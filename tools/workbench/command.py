@@ -181,7 +181,7 @@ def look_at(parser, given):
     if hasattr(given, "c_table") and (given.csv + given.json + given.c_table != 1 or given.c_table == bool(names)):
         parser.error("export takes --csv or --json with captures, or --c-table with none")
     given.fcs = {"auto": None, "yes": True, "no": False}[getattr(given, "fcs", "auto")]
-    given.untag = getattr(given, "untag", False)
+    given.untag, given.networks = getattr(given, "untag", False), getattr(given, "networks", "interface")
 
 
 def main(arguments):

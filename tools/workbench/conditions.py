@@ -57,11 +57,12 @@ class Conditions:
         """What a frame breaks. Its place is so many steps ahead of the newest before, which came at `before`."""
         if reply.kind in BROKEN_BY:
             self.broken(BROKEN_BY[reply.kind], one.where, f"{reply.kind} {reply.cause}".rstrip())
-        if note.is_overtaken and note.what == copies.FIRST:
+        what, _, is_overtaken, _, _ = note
+        if is_overtaken and what == copies.FIRST:
             self.broken("overtaking", one.where, "its first copy came after one of a later frame")
-        if note.what == copies.LATE:
+        if what == copies.LATE:
             self.broken("sender", one.where, "a number that isn't waited for any more")
-        elif note.what == copies.ANEW:
+        elif what == copies.ANEW:
             self.broken("sender", one.where, "numbers that began anew without a 0")
         if steps > copies.HALF_TURN and one.time - before <= 1000 * self.link.skew_max:
             self.broken("near", one.where, f"{steps} frames after the newest while SkewMax runs")

@@ -24,13 +24,9 @@ FIRST, COPY, REPEATED, LATE, RESET, ANEW, HELD, CUT = "first", "copy", "repeated
 BEHIND = LATE, ANEW  # numbers that don't go on
 
 
-class Copy(NamedTuple):
-    """A frame that came: its time in nanoseconds, its packet, whether redundancy management forwarded it, and whether it was
-    refused then."""
-    time: int
-    packet: int
-    is_forwarded: bool
-    is_bad: bool = False
+# A copy is a tuple, since names take time: when a frame came, in nanoseconds, its packet, whether redundancy management
+# forwarded it, and whether it was refused then.
+TIME, PACKET, IS_FORWARDED, IS_BAD = range(4)
 
 
 class Place:
@@ -38,20 +34,18 @@ class Place:
     copies on both networks."""
     __slots__ = ("index", "number", "since", "by", "copies")
 
-    def __init__(self, index, number, since, by):
-        self.index, self.number, self.since, self.by, self.copies = index, number, since, by, [None, None]
-
 
 class Note(NamedTuple):
     """What a frame is beside the others: how many numbers before it came on neither network, whether it came after a later
-    one, its other copy, and its place, if it has one."""
+    one, its other copy, and its place, if it has one. `Copies` gives its fields as a tuple."""
     what: str
     missing: int = 0
     is_overtaken: bool = False
-    other: Optional[Copy] = None
+    other: Optional[tuple] = None
     index: Optional[int] = None
 
 
+OTHER = Note._fields.index("other")
 COUNTED = ("lost", "longest", "overtaken", "repeated", "late", "astray")
 
 
@@ -110,7 +104,7 @@ class Copies:
         self.wait, self.skew, self.listener, self.bag = max(LEAST_WAIT, 10_000 * skew_max), 1000 * skew_max, listener, bag
         self.sides, self.began = (Side(), Side()), 0  # the place with which the sender began anew
         self.places, self.by_number = collections.deque(), {}
-        self.newest, self.number, self.latest = -1, None, None  # place, number and time
+        self.newest, self.number, self.next, self.latest = -1, None, None, None  # place, number and the next one, time
         self.rate, self.quiet = collections.deque(maxlen=RATE_OF), 0
         self.lost_both = self.dropped = self.resets = 0
         self.strays = []  # the latest that were behind, with their networks and numbers
@@ -120,30 +114,37 @@ class Copies:
     # ---- a frame
 
     def see(self, net, time, number, packet, is_forwarded, is_refused, is_bad=False):
-        side, copy = self.sides[net], Copy(time, packet, is_forwarded, is_bad)
+        side, other, copy = self.sides[net], self.sides[1 - net], (time, packet, is_forwarded, is_bad)
+        if is_refused or side.held or other.held:
+            self.look_at_held(net, number, copy, is_refused)
+        side.last = number
+        if self.places and self.places[0].since < time - self.wait:
+            self.settle(time - self.wait)
+        place = self.by_number.get(number)
+        if place and self.awaits(place, net, time):
+            return self.come(net, place, copy, self.newest)
+        if number == self.next and not is_refused:
+            return self.advance(net, number, copy, 1)
+        ahead = self.ahead(number, time)
+        if is_refused and ahead > 0 and not goes_on(number, side.number):
+            side.held = number, copy, self.newest
+            return HELD, ahead - 1, False, None, None
+        return self.take(net, number, copy, ahead, self.newest)
+
+    def look_at_held(self, net, number, copy, is_refused):
+        """Judges the refused frames before, if there are any, and looks for a second series of numbers."""
+        side, other = self.sides[net], self.sides[1 - net]
         if side.held:
             self.judge(net, side, number)
         if is_refused and side.look_at_series(number):
             self.listener.mixed(net, copy)
-        side.last = number
-        other = self.sides[1 - net]
         if other.held and other.held[0] == number and not is_refused:
             self.judge(1 - net, other, number)
-        if self.places and self.places[0].since < time - self.wait:
-            self.settle(time - self.wait)
-        place = self.by_number.get(number)
-        if place and not place.copies[net] and place.copies[1 - net] and self.is_of(place, time):
-            return self.come(net, place, copy, self.newest)
-        ahead = self.ahead(number, time)
-        if is_refused and ahead > 0 and not goes_on(number, side.number):
-            side.held = number, copy, self.newest
-            return Note(HELD, ahead - 1)
-        return self.take(net, number, copy, ahead, self.newest)
 
-    def awaited(self, net, number, time):
-        """The place whose other copy came."""
-        place = self.by_number.get(number)
-        return place if place and not place.copies[net] and place.copies[1 - net] and self.is_of(place, time) else None
+    def awaits(self, place, net, time):
+        """Whether the other network brought its copy, and this one may be the second."""
+        copies = place.copies
+        return copies[1 - net] and not copies[net] and self.is_of(place, time)
 
     def is_of(self, place, time):
         """Whether a frame with its number may be its copy. A number from before a restart is that of a new frame after SkewMax,
@@ -162,10 +163,10 @@ class Copies:
         if number and held and (steps > HALF_TURN or is_nearer):
             side.astray += 1
             return
-        if place := self.awaited(net, held, copy.time):
+        if (place := self.by_number.get(held)) and self.awaits(place, net, copy[TIME]):
             self.come(net, place, copy, newest)
         else:
-            self.take(net, held, copy, self.ahead(held, copy.time), newest)
+            self.take(net, held, copy, self.ahead(held, copy[TIME]), newest)
         other = self.sides[1 - net]
         if other.held and other.held[0] == held:
             self.judge(1 - net, other, held)
@@ -180,7 +181,7 @@ class Copies:
         place = self.places[index - self.places[0].index]
         if place.copies[net]:
             self.sides[net].repeated += 1
-            return Note(REPEATED, 0, index < newest, place.copies[net], index)
+            return REPEATED, 0, index < newest, place.copies[net], index
         return self.come(net, place, copy, newest)
 
     def come(self, net, place, copy, newest):
@@ -190,7 +191,7 @@ class Copies:
         if index < side.newest:
             side.overtaken += 1
         side.go_on(index, place.number)
-        return Note(COPY if other else FIRST, 0, index < newest, other, index)
+        return COPY if other else FIRST, 0, index < newest, other, index
 
     def fall_behind(self, net, number, copy):
         """It is of no place that is waited for. If others go on from it, the sender has begun anew with it, without a 0."""
@@ -201,17 +202,17 @@ class Copies:
         if side.follow < RENEWED:
             self.strays.append((net, number, copy))
             side.late += 1
-            return Note(LATE)
+            return LATE, 0, False, None, None
         (first, *others), self.strays = [*self.strays, (net, number, copy)], []
         note = self.advance(*first, 1, is_reset=True)
         for each, its_number, its_copy in others:
-            if place := self.awaited(each, its_number, its_copy.time):
+            if (place := self.by_number.get(its_number)) and self.awaits(place, each, its_copy[TIME]):
                 note = self.come(each, place, its_copy, self.newest)
             else:
-                note = self.take(each, its_number, its_copy, self.ahead(its_number, its_copy.time), self.newest)
+                note = self.take(each, its_number, its_copy, self.ahead(its_number, its_copy[TIME]), self.newest)
         for each, *_ in (first, *others[:-1]):
             self.sides[each].late -= 1
-        return note._replace(what=ANEW)
+        return ANEW, *note[1:]
 
     def ahead(self, number, time):
         """How many places a frame of this number is ahead of the newest one; 0 or less if it isn't."""
@@ -226,10 +227,10 @@ class Copies:
 
     def expected(self, time):
         """How many frames the sender would have sent by now, where both networks are silent for longer than usual."""
-        if time - self.latest <= 2 * self.quiet or not self.rate or self.seen - self.rate[0][0] < STEADY:
+        steps = len(self.rate) - 1
+        if time - self.latest <= 2 * self.quiet or steps < STEADY:
             return 0
-        seen, since = self.rate[0]
-        return (time - self.latest) * (self.seen - seen) // max(1, self.latest - since)
+        return (time - self.latest) * steps // max(1, self.latest - self.rate[0])
 
     def most_since(self, time):
         """How many frames the sender can have sent since the newest: by the BAG, or by its greatest rate."""
@@ -239,15 +240,15 @@ class Copies:
 
     def most_skipped(self, time):
         """For how many frames there was time beside those that came, since the first by which the rate is known."""
-        seen, since = self.rate[0]
-        return max(0, (time - since) // (1000 * self.bag if self.bag else max(1, self.gap())) - self.seen + seen)
+        gap = 1000 * self.bag if self.bag else max(1, self.gap())
+        return max(0, (time - self.rate[0]) // gap - len(self.rate) + 1)
 
     def gap(self):
         return self.closest // RATE_OF if self.closest else self.least or MOST_TIME
 
     def advance(self, net, number, copy, ahead, is_reset=False):
         """A place that is newer than all."""
-        time, missing = copy.time, ahead - 1
+        time, missing = copy[TIME], ahead - 1
         is_reset = self.number is not None and (is_reset or number == 0)
         if is_reset:
             self.rate.clear()
@@ -260,18 +261,19 @@ class Copies:
             self.settle(float("inf"))
             self.lose(missing - HALF_TURN)
             self.listener.lost_many(missing - HALF_TURN, net, copy)
-        by = net, copy.packet
-        for back in range(min(missing, HALF_TURN), 0, -1):
-            self.add((number - back - 1) % TURN + 1, time, by)
-        place = self.add(number, time, by)
-        place.copies[net] = copy
+        by = net, copy[PACKET]
+        if missing:
+            for back in range(min(missing, HALF_TURN), 0, -1):
+                self.add((number - back - 1) % TURN + 1, time, by)
+        self.add(number, time, by).copies[net] = copy
         self.count_new(time)
-        self.number, self.latest = number, time
-        self.began = place.index if is_reset else self.began
-        self.sides[net].go_on(place.index, number)
+        self.number, self.next, self.latest, index = number, number % TURN + 1, time, self.newest
+        if is_reset:
+            self.began = index
+        self.sides[net].go_on(index, number)
         while len(self.places) > HALF_TURN + 1:
             self.end(self.places.popleft())
-        return Note((RESET if number == 0 else ANEW) if is_reset else FIRST, missing, index=place.index)
+        return (RESET if number == 0 else ANEW) if is_reset else FIRST, missing, False, None, index
 
     def count_new(self, time):
         """By how many new frames came, how close two came, and so many in a row."""
@@ -280,12 +282,12 @@ class Copies:
         if self.latest is None:
             self.first = time
         elif len(rate) == RATE_OF:
-            span = time - rate[0][1]
+            span = time - rate[0]
             if self.closest is None or span < self.closest:
                 self.closest = span
         else:
             self.least = min(time - self.latest, self.least or MOST_TIME)
-        rate.append((self.seen, time))
+        rate.append(time)
 
     def odd(self):
         """How many frames came again, late or astray."""
@@ -301,7 +303,8 @@ class Copies:
 
     def add(self, number, time, by):
         self.newest += 1
-        self.by_number[number] = place = Place(self.newest, number, time, by)
+        self.by_number[number] = place = Place()
+        place.index, place.number, place.since, place.by, place.copies = self.newest, number, time, by, [None, None]
         self.places.append(place)
         return place
 
@@ -320,13 +323,13 @@ class Copies:
     def end(self, place):
         if self.by_number.get(place.number) is place:
             del self.by_number[place.number]
-        a, b = place.copies
-        if a and b and (a.is_forwarded or b.is_forwarded) and not self.sides[0].run and not self.sides[1].run:
+        (a, b), (one, other) = place.copies, self.sides
+        if a and b and not one.run and not other.run and (a[IS_FORWARDED] or b[IS_FORWARDED]):
             return
         lost, before = [], self.lost_both + self.dropped
         if not a and not b:
             self.lost_both += 1
-        elif not (a and a.is_forwarded or b and b.is_forwarded):
+        elif not (a and a[IS_FORWARDED] or b and b[IS_FORWARDED]):
             self.dropped += 1
         for net, side in enumerate(self.sides):
             if place.copies[net]:
@@ -356,7 +359,7 @@ class Copies:
         """At the end a copy is lost if its network brought a later one, or SkewMax is over; and a refused frame counts if there
         was time for those before it."""
         for net, side in enumerate(self.sides):
-            if side.held and self.ahead(side.held[0], side.held[1].time) > self.most_since(side.held[1].time):
+            if side.held and self.ahead(side.held[0], side.held[1][TIME]) > self.most_since(side.held[1][TIME]):
                 side.held, side.astray = None, side.astray + 1
             elif side.held:
                 self.judge(net, side, side.held[0])

@@ -16,7 +16,7 @@ COLUMNS = ("packet", "time_us", "epoch_ns", "network", "link", "source", "interf
 
 
 def export(given):
-    played = station.Station(given.config)
+    played = station.Station(given.config, is_brief=False)
     with files.writing(given.to) as out, stream.opened(given) as packets:
         if given.c_table:
             out.write(c_table.text_of(played.octets).encode())

@@ -2,21 +2,22 @@
 
 What is kept grows with the links and the ports, not with the frames.
 """
-from collections import Counter, deque
+import operator
+from collections import Counter
 
-from verdict_words import FIRST_FORWARDED, FULL, KINDS, NETWORKS, OUT_OF_SEQUENCE, REFUSED
+from verdict_words import KINDS, NETWORKS, NOT_FORWARDED, OUT_OF_SEQUENCE, REFUSED
 from workbench import copies, frames, settings
-from workbench.conditions import BY_CLOCKS, BY_NUMBERS, CONDITIONS, Conditions
-from workbench.copies import Copies
+from workbench.conditions import BROKEN_BY, BY_CLOCKS, BY_NUMBERS, CONDITIONS, Conditions
+from workbench.copies import ANEW, COPY, FIRST, HALF_TURN, RESET, Copies
 from workbench.delays import Delays
 from workbench.drifts import Drift
+from workbench.frames import INTERFACE
 from workbench.pieces import GIVEN_UP, ORDER, Pieces, has_wrong_sum
 from workbench.spans import Spans
 from workbench.stream import Where
 
-SHOWN = 5  # places of each kind
-CODES = {kind: code for code, kind in enumerate(KINDS)}
-FIRST_PIECE = CODES["bad-fragment"]  # frames of this kind and those after it have a good header
+SHOWN, MOST_NOTED = 5, 512  # places of each kind; frames of a network between two looks at them
+OUT, BAD_HEADER = KINDS[OUT_OF_SEQUENCE], "bad-header"
 SENDER = slice(6, 11)  # octets of a source address that both networks share
 MOST_SENDERS = 8  # addresses of a link whose frames are told apart
 JITTER = 500  # microseconds that a frame may come before its BAG is over, if `jitter_us` isn't there
@@ -25,39 +26,44 @@ MIXED = 5  # at least one of so many frames of a network says the other one
 AHEAD = 128  # gaps after which a sequence number isn't ahead any more
 # The verdicts that say that a frame itself is at fault; and one that no receiver gives.
 FAULTS = frozenset(REFUSED)
+# Of each kind: whether it is forwarded, refused by integrity checking, at fault itself, and breaks a condition.
+FATES_OF = {kind: (kind not in NOT_FORWARDED, kind == OUT, kind in FAULTS, kind in BROKEN_BY) for kind in KINDS}
 WRONG_SUM = "wrong-udp-checksum"
 
 
 class Network:
-    """When frames of a link came on a network. `closest` is the least time in which 128 more came."""
+    """When frames of a link came on a network, and their verdicts: noted at once, and known after a look. `closest` is the
+    least time in which 128 more came."""
 
     def __init__(self, bag, jitter):
         self.bag, self.least_wanted = bag, 1000 * max(0, (bag or 0) - jitter)
-        self.frames, self.early, self.is_early = 0, 0, False
-        self.first = self.last = self.least = self.most = None
-        self.bags, self.times, self.closest = Counter(), deque(maxlen=AHEAD), None
+        self.frames, self.early, self.kinds, self.bags = 0, 0, Counter(), Counter()
+        self.first = self.last = self.least = self.most = self.closest = None
+        self.times, self.noted = [], []  # the latest times; and the verdicts of those that weren't looked at
 
-    def see(self, time):
-        self.frames += 1
-        times = self.times
-        if len(times) == AHEAD:
-            span = time - times[0]
-            if self.closest is None or span < self.closest:
-                self.closest = span
-        times.append(time)
-        if self.last is None:
-            self.first = time
-        else:
-            gap = time - self.last
-            if self.least is None:
-                self.least = self.most = gap
-            elif gap < self.least:
-                self.least = gap
-            elif gap > self.most:
-                self.most = gap
-            self.is_early = gap < self.least_wanted
-            self.bags[(gap * 181 // 128_000_000).bit_length()] += 1  # the nearest of 2^n milliseconds, by ratio
-        self.last = time
+    def is_early(self):
+        """Whether the BAG wasn't over as the latest frame came, but for the jitter."""
+        return len(self.times) > 1 and self.times[-1] - self.times[-2] < self.least_wanted
+
+    def look(self):
+        """Takes in what was noted since it was called before."""
+        times, new = self.times, len(self.times) - len(self.noted)
+        if not self.noted:
+            return
+        if self.first is None:
+            self.first, new = times[0], 1
+        gaps = list(map(operator.sub, times[new:], times[new - 1:]))
+        spans = list(map(operator.sub, times[max(new, AHEAD):], times[max(new - AHEAD, 0):]))
+        if gaps:
+            self.least, self.most = least_of(self.least, gaps), max(self.most or 0, max(gaps))
+        if spans:
+            self.closest = least_of(self.closest, spans)
+        # The nearest of 2^n milliseconds, by ratio.
+        self.bags.update(map(int.bit_length, [gap * 181 // 128_000_000 for gap in gaps]))
+        self.kinds.update(self.noted)
+        self.frames, self.last = self.frames + len(self.noted), times[-1]
+        self.noted.clear()
+        del times[:-AHEAD]
 
     @property
     def rate(self):
@@ -68,6 +74,14 @@ class Network:
     def usual(self):
         """The commonest gap, as a power of 2 of milliseconds; 0 if it is less than one."""
         return (1 << self.bags.most_common(1)[0][0]) // 2 if self.bags else None
+
+
+def least_of(known, found):
+    return min(found) if known is None else min(known, min(found))
+
+
+def where_of(copy, net):
+    return Where(copy[copies.PACKET], net, copy[copies.TIME])
 
 
 class Events:
@@ -94,8 +108,7 @@ class Link(copies.Listener):
         self.pieces, self.mixed_at = Pieces(link.reassembly, self.given_up), None
         self.conditions, self.delays, self.beyond = Conditions(link), Delays(), 0
         self.spans, self.outages, self.free_outages = Spans(link.skew_max), Events(), 0
-        self.kinds, self.hidden = tuple(Counter() for _ in NETWORKS), tuple(Counter() for _ in NETWORKS)
-        self.refused = tuple({} for _ in NETWORKS)
+        self.hidden, self.refused = tuple(Counter() for _ in NETWORKS), tuple({} for _ in NETWORKS)
         self.twice, self.resets, self.unfinished, self.again, self.fragments = (Events() for _ in range(5))
         self.least_pause = None
 
@@ -103,34 +116,35 @@ class Link(copies.Listener):
         """Returns what the frame is beside the others."""
         time, net, packet, octets, _, _ = one
         kind, its = reply.kind, self.nets[net]
-        code, is_bad = CODES[kind], kind in FAULTS
-        is_forwarded = code >= FIRST_FORWARDED
-        its.see(time)
-        self.kinds[net][kind] += 1
-        if is_bad or code == OUT_OF_SEQUENCE and is_cut(octets):
+        is_forwarded, is_refused, is_bad, is_odd = FATES_OF[kind]
+        its.times.append(time)
+        its.noted.append(kind)
+        if len(its.noted) == MOST_NOTED:
+            its.look()
+        if is_bad or is_refused and is_cut(octets):
             self.refuse(net, reply, octets, one.where)
             if is_cut(octets):
-                return self.see_cut(now, one, code, is_forwarded)
+                return self.see_cut(now, one, is_refused, is_forwarded)
         if octets[SENDER] != self.sender:
             self.turn_to(octets[SENDER], one.where)
         places = self.copies
         before, newest = places.latest, places.newest
-        note = places.see(net, time, octets[-1], packet, is_forwarded, code == OUT_OF_SEQUENCE, is_bad)
-        what, _, is_overtaken, _, index = note
+        note = places.see(net, time, octets[-1], packet, is_forwarded, is_refused, is_bad)
+        what, _, is_overtaken, other, index = note
         steps, fault = places.newest - newest, None
-        if its.is_early and index == places.newest > newest >= 0 and time - before < its.least_wanted:
-            its.early += 1  # after the one before of its network, and after the newest frame
-        if what == copies.COPY:
-            fault = self.pair(one, is_forwarded, note.other)
-        elif what in (copies.RESET, copies.ANEW):
-            fault = self.restart(what, time - before, one.where)
-        if is_overtaken or is_bad or steps > copies.HALF_TURN or what in copies.BEHIND or kind == "overflow":
+        if steps and index == places.newest and newest >= 0 and time - before < its.least_wanted:
+            its.early += its.is_early()  # after the one before of its network, and after the newest frame
+        if what == COPY:
+            fault = self.pair(one, is_forwarded, other)
+        elif what != FIRST:
+            is_odd, fault = True, self.restart(what, time - before, one.where) if what in (RESET, ANEW) else None
+        if is_overtaken or is_odd or steps > HALF_TURN:
             self.conditions.look_at(note, reply, one, steps, before)
-        if code != OUT_OF_SEQUENCE:
+        if not is_refused:
             if self.sender != self.passed:
                 fault, self.passed = self.passed and "sender", self.sender
-            if is_overtaken and what == copies.FIRST:
-                fault = "overtaking"
+            if is_overtaken and what == FIRST:
+                fault = self.overtake(one, index) or fault
             spans = self.spans
             if is_forwarded or fault or not spans.is_on or index is None or index > spans.greatest:
                 self.follow_law(now, one, kind, note, is_forwarded, fault)
@@ -154,40 +168,49 @@ class Link(copies.Listener):
         count, first = self.refused[net].get(cause, (0, where))
         self.refused[net][cause] = count + 1, first
 
-    def see_cut(self, now, one, code, is_forwarded):
+    def see_cut(self, now, one, is_refused, is_forwarded):
         """A frame that was cut on the wire, whose last octet is no sequence number."""
         self.conditions.broken("packets", one.where, "cut on the wire")
-        note = copies.Note(copies.CUT)
-        if code != OUT_OF_SEQUENCE:
+        note = copies.CUT, 0, False, None, None
+        if not is_refused:
             self.follow_law(now, one, "bad-header", note, is_forwarded, "packets")
         return note
 
     def follow_law(self, now, one, kind, note, is_forwarded, fault):
         """Of a copy that passes integrity checking."""
         spans, is_whole = self.spans, False
-        if is_forwarded and CODES[kind] >= FIRST_PIECE:
-            is_again = note.what == copies.COPY and note.other.is_forwarded
-            is_whole = self.pieces.see(now, one, kind, is_again)
+        what, _, _, other, index = note
+        if is_forwarded and kind != BAD_HEADER:
+            is_whole = self.pieces.see(now, one, kind, what == COPY and other[copies.IS_FORWARDED])
         if self.link.redundancy:
-            is_first = spans.see(note.index, now, is_forwarded, fault)
+            is_new = spans.see(index, now, is_forwarded, fault)
             if spans.fault:
                 spans.ended(one.where)
-            if is_first:
+            if is_new:
                 spans.take(kind, is_forwarded, is_whole)
 
     def pair(self, one, is_forwarded, other):
         """The condition that a second copy breaks, if it does."""
-        time = one.time
-        delay = (time - other.time if one.net else other.time - time) // 1000
+        time, first = one.time, other[copies.TIME]
+        delay = (time - first if one.net else first - time) // 1000
         self.delays.add(delay)
         if self.drift and time >= self.drift.due:
             self.drift.add(time, delay)
-        if is_forwarded and other.is_forwarded and self.link.redundancy:
+        if is_forwarded and other[copies.IS_FORWARDED] and self.link.redundancy:
             self.twice.add(one.where)
         if abs(delay) <= self.link.skew_max:
             return None
         self.beyond += 1
         return self.conditions.broken("skew-max", one.where, f"{abs(delay)} us after its first copy")
+
+    def overtake(self, one, index):
+        """The condition that a frame breaks whose first copy came after one of a later frame, if its delay shows one. By itself it
+        costs its message, and none after it."""
+        places = self.copies.places
+        late = (one.time - places[index - places[0].index].since) // 1000
+        if late > self.link.skew_max:
+            return self.conditions.broken("skew-max", one.where, f"{late} us after a later frame")
+        return None
 
     def restart(self, what, pause, where):
         """The condition that a restart breaks, if it does."""
@@ -196,18 +219,19 @@ class Link(copies.Listener):
         self.least_pause = pause if self.least_pause is None else min(pause, self.least_pause)
         if pause <= self.link.skew_max + self.greatest_delay:
             return self.conditions.broken("skew-max", where, f"restarted after {pause} us")
-        return "sender" if what == copies.ANEW else None
+        return "sender" if what == ANEW else None
 
     @property
     def greatest_delay(self):
         """The greatest of either sign: D is at least this."""
-        return max(abs(self.delays.least), abs(self.delays.greatest)) if self.delays.number else 0
+        found = self.delays.look()
+        return max(abs(found.least), abs(found.greatest)) if found.number else 0
 
     def run_ended(self, net, run, copy, cost):
         """A network that loses the window's number of frames or more is out: the next one is dropped on it."""
         if run < self.link.window:
             return
-        where = Where(copy.packet, net, copy.time) if copy else f"the end of {NETWORKS[net]}"
+        where = where_of(copy, net) if copy else f"the end of {NETWORKS[net]}"
         how = f"the first after {run} were lost" if copy else f"{run} were lost, and no more came"
         self.conditions.broken("losses", where, how)
         self.outages.add(f"{run} before {where}, " + (f"{cost} frames not forwarded" if cost else "no frame lost"))
@@ -221,7 +245,7 @@ class Link(copies.Listener):
             self.conditions.broken("copies", where, f"number {place.number} before it came on neither network")
 
     def lost_many(self, count, net, copy):
-        where = Where(copy.packet, net, copy.time)
+        where = where_of(copy, net)
         self.conditions.broken("copies", where, f"{count} frames before it came on neither network")
 
     def given_up(self, why, first, where):
@@ -240,7 +264,7 @@ class Link(copies.Listener):
                 self.conditions.broken("whole", first, f"its datagram never ended ({why})")
 
     def mixed(self, net, copy):
-        self.mixed_at = self.mixed_at or Where(copy.packet, net, copy.time)
+        self.mixed_at = self.mixed_at or where_of(copy, net)
         self.conditions.broken("sender", self.mixed_at, "two series of numbers")
 
     def pass_time(self, time):
@@ -251,10 +275,16 @@ class Link(copies.Listener):
         for each in self.senders.values():
             each.finish(time, self.link.skew_max)
         self.pieces.finish(now)
+        self.look()
+
+    def look(self):
+        """Takes in what was noted."""
+        for each in (*self.nets, self.delays):
+            each.look()
 
     def of_kinds(self, *names):
         """How many frames have these verdicts."""
-        return sum(kinds[name] for kinds in self.kinds for name in names)
+        return sum(net.kinds[name] for net in self.nets for name in names)
 
     def nonsense(self):
         """Why the numbers of its frames make no sense, if they make none: then nothing is counted by them."""
@@ -265,7 +295,7 @@ class Link(copies.Listener):
                 return f"{one.lost_both} numbers are missing, where there was time for {max(0, one.room())} frames more"
             if one.skipped:
                 net, copy, missing, most = one.skipped
-                return f"{missing} are skipped by {Where(copy.packet, net, copy.time)}, where there was time for {most} frames"
+                return f"{missing} are skipped by {where_of(copy, net)}, where there was time for {most} frames"
             if (odd := one.odd()) > max(LEAST_ODD, one.seen):
                 return f"the numbers of {odd} frames don't go on from those before"
         return None
@@ -331,26 +361,27 @@ class Health:
         self.links = {link.vl: made(link, played.own.get(link.vl, {})) for link in played.receiver.links}
         self.filtered, self.left_out = (tuple(Counter() for _ in NETWORKS) for _ in range(2))
         self.firsts = {}  # the first packet of each of these causes, by network
-        self.interfaces, self.drift = tuple(Counter() for _ in NETWORKS), Drift()
+        self.interfaces, self.drift = tuple([0] * 8 for _ in NETWORKS), Drift()
         for link in self.links.values():
             link.drift = self.drift
         self.frames, self.first, self.latest = 0, None, 0
 
     def see(self, one, now, reply):
         """Returns what the frame is beside the others of its link, if it is of one."""
+        time, net, _, octets, left_out, _ = one
         if self.first is None:
-            self.first = one.time
-        if not reply:
-            self.left_out[one.net][one.left_out] += 1
-            self.firsts.setdefault((one.net, one.left_out), first_of(one))
+            self.first = time
+        if left_out:
+            self.left_out[net][left_out] += 1
+            self.firsts.setdefault((net, left_out), first_of(one))
             return None
-        self.latest, net, vl = one.time, one.net, reply.vl
+        self.latest = time
         self.frames += 1
-        if vl is None:
+        if (vl := reply.vl) is None:
             self.filtered[net][reply.cause] += 1
             self.firsts.setdefault((net, reply.cause), first_of(one))
             return None
-        self.interfaces[net][one.octets[frames.INTERFACE] >> 5] += 1
+        self.interfaces[net][octets[INTERFACE] >> 5] += 1
         return self.links[vl].see(now, one, reply)
 
     def pass_time(self, time):
@@ -369,7 +400,7 @@ class Health:
             yield 0, ("crossed networks: most source addresses of A say interface 2, and most of B interface 1; "
                       "--networks source follows them")
         for net, (letter, found) in enumerate(zip(NETWORKS, self.interfaces)):
-            if MIXED * min(found[1], found[2]) > sum(found.values()):
+            if MIXED * min(found[1], found[2]) > sum(found):
                 yield net, (f"frames of both networks on {letter}, by their source addresses: {found[1]} say A and "
                             f"{found[2]} say B; --networks source tells them apart")
 
@@ -402,8 +433,9 @@ class Alone:
         """The verdict of a frame on its network alone, if it is a fault that the other network's good copy hides."""
         found = self.receivers[one.net].receive(one.net, now, one.octets)
         if found.kind in FAULTS:
-            other = note and note.other
-            return found if found.kind != reply.kind and other and other.is_forwarded and not other.is_bad else None
+            other = note and note[copies.OTHER]
+            is_hidden = other and other[copies.IS_FORWARDED] and not other[copies.IS_BAD]
+            return found if found.kind != reply.kind and is_hidden else None
         if found.port and has_wrong_udp_sum(one.octets):
             return found._replace(kind=WRONG_SUM, port="", number=0)
         return None

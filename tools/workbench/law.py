@@ -2,7 +2,8 @@
 datagrams in fragments are whole.
 
 A copy counts that passes integrity checking, from the first on that is forwarded, or that comes when SkewMax is over since
-all that was. A copy that breaks a condition ends the stretch of those that count; another one begins in the same way.
+all that was. It is new if it is of a later frame than all before it that count. A copy that breaks a condition ends the
+stretch of those that count; another one begins in the same way.
 """
 import collections
 
@@ -23,8 +24,8 @@ class Stretch:
         self.is_on = False
 
     def see(self, index, time, was_forwarded, fault=None):
-        """Of a copy that passes: whether it is the first of its frame that counts. The index is None if it is of no frame of
-        the sender's; `fault` is what else it breaks beside those that count."""
+        """Of a copy that passes: whether it counts and is new. The index is None if it is of no frame of the sender's; `fault` is
+        what else it breaks beside those that count."""
         if self.is_on and not fault and index is not None and self.greatest < index <= self.greatest + FAR:
             self.forwarded = time if was_forwarded else self.forwarded
             self.latest, self.greatest, self.newest = time, index, time

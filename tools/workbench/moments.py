@@ -40,3 +40,16 @@ def in_capture(found, first):
     """Nanoseconds of 1970, in a capture with this first packet."""
     kind, value = found
     return value + (first if kind == SINCE else first // DAY * DAY if kind == OF_DAY else 0)
+
+
+def between(found, since, until):
+    """The arrivals from one moment to another."""
+    began, ended = None, None
+    for one in found:
+        if began is None:
+            began, ended = (word and in_capture(word, one.time) for word in (since, until))
+            began = began or 0
+        if ended is not None and one.time > ended:
+            return
+        if one.time >= began:
+            yield one

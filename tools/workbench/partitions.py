@@ -18,10 +18,10 @@ class SamplingEnd:
         self.messages = self.reads = self.stale = self.missed = self.newest = self.oldest = 0
         self.latest, self.worst_before = None, (0, 0)
 
-    def came(self, now, number):
+    def came(self, now):
         """A message was delivered."""
         self.worst_before = self.worst(now)
-        self.messages, self.latest = number, now
+        self.messages, self.latest = self.messages + 1, now
 
     def worst(self, now):
         """The oldest that a message was at any moment up to now, and how many were stale."""
@@ -60,14 +60,14 @@ class QueueEnd:
         self.port, self.period, self.taker = port, period, receiver.taker(port.name)
         self.taken = self.waiting = self.most = self.oldest = self.overflows = 0
 
-    def came(self, now, number):
+    def came(self, now):
         self.waiting += 1
         self.most = max(self.most, self.waiting)
 
     def serve(self, now, _):
         """Takes all that waits; after the first of many takings nothing does."""
-        found = list(iter(self.taker.take, None))
-        self.taken += len(found)
+        found = [self.taker.take() for _ in range(self.waiting)]
+        self.taken += self.waiting
         self.waiting = 0
         if found:
             self.oldest = max(self.oldest, now - found[0].time)
@@ -108,6 +108,6 @@ class Partition:
         if reply.kind == FULL:
             end.overflows += 1
         elif reply.kind in DELIVERED:
-            end.came(now, reply.number)
+            end.came(now)
             if not end.port.is_sampling and end.period is None:
                 self.serve(now, end)

@@ -7,6 +7,7 @@ from workbench.law import Offers
 MOST_GROUPS, MOST_KEPT = 4, 64  # groups; datagrams of one kind that are remembered
 IDENTIFICATION, FRAGMENT = slice(18, 20), slice(20, 22)  # octets of a frame
 ADDRESSES = slice(26, 34)
+NO_FRAGMENT = frozenset(bytes([flags, 0]) for flags in (0x00, 0x40, 0x80, 0xC0))
 MOST_OCTETS, HELD = 8200, "fragment-held"
 GIVEN_UP = ("limit", "a whole datagram", "four others")
 ORDER, OVERLAP, MIXED = "out of order", "overlaps with other octets", "joined of two, by its UDP checksum"
@@ -59,30 +60,32 @@ class Pieces:
     def __init__(self, limit, tell):
         self.limit, self.tell = limit, tell
         self.groups, self.offers, self.told = collections.OrderedDict(), Offers(limit), collections.OrderedDict()
-        self.has_fragments, self.joined, self.whole = False, 0, collections.deque(maxlen=MOST_KEPT)
+        self.has_fragments, self.joined = False, 0
 
     def see(self, now, one, kind, is_again):
         """A frame that was forwarded, and whose header is good; perhaps again. Returns whether a message is whole with it, by
         the law."""
         octets = one.octets
-        word = int.from_bytes(octets[FRAGMENT], "big") & 0x3FFF
-        if not word and not self.has_fragments:
-            self.whole.append((now, octets))
+        if octets[FRAGMENT] in NO_FRAGMENT:
+            if self.groups or self.offers.chains:
+                self.see_whole(key_of(octets), one.where)
             return True
-        if not self.has_fragments:
-            self.has_fragments = True
-            for time, each in self.whole:
-                self.offers.add(key_of(each), 0, 0, 0, time)
-        key, offset, more = key_of(octets), 8 * (word & 0x1FFF), word >> 13
+        word = int.from_bytes(octets[FRAGMENT], "big")
+        key, offset, more = key_of(octets), 8 * (word & 0x1FFF), word >> 13 & 1
         is_bad, chain = kind == "bad-fragment", self.offers.chains.get(key)
         is_used = chain and chain.is_joined and now - chain.latest <= self.limit
         end = int.from_bytes(octets[16:18], "big") + 14
         is_whole = self.offers.add(key, None if is_bad else offset, end - 34, more, now)
-        if not word and key in self.groups:
-            self.give_up(key, "a whole datagram", one.where)
-        elif word and not is_bad and not is_again:
+        self.has_fragments = True
+        if not is_bad and not is_again:
             return self.add(key, now, offset, octets[34:end], more, kind, one.where, is_used) and is_whole
         return is_whole
+
+    def see_whole(self, key, where):
+        """A whole datagram gives those in parts with its key up; after it one is begun as if none had come."""
+        self.offers.chains.pop(key, None)
+        if key in self.groups:
+            self.give_up(key, "a whole datagram", where)
 
     def add(self, key, now, offset, octets, more, kind, packet, is_used):
         """A fragment. Its key may be that of a datagram that was joined within the limit. Returns whether it isn't mixed."""

@@ -7,7 +7,7 @@ def play(given):
     is_live = "-" in given.files
     played = station.Station(given.config, not given.never_taken,
                             lambda now, end, found: [add(line) for line in lines_of_end(now, end, found)
-                                                     if given.link in (None, end.port.vl)])
+                                                     if given.link in (None, end.port.vl)], is_brief=False)
     with files.output() as out:
         def add(line, number="-"):
             out.write(f"{number} {line}\n".encode() if given.packets else f"{line}\n".encode())

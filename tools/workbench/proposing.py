@@ -3,13 +3,18 @@
 What doesn't show is a guess, and says so: a person completes it. What is kept grows with links, ports and the frames of a
 second, and not with the capture.
 """
+import argparse
 import collections
+import contextlib
+import io
 import ipaddress
 import struct
+import tempfile
 
 from verdict_words import NETWORKS
-from workbench import files, settings, stream
+from workbench import files, settings, showing, stream
 from workbench.delays import Delays
+from workbench.faults import plain
 from workbench.health import JITTER
 
 HEADERS = struct.Struct("!12xHBxHHHxB2x4s4sxxHH")  # of a frame, up to the UDP header's length
@@ -29,9 +34,21 @@ def propose(given):
         for one in packets:
             if not one.left_out:
                 seen.see(one)
+    if seen.links and "-" not in given.files:
+        seen.strange = strange_links(given, seen.lines())
     with files.writing(given.to) as out:
         out.writelines(f"{line}\n".encode() for line in seen.lines())
     return packets.status
+
+
+def strange_links(given, lines):
+    """The links whose frames aren't one sender's, by their numbers, with why: the captures are played with a proposal. What
+    was told of them before isn't told again."""
+    with tempfile.NamedTemporaryFile(suffix=".toml") as file, contextlib.redirect_stderr(io.StringIO()):
+        file.writelines(f"{line}\n".encode() for line in lines)
+        file.flush()
+        links = showing.Shown(argparse.Namespace(**{**vars(given), "config": file.name})).health.links
+    return {vl: plain(why)[:settings.LONGEST_TEXT] for vl, link in links.items() if (why := showing.why_not_one_sender(link))}
 
 
 class Recent(collections.OrderedDict):
@@ -61,16 +78,17 @@ class Port:
 
     def keys(self):
         """Each key of its kind, its value, and the evidence."""
-        is_long, usual, longest = self.longest > LONGEST_SAMPLE, self.gaps.median(), self.gaps.below(1 - FEW)
+        gaps = self.gaps.look()
+        is_long, usual, longest = self.longest > LONGEST_SAMPLE, gaps.median(), gaps.below(1 - FEW)
         is_even = self.messages > 2 and longest <= EVEN * usual
-        gaps = f"most within {longest} us, usually {usual}" if self.messages > 1 else "one message"
+        told = f"most within {longest} us, usually {usual}" if self.messages > 1 else "one message"
         if self.split or is_long or not is_even:
-            why = f"{self.split} in fragments" if self.split else "longer than a sample" if is_long else f"unevenly, {gaps}"
+            why = f"{self.split} in fragments" if self.split else "longer than a sample" if is_long else f"unevenly, {told}"
             yield "kind", '"queuing"', why
             depth = min(self.most, MOST_DEPTH)
             yield "depth", depth, f"at most {self.most} came within {TAKEN} us: see how often it is taken"
         else:
-            yield "kind", '"sampling"', f"evenly, {gaps}; a queue would look the same"
+            yield "kind", '"sampling"', f"evenly, {told}; a queue would look the same"
             yield "refresh_us", rounded(2 * longest, 10**9), "twice that"
         yield "max", self.longest, f"the longest of {self.messages}"
 
@@ -126,7 +144,8 @@ class Link:
 
     def keys(self):
         """Each key, its value, and the evidence."""
-        greatest, number, gap = self.delays.greatest, self.delays.number, self.gaps.below(FEW)
+        delays, gap = self.delays.look(), self.gaps.look().below(FEW)
+        greatest, number = delays.greatest, delays.number
         if bag := max((bag for bag in BAGS if gap and bag - JITTER <= gap), default=None):
             yield "bag_us", bag, f"but for few, no frame came less than {gap} us after another of its network"
             if bag - self.gaps.least > JITTER:
@@ -153,7 +172,7 @@ class Seen:
     """What was seen of all links. A frame that isn't one of the networks is counted by why."""
 
     def __init__(self):
-        self.links, self.constants, self.others = {}, collections.Counter(), collections.Counter()
+        self.links, self.constants, self.others, self.strange = {}, collections.Counter(), collections.Counter(), {}
 
     def see(self, one):
         octets = one.octets
@@ -173,13 +192,15 @@ class Seen:
         yield line("constant", f'"{constant.hex()}"', f"{self.constants[constant]} frames")
         links = sorted((vl, link) for (of, vl), link in self.links.items() if of == constant)
         for vl, link in links[:settings.MOST_LINKS]:
-            yield from of_link(vl, link)
+            yield from of_link(vl, link, self.strange.get(vl))
         yield from (f"\n# left out: link {vl}, as there may be {settings.MOST_LINKS}" for vl, _ in links[settings.MOST_LINKS:])
 
 
-def of_link(vl, link):
+def of_link(vl, link, strange):
     yield "\n[[link]]"
     yield line("vl", vl, ", ".join(f"{count} frames of {letter}" for letter, count in zip(NETWORKS, link.frames)))
+    if strange:
+        yield line("not_one_sender", f'"{strange}"', "see why: the receiver drops of it what doesn't follow; check tells this no more")
     yield from (line(*found) for found in link.keys())
     if link.out:
         yield f"# {link.out} times a network lost {MOST_WINDOW} or more in a row"

@@ -3,7 +3,7 @@ from receiver import ConfigFault, NoLibrary, Receiver
 from workbench import files, places
 from workbench.faults import NOT_READ, Fault, plain
 
-MOST_PERIOD, LONGEST_NAME = 10**9, 40  # microseconds, letters
+MOST_PERIOD, LONGEST_NAME, LONGEST_TEXT = 10**9, 40, 200  # microseconds, letters
 MOST_LINKS, MOST_PORTS = 64, 32
 # Of faults that name no key: which one is at fault, and what is allowed.
 UNNAMED = {"link given twice": ("vl", "a number that no other link has"),
@@ -12,7 +12,8 @@ UNNAMED = {"link given twice": ("vl", "a number that no other link has"),
            "too many links or ports": (None, f"{MOST_LINKS} links, {MOST_PORTS} ports of a link")}
 # What a value of an own key has to be.
 PERIOD = f"a whole number of microseconds, 1 to {MOST_PERIOD}"
-OWN_KEYS = {"a link": {"name": f"a text of 1 to {LONGEST_NAME} letters", "bag_us": PERIOD,
+LONGEST = {"name": LONGEST_NAME, "not_one_sender": LONGEST_TEXT}
+OWN_KEYS = {"a link": {**{key: f"a text of 1 to {most} letters" for key, most in LONGEST.items()}, "bag_us": PERIOD,
                        "jitter_us": PERIOD.replace("1", "0", 1)},
             "a port": {"read_us": PERIOD, "take_us": PERIOD}}
 
@@ -47,8 +48,8 @@ def refusal(fault):
 
 
 def is_right(key, value):
-    if key == "name":
-        return isinstance(value, str) and 0 < len(value) <= LONGEST_NAME and plain(value) == value
+    if key in LONGEST:
+        return isinstance(value, str) and 0 < len(value) <= LONGEST[key] and plain(value) == value
     return type(value) is int and (key != "jitter_us") <= value <= MOST_PERIOD
 
 

@@ -55,10 +55,11 @@ def slips(shown, document):
     yield from of_files(shown, bytes.fromhex(document.tables.get("constant", "03000000")))
     yield from strangers(shown)
     for path, table, level in members(document.tables):
+        is_known = "not_one_sender" in document.tables["link"][path[1]]
         if level == "a link":
-            found = of_link(shown, table["vl"])
+            found = of_link(shown, table["vl"], is_known)
         else:
-            found = of_port(shown, table) if shown.is_timed else ()
+            found = of_port(shown, table) if shown.is_timed and not is_known else ()
         yield from (document.slip(path, told) for told in found)
 
 
@@ -94,7 +95,16 @@ def strangers(shown):
                f"configuration; frames: {a} of A and {b} of B")
 
 
-def of_link(shown, vl):
+def why_not_one_sender(link):
+    """Why a link's frames aren't one sender's, numbered in turn, if they aren't."""
+    if link.sender_count() > 1:
+        return f"{link.sender_count()} senders, by their source addresses or their numbers"
+    reason = link.nonsense()
+    return reason and f"its numbers make no sense: {reason}"
+
+
+def of_link(shown, vl, is_known):
+    """`is_known` says that the configuration has it not to be one sender's: nothing that rests on numbers is told then."""
     link = shown.health.links[vl]
     counts = [net.frames for net in link.nets]
     if not any(counts):
@@ -103,12 +113,9 @@ def of_link(shown, vl):
     for letter, number, of_all in zip(NETWORKS, counts, shown.frames):
         if of_all and not number:
             yield f"no frame of it on {letter}"
-    if link.sender_count() > 1:
-        yield f"{link.sender_count()} senders, by their source addresses or their numbers"
-    elif reason := link.nonsense():
-        yield f"its numbers make no sense: {reason}"
-    if shown.is_timed:
-        yield from of_times(shown, link)
+    if not is_known:
+        yield from filter(None, [why_not_one_sender(link)])
+        yield from of_times(shown, link) if shown.is_timed else ()
     for (of, pair), (first, number) in shown.strays.items():
         if of == vl:
             yield f"no port for {pair}: {number} frames, the first {shown.packets.unit} {first.where.packet}"

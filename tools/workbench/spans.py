@@ -33,8 +33,8 @@ class Spans(Stretch):
         self.fault = None
 
     def take(self, kind, was_forwarded, is_whole):
-        """The first copy of a frame that counts, with which a message is whole or not: it has to be delivered, unless its
-        queue is full. Refused packets bring none."""
+        """A new copy that counts, with which a message is whole or not: it has to be delivered, unless its queue is full.
+        Refused packets bring none."""
         if not was_forwarded or is_whole and kind == HELD:
             self.arrived += 1
         elif is_whole and kind in DELIVERED:

@@ -6,11 +6,12 @@ from workbench.partitions import Partition
 
 class Station:
     """The receiver of a configuration, which is read before any capture. With `takes` partitions read and take; else nobody
-    does, as in the player."""
+    does, as in the player. Brief replies have neither the place of the frame nor the number of the message."""
 
-    def __init__(self, path, takes=True, tell=None):
+    def __init__(self, path, takes=True, tell=None, is_brief=True):
         self.octets, self.own, self.partition = settings.read(path), {}, None
         self.receiver = settings.receiver_of(path, self.octets)
+        self.receive = self.receiver.receive_briefly if is_brief else self.receiver.receive
         if takes:
             self.own, periods = settings.own_keys(path, self.octets)
             self.partition = Partition(self.receiver, periods, tell)
@@ -18,15 +19,15 @@ class Station:
 
     def take(self, one):
         """The time of an arrival in microseconds since the first, and its reply; none if it was left out."""
-        if one.left_out:
-            return self.clock.since(one.time), None
-        net, partition = one.net, self.partition
-        now = self.clock.of(net, one.time)
+        time, net, _, octets, left_out, _ = one
+        if left_out:
+            return self.clock.since(time), None
+        partition, now = self.partition, self.clock.of(net, time)
         if now > self.latest:
             self.latest = now
         if partition and now > partition.due[0][0]:
             partition.wake(now - 1)
-        reply = self.receiver.receive(net, now, one.octets)
+        reply = self.receive(net, now, octets)
         if partition and reply.port:
             partition.came(now, reply)
         return now, reply
@@ -35,7 +36,8 @@ class Station:
         """Each arrival of a stream with its time and its reply."""
         self.clock = stream.Clock(found.is_of_captures)
         for one in found:
-            yield one, *self.take(one)
+            now, reply = self.take(one)
+            yield one, now, reply
 
 
 def of_link(given, played, found):

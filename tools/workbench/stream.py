@@ -2,11 +2,13 @@
 import collections
 import contextlib
 import datetime
+import gc
 import heapq
 import operator
 import os
 import sys
 from typing import NamedTuple, Optional
+from zlib import crc32
 
 from verdict_words import NETWORKS
 from workbench import captures, files, frames, hex_traces, moments, unpacking
@@ -18,6 +20,7 @@ LATE, NO_TIME = "too late for its place", "no time that a trace can have"
 OTHER, TORN, BROKEN_OFF = "of another interface", "cut by the end of the capture", "not of its form from some place on"
 HELP = {reason: ": --reorder takes more packets, or a file of each network" for reason in (LATE, BEHIND)}
 SHOWN = 8
+made = tuple.__new__  # a named tuple by one call
 # Nanoseconds that a packet of a pipe waits for earlier ones, and by which one may be behind the other network: dumpcap reads
 # each quarter of a second.
 HOLD_OF_A_PIPE = 300_000_000
@@ -65,15 +68,28 @@ class Account:
         self.broken, self.lost, self.first = "", collections.Counter(), None
         self.packets = self.whole = self.checked = self.moved = self.newest = self.untagged = 0
         self.left_out, self.counts = collections.defaultdict(list), collections.Counter()
+        self.others = {}  # by interface: how many packets, and the first
+
+    def see_other(self, interface, number, time):
+        """A packet of an interface that is of neither network."""
+        self.leave_out(number, OTHER)
+        self.others.setdefault(interface, [0, f"{number} at {moments.told(time or 0)}"])[0] += 1
 
     def leave_out(self, number, reason):
         self.counts[reason] += 1
         if self.counts[reason] <= SHOWN:
             self.left_out[reason].append(number)
 
-    def all_had_fcs(self):
-        """Whether that was so of each packet before: then one whose check sequence is wrong was damaged."""
-        return self.checked == self.whole >= SHOWN or None
+    def without_fcs(self, octets, has):
+        """A whole frame without its check sequence, and why it can't be taken. If `has` is None that is seen: where each
+        packet before had one, a packet whose check sequence is wrong was damaged."""
+        if has is not False and crc32(octets) == frames.WHOLE_WITH_FCS:
+            self.checked += 1
+            octets = octets[:-4]
+        elif has or has is None and self.checked == self.whole >= SHOWN:
+            return octets, frames.BAD_FCS
+        self.whole += 1
+        return octets, None
 
     def lines(self):
         met = ((self.checked, "check sequences cut off"), (self.untagged, "VLAN tags taken off"),
@@ -98,7 +114,8 @@ class Clock:
     both networks have one at a time: so a frame of A that came after one of B in the same microsecond gets the next one."""
 
     def __init__(self, from_first=True):
-        self.base, self.latest = (None if from_first else 0), [(-1, -1), (-1, -1)]
+        self.base, self.newest = (None if from_first else 0), -1
+        self.times, self.found = [-1, -1], [-1, -1]  # of the latest of each network
 
     def since(self, time):
         if self.base is None:
@@ -109,21 +126,21 @@ class Clock:
         """Of a frame that is handed in."""
         if self.base is None:
             self.base = time
-        found = (time - self.base) // 1000 if time > self.base else 0
-        (_, own), (other, of_other) = self.latest[net], self.latest[1 - net]
-        if found < own:
-            found = own
-        if time > other or time == other and net:
-            of_other += net == 0
-            if found < of_other:
-                found = of_other
-        self.latest[net] = time, found
+        found = (time - self.base) // 1000
+        if found <= self.newest:
+            other = self.times[1 - net]
+            is_after = time > other or time == other and net
+            found = max(0, found, self.found[net], self.found[1 - net] + (net == 0) if is_after else 0)
+        if found > self.newest:
+            self.newest = found
+        self.times[net], self.found[net] = time, found
         return found
 
 
-def arrivals(packets, net_of, given, account):
-    """What comes of a capture's packets, None if it is none of a network; `net_of` tells that of an interface and octets."""
-    latest, (shift, rate), before = 0, given.shift_b, account.packets
+def arrivals(packets, nets, given, account):
+    """What comes of a capture's packets, None if it is none of a network. `nets` has the networks of interfaces."""
+    latest, (shift, rate), before, is_moved = 0, given.shift_b, account.packets, any(given.shift_b)
+    is_by_source = given.networks == "source"
     try:
         for packet in packets:
             if packet is None:
@@ -131,28 +148,28 @@ def arrivals(packets, net_of, given, account):
                 continue
             number, interface, time, octets, length, about = packet
             account.packets = number = before + number
-            net = net_of(interface, octets)
+            if is_by_source:
+                interface = frames.interface_of(octets)
+            net = nets[interface]
             if net is None:
-                account.leave_out(number, OTHER)
+                account.see_other(interface, number, time)
                 yield None
                 continue
             if about.link_type != captures.ETHERNET:
                 raise Fault(f"packet {number} isn't Ethernet, but of link type {about.link_type}")
-            reason = frames.SNAPSHOT if len(octets) < length else None
-            if not reason:
-                has = about.fcs if given.fcs is None else given.fcs
-                found, reason = frames.without_fcs(octets, account.all_had_fcs() if has is None else has)
-                account.checked += len(found) < len(octets)
-                account.whole += reason is None
-                if given.untag:
-                    found = untagged(found, account)
-                octets, length, reason = found, len(found), reason or frames.refusal(found)
-            if net and time is not None:
+            reason = frames.SNAPSHOT
+            if len(octets) >= length:
+                octets, reason = account.without_fcs(octets, about.fcs if given.fcs is None else given.fcs)
+                if octets[frames.TYPE] != frames.IPV4 or len(octets) > frames.MOST_OCTETS:
+                    octets = untagged(octets, account) if given.untag else octets
+                    reason = reason or frames.refusal(octets)
+                length = len(octets)
+            if net and is_moved and time is not None:
                 account.first = time if account.first is None else account.first
                 time += 1000 * shift + round((time - account.first) * rate / 1e6)
             if time is None or not 0 <= time < MOST_TIME:
                 time, reason = latest, reason or NO_TIME
-            yield Arrival(time, net, number, octets, reason, length)
+            yield made(Arrival, (time, net, number, octets, reason, length))
             latest = time
     except EOFError:
         account.leave_out(account.packets + 1, TORN)
@@ -170,16 +187,16 @@ def untagged(octets, account):
     return octets
 
 
-def of_row(names, first, net_of, given, account):
+def of_row(names, first, nets, given, account):
     """What comes of captures one after the other, whose packets are numbered on. The first one is open."""
-    yield from arrivals(captures.packets(*first, account.lost), net_of, given, account)
+    yield from arrivals(captures.packets(*first, account.lost), nets, given, account)
     for name in names[1:]:
         with contextlib.ExitStack() as stack:
             file, magic = opened_file(name, stack)
             if magic and magic not in captures.MAGICS:
                 raise Fault(f"{name}: no capture, as those before it")
             if magic:
-                yield from arrivals(captures.packets(file, magic, account.lost), net_of, given, account)
+                yield from arrivals(captures.packets(file, magic, account.lost), nets, given, account)
 
 
 def of_trace(found, net, account):
@@ -196,7 +213,8 @@ class Order:
     """Puts arrivals in order of time. Most come in order and wait in a row; those that don't wait in a heap beside it."""
 
     def __init__(self, account):
-        self.row, self.heap, self.latest, self.account = collections.deque(), [], [0, 0], account
+        self.row, self.heap, self.account = collections.deque(), [], account
+        self.latest, self.newest = [0, 0], 0  # times of each network, and of both
         self.patience = [HOLD_OF_A_PIPE, HOLD_OF_A_PIPE]  # by how much each may be behind the other: none once it was
 
     def __len__(self):
@@ -210,24 +228,26 @@ class Order:
 
     def next(self):
         """The earliest; it is left out if it comes too late for its network."""
-        is_of_heap = self.heap and (not self.row or self.heap[0] < self.row[0])
-        one = heapq.heappop(self.heap) if is_of_heap else self.row.popleft()
+        row, heap, account = self.row, self.heap, self.account
+        one = heapq.heappop(heap) if heap and (not row or heap[0] < row[0]) else row.popleft()
         time, net, number, _, left_out, _ = one
-        if not left_out:
-            is_behind = time < self.latest[1 - net] - self.patience[net]
-            self.patience[net] = 0 if is_behind else HOLD_OF_A_PIPE
-            left_out = LATE if time < self.latest[net] else BEHIND if is_behind else None
-            one = one._replace(left_out=left_out) if left_out else one
-        account = self.account
-        if left_out:
+        if time >= self.newest and not left_out:
+            self.newest, self.patience[net] = time, HOLD_OF_A_PIPE
+        elif left_out := left_out or self.lateness(time, net):
             account.leave_out(number, left_out)
+            return one._replace(left_out=left_out)
+        self.latest[net] = time
+        if number > account.newest:
+            account.newest = number
         else:
-            self.latest[net] = time
-            if number > account.newest:
-                account.newest = number
-            else:
-                account.moved += 1
+            account.moved += 1
         return one
+
+    def lateness(self, time, net):
+        """Why a packet comes too late, if it does."""
+        is_behind = time < self.latest[1 - net] - self.patience[net]
+        self.patience[net] = 0 if is_behind else HOLD_OF_A_PIPE
+        return LATE if time < self.latest[net] else BEHIND if is_behind else None
 
     def until(self, time):
         """All up to this time."""
@@ -238,10 +258,13 @@ class Order:
 def in_order(found, window, pipe, account):
     """Each waits for so many packets or, of a pipe, for some time by the packets' clock, and for none once it is quiet."""
     order = Order(account)
+    row, heap = order.row, order.heap
     for one in found:
-        if one:
+        if one and row and row[-1] <= one:
+            row.append(one)
+        elif one:
             order.add(one)
-        if len(order) > window:
+        if len(row) + len(heap) > window:
             yield order.next()
         if pipe:
             is_quiet = files.is_quiet(pipe, HOLD_OF_A_PIPE / captures.SECOND)
@@ -264,11 +287,11 @@ def opened_file(name, stack):
 
 
 def networks_of(place, count, given):
-    """The network of each packet of a capture: one of two captures has one; else by interface or by source."""
+    """The networks of a capture's interfaces, which the source address tells, or the capture; one of two captures has one."""
     if given.networks == "source":
-        return lambda _, octets: {1: 0, 2: 1}.get(frames.interface_of(octets))
-    nets = dict(zip(given.interfaces, (0, 1)))
-    return lambda interface, _: place if count == 2 else nets.get(interface)
+        return collections.defaultdict(lambda: None, {1: 0, 2: 1})
+    known = {} if count == 2 else dict(zip(given.interfaces, (0, 1)))
+    return collections.defaultdict(lambda: place if count == 2 else None, known)
 
 
 class Stream:
@@ -291,8 +314,8 @@ class Stream:
         account, given = self.accounts[place], self.given
         if not self.is_of_captures:
             return of_trace(hex_traces.lines(file, magic, place), place, account)
-        net_of = networks_of(place, len(self.accounts), given)
-        found = of_row(row, (file, magic), net_of, given, account) if magic or len(row) > 1 else ()
+        nets = networks_of(place, len(self.accounts), given)
+        found = of_row(row, (file, magic), nets, given, account) if magic or len(row) > 1 else ()
         is_pipe = row[0] == "-" and isinstance(file.raw, files.Watched)
         return in_order(found, given.reorder, file if is_pipe else None, account)
 
@@ -307,32 +330,26 @@ class Stream:
             found = [self.accounts[0].lost[one] for one in self.interfaces]
         return found if any(found) else None
 
-    def torn(self):
-        """What of the files wasn't read, by why: packets that an end cuts, and files that aren't of their form up to it."""
-        found = {TORN: sum(account.counts[TORN] for account in self.accounts),
-                 BROKEN_OFF: sum(bool(account.broken) for account in self.accounts)}
-        return {why: count for why, count in found.items() if count}
+    def beside(self):
+        """What of the files is of neither network, with its first packet: packets of other interfaces, those that an end cuts,
+        and files that aren't of their form up to it."""
+        for account in self.accounts:
+            yield from ((f"of interface {interface}", *other) for interface, other in account.others.items())
+            yield TORN, account.counts[TORN], None
+            yield BROKEN_OFF, int(bool(account.broken)), None
 
     def __iter__(self):
         merged = self.feeds[0] if len(self.feeds) == 1 else heapq.merge(*self.feeds, key=operator.itemgetter(0, 1))
-        for one in self.between(merged) if self.given.since or self.given.until else merged:
+        since, until = self.given.since, self.given.until
+        found = iter(moments.between(merged, since, until) if since or until else merged)
+        for one in found if self.is_of_captures else ():
             if self.first is None:
                 self.first = one.time
-            if self.shift.looks and self.is_of_captures:
-                self.shift.see(one)
+            self.shift.see(one)
             yield one
-
-    def between(self, merged):
-        """The arrivals from one moment to another."""
-        began, ended = None, None
-        for one in merged:
-            if began is None:
-                began, ended = (found and moments.in_capture(found, one.time) for found in (self.given.since, self.given.until))
-                began = began or 0
-            if ended is not None and one.time > ended:
-                return
-            if one.time >= began:
-                yield one
+            if not self.shift.looks:
+                break
+        yield from found
 
     def tell_beginning(self):
         if self.is_of_captures and self.first is not None:
@@ -340,9 +357,20 @@ class Stream:
 
 
 @contextlib.contextmanager
+def without_cycles():
+    """CPython looks for no cycles meanwhile: no packet leaves one, and that takes a tenth of the time. PyPy needs its looks."""
+    if sys.implementation.name == "cpython":
+        gc.disable()
+    try:
+        yield
+    finally:
+        gc.enable()
+
+
+@contextlib.contextmanager
 def opened(given):
     """The stream of the files that a command line names; at its end what was met is told, and its status is known."""
-    with contextlib.ExitStack() as stack:
+    with contextlib.ExitStack() as stack, without_cycles():
         found = Stream(given, stack)
         yield found
     found.status = BROKEN if any(account.broken or TORN in account.counts for account in found.accounts) else 0

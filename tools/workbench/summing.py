@@ -37,7 +37,7 @@ def summed(given):
     found.finish(played.latest)
     for hint in found.hints():
         print(f"yelunnavi: {hint}", file=sys.stderr)
-    return told.of_all(found, played.partition, played.latest, packets.lost(), packets.torn()), packets.status
+    return told.of_all(found, played.partition, played.latest, packets.lost(), packets.beside()), packets.status
 
 
 def shown(found, given):

@@ -18,7 +18,7 @@ def of_network(link, number, latest):
             "jitter_us": max(0, bag - micro(net.least)) if bag and net.least is not None else None,
             "early": net.early, **counts, "silent_us": None if net.last is None else micro(latest - net.last),
             "refused": {cause: {"count": count, "first": str(first)} for cause, (count, first) in link.refused[number].items()},
-            "hidden": dict(link.hidden[number]), "verdicts": dict(link.kinds[number])}
+            "hidden": dict(link.hidden[number]), "verdicts": dict(net.kinds)}
 
 
 def of_delays(link):
@@ -36,6 +36,7 @@ def of_events(events, why_not=None):
 
 
 def of_link(link, ports, latest):
+    link.look()
     settings, nonsense, untimed = link.link, link.nonsense(), link.untimed()
     spans = link.spans.told(settings.reassembly if link.pieces.has_fragments else 0)
     broken = {word: {"count": one.count, **causes[0], "causes": causes} for word, one in link.broken().items()
@@ -58,18 +59,22 @@ def of_link(link, ports, latest):
             "broken": broken, "ports": ports}
 
 
-def of_all(health, partition, now, lost=None, torn=()):
-    """Of all links, at a moment in microseconds since the first packet. `lost` are the packets that the tap lost, `torn`
-    is what wasn't read of files, by why."""
+def of_all(health, partition, now, lost=None, beside=()):
+    """Of all links, at a moment in microseconds since the first packet. `lost` are the packets that the tap lost; `beside`
+    what is of neither network: why, how many, and the first."""
     ports = [end.told(now) for end in partition.ends.values()] if partition else []
     links = [of_link(link, [port for port in ports if port["vl"] == link.link.vl], health.latest)
              for link in health.links.values()]
     counted = {name: {net: dict(counts) for net, counts in zip(NETWORKS, found)}
                for name, found in (("filtered", health.filtered), ("left_out", health.left_out))}
-    if torn:
-        counted["left_out"]["neither"] = torn
     firsts = {net: {cause: first for (each, cause), first in health.firsts.items() if each == number}
               for number, net in enumerate(NETWORKS)}
+    for why, count, first in beside:
+        if count:
+            neither = counted["left_out"].setdefault("neither", {})
+            neither[why] = neither.get(why, 0) + count
+            if first:
+                firsts.setdefault("neither", {}).setdefault(why, first)
     return {"first_ns": health.first, "microseconds": now, "frames": health.frames, "links": links, **counted,
             "first_packets": firsts, "lost_by_tap": lost, "drift_ppm": health.drift.rate()}
 

@@ -33,8 +33,7 @@ class Tapped:
 
     def read(self):
         try:
-            nets, packets = {0: 0, 1: 1}, self.tap.packets()
-            found = stream.arrivals(packets, lambda interface, _: nets.get(interface), self.given, self.account)
+            found = stream.arrivals(self.tap.packets(), (0, 1), self.given, self.account)
             for one in filter(None, found):
                 if self.is_over:
                     self.behind += 1
