@@ -1,4 +1,4 @@
-use Rattle.receiver_slots.proofs.receiver_slot.ReceiverSlot.open_text.Goals as goal
+use Rattle.receiver_slots.proofs.slot.Slot.open_text.Goals as goal
 
 pub returns-in-Ok-clause-opened : goal.returns-in-Ok-clause-opened
 returns-in-Ok-clause-opened c = λ is.
