@@ -13,7 +13,7 @@ from verdict_words import FILTER_CAUSES, HEADER_CAUSES, KINDS, NETWORKS
 
 CALLS = ("crates/receiver_c/src/lib.rt", *(f"crates/system_c/src/{name}_calls.rt" for name in ("system", "pass")))
 HELD = "crates/receiver_c/src/held_octets.rt"
-REPLIES, CODES, NUMBERS = (f"crates/receiver_slots/src/{name}.rt" for name in ("replies", "codes", "numbers"))
+REPLIES, CODES, NUMBERS = (f"crates/receiver_slots/src/{name}.rt" for name in ("told/replies", "codes", "told/numbers"))
 VERDICTS = "crates/es_base/src/verdict.rt"
 FAULTS, ROWS = "crates/vl_config/src/fault.rt", "crates/vl_config/src/rows.rt"
 # What each key of a configuration may have, in the program's words.

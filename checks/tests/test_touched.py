@@ -8,7 +8,7 @@ from conftest import ROOT
 
 COPIED = ("README.md", "docs", "peer", "examples", "tools", "checks", "bench")
 PAGE = "docs/made/TOUCHED.md"
-WORDS, PORTS, REPLIES = "tools/verdict_words.py", "crates/es_base/src/port.rt", "crates/receiver_slots/src/replies.rt"
+WORDS, PORTS, REPLIES = "tools/verdict_words.py", "crates/es_base/src/port.rt", "crates/receiver_slots/src/told/replies.rt"
 OUTCOMES, OUTCOME = "crates/workloads/src/outcomes.rt", "crates/es_base/specs/Outcome.antt"
 
 
@@ -45,7 +45,7 @@ def test_nothing_is_left_out(tree):
     (WORDS, '"checksum", "protocol")', '"checksum", "protocol", "odd-flags")', "odd-flags",
      ("crates/frame_reader/src/packet.rt", "crates/es_base/specs/Packet.antt", "peer/receiver.c", "docs/FORMATS.md")),
     (WORDS, '"unknown-link")', '"unknown-link", "odd-source")', "odd-source",
-     ("crates/thread_player/src/report.rt", "crates/es_base/src/fault.rt", "crates/receiver_slots/src/numbers.rt")),
+     ("crates/thread_player/src/report.rt", "crates/es_base/src/fault.rt", "crates/receiver_slots/src/told/numbers.rt")),
     (PORTS, "pub enum PortKind {\n", "pub enum PortKind {\n    Streaming,\n", "streaming",
      ("crates/vl_config/src/port.rt", "tools/workbench/checking.py", "crates/output_lines/specs/Report.antt")),
     (REPLIES, "    pub given_up: u64,\n", "    pub given_up: u64,\n    pub cut_short: u64,\n", "cut_short",

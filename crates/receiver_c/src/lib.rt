@@ -19,11 +19,10 @@ ghost use Rattle.slot_handles.specs.Made.{made_reader, made_receiver, made_taker
 ghost use Rattle.slot_handles.specs.Marks.{after_close, if_made, is_made, reader_mark, receiver_mark, taker_mark};
 ghost use Rattle.receiver_slots.specs.Codes.{already_open, done, faulty, no_memory, none_left, not_made, not_open, out_of_range};
 ghost use Rattle.receiver_slots.specs.Health.{TellsFill, TellsHealth, fill_code, health_code};
-ghost use Rattle.receiver_slots.specs.Handing.{HandsOut, hand_reader_code, hand_taker_code};
-ghost use Rattle.receiver_slots.specs.Naming.{CountsLinks, TellsLink, TellsPlace, TellsPort, link_code, links_code, place_code, port_code};
 ghost use Rattle.receiver_slots.specs.Reading.{Copies, DidHold, DidRead, TellsReader, copy_code, held_octets, read_code, release_code, released};
 ghost use Rattle.receiver_slots.specs.Readers.{are_all_counts};
-ghost use Rattle.receiver_slots.specs.Receiving.{CountsFrames, TellsFiltered, HasFault, HasTableFault, Opens, OpensTable, Receives, count_code, filtered_code, receive_code};
+ghost use Rattle.receiver_slots.specs.Receiving.{CountsFrames, TellsFiltered, HasFault, HasTableFault, IsNewReceiver, Receives, config_of_receiver, count_code, filtered_code, receive_code};
+ghost use Rattle.receiver_slots.specs.Slot.{CountsLinks, HandsOut, Opens, OpensTable, TellsLink, TellsPlace, TellsPort, hand_reader_code, hand_taker_code, link_code, links_code, place_code, port_code};
 ghost use Rattle.receiver_slots.specs.Taking.{DidTake, TellsTaker, take_code, taker_code};
 ghost use Rattle.receiver_slots.specs.declared.reader_slot.ReaderState.TheVariants.{Closed, Reads};
 ghost use Rattle.slot_handles.specs.contracts.marked.MarkedReceiver.{the_row as receiver_row};
@@ -88,7 +87,7 @@ pub extern "C" fn yelunnavi_receiver_open(
     fault: &mut FaultReply,
 ) -> u32
     ensures place { (h.new.at ≡ h.old.at) × (h.new.room.mark ≡ h.old.room.mark) }
-    ensures opened { result ≡ done → Opens readers text.now h.new.room.slot }
+    ensures opened { result ≡ done → Opens IsNewReceiver readers text.now h.new.room.slot }
     ensures fault { result ≡ faulty → HasFault text.now fault.new }
     ensures made { (result ≡ not_made) ↔ (is_made receiver_mark h.old.room.mark ≡ false) }
     ensures already { is_made receiver_mark h.old.room.mark ≡ true → (result ≡ already_open) ↔ IsSome h.old.room.slot }
@@ -118,7 +117,7 @@ pub extern "C" fn yelunnavi_receiver_open_table(
     fault: &mut FaultReply,
 ) -> u32
     ensures place { (h.new.at ≡ h.old.at) × (h.new.room.mark ≡ h.old.room.mark) }
-    ensures opened { result ≡ done → OpensTable readers constant.now links.now ports.now h.new.room.slot }
+    ensures opened { result ≡ done → OpensTable IsNewReceiver readers constant.now links.now ports.now h.new.room.slot }
     ensures fault { result ≡ faulty → HasTableFault constant.now links.now ports.now fault.new }
     ensures made { (result ≡ not_made) ↔ (is_made receiver_mark h.old.room.mark ≡ false) }
     ensures already { is_made receiver_mark h.old.room.mark ≡ true → (result ≡ already_open) ↔ IsSome h.old.room.slot }
@@ -310,7 +309,7 @@ pub extern "C" fn yelunnavi_receiver_fill(
 pub extern "C" fn yelunnavi_receiver_links(h: &mut ReceiverHandle, links: &mut usize) -> u32
     ensures place { (h.new.at ≡ h.old.at) × (h.new.room.mark ≡ h.old.room.mark) }
     ensures code { result ≡ if_made receiver_mark h.old.room.mark (links_code h.old.room.slot) }
-    ensures told { result ≡ done → CountsLinks h.old.room.slot links.new }
+    ensures told { result ≡ done → CountsLinks config_of_receiver h.old.room.slot links.new }
     ensures same { 0 < result → links.new ≡ links.old }
     ensures kept { h.new.room.slot ≡ h.old.room.slot }
 {
@@ -329,8 +328,8 @@ pub extern "C" fn yelunnavi_receiver_link(
     reply: &mut LinkReply,
 ) -> u32
     ensures place { (h.new.at ≡ h.old.at) × (h.new.room.mark ≡ h.old.room.mark) }
-    ensures code { result ≡ if_made receiver_mark h.old.room.mark (link_code h.old.room.slot link) }
-    ensures told { result ≡ done → TellsLink h.old.room.slot link reply.new }
+    ensures code { result ≡ if_made receiver_mark h.old.room.mark (link_code config_of_receiver h.old.room.slot link) }
+    ensures told { result ≡ done → TellsLink config_of_receiver h.old.room.slot link reply.new }
     ensures same { 0 < result → reply.new ≡ reply.old }
     ensures kept { h.new.room.slot ≡ h.old.room.slot }
 {
@@ -352,8 +351,8 @@ pub extern "C" fn yelunnavi_receiver_port(
     name: &mut [u8; 16],
 ) -> u32
     ensures place { (h.new.at ≡ h.old.at) × (h.new.room.mark ≡ h.old.room.mark) }
-    ensures code { result ≡ if_made receiver_mark h.old.room.mark (port_code h.old.room.slot link port) }
-    ensures told { result ≡ done → TellsPort h.old.room.slot link port reply.new name.old name.new }
+    ensures code { result ≡ if_made receiver_mark h.old.room.mark (port_code config_of_receiver h.old.room.slot link port) }
+    ensures told { result ≡ done → TellsPort config_of_receiver h.old.room.slot link port reply.new name.old name.new }
     ensures same { 0 < result → (reply.new ≡ reply.old) × (name.new ≡ name.old) }
     ensures kept { h.new.room.slot ≡ h.old.room.slot }
 {

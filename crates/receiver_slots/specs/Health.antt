@@ -13,8 +13,8 @@ use Rattle.receiver.specs.declared.queue.Fill.{Fill}
 use Rattle.receiver_slots.specs.Codes.{done, no_place, none_left, not_open}
 use Rattle.receiver_slots.specs.Receiving.{Receiving}
 use Rattle.receiver_slots.specs.Replies.{or_0}
-use Rattle.receiver_slots.specs.declared.replies.FillReply.{FillReply}
-use Rattle.receiver_slots.specs.declared.replies.HealthReply.{HealthReply}
+use Rattle.receiver_slots.specs.declared.told.replies.FillReply.{FillReply}
+use Rattle.receiver_slots.specs.declared.told.replies.HealthReply.{HealthReply}
 
 -- 0: no frame came; 1: one came
 abbrev pub came_number : Option ℕ → ℕ
@@ -32,13 +32,13 @@ health_reply_of link = record {
 
 abbrev pub health_code : Option Receiving → ℕ → ℕ
 health_code None place = not_open
-health_code (Some now) place = if nat_lt place (length now.receiver.links) then done else no_place
+health_code (Some now) place = if nat_lt place (length now.opened.links) then done else no_place
 
 -- the health of the link at this place
 -- rule: EMB-21
 abbrev pub TellsHealth : Option Receiving → ℕ → HealthReply → Type 0
 TellsHealth None place reply = ⊥
-TellsHealth (Some now) place reply = (link : Ported PortOutlet) × (slice_get now.receiver.links place ≡ Some link) × (reply ≡ health_reply_of link)
+TellsHealth (Some now) place reply = (link : Ported PortOutlet) × (slice_get now.opened.links place ≡ Some link) × (reply ≡ health_reply_of link)
 
 -- ---- how full a queue is
 
@@ -53,7 +53,7 @@ link_queue_code (Some link) port = queue_code (slice_get link.core.settings.port
 
 abbrev pub fill_code : Option Receiving → ℕ → ℕ → ℕ
 fill_code None place port = not_open
-fill_code (Some now) place port = link_queue_code (slice_get now.receiver.links place) port
+fill_code (Some now) place port = link_queue_code (slice_get now.opened.links place) port
 
 abbrev pub fill_reply_of : Fill → FillReply
 fill_reply_of fill = record { waiting = fill.waiting; greatest = fill.greatest }
@@ -61,10 +61,10 @@ fill_reply_of fill = record { waiting = fill.waiting; greatest = fill.greatest }
 -- the fill level of this port's queue, by a look of its end of the queue in this call
 abbrev pub TellsFillOn : Receiving → Receiving → ℕ → ℕ → FillReply → Type 0
 TellsFillOn old new place port reply =
-    LinksStay GivesPort old.receiver new.receiver × (new.ends ≡ old.ends)
-    × ((link : Ported PortOutlet) × (slice_get new.receiver.links place ≡ Some link)
+    LinksStay GivesPort old.opened new.opened × (new.ends ≡ old.ends)
+    × ((link : Ported PortOutlet) × (slice_get new.opened.links place ≡ Some link)
     × IsFillAt link (port_no port) (Some (record { waiting = reply.waiting; greatest = reply.greatest })))
-    × LooksIn (slice_get old.receiver.links place) (slice_get new.receiver.links place) (port_no port)
+    × LooksIn (slice_get old.opened.links place) (slice_get new.opened.links place) (port_no port)
 
 -- rule: EMB-21
 abbrev pub TellsFill : Option Receiving → Option Receiving → ℕ → ℕ → FillReply → Type 0

@@ -6,7 +6,7 @@ ghost use Rattle.receiver_slots.specs.Codes.{no_name};
 ghost use Rattle.receiver_slots.specs.Naming.{place_among, place_reply_of};
 
 use crate::codes::NO_NAME;
-use crate::replies::PlaceReply;
+use crate::told::replies::PlaceReply;
 use receiver::{LinkEnds, PartitionEnd, port_named};
 use vl_config::text_of;
 
@@ -25,7 +25,7 @@ pub(crate) fn name_of<'a>(ends: &[LinkEnds<PartitionEnd>], name: &'a [u8]) -> Re
 }
 
 /// Places of the link and of the port with this name.
-pub fn place_of(ends: &[LinkEnds<PartitionEnd>], name: &[u8]) -> Option<PlaceReply>
+pub(crate) fn place_of(ends: &[LinkEnds<PartitionEnd>], name: &[u8]) -> Option<PlaceReply>
     ensures { result ≡ option_map place_reply_of (place_among name.now ends.now) }
 {
     let (link, port) = port_named(ends, text_of(name)?)?;

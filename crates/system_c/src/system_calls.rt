@@ -13,8 +13,8 @@ ghost use Rattle.receiver_slots.specs.Codes.{already_open, done, faulty, no_memo
 ghost use Rattle.receiver_slots.specs.Readers.{are_all_counts};
 ghost use Rattle.receiver_slots.specs.Receiving.{HasFault, HasTableFault};
 ghost use Rattle.receiver_slots.specs.declared.reader_slot.ReaderState.TheVariants.{Reads};
-ghost use Rattle.system_slots.specs.Facts.{CountsLinks, TellsLink, TellsPlace, TellsPort, link_code, links_code, place_code, port_code};
-ghost use Rattle.system_slots.specs.Running.{HandsOut, HandsPass, Opens, OpensTable, hand_pass_code, hand_reader_code, hand_taker_code};
+ghost use Rattle.receiver_slots.specs.Slot.{CountsLinks, HandsOut, Opens, OpensTable, TellsLink, TellsPlace, TellsPort, hand_reader_code, hand_taker_code, link_code, links_code, place_code, port_code};
+ghost use Rattle.system_slots.specs.Running.{HandsPass, IsNewSystem, config_of_system, hand_pass_code};
 ghost use Rattle.system_c.specs.contracts.marked.MarkedSystem.{the_row as system_row};
 
 use crate::marked::{MarkedSystem, PASS, SYSTEM};
@@ -26,6 +26,7 @@ use slot_handles::marked::{READER, TAKER};
 use slot_handles::reader_handle::ReaderHandle;
 use slot_handles::taker_handle::TakerHandle;
 use std::alloc::Global;
+use system_slots::hand_pass;
 
 /// Size of the slot of a system, in octets. The room is aligned to 8.
 #[unsafe(no_mangle)]
@@ -56,7 +57,7 @@ pub extern "C" fn yelunnavi_system_open(
     fault: &mut FaultReply,
 ) -> u32
     ensures place { (h.new.at ≡ h.old.at) × (h.new.room.mark ≡ h.old.room.mark) }
-    ensures opened { result ≡ done → Opens readers text.now h.new.room.slot }
+    ensures opened { result ≡ done → Opens IsNewSystem readers text.now h.new.room.slot }
     ensures fault { result ≡ faulty → HasFault text.now fault.new }
     ensures made { (result ≡ not_made) ↔ (is_made system_mark h.old.room.mark ≡ false) }
     ensures already { is_made system_mark h.old.room.mark ≡ true → (result ≡ already_open) ↔ IsSome h.old.room.slot }
@@ -86,7 +87,7 @@ pub extern "C" fn yelunnavi_system_open_table(
     fault: &mut FaultReply,
 ) -> u32
     ensures place { (h.new.at ≡ h.old.at) × (h.new.room.mark ≡ h.old.room.mark) }
-    ensures opened { result ≡ done → OpensTable readers constant.now links.now ports.now h.new.room.slot }
+    ensures opened { result ≡ done → OpensTable IsNewSystem readers constant.now links.now ports.now h.new.room.slot }
     ensures fault { result ≡ faulty → HasTableFault constant.now links.now ports.now fault.new }
     ensures made { (result ≡ not_made) ↔ (is_made system_mark h.old.room.mark ≡ false) }
     ensures already { is_made system_mark h.old.room.mark ≡ true → (result ≡ already_open) ↔ IsSome h.old.room.slot }
@@ -135,7 +136,7 @@ pub extern "C" fn yelunnavi_system_hand_pass(
     if made.mark != SYSTEM || room.mark != PASS {
         return NOT_MADE;
     }
-    made.slot.hand_pass(net, &mut room.slot)
+    hand_pass(&mut made.slot, net, &mut room.slot)
 }
 
 /// Hands a reader of the sampling port with this name to a slot that has none: as often as the opening was told.
@@ -191,7 +192,7 @@ pub extern "C" fn yelunnavi_system_hand_queue(
 pub extern "C" fn yelunnavi_system_links(h: &mut SystemHandle, links: &mut usize) -> u32
     ensures place { (h.new.at ≡ h.old.at) × (h.new.room.mark ≡ h.old.room.mark) }
     ensures code { result ≡ if_made system_mark h.old.room.mark (links_code h.old.room.slot) }
-    ensures told { result ≡ done → CountsLinks h.old.room.slot links.new }
+    ensures told { result ≡ done → CountsLinks config_of_system h.old.room.slot links.new }
     ensures same { 0 < result → links.new ≡ links.old }
     ensures kept { h.new.room.slot ≡ h.old.room.slot }
 {
@@ -210,8 +211,8 @@ pub extern "C" fn yelunnavi_system_link(
     reply: &mut LinkReply,
 ) -> u32
     ensures place { (h.new.at ≡ h.old.at) × (h.new.room.mark ≡ h.old.room.mark) }
-    ensures code { result ≡ if_made system_mark h.old.room.mark (link_code h.old.room.slot link) }
-    ensures told { result ≡ done → TellsLink h.old.room.slot link reply.new }
+    ensures code { result ≡ if_made system_mark h.old.room.mark (link_code config_of_system h.old.room.slot link) }
+    ensures told { result ≡ done → TellsLink config_of_system h.old.room.slot link reply.new }
     ensures same { 0 < result → reply.new ≡ reply.old }
     ensures kept { h.new.room.slot ≡ h.old.room.slot }
 {
@@ -233,8 +234,8 @@ pub extern "C" fn yelunnavi_system_port(
     name: &mut [u8; 16],
 ) -> u32
     ensures place { (h.new.at ≡ h.old.at) × (h.new.room.mark ≡ h.old.room.mark) }
-    ensures code { result ≡ if_made system_mark h.old.room.mark (port_code h.old.room.slot link port) }
-    ensures told { result ≡ done → TellsPort h.old.room.slot link port reply.new name.old name.new }
+    ensures code { result ≡ if_made system_mark h.old.room.mark (port_code config_of_system h.old.room.slot link port) }
+    ensures told { result ≡ done → TellsPort config_of_system h.old.room.slot link port reply.new name.old name.new }
     ensures same { 0 < result → (reply.new ≡ reply.old) × (name.new ≡ name.old) }
     ensures kept { h.new.room.slot ≡ h.old.room.slot }
 {

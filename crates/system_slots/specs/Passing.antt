@@ -16,7 +16,7 @@ use Rattle.live_system.specs.LookUps.{calls_on}
 use Rattle.live_system.specs.System.{IsPassOf, KnownNet, Replies, System}
 use Rattle.receiver_slots.specs.Codes.{done, no_kind, no_place, not_open}
 use Rattle.receiver_slots.specs.Replies.{frame_reply_of, or_0}
-use Rattle.receiver_slots.specs.declared.replies.FrameReply.{FrameReply}
+use Rattle.receiver_slots.specs.declared.told.replies.FrameReply.{FrameReply}
 
 -- the pass of one network, and the system that it is of
 pub record Passing : Type 0 where

@@ -9,7 +9,7 @@
 //! ```rust
 //! let Running { system, a, b } = &mut running;
 //! assert!(rt; system.open_text(alloc, text.as_str().as_bytes(), 1, &mut fault) == DONE);
-//! assert!(rt; system.hand_pass(A, a) == DONE && system.hand_pass(B, b) == DONE);
+//! assert!(rt; hand_pass(system, A, a) == DONE && hand_pass(system, B, b) == DONE);
 //! ..
 //! assert!(rt; pass.receive(now, octets, &mut reply) == DONE);
 //! ```
@@ -24,4 +24,5 @@ mod system_slot;
 pub use crossing::may_cross;
 pub use pass_slot::PassSlot;
 pub use receiver_slots::codes;
-pub use system_slot::SystemSlot;
+pub use running::Running;
+pub use system_slot::{SystemSlot, hand_pass};

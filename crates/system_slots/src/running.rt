@@ -1,22 +1,21 @@
-//! A system with the passes and the ends of its ports that are left to hand out.
-ghost use Rattle.std.specs.Prelude.{◌≡◌, IfOk};
-ghost use Rattle.receiver_slots.specs.Readers.{readers_in};
-ghost use Rattle.system_slots.specs.Running.{IsNewSystem, pass_left, without_pass};
+//! A system with the passes that are left to hand out.
+ghost use Rattle.std.specs.Prelude.{◌≡◌};
+ghost use Rattle.system_slots.specs.Running.{IsNewSystem, config_of_system, pass_left, without_pass};
 
 use crate::passing::Passing;
-use es_base::{Memory, Net};
+use es_base::{Config, Memory, Net};
 use live_system::{LinkEnds, LiveSystem, Opened, PartitionEnd};
-use receiver_slots::wanted::Wanted;
+use receiver_slots::{Configured, Wanted};
 use std::alloc::Global;
 use std::marker::Model;
 use std::sync::Arc;
 
+/// A system, with the pass of each network until it is handed out.
 #[derive(Drop)]
-pub(crate) struct Running {
+pub struct Running {
     pub(crate) system: Arc<LiveSystem, Global>,
     pub(crate) a: Option<Passing>,
     pub(crate) b: Option<Passing>,
-    pub(crate) ends: Vec<LinkEnds<PartitionEnd>>,
 }
 
 impl Model for Running {
@@ -25,14 +24,18 @@ impl Model for Running {
 
     ghost Value = { Seen };
 
-    ghost view = { λ r. record { system = arc_value r.system; a = r.a; b = r.b; ends = r.ends.items } };
+    ghost view = { λ r. record { system = arc_value r.system; a = r.a; b = r.b } };
 }
 
-impl Running {
-    /// Opens the system of this configuration.
-    pub fn open(alloc: Global, wanted: &Wanted<'_>) -> Result<Running, Memory>
-        ensures { IfOk result (IsNewSystem (readers_in wanted.now.readers.others wanted.now.readers.rows.now) wanted.now.config) }
-    {
+impl Configured for Running {
+    ghost config_in = { config_of_system };
+
+    ghost is_new = { IsNewSystem };
+
+    fn open(
+        alloc: Global,
+        wanted: &Wanted<'_>,
+    ) -> Result<(Running, Vec<LinkEnds<PartitionEnd>>), Memory> {
         let Opened { system, a, b, ends } = LiveSystem::open_with(
             alloc,
             &wanted.config,
@@ -41,7 +44,7 @@ impl Running {
         let system = Arc::new(alloc, system)?;
         let of_a = Arc::try_clone(&system)?;
         let of_b = Arc::try_clone(&system)?;
-        Ok(Running {
+        let running = Running {
             system,
             a: Some(Passing {
                 system: of_a,
@@ -51,12 +54,18 @@ impl Running {
                 system: of_b,
                 pass: b,
             }),
-            ends,
-        })
+        };
+        Ok((running, ends))
     }
 
+    fn config(&self) -> &Config {
+        self.system.config()
+    }
+}
+
+impl Running {
     /// Moves out the pass of this network, once.
-    pub fn take_pass(&mut self, net: Net) -> Option<Passing>
+    pub(crate) fn take_pass(&mut self, net: Net) -> Option<Passing>
         ensures pass { result ≡ pass_left net self.old }
         ensures left { self.new ≡ without_pass net self.old }
     {

@@ -52,7 +52,7 @@ fn check_refused(
     slot: &ReceiverSlot,
     (code, fault): (u32, FaultReply),
 ) {
-    tell(rt, "ReceiverSlot::open_text");
+    tell(rt, "Slot::open_text");
     assert!(rt; code == NO_MEMORY, "{code}");
     assert!(rt; fault == UNTOUCHED, "{fault:?}");
     assert!(rt; links_in(rt, slot).is_none());

@@ -7,7 +7,7 @@ use receiver_slots::codes::{
 use receiver_slots::{FrameReply, PlaceReply, PortReply, ReaderSlot, TakerSlot};
 use std::alloc::Global;
 use std::process::Abort;
-use system_slots::{PassSlot, SystemSlot};
+use system_slots::{PassSlot, SystemSlot, hand_pass};
 
 const A: u32 = 0;
 
@@ -51,7 +51,7 @@ fn opened(rt: &impl Abort, alloc: Global) -> Running {
     let mut fault = NO_FAULT;
     let Running { system, a, b } = &mut running;
     assert!(rt; system.open_text(alloc, text.as_str().as_bytes(), 1, &mut fault) == DONE);
-    assert!(rt; system.hand_pass(A, a) == DONE && system.hand_pass(B, b) == DONE);
+    assert!(rt; hand_pass(system, A, a) == DONE && hand_pass(system, B, b) == DONE);
     running
 }
 
@@ -145,11 +145,11 @@ fn check_passes(rt: &impl Abort, alloc: Global) {
         ..
     } = opened(rt, alloc);
     let mut other = PassSlot::new();
-    assert!(rt; system.hand_pass(A, &mut a) == ALREADY_OPEN);
-    assert!(rt; system.hand_pass(2, &mut other) == NO_NETWORK);
-    assert!(rt; system.hand_pass(A, &mut other) == NONE_LEFT);
+    assert!(rt; hand_pass(&mut system, A, &mut a) == ALREADY_OPEN);
+    assert!(rt; hand_pass(&mut system, 2, &mut other) == NO_NETWORK);
+    assert!(rt; hand_pass(&mut system, A, &mut other) == NONE_LEFT);
     a.close();
-    assert!(rt; system.hand_pass(A, &mut a) == NONE_LEFT);
+    assert!(rt; hand_pass(&mut system, A, &mut a) == NONE_LEFT);
     let mut reply = FILTERED;
     assert!(rt; a.receive(0, &[0; 60], &mut reply) == NOT_OPEN && reply == FILTERED);
     assert!(rt; count(&a, 0, 10) == (NOT_OPEN, 99) && filtered(&a, 1) == (NOT_OPEN, 99));
@@ -163,7 +163,7 @@ fn check_pass_outlives_system(rt: &impl Abort, alloc: Global) {
         mut b,
     } = opened(rt, alloc);
     system.close();
-    assert!(rt; system.hand_pass(A, &mut a) == NOT_OPEN);
+    assert!(rt; hand_pass(&mut system, A, &mut a) == NOT_OPEN);
     check_verdicts(rt, alloc, &mut a, &mut b);
     a.close();
     assert!(rt; reply(rt, &mut b, 4000, &frame(rt, alloc, false, 3)).number == 2);

@@ -1,9 +1,9 @@
 -- `octets_at` meets its contract: the address of the octets and their count go into the result.
-use Rattle.slot_handles.proofs.Steps.{◌≡◌, ℕ, List, [], ◌∷◌, refl, w64, proved, full_share, id⊢, ftrue, flft, named, Val, vint, tables, ‵, raw, ◌⊛◌, ◌$◌, ◌∵◌, !, qed, done, move, keep, drop, split, join, fsplit, fjoin, feq_i, suffices, frame, group, enter, of_opd, addr, stop, fld, hop, no_more, and_then, returns, alloc_all, pass_all, free_all, look_at, get, sets, u8, Ptr, RawPtr, block_ptr, plain, nothing, on_entry, Stays, walk_of, says, stay_dropped, Goes-dropped, ends_at, yes}
+use Rattle.slot_handles.proofs.Steps.{List, [], ◌∷◌, refl, w64, proved, ftrue, flft, named, Val, vint, tables, ‵, ◌⊛◌, ◌$◌, ◌∵◌, !, qed, done, move, drop, split, join, fjoin, feq_i, suffices, enter, of_opd, addr, stop, fld, hop, no_more, and_then, returns, alloc_all, pass_all, free_all, look_at, get, sets, u8, RawPtr, block_ptr, plain, nothing, Stays, walk_of, says, stay_dropped, Goes-dropped, ends_at, yes}
 use Rattle.std.specs.Prelude.{length}
 use Rattle.receiver_c.specs.contracts.held_octets.HeldOctets.{the_type}
 use Rattle.receiver_c.specs.declared.held_octets.HeldOctets.{HeldOctets}
-use mir.Val.{vptr, vstruct, vcons, vnil, of_list}
+use mir.Val.{vptr, vstruct, vcons, vnil}
 use types.Kit.{fpack, flt_i}
 use denote.Builtin.{usize}
 use denote.RattleType.{Valss}
@@ -14,7 +14,7 @@ use types.Part.{whole, sub, agg}
 use types.Run.{from}
 use types.ByLocal.{look_in_at, get_in}
 use denote.Signature.{shr_slice_of}
-use denote.Slice.{ShrSlice, slice_val, shr_slice_vals, shr_slice_Tells}
+use denote.Slice.{ShrSlice, shr_slice_vals, shr_slice_Tells}
 use Rattle.receiver_c.specs.contracts.held_octets.octets_at as f
 use Rattle.receiver_c.proofs.held_octets.octets_at.Statement.{statement}
 use Rattle.receiver_c.proofs.held_octets.octets_at.Code as code

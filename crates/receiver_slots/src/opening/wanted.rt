@@ -8,8 +8,8 @@ ghost use Rattle.receiver_slots.specs.Readers.{are_all_counts};
 ghost use Rattle.receiver_slots.specs.Receiving.{HasFault, HasTableFault};
 
 use crate::codes::{FAULTY, NO_MEMORY, OUT_OF_RANGE};
-use crate::port_readers::{PortReaders, are_reader_counts};
-use crate::replies::{FaultReply, fault_reply_of};
+use crate::opening::port_readers::{PortReaders, are_reader_counts};
+use crate::told::replies::{FaultReply, fault_reply_of};
 use es_base::{Config, Memory};
 use receiver::ReaderCount;
 use std::alloc::Global;
@@ -35,7 +35,7 @@ fn told_of(alloc: Global, octets: &[u8], fault: ConfigFault) -> Result<FaultRepl
 
 /// The configuration in these octets, a TOML document, with `readers` readers at each sampling port, 1 to 8, else
 /// OUT_OF_RANGE. FAULTY, and its first fault with its key, link, port and line, if it has one.
-pub fn wanted_in_text(
+pub(crate) fn wanted_in_text(
     alloc: Global,
     text: &[u8],
     readers: usize,
@@ -68,7 +68,7 @@ pub fn wanted_in_text(
 /// The configuration of a table: the constant field, the links, and their ports one after another; with as many readers
 /// at each sampling port as its row says, 1 to 8, or `readers` for 0; another number is OUT_OF_RANGE. FAULTY, and the
 /// fault of [`wanted_in_text`] of a text that says the same, but for its line.
-pub fn wanted_in_table<'a>(
+pub(crate) fn wanted_in_table<'a>(
     alloc: Global,
     constant: &[u8; 4],
     links: &[LinkRow],

@@ -4,11 +4,11 @@ ghost use Rattle.receiver_slots.specs.Codes.{done};
 ghost use Rattle.receiver_slots.specs.Naming.{TellsLinkIn, TellsPortIn, link_code_in, named, port_code_in};
 
 use crate::codes::{DONE, NO_PLACE};
-use crate::replies::{LinkReply, PortReply, link_reply_of, port_reply_of};
+use crate::told::replies::{LinkReply, PortReply, link_reply_of, port_reply_of};
 use es_base::{Config, PortName};
 
 /// Tells the settings of the link at this place, and its number of ports. NO_PLACE.
-pub fn tell_link(config: &Config, link: usize, reply: &mut LinkReply) -> u32
+pub(crate) fn tell_link(config: &Config, link: usize, reply: &mut LinkReply) -> u32
     ensures code { result ≡ link_code_in config.now link }
     ensures told { result ≡ done → TellsLinkIn config.now link reply.new }
     ensures same { 0 < result → reply.new ≡ reply.old }
@@ -22,7 +22,7 @@ pub fn tell_link(config: &Config, link: usize, reply: &mut LinkReply) -> u32
 
 /// Tells the settings of a port, by the places of its link and of the port in it, and its name, at the beginning of
 /// `name`. NO_PLACE.
-pub fn tell_port(
+pub(crate) fn tell_port(
     config: &Config,
     link: usize,
     port: usize,

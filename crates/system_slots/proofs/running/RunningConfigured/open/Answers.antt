@@ -5,7 +5,7 @@ use Rattle.live_system.specs.Run.{AreOpened, Passes}
 use Rattle.live_system.specs.System.{AreOfNewLinks, System}
 use Rattle.receiver_slots.specs.Readers.{readers_in}
 use Rattle.system_slots.specs.Running.{passing}
-use Rattle.system_slots.proofs.running.Running.open.Goals as goal
+use Rattle.system_slots.proofs.running.RunningConfigured.open.Goals as goal
 
 pub returns : goal.returns
 returns c =

@@ -1,0 +1,4 @@
+//! What an opening is asked for.
+
+pub(crate) mod port_readers;
+pub(crate) mod wanted;

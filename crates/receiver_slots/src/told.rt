@@ -1,0 +1,5 @@
+//! What calls tell, by numbers.
+
+pub(crate) mod facts;
+pub(crate) mod numbers;
+pub(crate) mod replies;
