@@ -74,7 +74,7 @@ def pcap(file, order, unit):
 
 def pcapng(file, magic, lost):
     """Each section of a file numbers its interfaces anew, and packets are numbered on, as tshark does."""
-    interfaces, number, lost_here = [], 0, Counter()
+    interfaces, number, lost_before = [], 0, lost.copy()
     for order, kind, body in blocks(file, magic):
         if kind in HEADS:
             number += 1
@@ -86,14 +86,13 @@ def pcapng(file, magic, lost):
             number += len(found)
             continue
         if kind == SECTION:
-            interfaces, lost_here = [], Counter()
+            interfaces, lost_before = [], lost.copy()
         elif kind == INTERFACE:
             interfaces.append(interface(order, body, len(interfaces)))
         elif kind == STATISTICS:
             own, count = statistics(order, body)
             if own < len(interfaces):
-                lost[own] += count - lost_here[own]
-                lost_here[own] = count
+                lost[own] = lost_before[own] + count
         yield None
 
 

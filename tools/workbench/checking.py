@@ -46,8 +46,8 @@ def slips_of(given):
         if not fault:
             raise
         return [str(told)], 0
-    wrong = list(settings.wrong_keys(document.tables))
     tables = document.tables
+    wrong = list(settings.wrong_keys(tables))
     found = [document.slip(*one) for one in (*refused(tables, fault), *wrong, *silences(tables), *turns(tables))]
     if not given.files:
         return found, 0
@@ -120,8 +120,8 @@ def silences(config):
     owners, ends = {}, []
     for path, table, level in members(config):
         yield from unknown(path, table, level)
-        end = end_of(table.get("address")) if level == "a port" else None
-        if end is not None:
+        with contextlib.suppress(ValueError):  # what is no address has no end
+            end = int(ipaddress.IPv4Address(str(table.get("address")) if level == "a port" else "")) & 0xFFFF
             pair, place = f"{table['address']} UDP {table.get('udp')}", path[1]
             if owners.setdefault(pair, place) != place:
                 yield path, f"{pair} is also a port of link {config['link'][owners[pair]].get('vl')}"
@@ -130,12 +130,6 @@ def silences(config):
         for path, vl, end in ends:
             if vl != end:
                 yield (*path, "address"), f"the address ends in {end}, where most end in their link's number ({vl})"
-
-
-def end_of(address):
-    """The last two octets of an IPv4 address as a number; None if it is no address."""
-    with contextlib.suppress(ValueError):
-        return int(ipaddress.IPv4Address(address if isinstance(address, str) else "")) & 0xFFFF
 
 
 def unknown(path, table, level):

@@ -27,7 +27,9 @@ class Document:
             self.tables = tomllib.loads(text)
         except (ValueError, RecursionError) as error:
             told = f"refused: {fault}" if fault else "the receiver takes it, but this Python reads no TOML 1.1"
-            raise Fault(f"{name}:{line_of(error, octets)}: {told}: {error}") from None
+            line = re.search(r"at line (\d+)", str(error))
+            line = line[1] if line else octets.count(b"\n", 0, getattr(error, "start", 0)) + 1
+            raise Fault(f"{name}:{line}: {told}: {error}") from None
         self.lines = lines_of(text, self.tables)
 
     def line_of(self, path):
@@ -44,14 +46,6 @@ class Document:
             name = table.get(key) if isinstance(table, dict) else None
             words.append(f"{what} {name}" if type(name) is kind and name != "" else f"{what} at place {place + 1}")
         return ": ".join([f"{self.name}:{self.line_of(path)}", *([" ".join(words)] if words else []), told])
-
-
-def line_of(error, octets):
-    """The line of a fault of TOML."""
-    if isinstance(error, UnicodeDecodeError):
-        return octets.count(b"\n", 0, error.start) + 1
-    found = re.search(r"at line (\d+)", str(error))
-    return int(found[1]) if found else 1
 
 
 def lines_of(text, config):
@@ -73,14 +67,11 @@ def lines_of(text, config):
     return lines
 
 
-def tables(value):
-    """The members of an array that are tables, with their places."""
-    return [(place, one) for place, one in enumerate(value if isinstance(value, list) else []) if isinstance(one, dict)]
-
-
-def members(config):
+def members(table, around=(), what="link"):
     """The path of each link and of each of its ports, its table, and what it is."""
-    for place, link in tables(config.get("link")):
-        yield ("link", place), link, "a link"
-        for number, port in tables(link.get("port")):
-            yield ("link", place, "port", number), port, "a port"
+    found = table.get(what)
+    for place, one in enumerate(found if isinstance(found, list) else []):
+        if isinstance(one, dict):
+            path = (*around, what, place)
+            yield path, one, f"a {what}"
+            yield from members(one, path, "port") if what == "link" else ()

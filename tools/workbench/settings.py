@@ -36,10 +36,9 @@ def refusal(fault):
     links = ("link", fault.link) if fault.link is not None else ()
     ports = ("port", fault.port) if fault.port is not None else ()
     key, allowed = UNNAMED.get(str(fault), (fault.key, ""))
+    path = (*links, *ports, *filter(None, [key]))
     if str(fault).startswith("too many"):
         path = (*links, "port", MOST_PORTS) if links else ("link", MOST_LINKS)
-    else:
-        path = (*links, *ports, *filter(None, [key]))
     return path, f"refused: {fault}" + (f" (allowed: {allowed})" if allowed else fault.allowed)
 
 
