@@ -96,4 +96,12 @@ def test_a_reader_that_has_enough_ends_the_run_quietly(tmp_path):
 def test_the_trace_of_one_network_on_the_standard_output(tmp_path):
     done("traces", FAULTS, "--to", tmp_path)
     assert done("traces", FAULTS, "--to", "-", "--network", "B") == (tmp_path / "b.trace").read_bytes()
-    assert run("traces", FAULTS, "--to", "-").returncode == 2
+    assert [run("traces", FAULTS, "--to", "-", *words).returncode for words in ([], ["--network", "AB"])] == [2, 2]
+
+
+def test_times_of_traces_are_those_of_play_where_the_first_packet_is_left_out(tmp_path):
+    path = tmp_path / "from_a_tag_on.pcap"
+    subprocess.run(["editcap", "-r", CAPTURES / "a_tagged.pcap", path, "4-10"], check=True)
+    played = [line.split()[0] for line in play(path).splitlines() if line[:1].isdigit() and line.split()[1] == b"A"]
+    traced = [line.split()[0] for line in done("traces", path, "--to", "-", "--network", "A").splitlines()]
+    assert traced == played and played[0] == b"1407"

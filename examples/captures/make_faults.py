@@ -94,7 +94,7 @@ def pcapng(frames):
     written = [captures.written_section("make_faults.py"), *(captures.written_interface(name, name) for name in DELAYS)]
     for time, net, octets in frames:
         head = struct.pack("<5I", "AB".index(net), time >> 32, time & 0xFFFFFFFF, len(octets), len(octets))
-        written.append(captures.written_block(captures.PACKET, head + captures.padded(octets)))
+        written.append(captures.written_block(captures.PACKET, head + octets + bytes(-len(octets) % 4)))
     return b"".join(written)
 
 

@@ -9,7 +9,7 @@ from drawing.picture import (
 from drawing.style import PATTERNS, SCRIPT, STYLE
 from verdict_words import FILTER_CAUSES, FIRST_FORWARDED, KINDS, NETWORKS, NOT_FORWARDED, OUT_OF_SEQUENCE, REDUNDANT, kinds_of
 from workbench.conditions import CONDITIONS
-from workbench.stream import told_time
+from workbench.moments import date
 
 # Sections that are open at first; points and stretches of all pictures of ports together.
 OPEN_LINKS, POINTS_OF_PORTS, STRETCHES_OF_PORTS = 3, 80_000, 4_000
@@ -72,7 +72,7 @@ def totals(gathered):
     """Each figure of the head, with its name."""
     bins = gathered.bins
     times = [f"{time:,} µs" if gathered.frames else "none" for time in (bins.first, bins.last, bins.last - bins.first)]
-    began = [("time 0", told_time(gathered.base).partition("(")[2].rstrip(")"))] if gathered.base else []
+    began = [("time 0", date(gathered.base))] if gathered.base else []
     return [("frames", f"{gathered.frames:,}"), ("links", f"{len(gathered.links):,}"), ("ports", f"{len(gathered.ports):,}"),
             *zip(("first frame", "last frame", "from first to last"), times), *began]
 

@@ -5,7 +5,7 @@ a torn file, or a block of an absurd length, for the end of the capture. What is
 (draft-ietf-opsawg-pcap and -pcapng), and the tests compare it with tshark, packet by packet.
 """
 import struct
-from collections import Counter
+from collections import Counter, namedtuple
 from typing import NamedTuple, Optional
 
 from workbench.faults import Broken
@@ -19,14 +19,10 @@ SECOND = 10**9
 PCAP = {b"\xd4\xc3\xb2\xa1": ("<", 1000), b"\xa1\xb2\xc3\xd4": (">", 1000),
         b"\x4d\x3c\xb2\xa1": ("<", 1), b"\xa1\xb2\x3c\x4d": (">", 1)}
 SECTION, INTERFACE, OBSOLETE_PACKET, SIMPLE_PACKET, STATISTICS, PACKET = 0x0A0D0D0A, 1, 2, 3, 5, 6
-PACKETS = frozenset((PACKET, SIMPLE_PACKET, OBSOLETE_PACKET))
 SECTION_MAGIC = b"\x0a\x0d\x0d\x0a"
 MAGICS = {SECTION_MAGIC, *PCAP}
 ORDERS = {b"\x4d\x3c\x2b\x1a": "<", b"\x1a\x2b\x3c\x4d": ">"}
-LENGTHS, BLOCKS = ({order: struct.Struct(order + fields) for order in "<>"} for fields in ("I", "II"))
-USUAL = {order: struct.Struct(order + "7I") for order in "<>"}  # of a block with a packet, up to its octets
-HEADS = {kind: {order: struct.Struct(order + fields) for order in "<>"}
-         for kind, fields in [(PACKET, "5I"), (OBSOLETE_PACKET, "HxxIIII"), (SIMPLE_PACKET, "I")]}
+HEADS = {PACKET: "5I", OBSOLETE_PACKET: "HxxIIII", SIMPLE_PACKET: "I"}  # of a block with a packet, up to its octets
 END, COMMENT, NAME, DESCRIPTION, RESOLUTION, FCS_LENGTH, OFFSET = 0, 1, 2, 3, 9, 13, 14
 # Of an interface's statistics: how many packets were lost there, and in the system above it.
 LOST = (5, 7)
@@ -40,25 +36,18 @@ class Interface(NamedTuple):
     snapshot: int = 0
     units: int = SECOND  # of a second, of times in pcapng
     offset: int = 0  # of times in pcapng, in nanoseconds
-    unit: int = 0  # in nanoseconds, 0 if it is no whole number of them; and the unit of the upper half of a time
-    upper: int = 0
+    unit: int = 0  # in nanoseconds, 0 if it is no whole number of them
 
 
-class Packet(NamedTuple):
-    """Its number counts from 1, as Wireshark's does. The time is in nanoseconds of 1970, None if there is none.
-    `length` is what it had before the snapshot length cut it."""
-    number: int
-    interface: int
-    time: Optional[int]
-    octets: bytes
-    length: int
-    about: Interface
+# A packet: its number counts from 1, as Wireshark's does; its time is in nanoseconds of 1970, None if there is none;
+# its length is what it had before the snapshot length cut it; and it is about an Interface.
+Packet = namedtuple("Packet", "number interface time octets length about")
 
 
 def packets(file, magic, lost=None):
-    """The packets of a capture whose first four octets were read, each a tuple of the fields of Packet, since names take time.
-    Ends with `EOFError` where the file is cut short, and with `Broken` where it isn't of its form. A block without a packet gives
-    None. In `lost` packets are counted, by interface, of which whoever captured says that they were lost."""
+    """The packets of a capture whose first four octets were read, each a tuple of the fields of Packet, since names
+    take time. Ends with `EOFError` where the file is cut short, and with `Broken` where it isn't of its form. A block
+    without a packet gives None. In `lost` packets are counted, by interface, that the capture says were lost."""
     return pcap(file, *PCAP[magic]) if magic in PCAP else pcapng(file, magic, Counter() if lost is None else lost)
 
 
@@ -85,9 +74,9 @@ def pcap(file, order, unit):
 
 def pcapng(file, magic, lost):
     """Each section of a file numbers its interfaces anew, and packets are numbered on, as tshark does."""
-    interfaces, number, lost_here = [], 0, Counter()
+    interfaces, number, lost_before = [], 0, lost.copy()
     for order, kind, body in blocks(file, magic):
-        if kind in PACKETS:
+        if kind in HEADS:
             number += 1
             yield packet(order, kind, body, number, interfaces)
             found, octets = usual_packets(file.peek(), order, number, interfaces)
@@ -97,46 +86,41 @@ def pcapng(file, magic, lost):
             number += len(found)
             continue
         if kind == SECTION:
-            interfaces, lost_here = [], Counter()
+            interfaces, lost_before = [], lost.copy()
         elif kind == INTERFACE:
             interfaces.append(interface(order, body, len(interfaces)))
         elif kind == STATISTICS:
             own, count = statistics(order, body)
             if own < len(interfaces):
-                lost[own] += count - lost_here[own]
-                lost_here[own] = count
+                lost[own] = lost_before[own] + count
         yield None
 
 
 def blocks(file, magic):
-    """Byte order, kind and body of each block. The header of a section says the order of its blocks by a magic number."""
-    order, head, read = "<", magic + file.read(8 - len(magic)), file.read
+    """Byte order, kind and body of each block. The header of a section says the byte order of its blocks."""
+    order, head = "<", magic + file.read(4)
     while len(head) == 8:
-        kind, size = BLOCKS[order].unpack(head)
         least, rest = LEAST_BLOCK, 12
-        if kind == SECTION:
-            order_magic, least, rest = exactly(file, 4), LEAST_SECTION, 16
-            if order_magic not in ORDERS:
+        if head.startswith(SECTION_MAGIC):
+            order, least, rest = ORDERS.get(exactly(file, 4)), LEAST_SECTION, 16
+            if not order:
                 raise Broken("a section without its byte-order magic")
-            order = ORDERS[order_magic]
-            kind, size = BLOCKS[order].unpack(head)
+        kind, size = struct.unpack(order + "II", head)
         if size < least or size % 4 or size > MOST_BLOCK:
             raise Broken(f"a block of an absurd length, {size} octets")
-        body, end = read(size - rest), read(4)
-        if end != head[4:]:
-            if len(end) < 4:
-                raise EOFError
+        body = file.read(size - rest)
+        if exactly(file, 4) != head[4:]:
             raise Broken("a block that doesn't end with its length")
         yield order, kind, body
-        head = read(8)
+        head = file.read(8)
     if head:
         raise EOFError
 
 
 def usual_packets(octets, order, number, interfaces):
-    """The packets that stand whole and without a fault at the beginning of these octets, and how many octets they are."""
+    """The packets that stand whole and without a fault at the beginning of these octets, and where they end."""
     found, begin, room, count = [], 0, len(octets), len(interfaces)
-    head, end = USUAL[order].unpack_from, LENGTHS[order].unpack_from
+    head, end = (struct.Struct(order + fields).unpack_from for fields in ("7I", "I"))
     while begin + USUAL_BLOCK <= room:
         kind, size, own, high, low, kept, length = head(octets, begin)
         after = begin + size
@@ -145,7 +129,7 @@ def usual_packets(octets, order, number, interfaces):
             break
         number += 1
         begin += USUAL_HEAD
-        time = high * about.upper + low * about.unit + about.offset
+        time = (high << 32 | low) * about.unit + about.offset
         found.append((number, own, time, octets[begin:begin + kept], length, about))
         begin = after
     return found, begin
@@ -178,8 +162,7 @@ def interface(order, body, before):
             offset = struct.unpack(order + "q", value)[0] * SECOND
         elif code == FCS_LENGTH and len(value) == 1:
             fcs = value[0] in (4, 32)  # octets, or bits: both are written
-    unit = 0 if SECOND % units else SECOND // units
-    return Interface(link_type, fcs, snapshot, units, offset, unit, unit << 32)
+    return Interface(link_type, fcs, snapshot, units, offset, 0 if SECOND % units else SECOND // units)
 
 
 def statistics(order, body):
@@ -188,25 +171,21 @@ def statistics(order, body):
         raise Broken("statistics without their interface")
     counts = (struct.unpack(order + "Q", value)[0] for code, value in options(order, body[12:])
               if code in LOST and len(value) == 8)
-    return LENGTHS[order].unpack(body[:4])[0], sum(counts)
+    return struct.unpack_from(order + "I", body)[0], sum(counts)
 
 
 def packet(order, kind, body, number, interfaces):
-    head = HEADS[kind][order]
-    size = head.size
+    size = struct.calcsize(order + HEADS[kind])
     if len(body) < size:
         raise Broken(f"packet {number} has no room for its lengths")
-    if kind == SIMPLE_PACKET:
-        own, (length,) = 0, head.unpack_from(body)
-    else:
-        own, high, low, kept, length = head.unpack_from(body)
+    *found, length = struct.unpack_from(order + HEADS[kind], body)
+    own, high, low, kept = found or (0, 0, 0, length)
     if own >= len(interfaces):
         raise Broken(f"packet {number} is of interface {own}, which the capture hasn't")
-    about, time = interfaces[own], None
-    if kind == SIMPLE_PACKET:
+    about = interfaces[own]
+    time = (high << 32 | low) * SECOND // about.units + about.offset if found else None
+    if not found:
         kept = min(length, about.snapshot or length)
-    else:
-        time = (high << 32 | low) * SECOND // about.units + about.offset
     octets = body[size:size + kept]
     if kept > MOST_OCTETS or len(octets) < kept:
         raise Broken(f"packet {number} has an absurd length, {kept} octets")
@@ -218,13 +197,9 @@ def packet(order, kind, body, number, interfaces):
 def written_block(kind, body, *chosen):
     """A block with options: pairs of code and octets."""
     for code, value in (*chosen, (END, b"")) if chosen else ():
-        body += struct.pack("<HH", code, len(value)) + padded(value)
+        body += struct.pack(f"<HH{len(value)}s{-len(value) % 4}x", code, len(value), value)
     size = struct.pack("<I", 12 + len(body))
     return struct.pack("<I", kind) + size + body + size
-
-
-def padded(octets):
-    return octets + bytes(-len(octets) % 4)
 
 
 def written_section(program):
@@ -239,5 +214,6 @@ def written_interface(name, description):
 
 def written_packet(interface, time, octets, length, comment):
     """`length` is that before the snapshot length cut it, None if nothing did."""
-    head = struct.pack("<5I", interface, time >> 32, time & 0xFFFFFFFF, len(octets), length or len(octets))
-    return written_block(PACKET, head + padded(octets), (COMMENT, comment.encode()))
+    kept, low = len(octets), time & 0xFFFFFFFF
+    body = struct.pack(f"<5I{kept}s{-kept % 4}x", interface, time >> 32, low, kept, length or kept, octets)
+    return written_block(PACKET, body, (COMMENT, comment.encode()))

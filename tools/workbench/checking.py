@@ -22,11 +22,10 @@ LEVELS = {
 LEVEL_OF = {key: level for level, keys in LEVELS.items() for key in keys}
 OF_OTHER_KIND = {"sampling": ("depth", "take_us"), "queuing": ("refresh_us", "read_us")}
 MOST_FAULTS = 100
-AHEAD = 128  # gaps after which a sequence number isn't ahead any more
 # A value that is right, for each key whose value needn't differ from others.
 MENDED = {"constant": "03000000", "skew_max_us": 0, "redundancy": True, "reassembly_us": 0, "window": 2, "port": [],
           "max": 0, "refresh_us": 0, "depth": 1}
-# For each other key a value by its number.
+# For each other key a value by its number: no link or port may have that of another one.
 UNUSED = {"vl": int, "udp": int, "name": "name-{}".format, "address": lambda number: str(ipaddress.IPv4Address(number))}
 
 
@@ -47,16 +46,16 @@ def slips_of(given):
         if not fault:
             raise
         return [str(told)], 0
-    wrong = list(settings.wrong_keys(document.tables))
-    found = [document.slip(path, told)
-             for path, told in (*refused(document.tables, fault), *wrong, *silences(document.tables), *turns(document.tables))]
+    tables = document.tables
+    wrong = list(settings.wrong_keys(tables))
+    found = [document.slip(*one) for one in (*refused(tables, fault), *wrong, *silences(tables), *turns(tables))]
     if not given.files:
         return found, 0
     if fault or wrong:
         return [*found, f"{given.config}: the captures weren't compared with it, since it is refused"], 0
     from workbench import showing
     shown = showing.Shown(given)
-    return [*found, *showing.slips(shown, document)], shown.packets.status
+    return [*found, *shown.slips(document)], shown.packets.status
 
 
 def fault_of(octets):
@@ -74,8 +73,8 @@ def refused(config, fault):
     for _ in range(MOST_FAULTS):
         if not fault:
             return
-        path = settings.path_of(fault)
-        yield path, settings.refusal(fault)
+        path, told = settings.refusal(fault)
+        yield path, told
         fault = fault_of(written(config).encode()) if mend(config, path) else None
 
 
@@ -91,16 +90,11 @@ def mend(config, path):
     elif key in MENDED:
         table[key] = MENDED[key]
     elif key in UNUSED:
-        table[key] = unused(config, key)
+        taken = [each.get(key) for _, each, _ in members(config)]
+        table[key] = next(value for value in map(UNUSED[key], range(65536)) if value not in taken)
     else:
         return False
     return True
-
-
-def unused(config, key):
-    """A value of a key that no link or port has."""
-    found = [table.get(key) for _, table, _ in members(config)]
-    return next(value for value in map(UNUSED[key], range(65536)) if value not in found)
 
 
 def written(config):
@@ -114,10 +108,10 @@ def turns(config):
     """Links whose numbers may turn while SkewMax runs, by the configuration alone."""
     for path, link, level in members(config):
         if level == "a link" and link.get("redundancy", True) and settings.is_right("bag_us", link.get("bag_us")):
-            skew_max, gaps = link.get("skew_max_us"), AHEAD * link["bag_us"]
+            skew_max, gaps = link.get("skew_max_us"), settings.AHEAD * link["bag_us"]
             if type(skew_max) is int and skew_max >= gaps:
-                yield (*path, "skew_max_us"), (f"skew_max_us {skew_max} isn't below {AHEAD} BAGs, which are {gaps} us "
-                                               "(docs/DELIVERY.md)")
+                yield (*path, "skew_max_us"), (f"skew_max_us {skew_max} isn't below {settings.AHEAD} BAGs, which are "
+                                               f"{gaps} us (docs/DELIVERY.md)")
 
 
 def silences(config):
@@ -126,8 +120,8 @@ def silences(config):
     owners, ends = {}, []
     for path, table, level in members(config):
         yield from unknown(path, table, level)
-        end = end_of(table.get("address")) if level == "a port" else None
-        if end is not None:
+        with contextlib.suppress(ValueError):  # what is no address has no end
+            end = int(ipaddress.IPv4Address(str(table.get("address")) if level == "a port" else "")) & 0xFFFF
             pair, place = f"{table['address']} UDP {table.get('udp')}", path[1]
             if owners.setdefault(pair, place) != place:
                 yield path, f"{pair} is also a port of link {config['link'][owners[pair]].get('vl')}"
@@ -138,17 +132,11 @@ def silences(config):
                 yield (*path, "address"), f"the address ends in {end}, where most end in their link's number ({vl})"
 
 
-def end_of(address):
-    """The last two octets of an IPv4 address as a number; None if it is no address."""
-    with contextlib.suppress(ValueError):
-        return int(ipaddress.IPv4Address(address if isinstance(address, str) else "")) & 0xFFFF
-
-
 def unknown(path, table, level):
     for key in table:
         if key not in LEVELS[level]:
-            close = difflib.get_close_matches(key, LEVEL_OF, 1, 0.6)
-            yield (*path, key), f"unknown key {key} is ignored" + "".join(f" ({one} of {LEVEL_OF[one]}?)" for one in close)
+            close = [f" ({one} of {LEVEL_OF[one]}?)" for one in difflib.get_close_matches(key, LEVEL_OF, 1, 0.6)]
+            yield (*path, key), f"unknown key {key} is ignored{''.join(close)}"
     for other in OF_OTHER_KIND.get(str(table.get("kind")), ()) if level == "a port" else ():
         if other in table:
             yield (*path, other), f"{other} is ignored at a {table['kind']} port"

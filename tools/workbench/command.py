@@ -78,15 +78,16 @@ CAPTURES = {
     "--fcs": {"choices": ("auto", "yes", "no"), "default": "auto",
               "help": "whether frames end with their check sequence (default: as the capture says, or as it is seen)"},
     "--in-a-row": flag("all FILEs are one capture of both networks, one after the other, as dumpcap's rings are"),
-    "--from": {"type": moments.moment, "metavar": "WHEN", "dest": "since", "help": "what came before isn't played: seconds "
-               "since the first packet (12.5), a time (13:05:00) or a date with a time (2026-11-29T13:05:00), in UTC"},
+    "--from": {"type": moments.moment, "metavar": "WHEN", "dest": "since", "help": "what came before isn't played: "
+               "seconds since the first packet (12.5), a time (13:05:00) or a date with a time (2026-11-29T13:05:00), "
+               "in UTC"},
     "--until": {"type": moments.moment, "metavar": "WHEN", "help": "nor what came after"},
     "--untag": flag("takes VLAN tags off"),
     "--reorder": {"type": number_from(1, 1_000_000), "default": 1000, "metavar": "PACKETS",
                   "help": "how many later packets may stand before one (default 1000)"},
 }
-SHIFT = {"--shift-b": {"type": moved, "default": (0, 0), "metavar": "MICROSECONDS[,PPM]", "help": "moves the clock of B's "
-                       "packets, and lets it go faster by so many parts per million"}}
+SHIFT = {"--shift-b": {"type": moved, "default": (0, 0), "metavar": "MICROSECONDS[,PPM]", "help": "moves the clock of "
+                       "B's packets, and lets it go faster by so many parts per million"}}
 PLAYED = {**CONFIG, **CAPTURES, **SHIFT}
 LINK = {"--link": {"type": number_from(0, 65535), "metavar": "VL", "help": "one link alone"}}
 EACH = {"--each": flag("besides, the faults of each network's own frames, which the other network's copies hide")}
@@ -100,34 +101,32 @@ def to(metavar, **more):
 # Each command: the function that does it, what it does, its words, and what its help says besides.
 COMMANDS = {
     "play": ("workbench.playing:play", "plays captures: a line a frame, and a report", {
-        **PLAYED,
-        **LINK, "--packets": flag("the number of its packet in front of each line, or -"),
+        **PLAYED, **LINK, "--packets": flag("the number of its packet in front of each line, or -"),
         "--at": {"type": number_from(0, 2**63 - 1), "metavar": "MICROSECONDS",
                  "help": "time of the report (default: the latest packet's)"},
         "--never-taken": flag("nobody takes or reads: what the proved player writes"),
     }, (INPUTS, PARTITIONS)),
-    "health": ("workbench.summing:health", "says of each link whether its networks are healthy: losses, delays, ages, and "
-               "which conditions of docs/DELIVERY.md were kept", {
-        **PLAYED,
-        **LINK, "--json": flag("all of it, for programs"), "--csv": flag("a line a link, for spreadsheets"),
+    "health": ("workbench.summing:health", "says of each link whether its networks are healthy: losses, delays, ages, "
+               "and which conditions of docs/DELIVERY.md were kept", {
+        **PLAYED, **LINK, "--json": flag("all of it, for programs"), "--csv": flag("a line a link, for spreadsheets"),
         **EACH, **FAILING,
         "--workers": {"type": number_from(1, 1024), "metavar": "N", "help": "many captures, by so many processes"},
-        "--scheduler": {"metavar": "ADDRESS", "help": "or by the workers of a scheduler of dask.distributed, which see the "
-                        "captures, and these tools, under the same names"},
+        "--scheduler": {"metavar": "ADDRESS", "help": "or by the workers of a scheduler of dask.distributed, which see "
+                        "the captures, and these tools, under the same names"},
         **to("OUT", help="the table of many captures (default: -): OUT.csv, or OUT.parquet (by pandas with pyarrow)"),
     }, (INPUTS, PARTITIONS, AMISS, MANY)),
     "watch": ("workbench.watching:watch", "shows the health of two networks live", {
-        **CONFIG,
-        "interfaces": {"nargs": 2, "metavar": "INTERFACE", "help": "those of A and B"},
-        "--by": {"choices": ("dumpcap", "socket"), "default": "dumpcap", "help": "how packets come: by dumpcap with its own "
-                 "rights, or by sockets of this process, which tell each second what the kernel lost"},
+        **CONFIG, "interfaces": {"nargs": 2, "metavar": "INTERFACE", "help": "those of A and B"},
+        "--by": {"choices": ("dumpcap", "socket"), "default": "dumpcap", "help": "how packets come: by dumpcap with "
+                 "its own rights, or by sockets of this process, which tell each second what the kernel lost"},
         "--seconds": {"type": float, "metavar": "N", "help": "how long (default: until it is ended)"},
         "--json": flag("a line each second in place of the screen"),
         "--prometheus": {"type": number_from(1, 65535), "metavar": "PORT", "help": "counts at this port of 127.0.0.1"},
         **SHIFT, **FAILING,
     }, ("Keys: s sorts, a link's number and Enter shows it, Escape all, q ends.\n", PARTITIONS, AMISS)),
-    "annotate": ("workbench.annotating:annotate", "writes one capture of both networks, each packet with its verdict as a "
-                 "comment, and why", {**PLAYED, **LINK, **to("OUT.pcapng", required=True), **EACH}, (INPUTS, FILTERS)),
+    "annotate": ("workbench.annotating:annotate", "writes one capture of both networks, each packet with its verdict "
+                 "as a comment, and why", {
+        **PLAYED, **LINK, **to("OUT.pcapng", required=True), **EACH}, (INPUTS, FILTERS)),
     "export": ("workbench.exporting:export", "writes one record a frame, for spreadsheets and pandas", {
         **PLAYED, **LINK, **to("OUT", default="-"), "files": {**CAPTURES["files"], "nargs": "*"},
         "--csv": flag("a table with commas"), "--json": flag("an array, a line for each record"),
@@ -135,28 +134,32 @@ COMMANDS = {
     "draw": ("drawing.draw:draw", "draws what became of the frames, as a page for a browser", {
         **PLAYED, **to("OUT.html", default="-"), **EACH}, (INPUTS, PARTITIONS)),
     "check": ("workbench.checking:check", "looks for slips in a configuration, and in what captures show of it", {
-        "place": {"nargs": "?", "metavar": "C.toml", "help": "the receiver's configuration, if --config doesn't name it"},
-        "--config": {**CONFIG["--config"], "required": False},
-        **CAPTURES, **SHIFT, "files": {**CAPTURES["files"], "nargs": "*"},
+        "place": {"nargs": "?", "metavar": "C.toml",
+                  "help": "the receiver's configuration, if --config doesn't name it"},
+        "--config": {**CONFIG["--config"], "required": False}, **CAPTURES, **SHIFT,
+        "files": {**CAPTURES["files"], "nargs": "*"},
     }, ("A slip is a line FILE:LINE: TEXT. The status is 1 if there is any,\n5 if a file isn't of its form.",)),
-    "propose": ("workbench.proposing:propose", "writes a configuration by what captures show, with the evidence of each value "
-                "as a comment", {**CAPTURES, **SHIFT, **to("C.toml", default="-")}, (INPUTS,)),
-    "traces": ("workbench.exporting:traces", "writes captures as hex traces, which the proved player takes: FOLDER/a.trace "
-               "and FOLDER/b.trace", {**CAPTURES, **SHIFT, "--to": {"metavar": "FOLDER", "required": True, "help": "where they are "
-               "written; - is the standard output, of one network"}, "--network": {"choices": NETWORKS, "help": "one alone"}},
-               (INPUTS,)),
+    "propose": ("workbench.proposing:propose", "writes a configuration by what captures show, with the evidence of "
+                "each value as a comment", {**CAPTURES, **SHIFT, **to("C.toml", default="-")}, (INPUTS,)),
+    "traces": ("workbench.exporting:traces", "writes captures as hex traces, which the proved player takes: "
+               "FOLDER/a.trace and FOLDER/b.trace", {
+        **CAPTURES, **SHIFT,
+        **to("FOLDER", required=True, help="where they are written; - is the standard output, of one network"),
+        "--network": {"choices": tuple(NETWORKS), "help": "one alone"}}, (INPUTS,)),
 }
 
 
 def words(told_version):
-    parser = argparse.ArgumentParser(prog="yelunnavi", allow_abbrev=False, description="Plays captures of two AFDX networks "
-                                     "with the proved receiver: what became of each frame, and whether the networks are "
-                                     "healthy.")
-    parser.add_argument("--version", action="version", version=f"%(prog)s {told_version}", help="tell the version, and end")
+    parser = argparse.ArgumentParser(prog="yelunnavi", allow_abbrev=False, description="Plays captures of two AFDX "
+                                     "networks with the proved receiver: what became of each frame, and whether the "
+                                     "networks are healthy.")
+    parser.add_argument("--version", action="version", version=f"%(prog)s {told_version}",
+                        help="tell the version, and end")
     commands = parser.add_subparsers(metavar="COMMAND", required=True)
     for name, (function, text, own, rest) in COMMANDS.items():
-        command = commands.add_parser(name, help=text, description=f"{text[0].upper()}{text[1:]}.", epilog="\n".join(rest),
-                                      formatter_class=argparse.RawDescriptionHelpFormatter, allow_abbrev=False)
+        command = commands.add_parser(name, help=text, description=f"{text[0].upper()}{text[1:]}.",
+                                      epilog="\n".join(rest), allow_abbrev=False,
+                                      formatter_class=argparse.RawDescriptionHelpFormatter)
         for word, about in own.items():
             command.add_argument(word, **about)
         command.set_defaults(function=function)
@@ -185,7 +188,7 @@ def look_at(parser, given):
 
 
 def main(arguments):
-    for number in (signal.SIGINT, signal.SIGTERM, signal.SIGHUP):  # the run ends as a shell shows it; what has to go goes
+    for number in (signal.SIGINT, signal.SIGTERM, signal.SIGHUP):  # the run ends as a shell shows it
         signal.signal(number, lambda number, _: sys.exit(128 + number))
     try:
         parser = words(version() if "--version" in arguments else "")

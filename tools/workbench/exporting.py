@@ -1,5 +1,4 @@
-"""One record a frame, for spreadsheets and pandas; a configuration as a table in C; captures as the player's hex traces."""
-import contextlib
+"""One record a frame, for spreadsheets and pandas; a configuration as a table in C; captures as the player's traces."""
 import csv
 import io
 import itertools
@@ -9,7 +8,7 @@ import os
 import c_table
 from receiver import Reply
 from verdict_words import NETWORKS
-from workbench import files, frames, station, stream
+from workbench import files, station, stream
 
 COLUMNS = ("packet", "time_us", "epoch_ns", "network", "link", "source", "interface", "sequence", "octets", "place",
            "verdict", "cause", "port", "message")
@@ -33,7 +32,7 @@ def records(seen):
         is_frame = become.vl is not None or become.cause == "unknown-link"
         link, sequence = (int.from_bytes(octets[4:6], "big"), octets[-1]) if is_frame else (None, None)
         yield (one.number, now if reply else None, one.time, NETWORKS[one.net], link, octets[6:12].hex(":"),
-               frames.interface_of(octets), sequence, len(octets), become.place, become.kind,
+               stream.interface_of(octets), sequence, len(octets), become.place, become.kind,
                *(word or None for word in (become.cause, become.port, become.number)))
 
 
@@ -57,16 +56,14 @@ def traces(given):
     if given.to != "-":
         with files.telling(given.to, "written"):
             os.makedirs(given.to, exist_ok=True)
-    chosen = [net for net in NETWORKS if given.network in (None, net)]
-    with contextlib.ExitStack() as stack:
-        outs = {NETWORKS.index(net): stack.enter_context(files.writing(
-            "-" if given.to == "-" else os.path.join(given.to, f"{net.lower()}.trace"))) for net in chosen}
-        found = stack.enter_context(stream.opened(given))
-        clock = stream.Clock(found.is_of_captures)
+    a, b = (files.writing(os.devnull if given.network not in (None, net) else "-" if given.to == "-" else
+                          os.path.join(given.to, f"{net.lower()}.trace")) for net in NETWORKS)
+    with a as of_a, b as of_b, stream.opened(given) as found:
+        outs = of_a, of_b
         for one in found:
-            if not one.left_out:
-                now = clock.of(one.net, one.time)
-                if one.net in outs:
-                    outs[one.net].write(b"%d %s\n" % (now, one.octets.hex().encode()))
+            if one.left_out:
+                found.clock.since(one.time)  # it may be the first
+            else:
+                outs[one.net].write(b"%d %s\n" % (found.clock.of(one.net, one.time), one.octets.hex().encode()))
     found.tell_beginning()
     return found.status

@@ -17,7 +17,8 @@ QUIET_SECONDS, REDRAW_SECONDS = 1.0, 0.2
 @contextlib.contextmanager
 def bar(what, total):
     """Shows on a terminal how far the work is, once it has taken a second. Yields what adds to it."""
-    done, shown, due = 0, False, time.monotonic() + QUIET_SECONDS if sys.stderr and sys.stderr.isatty() else float("inf")
+    is_terminal = sys.stderr and sys.stderr.isatty()
+    done, shown, due = 0, False, time.monotonic() + QUIET_SECONDS if is_terminal else float("inf")
 
     def add(amount):
         nonlocal done, shown, due
@@ -35,8 +36,8 @@ def bar(what, total):
 
 
 class Watched(io.FileIO):
-    """A file whose reading is shown, and whose faults are lines. The standard input is `-`. If it has patience, a read ends
-    after so many seconds in which nothing comes."""
+    """A file whose reading is shown, and whose faults are lines. The standard input is `-`. If it has patience, a read
+    ends after so many seconds in which nothing comes."""
     read, readall = io.RawIOBase.read, io.RawIOBase.readall  # by readinto, which those of FileIO pass by
     patience = None
 

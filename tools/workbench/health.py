@@ -6,15 +6,15 @@ import operator
 from collections import Counter
 
 from verdict_words import KINDS, NETWORKS, NOT_FORWARDED, OUT_OF_SEQUENCE, REFUSED
-from workbench import copies, frames, settings
+from workbench import copies, settings
 from workbench.conditions import BROKEN_BY, BY_CLOCKS, BY_NUMBERS, CONDITIONS, Conditions
 from workbench.copies import ANEW, COPY, FIRST, HALF_TURN, RESET, Copies
 from workbench.delays import Delays
 from workbench.drifts import Drift
-from workbench.frames import INTERFACE
 from workbench.pieces import GIVEN_UP, ORDER, Pieces, has_wrong_sum
+from workbench.settings import AHEAD
 from workbench.spans import Spans
-from workbench.stream import Where
+from workbench.stream import INTERFACE, Where
 
 SHOWN, MOST_NOTED = 5, 512  # places of each kind; frames of a network between two looks at them
 OUT, BAD_HEADER = KINDS[OUT_OF_SEQUENCE], "bad-header"
@@ -23,7 +23,6 @@ MOST_SENDERS = 8  # addresses of a link whose frames are told apart
 JITTER = 500  # microseconds that a frame may come before its BAG is over, if `jitter_us` isn't there
 LEAST_ODD = 16  # frames whose numbers don't go on; more than the others make no sense
 MIXED = 5  # at least one of so many frames of a network says the other one
-AHEAD = 128  # gaps after which a sequence number isn't ahead any more
 # The verdicts that say that a frame itself is at fault; and one that no receiver gives.
 FAULTS = frozenset(REFUSED)
 # Of each kind: whether it is forwarded, refused by integrity checking, at fault itself, and breaks a condition.
@@ -308,6 +307,13 @@ class Link(copies.Listener):
         """How many addresses it has, or series of numbers."""
         return max(len(self.senders), 2 if self.mixed_at else 0)
 
+    def why_not_one_sender(self):
+        """Why its frames aren't one sender's, numbered in turn, if they aren't."""
+        if self.sender_count() > 1:
+            return f"{self.sender_count()} senders, by their source addresses or their numbers"
+        reason = self.nonsense()
+        return reason and f"its numbers make no sense: {reason}"
+
     def summed(self, name):
         """A count of all senders' copies, None if it is not known."""
         return None if self.nonsense() else sum(getattr(one, name) for one in self.senders.values())
@@ -394,9 +400,13 @@ class Health:
         for link in self.links.values():
             link.finish(self.latest, now)
 
+    def swapped(self):
+        """The networks most of whose frames say the other's interface."""
+        return [net for net, found in enumerate(self.interfaces) if 2 * found[2 - net] > sum(found)]
+
     def crossings(self):
         """Each network whose frames are told apart by their source addresses alone, and in which words."""
-        if len(frames.swapped(self.interfaces)) == len(NETWORKS):
+        if len(self.swapped()) == len(NETWORKS):
             yield 0, ("crossed networks: most source addresses of A say interface 2, and most of B interface 1; "
                       "--networks source follows them")
         for net, (letter, found) in enumerate(zip(NETWORKS, self.interfaces)):

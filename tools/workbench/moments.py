@@ -36,6 +36,11 @@ def told(time):
     return f"{EPOCH + datetime.timedelta(microseconds=time // 1000):%Y-%m-%dT%H:%M:%S.%f}"
 
 
+def date(time):
+    """Its date and time, to the second."""
+    return f"{EPOCH + datetime.timedelta(seconds=time // SECOND):%Y-%m-%d %H:%M:%S} UTC"
+
+
 def in_capture(found, first):
     """Nanoseconds of 1970, in a capture with this first packet."""
     kind, value = found

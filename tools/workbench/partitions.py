@@ -1,7 +1,7 @@
-"""A partition beside the receiver: it takes from queuing ports and reads sampling ports, by the configuration's periods.
+"""A partition beside the receiver: it takes from queuing ports and reads sampling ports, by the configuration's keys.
 
-A queue without a period is emptied at once. Of a sampling port without one the age of its newest message is known at any
-moment, without a read.
+A queue without a period is emptied at once. Of a sampling port without one the age of its newest message is known at
+any moment, without a read.
 """
 import heapq
 
@@ -11,7 +11,7 @@ FEW = 1000  # reads of a stretch in which nothing comes that are told one by one
 
 
 class SamplingEnd:
-    """A sampling port: the ages of its newest message, at its reads and at any moment; what was stale, what nobody read."""
+    """A sampling port: the ages of its newest message at reads and at any moment; what was stale, what nobody read."""
 
     def __init__(self, receiver, port, period):
         self.port, self.period, self.reader = port, period, receiver.reader(port.name)
@@ -44,14 +44,6 @@ class SamplingEnd:
                 self.stale += count - 1 - max(0, min(count - 1, fresh))  # of the reads before the last
         return found if count == 1 else None
 
-    def told(self, now):
-        age = None if self.latest is None else max(0, now - self.latest)
-        state = "empty" if age is None else "stale" if age > self.port.limit else "fresh"
-        oldest, stale = (self.oldest, self.stale) if self.period else self.worst(now)
-        return {"port": self.port.name, "vl": self.port.vl, "kind": "sampling", "state": state, "messages": self.messages,
-                "age_us": age, "oldest_us": oldest, "refresh_us": self.port.limit, "stale": stale,
-                "read_us": self.period, "reads": self.reads, "missed": self.missed}
-
 
 class QueueEnd:
     """A queuing port: how many messages were taken, how many waited at most, how long, and how many were lost."""
@@ -73,14 +65,9 @@ class QueueEnd:
             self.oldest = max(self.oldest, now - found[0].time)
         return found
 
-    def told(self, now):
-        return {"port": self.port.name, "vl": self.port.vl, "kind": "queuing", "state": "overflow" if self.overflows else "",
-                "taken": self.taken, "waiting": self.waiting, "most": self.most, "depth": self.port.limit,
-                "oldest_us": self.oldest, "overflows": self.overflows, "take_us": self.period}
-
 
 class Partition:
-    """The ends of all ports. `tell` is called with the moment, the end and what it found, at each read and each taking."""
+    """The ends of all ports. `tell` is called at each read and each taking: the moment, the end and what it found."""
 
     def __init__(self, receiver, periods, tell=None):
         self.tell = tell

@@ -1,5 +1,4 @@
 """Where a link, a port or a key stands in a configuration: its line, and what people call it."""
-import contextlib
 import functools
 import operator
 import re
@@ -18,8 +17,8 @@ CALLED = {"link": ("vl", int), "port": ("name", str)}
 
 
 class Document:
-    """A configuration's tables, and the line of each table and key by its path, as ("link", 0, "port", 1, "udp"), if each
-    has a line of its own. What stands inside of a value isn't taken apart: the key or table around it has the line."""
+    """A configuration's tables, and the line of each table and key by its path, as ("link", 0, "port", 1, "udp"), if
+    each has a line of its own. What stands inside of a value isn't taken apart: what is around it has the line."""
 
     def __init__(self, name, octets, fault=None):
         """The receiver may have told a fault of it; what Python doesn't read is refused."""
@@ -28,7 +27,9 @@ class Document:
             self.tables = tomllib.loads(text)
         except (ValueError, RecursionError) as error:
             told = f"refused: {fault}" if fault else "the receiver takes it, but this Python reads no TOML 1.1"
-            raise Fault(f"{name}:{line_of(error, octets)}: {told}: {error}") from None
+            line = re.search(r"at line (\d+)", str(error))
+            line = line[1] if line else octets.count(b"\n", 0, getattr(error, "start", 0)) + 1
+            raise Fault(f"{name}:{line}: {told}: {error}") from None
         self.lines = lines_of(text, self.tables)
 
     def line_of(self, path):
@@ -38,19 +39,17 @@ class Document:
 
     def slip(self, path, told):
         """A line for people, FILE:LINE: TEXT, with the link and the port of a path as they call them."""
-        return f"{self.name}:{self.line_of(path)}: {where(self.tables, path)}{told}"
-
-
-def line_of(error, octets):
-    """The line of a fault of TOML."""
-    if isinstance(error, UnicodeDecodeError):
-        return octets.count(b"\n", 0, error.start) + 1
-    found = re.search(r"at line (\d+)", str(error))
-    return int(found[1]) if found else 1
+        words, table = [], self.tables
+        for what, place in zip(path[::2], path[1::2]):
+            table = table[what][place]
+            key, kind = CALLED[what]
+            name = table.get(key) if isinstance(table, dict) else None
+            words.append(f"{what} {name}" if type(name) is kind and name != "" else f"{what} at place {place + 1}")
+        return ": ".join([f"{self.name}:{self.line_of(path)}", *([" ".join(words)] if words else []), told])
 
 
 def lines_of(text, config):
-    lines, tables, path, links, ports = {(): 1}, [], (), 0, 0
+    lines, path, links, ports = {(): 1}, (), 0, 0
     for number, line in enumerate(text.split("\n"), 1):
         header, key = HEADER.match(line), KEY.match(line)
         if header and header[1] == "link" and header[2]:
@@ -59,36 +58,20 @@ def lines_of(text, config):
             path, links, ports = ("link", links), links + 1, 0
         elif header:
             path = (header[1],)
-        if header:
-            lines.setdefault(path, number)
-            tables.append(path)
-        elif key:
-            lines.setdefault((*path, key[1]), number)
-    with contextlib.suppress(LookupError, TypeError):
-        for path in tables:
+        if header or key:
+            lines.setdefault(path if header else (*path, key[1]), number)
+        try:
             functools.reduce(operator.getitem, path, config)
-        return lines
-    return {(): 1}  # a text looks like a header
+        except (LookupError, TypeError):
+            return {(): 1}  # a text looks like a header
+    return lines
 
 
-def where(config, path):
-    words, table = [], config
-    for what, place in zip(path[::2], path[1::2]):
-        table = table[what][place]
-        key, kind = CALLED[what]
-        name = table.get(key) if isinstance(table, dict) else None
-        words.append(f"{what} {name}" if type(name) is kind and name != "" else f"{what} at place {place + 1}")
-    return f"{' '.join(words)}: " if words else ""
-
-
-def tables(value):
-    """The members of an array that are tables, with their places."""
-    return [(place, one) for place, one in enumerate(value if isinstance(value, list) else []) if isinstance(one, dict)]
-
-
-def members(config):
+def members(table, around=(), what="link"):
     """The path of each link and of each of its ports, its table, and what it is."""
-    for place, link in tables(config.get("link")):
-        yield ("link", place), link, "a link"
-        for number, port in tables(link.get("port")):
-            yield ("link", place, "port", number), port, "a port"
+    found = table.get(what)
+    for place, one in enumerate(found if isinstance(found, list) else []):
+        if isinstance(one, dict):
+            path = (*around, what, place)
+            yield path, one, f"a {what}"
+            yield from members(one, path, "port") if what == "link" else ()

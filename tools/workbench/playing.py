@@ -2,6 +2,8 @@
 from verdict_words import NETWORKS
 from workbench import files, station, stream
 
+STATES = "stale", "fresh"
+
 
 def play(given):
     is_live = "-" in given.files
@@ -28,32 +30,29 @@ def lines_of_end(moment, end, found):
     """What an end of a port found at a moment."""
     name = end.port.name
     if end.port.is_sampling:
-        return [f"{moment} read {name} {found.number} {max(0, moment - found.time)} {state_of(found)}"]
+        return [f"{moment} read {name} {found.number} {max(0, moment - found.time)} {STATES[found.valid]}"]
     return [f"{moment} taken {name} {one.time} {len(one.octets)}{hexed(one)}" for one in found]
 
 
 def report(played, at, link):
     """The player's report, of all or of one link; and after the line of each port what its partition found."""
     for port in played.receiver.ports:
-        if link not in (None, port.vl):
-            continue
-        end = played.partition and played.partition.ends[port.name]
-        yield from (of_sampling if port.is_sampling else of_queuing)(played.receiver, port, end, at)
+        if link in (None, port.vl):
+            end = played.partition and played.partition.ends[port.name]
+            yield from (of_sampling if port.is_sampling else of_queuing)(played.receiver, port, end, at)
     for (vl, net), counts in played.receiver.counts().items():
-        if link not in (None, vl):
-            continue
-        numbers = " ".join(map(str, counts.values()))
-        yield f"filtered {net} {numbers}" if vl is None else f"count {vl} {net} {numbers}"
+        if link in (None, vl):
+            yield " ".join(map(str, ("filtered" if vl is None else f"count {vl}", net, *counts.values())))
 
 
 def of_sampling(receiver, port, end, at):
     found = (end.reader if end else receiver.reader(port.name)).read(at)
     yield f"port {port.name} sampling " + (
-        f"{found.number} {found.time} {len(found.octets)} {state_of(found)}{hexed(found)}" if found else "empty")
+        f"{found.number} {found.time} {len(found.octets)} {STATES[found.valid]}{hexed(found)}" if found else "empty")
     if end:
-        told = end.told(at)
-        reads = f" reads {told['reads']} missed {told['missed']}" if end.period else ""
-        yield f"read {port.name} oldest {told['oldest_us']} stale {told['stale']}{reads}"
+        oldest, stale = (end.oldest, end.stale) if end.period else end.worst(at)
+        reads = f" reads {end.reads} missed {end.missed}" if end.period else ""
+        yield f"read {port.name} oldest {oldest} stale {stale}{reads}"
 
 
 def of_queuing(receiver, port, end, at):
@@ -63,10 +62,6 @@ def of_queuing(receiver, port, end, at):
         yield f"message {port.name} {one.time} {len(one.octets)}{hexed(one)}"
     if end:
         yield f"took {port.name} {end.taken} most {end.most} oldest {end.oldest} overflow {end.overflows}"
-
-
-def state_of(read):
-    return "fresh" if read.valid else "stale"
 
 
 def hexed(message):

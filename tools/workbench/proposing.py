@@ -16,6 +16,7 @@ from workbench import files, settings, showing, stream
 from workbench.delays import Delays
 from workbench.faults import plain
 from workbench.health import JITTER
+from workbench.settings import AHEAD
 
 HEADERS = struct.Struct("!12xHBxHHHxB2x4s4sxxHH")  # of a frame, up to the UDP header's length
 IPV4, VERSION_AND_LENGTH, UDP, MORE, OFFSET = 0x0800, 0x45, 17, 0x2000, 0x1FFF
@@ -23,7 +24,6 @@ KEPT = 1024  # frames whose copies are waited for, and datagrams in fragments, o
 LONGEST_SAMPLE, MOST_DEPTH, MOST_WINDOW, MOST_SKEW_MAX, MOST_LIMIT = 1471, 64, 4, 1_000_000, 10_000_000
 TAKEN = 100_000  # microseconds in which the messages of a queue are counted
 FEW, EVEN = 0.05, 2  # a share of gaps; a sampling port's gaps by its usual one, but for few
-AHEAD = 128  # gaps; SkewMax is best below
 BAGS = [1000 << power for power in range(8)]
 GUESSED = {"skew_max_us": 1000, "reassembly_us": 50_000, "depth": 4, "refresh_us": 100_000}
 
@@ -48,7 +48,7 @@ def strange_links(given, lines):
         file.writelines(f"{line}\n".encode() for line in lines)
         file.flush()
         links = showing.Shown(argparse.Namespace(**{**vars(given), "config": file.name})).health.links
-    return {vl: plain(why)[:settings.LONGEST_TEXT] for vl, link in links.items() if (why := showing.why_not_one_sender(link))}
+    return {vl: plain(why)[:settings.LONGEST_TEXT] for vl, link in links.items() if (why := link.why_not_one_sender())}
 
 
 class Recent(collections.OrderedDict):

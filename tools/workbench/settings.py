@@ -4,7 +4,7 @@ from workbench import files, places
 from workbench.faults import NOT_READ, Fault, plain
 
 MOST_PERIOD, LONGEST_NAME, LONGEST_TEXT = 10**9, 40, 200  # microseconds, letters
-MOST_LINKS, MOST_PORTS = 64, 32
+MOST_LINKS, MOST_PORTS, AHEAD = 64, 32, 128  # and gaps after which a sequence number isn't ahead any more
 # Of faults that name no key: which one is at fault, and what is allowed.
 UNNAMED = {"link given twice": ("vl", "a number that no other link has"),
            "port given twice": ("udp", "an address and UDP port that no other port of the link has"),
@@ -31,20 +31,15 @@ def opened(octets):
         raise Fault(error, NOT_READ) from None
 
 
-def path_of(fault):
-    """The path of what is refused."""
+def refusal(fault):
+    """The path of what is refused, and the receiver's words, with what is allowed."""
     links = ("link", fault.link) if fault.link is not None else ()
     ports = ("port", fault.port) if fault.port is not None else ()
+    key, allowed = UNNAMED.get(str(fault), (fault.key, ""))
+    path = (*links, *ports, *filter(None, [key]))
     if str(fault).startswith("too many"):
-        return (*links, "port", MOST_PORTS) if links else ("link", MOST_LINKS)
-    key, _ = UNNAMED.get(str(fault), (fault.key, ""))
-    return (*links, *ports, key) if key else links + ports
-
-
-def refusal(fault):
-    """A fault in the receiver's words, with what is allowed."""
-    _, allowed = UNNAMED.get(str(fault), (None, ""))
-    return f"refused: {fault}" + (f" (allowed: {allowed})" if allowed else fault.allowed)
+        path = (*links, "port", MOST_PORTS) if links else ("link", MOST_LINKS)
+    return path, f"refused: {fault}" + (f" (allowed: {allowed})" if allowed else fault.allowed)
 
 
 def is_right(key, value):
@@ -66,8 +61,7 @@ def receiver_of(path, octets):
     try:
         return opened(octets)
     except ConfigFault as fault:
-        found = places.Document(path, octets, fault)
-        raise Fault(found.slip(path_of(fault), refusal(fault))) from None
+        raise Fault(places.Document(path, octets, fault).slip(*refusal(fault))) from None
 
 
 def own_keys(path, octets):

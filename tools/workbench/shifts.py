@@ -37,5 +37,5 @@ class Shift:
 
     def hint(self):
         ahead = self.found() // 1000
-        return ahead and (f"{'B' if ahead > 0 else 'A'}'s clock seems {abs(ahead)} us ahead of the other's, if it isn't its "
-                          f"frames' delay: --shift-b {-ahead}")
+        return ahead and (f"{'B' if ahead > 0 else 'A'}'s clock seems {abs(ahead)} us ahead of the other's, if it "
+                          f"isn't its frames' delay: --shift-b {-ahead}")

@@ -2,11 +2,12 @@
 import ipaddress
 
 from verdict_words import NETWORKS
-from workbench import frames, station, stream
-from workbench.health import AHEAD, JITTER, Health
+from workbench import station, stream, told
+from workbench.health import JITTER, Health
 from workbench.places import members
+from workbench.settings import AHEAD
 
-MOST_KEPT = 1000  # constants, strange links and destinations that are counted
+MOST_KEPT, SHORTEST = 1000, 60  # constants, strange links and destinations that are counted; octets of a frame
 
 
 class Shown:
@@ -22,14 +23,15 @@ class Shown:
                 self.health.see(one, now, reply)
                 if reply:
                     self.see(one, reply)
-        self.packets, self.latest, self.is_timed = packets, played.latest, True
+        self.packets, self.latest = packets, played.latest
         self.hint = packets.shift.hint() or self.health.drift.hint()
+        self.behind = sum(counts[stream.BEHIND] for counts in self.health.left_out)
         self.health.finish(played.latest)
         self.frames = [sum(link.nets[net].frames for link in self.health.links.values()) for net in (0, 1)]
 
     def see(self, one, reply):
         octets = one.octets
-        if len(octets) >= frames.SHORTEST:
+        if len(octets) >= SHORTEST:
             count(self.constants[one.net], octets[:4], one)
         if reply.cause == "unknown-link":
             count(self.strangers[one.net], int.from_bytes(octets[4:6], "big"), one)
@@ -40,129 +42,113 @@ class Shown:
         elif reply.kind == "too-long":
             count(self.too_long, reply.port, one)
 
+    def slips(self, document):
+        """What rests on times isn't told where they are wrong, nor what rests on numbers of a link that isn't one
+        sender's by the configuration."""
+        yield from self.of_files(bytes.fromhex(document.tables.get("constant", "03000000")))
+        yield from self.of_strangers()
+        is_timed = not self.hint and not self.behind
+        for path, table, level in members(document.tables):
+            is_known = "not_one_sender" in document.tables["link"][path[1]]
+            if level == "a link":
+                found = self.of_link(table["vl"], is_timed, is_known)
+            else:
+                found = self.of_port(table) if is_timed and not is_known else ()
+            yield from (document.slip(path, slip) for slip in found)
+
+    def of_files(self, constant):
+        """What is wrong with a network as a whole."""
+        sources = [self.packets.source(net) for net in (0, 1)]
+        for source, constants in zip(sources, self.constants):
+            total = sum(number for _, number in constants.values())
+            for found, (_, number) in constants.items():
+                if found != constant and 2 * number > total:
+                    yield (f"{source}: {number} of {total} frames have the constant field {found.hex()}, and the "
+                           f"configuration {constant.hex()}")
+        for net, letter in enumerate(NETWORKS):
+            if self.frames[1 - net] and not self.frames[net]:
+                yield f"{sources[net]}: no frame of any link on {letter}"
+        crossings, swapped = dict(self.health.crossings()), self.health.swapped()
+        yield from (f"{sources[net]}: {crossing}" for net, crossing in crossings.items())
+        if len(swapped) == 1 and not crossings:
+            net, = swapped
+            yield (f"{sources[net]}: most source addresses of {NETWORKS[net]} say interface {2 - net}, which is "
+                   f"{NETWORKS[1 - net]}")
+        if self.hint:
+            yield f"{sources[1]}: {self.hint}"
+        if self.behind:
+            yield f"{sources[0]}: {self.behind} packets are {stream.BEHIND}{stream.HELP[stream.BEHIND]}"
+
+    def of_strangers(self):
+        """Links that the configuration hasn't."""
+        for vl in sorted(set().union(*self.strangers)):
+            (of_a, a), (of_b, b) = (found.get(vl, (None, 0)) for found in self.strangers)
+            first = of_a or of_b
+            yield (f"{self.packets.source(first.net)}: {self.packets.unit} {first.number}: link {vl} isn't in the "
+                   f"configuration; frames: {a} of A and {b} of B")
+
+    def of_link(self, vl, is_timed, is_known):
+        link = self.health.links[vl]
+        counts = [net.frames for net in link.nets]
+        if not any(counts):
+            yield "no frame of it in the captures"
+            return
+        for letter, number, of_all in zip(NETWORKS, counts, self.frames):
+            if of_all and not number:
+                yield f"no frame of it on {letter}"
+        if not is_known:
+            yield from filter(None, [link.why_not_one_sender()])
+            yield from of_times(link) if is_timed else ()
+        for (of, pair), (first, number) in self.strays.items():
+            if of == vl:
+                yield f"no port for {pair}: {number} frames, the first {self.packets.unit} {first.where.packet}"
+
+    def of_port(self, port):
+        end = self.ends[port["name"]]
+        found = told.of_port(end, self.latest)
+        came = found["messages"] if end.port.is_sampling else found["taken"] + found["waiting"] + found["overflows"]
+        if port["name"] in self.too_long:
+            first, number = self.too_long[port["name"]]
+            which = f"{number} of its {came + number} messages were" if came else f"each of its {number} messages was"
+            yield (f"{which} longer than max {port.get('max', 'of its kind')}, the first {self.packets.unit} "
+                   f"{first.where.packet}")
+        elif not came and any(net.frames for net in self.health.links[end.port.vl].nets):
+            yield "no message came to it"
+        if not end.port.is_sampling:
+            if found["overflows"]:
+                yield f"depth {port['depth']}: {found['overflows']} messages were lost, since it was full"
+            return
+        oldest, stale = end.worst(self.latest)  # also where a partition reads: its reads aren't messages
+        if came > 2 and 2 * stale > came:
+            yield (f"refresh_us {port['refresh_us']}: the message was stale {stale} times, before most of {came} "
+                   f"messages; it was {oldest} us old at most")
+        elif found["state"] == "stale":
+            yield f"refresh_us {port['refresh_us']}: its newest message was stale at the end, {found['age_us']} us old"
+
 
 def count(found, thing, one):
     """Counts a thing, beside the arrival that showed it first."""
-    if thing in found:
-        found[thing][1] += 1
-    elif len(found) < MOST_KEPT:
-        found[thing] = [one, 1]
+    if thing in found or len(found) < MOST_KEPT:
+        found.setdefault(thing, [one, 0])[1] += 1
 
 
-def slips(shown, document):
-    """What rests on times isn't told where the times are wrong."""
-    shown.is_timed = not (shown.hint or any(counts[stream.BEHIND] for counts in shown.health.left_out))
-    yield from of_files(shown, bytes.fromhex(document.tables.get("constant", "03000000")))
-    yield from strangers(shown)
-    for path, table, level in members(document.tables):
-        is_known = "not_one_sender" in document.tables["link"][path[1]]
-        if level == "a link":
-            found = of_link(shown, table["vl"], is_known)
-        else:
-            found = of_port(shown, table) if shown.is_timed and not is_known else ()
-        yield from (document.slip(path, told) for told in found)
-
-
-def of_files(shown, constant):
-    """What is wrong with a network as a whole."""
-    sources = [shown.packets.source(net) for net in (0, 1)]
-    for source, constants in zip(sources, shown.constants):
-        total = sum(number for _, number in constants.values())
-        for found, (_, number) in constants.items():
-            if found != constant and 2 * number > total:
-                yield (f"{source}: {number} of {total} frames have the constant field {found.hex()}, and the "
-                       f"configuration {constant.hex()}")
-    for net, letter in enumerate(NETWORKS):
-        if shown.frames[1 - net] and not shown.frames[net]:
-            yield f"{sources[net]}: no frame of any link on {letter}"
-    crossings, swapped = dict(shown.health.crossings()), frames.swapped(shown.health.interfaces)
-    yield from (f"{sources[net]}: {told}" for net, told in crossings.items())
-    if len(swapped) == 1 and not crossings:
-        net, = swapped
-        yield f"{sources[net]}: most source addresses of {NETWORKS[net]} say interface {2 - net}, which is {NETWORKS[1 - net]}"
-    if shown.hint:
-        yield f"{sources[1]}: {shown.hint}"
-    if count := sum(counts[stream.BEHIND] for counts in shown.health.left_out):
-        yield f"{sources[0]}: {count} packets are {stream.BEHIND}{stream.HELP[stream.BEHIND]}"
-
-
-def strangers(shown):
-    """Links that the configuration hasn't."""
-    for vl in sorted({vl for found in shown.strangers for vl in found}):
-        (of_a, a), (of_b, b) = (found.get(vl, (None, 0)) for found in shown.strangers)
-        first = of_a or of_b
-        yield (f"{shown.packets.source(first.net)}: {shown.packets.unit} {first.number}: link {vl} isn't in the "
-               f"configuration; frames: {a} of A and {b} of B")
-
-
-def why_not_one_sender(link):
-    """Why a link's frames aren't one sender's, numbered in turn, if they aren't."""
-    if link.sender_count() > 1:
-        return f"{link.sender_count()} senders, by their source addresses or their numbers"
-    reason = link.nonsense()
-    return reason and f"its numbers make no sense: {reason}"
-
-
-def of_link(shown, vl, is_known):
-    """`is_known` says that the configuration has it not to be one sender's: nothing that rests on numbers is told then."""
-    link = shown.health.links[vl]
-    counts = [net.frames for net in link.nets]
-    if not any(counts):
-        yield "no frame of it in the captures"
-        return
-    for letter, number, of_all in zip(NETWORKS, counts, shown.frames):
-        if of_all and not number:
-            yield f"no frame of it on {letter}"
-    if not is_known:
-        yield from filter(None, [why_not_one_sender(link)])
-        yield from of_times(shown, link) if shown.is_timed else ()
-    for (of, pair), (first, number) in shown.strays.items():
-        if of == vl:
-            yield f"no port for {pair}: {number} frames, the first {shown.packets.unit} {first.where.packet}"
-
-
-def of_times(shown, link):
-    if link.link.redundancy and not link.nonsense():
-        yield from of_skew_max(shown, link)
-    if link.unfinished.count and not link.pieces.joined:
-        yield (f"reassembly_us {link.link.reassembly}: no datagram in parts was joined; {link.unfinished.count} times one "
-               "was given up")
-    if early := sum(net.early for net in link.nets):
-        jitter = link.own.get("jitter_us", JITTER)
-        yield f"bag_us {link.own['bag_us']}: {early} frames came before it was over, less {jitter} of jitter"
-
-
-def of_skew_max(shown, link):
+def of_times(link):
+    """Slips of a link that its times show."""
     skew_max, greatest = link.link.skew_max, link.greatest_delay
-    if link.beyond:
+    is_timed = link.link.redundancy and not link.nonsense()
+    if is_timed and link.beyond:
         twice = f"; {link.twice.count} messages came twice" if link.twice.count else ""
-        yield (f"skew_max_us {skew_max} is below the delays of {link.beyond} of {link.delays.number} second copies, up to "
-               f"{greatest} us{twice}")
+        yield (f"skew_max_us {skew_max} is below the delays of {link.beyond} of {link.delays.number} second copies, up "
+               f"to {greatest} us{twice}")
     closest = min((net.closest // 1000 for net in link.nets if net.closest is not None), default=None)
     for time, what in ((closest, f"in which {AHEAD} more of its frames came"),
                        (link.least_pause, "after which its sender restarted")):
-        if time is not None and time <= skew_max + greatest:
-            yield (f"skew_max_us {skew_max} and the {greatest} us that delays differ by aren't below the {time} us {what} "
-                   "(docs/DELIVERY.md)")
-
-
-def of_port(shown, port):
-    end = shown.ends[port["name"]]
-    found = end.told(shown.latest)
-    came = found["messages"] if end.port.is_sampling else found["taken"] + found["waiting"] + found["overflows"]
-    if port["name"] in shown.too_long:
-        first, number = shown.too_long[port["name"]]
-        which = f"{number} of its {came + number} messages were" if came else f"each of its {number} messages was"
-        yield f"{which} longer than max {port.get('max', 'of its kind')}, the first {shown.packets.unit} {first.where.packet}"
-    elif not came and any(net.frames for net in shown.health.links[end.port.vl].nets):
-        yield "no message came to it"
-    if not end.port.is_sampling:
-        if found["overflows"]:
-            yield f"depth {port['depth']}: {found['overflows']} messages were lost, since it was full"
-        return
-    oldest, stale = end.worst(shown.latest)  # also where a partition reads: its reads aren't messages
-    if came > 2 and 2 * stale > came:
-        yield (f"refresh_us {port['refresh_us']}: the message was stale {stale} times, before most of {came} messages; "
-               f"it was {oldest} us old at most")
-    elif found["state"] == "stale":
-        yield f"refresh_us {port['refresh_us']}: its newest message was stale at the end, {found['age_us']} us old"
+        if is_timed and time is not None and time <= skew_max + greatest:
+            yield (f"skew_max_us {skew_max} and the {greatest} us that delays differ by aren't below the {time} us "
+                   f"{what} (docs/DELIVERY.md)")
+    if link.unfinished.count and not link.pieces.joined:
+        yield (f"reassembly_us {link.link.reassembly}: no datagram in parts was joined; {link.unfinished.count} times "
+               "one was given up")
+    if early := sum(net.early for net in link.nets):
+        jitter = link.own.get("jitter_us", JITTER)
+        yield f"bag_us {link.own['bag_us']}: {early} frames came before it was over, less {jitter} of jitter"

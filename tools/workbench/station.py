@@ -5,8 +5,8 @@ from workbench.partitions import Partition
 
 
 class Station:
-    """The receiver of a configuration, which is read before any capture. With `takes` partitions read and take; else nobody
-    does, as in the player. Brief replies have neither the place of the frame nor the number of the message."""
+    """The receiver of a configuration, which is read before any capture. With `takes` partitions read and take; else
+    nobody does, as in the player. Brief replies have neither the place of the frame nor the number of the message."""
 
     def __init__(self, path, takes=True, tell=None, is_brief=True):
         self.octets, self.own, self.partition = settings.read(path), {}, None
@@ -34,7 +34,7 @@ class Station:
 
     def seen(self, found):
         """Each arrival of a stream with its time and its reply."""
-        self.clock = stream.Clock(found.is_of_captures)
+        self.clock = found.clock
         for one in found:
             now, reply = self.take(one)
             yield one, now, reply

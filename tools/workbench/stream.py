@@ -1,7 +1,6 @@
 """The packets of both networks in the order of their times, out of captures, a pipe or traces, in bounded memory."""
 import collections
 import contextlib
-import datetime
 import gc
 import heapq
 import operator
@@ -11,18 +10,24 @@ from typing import NamedTuple, Optional
 from zlib import crc32
 
 from verdict_words import NETWORKS
-from workbench import captures, files, frames, hex_traces, moments, unpacking
+from workbench import captures, files, hex_traces, moments, unpacking
 from workbench.faults import BROKEN, Broken, Fault, plain
 from workbench.shifts import BEHIND, Shift
 
+# Of a frame: the places of its type and of its interface's number; the CRC-32 of each that is followed by its own check
+# sequence; its greatest length in a line of a trace, which has at most 8192 bytes, a time and its space 21.
+TYPE, INTERFACE, IPV4, TAGS = slice(12, 14), 11, b"\x08\x00", (b"\x81\x00", b"\x88\xa8", b"\x91\x00")
+WHOLE_WITH_FCS, MOST_OCTETS = 0x2144DF1C, (8192 - 21) // 2
 MOST_TIME = 2**64  # nanoseconds
+SNAPSHOT, BAD_FCS = "cut by the snapshot length", "wrong frame check sequence"
+TAGGED, TOO_LONG = "VLAN tag", "longer than a line of a trace"
 LATE, NO_TIME = "too late for its place", "no time that a trace can have"
-OTHER, TORN, BROKEN_OFF = "of another interface", "cut by the end of the capture", "not of its form from some place on"
+OTHER, TORN = "of another interface", "cut by the end of the capture"
 HELP = {reason: ": --reorder takes more packets, or a file of each network" for reason in (LATE, BEHIND)}
 SHOWN = 8
 made = tuple.__new__  # a named tuple by one call
-# Nanoseconds that a packet of a pipe waits for earlier ones, and by which one may be behind the other network: dumpcap reads
-# each quarter of a second.
+# Nanoseconds that a packet of a pipe waits for earlier ones, and by which one may be behind the other network: dumpcap
+# reads each quarter of a second.
 HOLD_OF_A_PIPE = 300_000_000
 HINTS = {b"\xfd7zX": "compressed: unxz it", b"\x28\xb5\x2f\xfd": "compressed: install zstd, or unzstd it",
          b"\xef\xbb\xbf": "a byte order mark: sed '1s/^\\xef\\xbb\\xbf//'",
@@ -44,8 +49,8 @@ class Where(NamedTuple):
 
 
 class Arrival(NamedTuple):
-    """A packet of a network, 0 for A: its time in nanoseconds of 1970, its number in the capture, its octets without check
-    sequence, why it was left out, and its length before the snapshot length cut it."""
+    """A packet of a network, 0 for A: its time in nanoseconds of 1970, its number in the capture, its octets without
+    check sequence, why it was left out, and its length before the snapshot length cut it."""
     time: int
     net: int
     number: int
@@ -68,28 +73,29 @@ class Account:
         self.broken, self.lost, self.first = "", collections.Counter(), None
         self.packets = self.whole = self.checked = self.moved = self.newest = self.untagged = 0
         self.left_out, self.counts = collections.defaultdict(list), collections.Counter()
-        self.others = {}  # by interface: how many packets, and the first
-
-    def see_other(self, interface, number, time):
-        """A packet of an interface that is of neither network."""
-        self.leave_out(number, OTHER)
-        self.others.setdefault(interface, [0, f"{number} at {moments.told(time or 0)}"])[0] += 1
+        self.others = {}  # by an interface that is of neither network: how many packets, and the first
 
     def leave_out(self, number, reason):
         self.counts[reason] += 1
         if self.counts[reason] <= SHOWN:
             self.left_out[reason].append(number)
 
-    def without_fcs(self, octets, has):
-        """A whole frame without its check sequence, and why it can't be taken. If `has` is None that is seen: where each
-        packet before had one, a packet whose check sequence is wrong was damaged."""
-        if has is not False and crc32(octets) == frames.WHOLE_WITH_FCS:
+    def frame_of(self, octets, fcs, given):
+        """The frame of a whole packet without its check sequence, and why it can't be taken. If nobody says whether
+        there is one that is seen: where each packet before had one, a packet with a wrong one was damaged."""
+        has, reason = fcs if given.fcs is None else given.fcs, None
+        if has is not False and crc32(octets) == WHOLE_WITH_FCS:
             self.checked += 1
             octets = octets[:-4]
         elif has or has is None and self.checked == self.whole >= SHOWN:
-            return octets, frames.BAD_FCS
+            reason, self.whole = BAD_FCS, self.whole - 1
         self.whole += 1
-        return octets, None
+        if octets[TYPE] != IPV4 or len(octets) > MOST_OCTETS:
+            while given.untag and octets[TYPE] in TAGS:
+                octets = octets[:12] + octets[16:]
+                self.untagged += 1
+            reason = reason or (TAGGED if octets[TYPE] in TAGS else TOO_LONG if len(octets) > MOST_OCTETS else None)
+        return octets, reason
 
     def lines(self):
         met = ((self.checked, "check sequences cut off"), (self.untagged, "VLAN tags taken off"),
@@ -111,7 +117,7 @@ class Account:
 
 class Clock:
     """The times that the receiver is given, in microseconds since the first packet. The player takes A's frame first if
-    both networks have one at a time: so a frame of A that came after one of B in the same microsecond gets the next one."""
+    both networks have one at a time: so a frame of A that comes after one of B in a microsecond gets the next one."""
 
     def __init__(self, from_first=True):
         self.base, self.newest = (None if from_first else 0), -1
@@ -137,6 +143,11 @@ class Clock:
         return found
 
 
+def interface_of(octets):
+    """What the source address says of its network: 1 for A, 2 for B."""
+    return octets[INTERFACE] >> 5 if len(octets) > INTERFACE else None
+
+
 def arrivals(packets, nets, given, account):
     """What comes of a capture's packets, None if it is none of a network. `nets` has the networks of interfaces."""
     latest, (shift, rate), before, is_moved = 0, given.shift_b, account.packets, any(given.shift_b)
@@ -149,20 +160,18 @@ def arrivals(packets, nets, given, account):
             number, interface, time, octets, length, about = packet
             account.packets = number = before + number
             if is_by_source:
-                interface = frames.interface_of(octets)
+                interface = interface_of(octets)
             net = nets[interface]
             if net is None:
-                account.see_other(interface, number, time)
+                account.leave_out(number, OTHER)
+                account.others.setdefault(interface, [0, f"{number} at {moments.told(time or 0)}"])[0] += 1
                 yield None
                 continue
             if about.link_type != captures.ETHERNET:
                 raise Fault(f"packet {number} isn't Ethernet, but of link type {about.link_type}")
-            reason = frames.SNAPSHOT
+            reason = SNAPSHOT
             if len(octets) >= length:
-                octets, reason = account.without_fcs(octets, about.fcs if given.fcs is None else given.fcs)
-                if octets[frames.TYPE] != frames.IPV4 or len(octets) > frames.MOST_OCTETS:
-                    octets = untagged(octets, account) if given.untag else octets
-                    reason = reason or frames.refusal(octets)
+                octets, reason = account.frame_of(octets, about.fcs, given)
                 length = len(octets)
             if net and is_moved and time is not None:
                 account.first = time if account.first is None else account.first
@@ -179,14 +188,6 @@ def arrivals(packets, nets, given, account):
         raise Fault(f"{account.name}: {fault}", fault.status) from None
 
 
-def untagged(octets, account):
-    """The frame without its VLAN tags."""
-    while octets[12:14] in frames.TAGS:
-        octets = octets[:12] + octets[16:]
-        account.untagged += 1
-    return octets
-
-
 def of_row(names, first, nets, given, account):
     """What comes of captures one after the other, whose packets are numbered on. The first one is open."""
     yield from arrivals(captures.packets(*first, account.lost), nets, given, account)
@@ -195,8 +196,7 @@ def of_row(names, first, nets, given, account):
             file, magic = opened_file(name, stack)
             if magic and magic not in captures.MAGICS:
                 raise Fault(f"{name}: no capture, as those before it")
-            if magic:
-                yield from arrivals(captures.packets(file, magic, account.lost), nets, given, account)
+            yield from arrivals(captures.packets(file, magic, account.lost), nets, given, account)
 
 
 def of_trace(found, net, account):
@@ -210,15 +210,12 @@ def of_trace(found, net, account):
 
 
 class Order:
-    """Puts arrivals in order of time. Most come in order and wait in a row; those that don't wait in a heap beside it."""
+    """Puts arrivals in order of time. Most come in order and wait in a row; those that don't, in a heap beside it."""
 
     def __init__(self, account):
         self.row, self.heap, self.account = collections.deque(), [], account
         self.latest, self.newest = [0, 0], 0  # times of each network, and of both
         self.patience = [HOLD_OF_A_PIPE, HOLD_OF_A_PIPE]  # by how much each may be behind the other: none once it was
-
-    def __len__(self):
-        return len(self.row) + len(self.heap)
 
     def add(self, one):
         if not self.row or self.row[-1] <= one:
@@ -256,7 +253,7 @@ class Order:
 
 
 def in_order(found, window, pipe, account):
-    """Each waits for so many packets or, of a pipe, for some time by the packets' clock, and for none once it is quiet."""
+    """Each waits for so many packets or, of a pipe, for a time by the packets' clock, and for none once it is quiet."""
     order = Order(account)
     row, heap = order.row, order.heap
     for one in found:
@@ -286,16 +283,8 @@ def opened_file(name, stack):
     return file, magic
 
 
-def networks_of(place, count, given):
-    """The networks of a capture's interfaces, which the source address tells, or the capture; one of two captures has one."""
-    if given.networks == "source":
-        return collections.defaultdict(lambda: None, {1: 0, 2: 1})
-    known = {} if count == 2 else dict(zip(given.interfaces, (0, 1)))
-    return collections.defaultdict(lambda: place if count == 2 else None, known)
-
-
 class Stream:
-    """The arrivals of one capture with both networks, or of two; or of one or two traces. `status` is that at their end."""
+    """The arrivals of one capture with both networks, or of two; or of one or two traces. Its end has the status."""
 
     def __init__(self, given, stack):
         self.given, rows = given, [given.files] if given.in_a_row else [[name] for name in given.files]
@@ -305,7 +294,7 @@ class Stream:
             raise Fault("one capture and one trace: their times have nothing in common")
         self.is_of_captures = True in kinds
         self.unit = "packet" if self.is_of_captures else "line"
-        self.first, self.status, self.shift = None, 0, Shift()
+        self.clock, self.status, self.shift = Clock(self.is_of_captures), 0, Shift()
         self.interfaces = given.interfaces if given.networks == "interface" else ()
         self.accounts = [Account(row[0], len(row)) for row in rows]
         self.feeds = [self.feed(place, row, *one) for place, (row, one) in enumerate(zip(rows, inputs))]
@@ -314,37 +303,22 @@ class Stream:
         account, given = self.accounts[place], self.given
         if not self.is_of_captures:
             return of_trace(hex_traces.lines(file, magic, place), place, account)
-        nets = networks_of(place, len(self.accounts), given)
-        found = of_row(row, (file, magic), nets, given, account) if magic or len(row) > 1 else ()
+        nets = collections.defaultdict(lambda: place)  # of interfaces: one of two captures has one network
+        if len(self.accounts) == 1 or not self.interfaces:
+            nets = collections.defaultdict(lambda: None, zip(self.interfaces or (1, 2), (0, 1)))
         is_pipe = row[0] == "-" and isinstance(file.raw, files.Watched)
+        found = of_row(row, (file, magic), nets, given, account)
         return in_order(found, given.reorder, file if is_pipe else None, account)
 
     def source(self, net):
         """The name of the file that a network's packets are of."""
         return self.accounts[net % len(self.accounts)].name
 
-    def lost(self):
-        """The packets that whoever captured lost: of each network, or of both where the source address tells them; or none."""
-        found = [sum(account.lost.values()) for account in self.accounts]
-        if len(found) == 1 and self.interfaces:
-            found = [self.accounts[0].lost[one] for one in self.interfaces]
-        return found if any(found) else None
-
-    def beside(self):
-        """What of the files is of neither network, with its first packet: packets of other interfaces, those that an end cuts,
-        and files that aren't of their form up to it."""
-        for account in self.accounts:
-            yield from ((f"of interface {interface}", *other) for interface, other in account.others.items())
-            yield TORN, account.counts[TORN], None
-            yield BROKEN_OFF, int(bool(account.broken)), None
-
     def __iter__(self):
         merged = self.feeds[0] if len(self.feeds) == 1 else heapq.merge(*self.feeds, key=operator.itemgetter(0, 1))
         since, until = self.given.since, self.given.until
         found = iter(moments.between(merged, since, until) if since or until else merged)
         for one in found if self.is_of_captures else ():
-            if self.first is None:
-                self.first = one.time
             self.shift.see(one)
             yield one
             if not self.shift.looks:
@@ -352,34 +326,22 @@ class Stream:
         yield from found
 
     def tell_beginning(self):
-        if self.is_of_captures and self.first is not None:
-            print(f"yelunnavi: time 0 is {told_time(self.first)}", file=sys.stderr)
-
-
-@contextlib.contextmanager
-def without_cycles():
-    """CPython looks for no cycles meanwhile: no packet leaves one, and that takes a tenth of the time. PyPy needs its looks."""
-    if sys.implementation.name == "cpython":
-        gc.disable()
-    try:
-        yield
-    finally:
-        gc.enable()
+        base = self.clock.base
+        if self.is_of_captures and base is not None:
+            seconds, rest = divmod(base, captures.SECOND)
+            print(f"yelunnavi: time 0 is {seconds}.{rest:09d} seconds of 1970 ({moments.date(base)})", file=sys.stderr)
 
 
 @contextlib.contextmanager
 def opened(given):
     """The stream of the files that a command line names; at its end what was met is told, and its status is known."""
-    with contextlib.ExitStack() as stack, without_cycles():
+    with contextlib.ExitStack() as stack:
+        if sys.implementation.name == "cpython":  # no packet leaves a cycle; to look for them takes a tenth of the time
+            gc.disable()
+            stack.callback(gc.enable)
         found = Stream(given, stack)
         yield found
     found.status = BROKEN if any(account.broken or TORN in account.counts for account in found.accounts) else 0
     met = [line for account in found.accounts for line in account.lines()]
     for line in filter(None, [*met, found.shift.hint()]):
         print(f"yelunnavi: {line}", file=sys.stderr)
-
-
-def told_time(base):
-    seconds, rest = divmod(base, captures.SECOND)
-    day = datetime.datetime.fromtimestamp(seconds, datetime.timezone.utc)
-    return f"{seconds}.{rest:09d} seconds of 1970 ({day:%Y-%m-%d %H:%M:%S} UTC)"

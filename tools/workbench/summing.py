@@ -7,6 +7,8 @@ from workbench import files, screen_text, station, stream, told
 from workbench.faults import REFUSED, WRONG_WORDS, Fault
 from workbench.health import Alone, Health
 
+BROKEN_OFF = "not of its form from some place on"
+
 
 def health(given):
     most = told.wanted(given.fail_on)
@@ -37,7 +39,24 @@ def summed(given):
     found.finish(played.latest)
     for hint in found.hints():
         print(f"yelunnavi: {hint}", file=sys.stderr)
-    return told.of_all(found, played.partition, played.latest, packets.lost(), packets.beside()), packets.status
+    return told.of_all(found, played.partition, played.latest, lost_by_tap(packets), beside(packets.accounts)), packets.status
+
+
+def lost_by_tap(packets):
+    """The packets that whoever captured lost: of each network, or of both where the source address tells them; or none."""
+    found = [sum(account.lost.values()) for account in packets.accounts]
+    if len(found) == 1 and packets.interfaces:
+        found = [packets.accounts[0].lost[one] for one in packets.interfaces]
+    return found if any(found) else None
+
+
+def beside(accounts):
+    """What of the files is of neither network, with its first packet: packets of other interfaces, those that an end cuts,
+    and files that aren't of their form up to it."""
+    for account in accounts:
+        yield from ((f"of interface {interface}", *other) for interface, other in account.others.items())
+        yield stream.TORN, account.counts[stream.TORN], None
+        yield BROKEN_OFF, int(bool(account.broken)), None
 
 
 def shown(found, given):

@@ -59,10 +59,25 @@ def of_link(link, ports, latest):
             "broken": broken, "ports": ports}
 
 
+def of_port(end, now):
+    """What a partition found at the end of a port."""
+    port = end.port
+    if not port.is_sampling:
+        return {"port": port.name, "vl": port.vl, "kind": "queuing", "state": "overflow" if end.overflows else "",
+                "taken": end.taken, "waiting": end.waiting, "most": end.most, "depth": port.limit, "oldest_us": end.oldest,
+                "overflows": end.overflows, "take_us": end.period}
+    age = None if end.latest is None else max(0, now - end.latest)
+    oldest, stale = (end.oldest, end.stale) if end.period else end.worst(now)
+    return {"port": port.name, "vl": port.vl, "kind": "sampling",
+            "state": "empty" if age is None else "stale" if age > port.limit else "fresh", "messages": end.messages,
+            "age_us": age, "oldest_us": oldest, "refresh_us": port.limit, "stale": stale, "read_us": end.period,
+            "reads": end.reads, "missed": end.missed}
+
+
 def of_all(health, partition, now, lost=None, beside=()):
     """Of all links, at a moment in microseconds since the first packet. `lost` are the packets that the tap lost; `beside`
     what is of neither network: why, how many, and the first."""
-    ports = [end.told(now) for end in partition.ends.values()] if partition else []
+    ports = [of_port(end, now) for end in partition.ends.values()] if partition else []
     links = [of_link(link, [port for port in ports if port["vl"] == link.link.vl], health.latest)
              for link in health.links.values()]
     counted = {name: {net: dict(counts) for net, counts in zip(NETWORKS, found)}

@@ -78,7 +78,7 @@ class Tapped:
         while not self.found.empty():
             self.behind += isinstance(self.found.get(), stream.Arrival)
         lost, untaken = self.tap.close()
-        self.behind += untaken + len(self.order)
+        self.behind += untaken + len(self.order.row) + len(self.order.heap)
         return lost
 
     def time(self):
