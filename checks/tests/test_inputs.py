@@ -1,5 +1,4 @@
 """What of captures is played: those in a row, from one moment to another, compressed, and without VLAN tags."""
-import gzip
 import re
 import shutil
 import subprocess
@@ -45,8 +44,14 @@ def test_compressed_captures(tmp_path, program):
     assert found.returncode == 5 and b"the compressed file is cut or damaged" in found.stderr
 
 
-def test_a_compressed_pipe():
-    assert done("play", "--config", CONFIG, "-", data=gzip.compress(FAULTS.read_bytes())) == play(FAULTS)
+@pytest.mark.parametrize("program", ["gzip", "zstd"])
+def test_a_compressed_pipe(program):
+    if not shutil.which(program):
+        pytest.skip(f"no {program}")
+    packed = subprocess.run([program, "-c", FAULTS], capture_output=True, check=True).stdout
+    assert done("play", "--config", CONFIG, "-", data=packed) == play(FAULTS)
+    found = run("play", "--config", CONFIG, "-", data=packed[:-20])
+    assert found.returncode == 5 and b"the compressed file is cut or damaged" in found.stderr
 
 
 def times(output):

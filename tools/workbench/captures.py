@@ -78,7 +78,9 @@ def pcapng(file, magic, lost):
     for order, kind, body in blocks(file, magic):
         if kind in HEADS:
             number += 1
-            yield packet(order, kind, body, number, interfaces)
+            yield (one := packet(order, kind, body, number, interfaces))
+            if kind != PACKET or not one[-1].unit:
+                continue  # to look ahead copies all that follows
             found, octets = usual_packets(file.peek(), order, number, interfaces)
             yield from found[:-1]
             file.read(octets)  # before the last one, after which nothing may come for a while

@@ -1,6 +1,6 @@
 """Plays captures of any length, also from a pipe: a line for each frame as it comes, and the report at the end."""
 from verdict_words import NETWORKS
-from workbench import files, station, stream
+from workbench import files, station, stream, told
 
 STATES = "stale", "fresh"
 
@@ -34,7 +34,7 @@ def lines_of_end(moment, end, found):
     return [f"{moment} taken {name} {one.time} {len(one.octets)}{hexed(one)}" for one in found]
 
 
-def report(played, at, link):
+def report(played, at, link=None):
     """The player's report, of all or of one link; and after the line of each port what its partition found."""
     for port in played.receiver.ports:
         if link in (None, port.vl):
@@ -50,9 +50,9 @@ def of_sampling(receiver, port, end, at):
     yield f"port {port.name} sampling " + (
         f"{found.number} {found.time} {len(found.octets)} {STATES[found.valid]}{hexed(found)}" if found else "empty")
     if end:
-        oldest, stale = (end.oldest, end.stale) if end.period else end.worst(at)
+        about = told.of_port(end, at)
         reads = f" reads {end.reads} missed {end.missed}" if end.period else ""
-        yield f"read {port.name} oldest {oldest} stale {stale}{reads}"
+        yield f"read {port.name} oldest {about['oldest_us']} stale {about['stale']}{reads}"
 
 
 def of_queuing(receiver, port, end, at):

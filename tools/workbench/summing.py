@@ -39,11 +39,12 @@ def summed(given):
     found.finish(played.latest)
     for hint in found.hints():
         print(f"yelunnavi: {hint}", file=sys.stderr)
-    return told.of_all(found, played.partition, played.latest, lost_by_tap(packets), beside(packets.accounts)), packets.status
+    lost, others = lost_by_tap(packets), beside(packets.accounts)
+    return told.of_all(found, played.partition, played.latest, lost, others), packets.status
 
 
 def lost_by_tap(packets):
-    """The packets that whoever captured lost: of each network, or of both where the source address tells them; or none."""
+    """The packets that the tap lost: of each network, or of both where the source address tells them; or none."""
     found = [sum(account.lost.values()) for account in packets.accounts]
     if len(found) == 1 and packets.interfaces:
         found = [packets.accounts[0].lost[one] for one in packets.interfaces]
@@ -51,8 +52,8 @@ def lost_by_tap(packets):
 
 
 def beside(accounts):
-    """What of the files is of neither network, with its first packet: packets of other interfaces, those that an end cuts,
-    and files that aren't of their form up to it."""
+    """What of the files is of neither network, with its first packet: packets of other interfaces, those that an end
+    cuts, and files that aren't of their form up to it."""
     for account in accounts:
         yield from ((f"of interface {interface}", *other) for interface, other in account.others.items())
         yield stream.TORN, account.counts[stream.TORN], None
