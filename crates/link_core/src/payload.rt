@@ -7,8 +7,6 @@ use es_base::{PortKind, PortNo};
 pub(crate) struct Payload {
     pub port: PortNo,
     pub kind: PortKind,
-    /// Whether its datagram is joined of fragments.
-    pub joined: bool,
     /// Its length, in octets.
     pub len: usize,
 }

@@ -280,7 +280,7 @@ impl LinkState {
         }
         let step = self.kept.look(&self.settings, net, time, &frame);
         let decision = step.decision();
-        let place = self.kept.place(&self.settings, &step, true);
+        let place = step.place(settled(decision, true));
         let Ok(room) = room_for(alloc, &self.settings, place) else {
             return Err(arrival);
         };

@@ -6,7 +6,7 @@ use Rattle.es_base.specs.Reassembly.{groups_in}
 use Rattle.es_base.specs.Run.{decided}
 use Rattle.link_core.specs.Link.{outcome_after}
 use Rattle.link_core.proofs.Away.{forwarded_is}
-use Rattle.link_core.proofs.Ways.{sees_brought}
+use Rattle.link_core.proofs.Ways.{length_in}
 use Rattle.link_core.proofs.rules_state.RulesState.look.Goals as goal
 
 pub returns-clause-step : goal.returns-clause-step
@@ -19,8 +19,7 @@ returns-clause-step c = λ past keeps away.
     let sees = way.value past c.args.net keeps in
     record {
       forwarded = away;
-      sees = rw is (sees_brought _ read sees);
-      decided = c.decision-decision.ensures past read keeps sees ∙ ap (λ (outcome : Outcome). decided outcome (number_delivered o past)) (sym is);
+      decided = c.decision.ensures past read keeps sees ∙ ap (λ (outcome : Outcome). decided outcome (number_delivered o past)) (sym is);
+      long = rw is (length_in o.ports _ read _ sees way.port c.length_of.ensures);
       packet = way.packet;
-      port = way.port;
     }
