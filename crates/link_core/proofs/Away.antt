@@ -1,5 +1,5 @@
 -- A frame that is kept away, and one that isn't.
-use Rattle.std.proofs.Common.{◌≡◌, ◌∙◌, sym, ℕ, Bool, true, false, not, List, None, Some, Result, Ok, Err, refl, if◌then◌else◌}
+use Rattle.std.proofs.Common.{◌≡◌, ◌∙◌, sym, ℕ, Bool, true, false, not, List, [], None, Some, Result, Ok, Err, refl, if◌then◌else◌}
 use Rattle.std.proofs.lemmas.Option.{same_Some}
 use Rattle.es_base.specs.declared.event.Arrival.{Arrival}
 use Rattle.es_base.specs.declared.event.Event.{Event}
@@ -10,11 +10,11 @@ use Rattle.es_base.specs.declared.verdict.Verdict.TheVariants as verdicts
 use Rattle.es_base.specs.Integrity.{passes}
 use Rattle.es_base.specs.Redundancy.{forwarded, is_forwarded, is_redundant}
 use Rattle.es_base.specs.Reassembly.{groups_in}
+use Rattle.es_base.specs.Deliveries.{delivered}
 use Rattle.es_base.specs.Run.{decided}
 use Rattle.es_base.specs.Settings.{Settings}
 use Rattle.es_base.specs.Outcome as way
 use Rattle.link_core.specs.Seen.{kept_away}
-use Rattle.link_core.specs.Told.{tells_delivered}
 use Rattle.link_core.proofs.Forwarded.{away_counts, outcome_counts}
 
 -- ---- one that is kept away
@@ -28,11 +28,11 @@ away_decided (way.brings payload) verdict numbers away = cc
 pub away_not_forwarded : (o : Settings) (past : List Event) (a : Arrival) (verdict : Verdict) → kept_away (way.outcome o past a) ≡ Some verdict → is_forwarded o past a ≡ false
 away_not_forwarded o past a verdict away = sym (outcome_counts o past a) ∙ away_counts (way.outcome o past a) verdict away
 
-pub away_delivers_nothing : (outcome : way.Outcome) (verdict : Verdict) (port : PortNo) → kept_away outcome ≡ Some verdict → tells_delivered verdict port ≡ false
-away_delivers_nothing way.out_of_sequence verdict port away = rw (sym (same_Some _ _ away)) refl
-away_delivers_nothing way.redundant verdict port away = rw (sym (same_Some _ _ away)) refl
-away_delivers_nothing (way.refused other) verdict port away = cc
-away_delivers_nothing (way.brings payload) verdict port away = cc
+pub away_delivers_nothing : (outcome : way.Outcome) (verdict : Verdict) (room : Bool) (time : ℕ) (port : PortNo) (before : ℕ) → kept_away outcome ≡ Some verdict → delivered outcome room time port before ≡ []
+away_delivers_nothing way.out_of_sequence verdict room time port before away = refl
+away_delivers_nothing way.redundant verdict room time port before away = refl
+away_delivers_nothing (way.refused other) verdict room time port before away = cc
+away_delivers_nothing (way.brings payload) verdict room time port before away = cc
 
 -- ---- by the checks
 

@@ -12,15 +12,12 @@ use Rattle.es_base.specs.Deliveries.{delivered, is_same_port, takes_one_more}
 use Rattle.es_base.proofs.Elements.{slice_get-set_other, slice_get-set_same, there}
 use Rattle.queuing_port.specs.Queue.{Known}
 use Rattle.link_core.specs.Counted.{port_no}
-use Rattle.link_core.specs.Seen.{HasPort, Sees}
-use Rattle.link_core.specs.declared.outcome.Outcome.{Outcome}
-use Rattle.link_core.specs.declared.outcome.Outcome.TheVariants.{KeptAway, Refused, Brings}
+use Rattle.link_core.proofs.Brings.{IsForPort}
 use Rattle.link_receiver.specs.declared.ends.PortEnd.{PortEnd}
 use Rattle.link_receiver.specs.declared.outlet.Outlet.{Outlet}
 use Rattle.link_receiver.specs.declared.outlet.Outlet.TheVariants as outlets
 use Rattle.link_receiver.specs.Kept.{IsTried, brings_to}
 use Rattle.link_receiver.specs.Outlet.{Accepts, ArePortsOpened, Delivers, Delivery, FitsOutlet, IsOfKind, IsOpenedAs, Meets, messages_at}
-use Rattle.link_receiver.proofs.Refusals.{payload_or}
 
 -- ---- before any message, and at a meeting
 
@@ -92,21 +89,15 @@ IsForQueue way.out_of_sequence port = Unit {0}
 IsForQueue way.redundant port = Unit {0}
 IsForQueue (way.refused verdict) port = Unit {0}
 
-is_for_queue : (ports : List Port) (seen : Outcome) (outcome : way.Outcome) (port : ℕ) → Sees seen outcome → HasPort seen ports → IsQueuing (slice_get ports port) → IsForQueue outcome (port_no port)
-is_for_queue ports seen way.out_of_sequence port sees has queuing = tt
-is_for_queue ports seen way.redundant port sees has queuing = tt
-is_for_queue ports seen (way.refused verdict) port sees has queuing = tt
-is_for_queue ports (KeptAway verdict) (way.brings payload) port sees has queuing = cc
-is_for_queue ports (Refused verdict) (way.brings payload) port sees has queuing = cc
-is_for_queue ports (Brings seen) (way.brings payload) port sees has queuing = λ same.
-    let is : payload ≡ sees.0 = ap (payload_or payload) sees.1 in
-    let port_is : payload.port ≡ seen.port = ap (λ (p : way.Payload). p.port) is ∙ sees.2.port in
-    let kind_is : payload.kind ≡ seen.kind = ap (λ (p : way.Payload). p.kind) is ∙ sees.2.kind in
-    let here : seen.port.0 ≡ port = ap (λ (p : PortNo). p.0) (sym port_is) ∙ eqb-true payload.port.0 port same in
-    let found : slice_get ports port ≡ Some has.0 = rw here at has.1 in
-    let of_queue : IsQueueKind has.0.kind = rw found at queuing in
-    let kind : payload.kind ≡ has.0.kind = kind_is ∙ sym has.2 in
-    rw kind of_queue
+is_for_queue : (ports : List Port) (outcome : way.Outcome) (port : ℕ) → IsForPort ports outcome → IsQueuing (slice_get ports port) → IsForQueue outcome (port_no port)
+is_for_queue ports way.out_of_sequence port its queuing = tt
+is_for_queue ports way.redundant port its queuing = tt
+is_for_queue ports (way.refused verdict) port its queuing = tt
+is_for_queue ports (way.brings payload) port its queuing = λ same.
+    let is = its payload refl in
+    let found : slice_get ports port ≡ Some is.port = ap (slice_get ports) (sym (eqb-true payload.port.0 port same)) ∙ is.there in
+    let of_queue : IsQueueKind is.port.kind = rw found at queuing in
+    rw (← is.kind) of_queue
 
 both_or_none : (brought given : Bool) (kind : PortKind) (count : ℕ) (first second : Message) → (brought ≡ true → IsQueueKind kind)
     → (if brought && takes_one_more kind true count then first ∷ [] else []) ≡ (if given then second ∷ [] else []) → brought ≡ given
@@ -133,11 +124,11 @@ brought_as way.out_of_sequence time port count None queue is = refl
 brought_as way.redundant time port count None queue is = refl
 brought_as (way.refused verdict) time port count None queue is = refl
 
-pub is_given : (ports : List Port) (seen : Outcome) (outcome : way.Outcome) (time : ℕ) (number : PortNo → ℕ) (delivery : Option Delivery) → Sees seen outcome → HasPort seen ports
+pub is_given : (ports : List Port) (outcome : way.Outcome) (time : ℕ) (number : PortNo → ℕ) (delivery : Option Delivery) → IsForPort ports outcome
     → ((port : PortNo) → delivered outcome true time port (number port) ≡ messages_at port delivery)
     → (port : ℕ) → IsQueuing (slice_get ports port) → brings_to outcome (port_no port) ≡ goes_to delivery (port_no port)
-is_given ports seen outcome time number delivery sees has delivers port queuing =
-    brought_as outcome time (port_no port) (number (port_no port)) delivery (is_for_queue ports seen outcome port sees has queuing) (delivers (port_no port))
+is_given ports outcome time number delivery its delivers port queuing =
+    brought_as outcome time (port_no port) (number (port_no port)) delivery (is_for_queue ports outcome port its queuing) (delivers (port_no port))
 
 -- ---- one more frame
 

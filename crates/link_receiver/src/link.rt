@@ -222,8 +222,10 @@ impl LinkState {
     pub fn decide(&self, net: Net, now: u64, frame: &Frame<'_>) -> Decision
         ensures { result ≡ decision_after self.now (arrived net now frame.now.whole.now) }
     {
-        let step = self.kept.look(&self.settings, net, now, frame);
-        step.decision()
+        match self.kept.kept_away(&self.settings, net, now, frame) {
+            Some(verdict) => Decision::Final(verdict),
+            None => self.kept.look(&self.settings, net, now, frame).decision(),
+        }
     }
 
     /// Takes a frame that came at `now` microseconds: the history gains one event, and the frame's
@@ -271,9 +273,14 @@ impl LinkState {
         };
         let (net, time) = (arrival.net, arrival.time);
         let frame = frame_in(arrival.frame.as_slice());
+        if let Some(verdict) = self.kept.turn_away(&self.settings, net, time, &frame) {
+            self.history
+                .push_reserved(Event::of(arrival, true, verdict));
+            return Ok(verdict);
+        }
         let step = self.kept.look(&self.settings, net, time, &frame);
         let decision = step.decision();
-        let place = self.kept.place(&self.settings, &step, true);
+        let place = step.place(settled(decision, true));
         let Ok(room) = room_for(alloc, &self.settings, place) else {
             return Err(arrival);
         };

@@ -1,4 +1,4 @@
-use Rattle.std.proofs.Common.{◌∙◌, refl, sym}
+use Rattle.std.proofs.Common.{refl}
 use Rattle.link_core.proofs.rules_state.RulesState.offer.Goals as goal
 
 pub returns : goal.returns
@@ -9,7 +9,7 @@ returns c = (
     record {
       tally = refl;
       delivered = refl;
-      checked = λ o past e has net number time is. c.note.ensures.past o past e has net number time (is ∙ sym c.counts_as_forwarded-forwarded.ensures);
+      checked = c.note.ensures.past;
       timed = c.note.ensures.times;
       waiting = λ limit groups stands. c.offer.follows.holds-at-none limit groups stands;
     },

@@ -14,12 +14,8 @@ take-taken-requires-clause-room g c = λ full.
     let step = c.look-step.result in
     let a = arrival_in step in
     let room = c.room_in-room.result in
-    let asked : IsAsked o.shows o.has_space o.gives o.answers old mid a step.outcome room = record {
-      sees = c.look-step.ensures.step.sees;
-      has = c.look-step.ensures.step.port;
-      answer = rw (c.decision.ensures ∙ c.look-step.ensures.step.decided) at c.room_in-room.ensures.answer;
-    } in
-    may_be_refused o.shows o.has_space o.gives o.answers g.met.P.Outlet.full old mid a step.outcome room asked c.self.invariant full
+    let asked : IsAsked o.shows o.has_space o.gives o.answers old mid a room = rw (c.decision.ensures ∙ c.look-step.ensures.step.decided) at c.room_in-room.ensures.answer in
+    may_be_refused o.shows o.has_space o.gives o.answers g.met.P.Outlet.full old mid a room asked c.self.invariant full
 
 pub put-requires : goal.put-requires
 put-requires g c =
@@ -32,11 +28,7 @@ put-requires g c =
     let room = c.room_in-room.result in
     let taken = c.take-taken.result in
     let ends = c.take-taken.follows.holds-at-none in
-    let asked : IsAsked o.shows o.has_space o.gives o.answers old mid a step.outcome room = record {
-      sees = c.look-step.ensures.step.sees;
-      has = c.look-step.ensures.step.port;
-      answer = rw (c.decision.ensures ∙ c.look-step.ensures.step.decided) at c.room_in-room.ensures.answer;
-    } in
+    let asked : IsAsked o.shows o.has_space o.gives o.answers old mid a room = rw (c.decision.ensures ∙ c.look-step.ensures.step.decided) at c.room_in-room.ensures.answer in
     let lent : IsLent old.core c.take-taken.follows.lender-at-none a room taken.verdict taken.payload = record {
       core = ends;
       becomes = c.take-taken.ensures.taken.verdict;
@@ -45,7 +37,7 @@ put-requires g c =
       frame = record { short = step.frame.short; long = step.frame.long; carries = step.frame.carries };
       number = ap (λ (x : Arrival). link_number_of x.frame) c.look-step.ensures.received ∙ (rw (← c.self.view_is) at c.requires.link);
     } in
-    has_its_place o.shows o.has_space o.gives o.answers laws.stays laws.adds old mid c.take-taken.follows.lender-at-none a step.outcome room taken.verdict taken.payload asked lent c.self.invariant
+    has_its_place o.shows o.has_space o.gives o.answers laws.stays laws.adds old mid c.take-taken.follows.lender-at-none a room taken.verdict taken.payload asked lent c.self.invariant
 
 pub invariant_of-self : goal.invariant_of-self
 invariant_of-self g c =
@@ -58,11 +50,7 @@ invariant_of-self g c =
     let room = c.room_in-room.result in
     let taken = c.take-taken.result in
     let ends = c.take-taken.follows.holds-at-none in
-    let asked : IsAsked o.shows o.has_space o.gives o.answers old mid a step.outcome room = record {
-      sees = c.look-step.ensures.step.sees;
-      has = c.look-step.ensures.step.port;
-      answer = rw (c.decision.ensures ∙ c.look-step.ensures.step.decided) at c.room_in-room.ensures.answer;
-    } in
+    let asked : IsAsked o.shows o.has_space o.gives o.answers old mid a room = rw (c.decision.ensures ∙ c.look-step.ensures.step.decided) at c.room_in-room.ensures.answer in
     let lent : IsLent old.core c.take-taken.follows.lender-at-none a room taken.verdict taken.payload = record {
       core = ends;
       becomes = c.take-taken.ensures.taken.verdict;
@@ -74,7 +62,7 @@ invariant_of-self g c =
     let new : Ported _ = ported c.take-taken.follows.lender-at-none c.put.new.outlets.items c.next_place.new.received in
     let time : step.time ≡ c.args.now = ap (λ (x : Arrival). x.time) c.look-step.ensures.received in
     let takes : Takes o.shows o.gives o.answers old new a old.received taken.verdict =
-    takes_it o.shows o.has_space o.gives o.answers laws.stays laws.adds laws.full laws.joins old new mid a step.outcome room taken.verdict taken.payload asked lent (rw time c.put.ensures) c.self.invariant c.next_place.ensures.received in
+    takes_it o.shows o.has_space o.gives o.answers laws.stays laws.adds laws.full laws.joins old new mid a room taken.verdict taken.payload asked lent (rw time c.put.ensures) c.self.invariant c.next_place.ensures.received in
     takes.after
 
 pub returns-clause-takes : goal.returns-clause-takes
@@ -88,11 +76,7 @@ returns-clause-takes g c =
     let room = c.room_in-room.result in
     let taken = c.take-taken.result in
     let ends = c.take-taken.follows.holds-at-none in
-    let asked : IsAsked o.shows o.has_space o.gives o.answers old mid a step.outcome room = record {
-      sees = c.look-step.ensures.step.sees;
-      has = c.look-step.ensures.step.port;
-      answer = rw (c.decision.ensures ∙ c.look-step.ensures.step.decided) at c.room_in-room.ensures.answer;
-    } in
+    let asked : IsAsked o.shows o.has_space o.gives o.answers old mid a room = rw (c.decision.ensures ∙ c.look-step.ensures.step.decided) at c.room_in-room.ensures.answer in
     let lent : IsLent old.core c.take-taken.follows.lender-at-none a room taken.verdict taken.payload = record {
       core = ends;
       becomes = c.take-taken.ensures.taken.verdict;
@@ -104,7 +88,7 @@ returns-clause-takes g c =
     let new : Ported _ = ported c.take-taken.follows.lender-at-none c.put.new.outlets.items c.next_place.new.received in
     let time : step.time ≡ c.args.now = ap (λ (x : Arrival). x.time) c.look-step.ensures.received in
     let takes : Takes o.shows o.gives o.answers old new a old.received taken.verdict =
-    takes_it o.shows o.has_space o.gives o.answers laws.stays laws.adds laws.full laws.joins old new mid a step.outcome room taken.verdict taken.payload asked lent (rw time c.put.ensures) c.self.invariant c.next_place.ensures.received in
+    takes_it o.shows o.has_space o.gives o.answers laws.stays laws.adds laws.full laws.joins old new mid a room taken.verdict taken.payload asked lent (rw time c.put.ensures) c.self.invariant c.next_place.ensures.received in
     rw (← c.self.view_is, ← c.look-step.ensures.received, c.next_place.ensures.place) takes
 
 pub returns-clause-known : goal.returns-clause-known
@@ -117,11 +101,7 @@ returns-clause-known g c =
     let room = c.room_in-room.result in
     let taken = c.take-taken.result in
     let ends = c.take-taken.follows.holds-at-none in
-    let asked : IsAsked o.shows o.has_space o.gives o.answers old mid a step.outcome room = record {
-      sees = c.look-step.ensures.step.sees;
-      has = c.look-step.ensures.step.port;
-      answer = rw (c.decision.ensures ∙ c.look-step.ensures.step.decided) at c.room_in-room.ensures.answer;
-    } in
+    let asked : IsAsked o.shows o.has_space o.gives o.answers old mid a room = rw (c.decision.ensures ∙ c.look-step.ensures.step.decided) at c.room_in-room.ensures.answer in
     let lent : IsLent old.core c.take-taken.follows.lender-at-none a room taken.verdict taken.payload = record {
       core = ends;
       becomes = c.take-taken.ensures.taken.verdict;
@@ -133,7 +113,7 @@ returns-clause-known g c =
     let new : Ported _ = ported c.take-taken.follows.lender-at-none c.put.new.outlets.items c.next_place.new.received in
     let time : step.time ≡ c.args.now = ap (λ (x : Arrival). x.time) c.look-step.ensures.received in
     rw (← c.self.view_is, ← c.look-step.ensures.received)
-    (with_room o.shows o.has_space o.gives o.answers old new mid c.take-taken.follows.lender-at-none a step.outcome room taken.verdict taken.payload asked lent (rw time c.put.ensures))
+    (with_room o.shows o.has_space o.gives o.answers old new mid c.take-taken.follows.lender-at-none a room taken.verdict taken.payload asked lent (rw time c.put.ensures))
 
 pub returns-clause-refused : goal.returns-clause-refused
 returns-clause-refused g c =

@@ -1,6 +1,5 @@
 use Rattle.std.proofs.Common.{◌≡◌, ◌∙◌, None, Some, sym, true, refl}
 use Rattle.es_base.specs.Past.{arrived}
-use Rattle.link_core.specs.declared.outcome.Outcome.TheVariants.{KeptAway}
 use Rattle.link_core.specs.Link.{outcome_after}
 use Rattle.link_core.specs.Seen.{kept_away}
 use Rattle.receiver.specs.Link.{Ported, Takes, ported}
@@ -21,7 +20,7 @@ invariant_of-self g c =
     let lent : IsLent old.core new.core a true verdict None =
     nothing_lent old.core new.core a verdict away c.in-Some.ensures.taken (record { short = frame.short; long = frame.long; carries = frame.carries }) (rw (← c.self.view_is) at c.requires) in
     let takes : Takes o.shows o.gives o.answers old new a old.received verdict =
-    takes_it o.shows o.has_space o.gives o.answers laws.stays laws.adds laws.full laws.joins old new old.outlets a (KeptAway verdict) true verdict None (nobody_asked o.shows o.has_space o.gives o.answers old a verdict away) lent refl c.self.invariant c.next_place.ensures.received in
+    takes_it o.shows o.has_space o.gives o.answers laws.stays laws.adds laws.full laws.joins old new old.outlets a true verdict None (nobody_asked o.shows o.has_space o.gives o.answers old a verdict away) lent refl c.self.invariant c.next_place.ensures.received in
     takes.after
 
 pub returns-in-Some-clause-takes : goal.returns-in-Some-clause-takes
@@ -37,7 +36,7 @@ returns-in-Some-clause-takes g c =
     let lent : IsLent old.core new.core a true verdict None =
     nothing_lent old.core new.core a verdict away c.in-Some.ensures.taken (record { short = frame.short; long = frame.long; carries = frame.carries }) (rw (← c.self.view_is) at c.requires) in
     let takes : Takes o.shows o.gives o.answers old new a old.received verdict =
-    takes_it o.shows o.has_space o.gives o.answers laws.stays laws.adds laws.full laws.joins old new old.outlets a (KeptAway verdict) true verdict None (nobody_asked o.shows o.has_space o.gives o.answers old a verdict away) lent refl c.self.invariant c.next_place.ensures.received in
+    takes_it o.shows o.has_space o.gives o.answers laws.stays laws.adds laws.full laws.joins old new old.outlets a true verdict None (nobody_asked o.shows o.has_space o.gives o.answers old a verdict away) lent refl c.self.invariant c.next_place.ensures.received in
     rw (← c.self.view_is, c.next_place.ensures.place) takes
 
 pub returns-in-Some-clause-known : goal.returns-in-Some-clause-known
@@ -52,7 +51,7 @@ returns-in-Some-clause-known g c =
     nothing_lent old.core c.turn_away.new.self a verdict away c.in-Some.ensures.taken (record { short = frame.short; long = frame.long; carries = frame.carries }) (rw (← c.self.view_is) at c.requires) in
     let new : Ported _ = ported c.turn_away.new.self c.self.inside.outlets.items c.next_place.new.received in
     rw (← c.self.view_is)
-    (with_room o.shows o.has_space o.gives o.answers old new old.outlets c.turn_away.new.self a (KeptAway verdict) true verdict None (nobody_asked o.shows o.has_space o.gives o.answers old a verdict away) lent refl)
+    (with_room o.shows o.has_space o.gives o.answers old new old.outlets c.turn_away.new.self a true verdict None (nobody_asked o.shows o.has_space o.gives o.answers old a verdict away) lent refl)
 
 pub returns-in-Some-clause-refused : goal.returns-in-Some-clause-refused
 returns-in-Some-clause-refused g c =

@@ -3,23 +3,22 @@ use Rattle.es_base.specs.Packet.{packet_of}
 use Rattle.es_base.specs.Past.{arrived}
 use Rattle.es_base.specs.Reassembly.{groups_in, packet_in}
 use Rattle.frame_reader.specs.Parts.{packet_parts}
-use Rattle.link_core.proofs.Ways.{payload_of_packet, brought_by_fault}
-use Rattle.link_core.proofs.rules_state.RulesState.forwarded_outcome.Goals as goal
+use Rattle.link_core.proofs.Ways.{fault_of_packet, payload_of_packet}
+use Rattle.link_core.proofs.rules_state.RulesState.payload.Goals as goal
 
 pub returns-in-Err-clause-value : goal.returns-in-Err-clause-value
-returns-in-Err-clause-value c = λ past stands.
+returns-in-Err-clause-value c = λ past net keeps.
     let frame = c.args.frame.now in
-    let a = arrived c.args.net c.args.now frame.whole.now in
+    let a = arrived net c.args.now frame.whole.now in
     let fault : packet_in frame.whole.now ≡ Err c.in-Err.fault = sym (ap packet_of frame.inner_is) ∙ c.in-Err.ensures in
-    brought_by_fault c.args.settings.now (groups_in c.args.settings.now past) a c.in-Err.fault fault
+    fault_of_packet c.args.settings.now (groups_in c.args.settings.now past) a c.in-Err.fault fault
 
 pub returns-clause-value : goal.returns-clause-value
-returns-clause-value c = λ past stands.
-    let keeps = stands in
+returns-clause-value c = λ past net keeps.
     let settings = c.args.settings.now in
     let frame = c.args.frame.now in
-    let a = arrived c.args.net c.args.now frame.whole.now in
+    let a = arrived net c.args.now frame.whole.now in
     let groups = groups_in settings past in
     let packet = packet_parts c.in-Ok.packet in
     let is : packet_in frame.whole.now ≡ Ok packet = sym (ap packet_of frame.inner_is) ∙ c.in-Ok.ensures in
-    (c.brought.ensures.value _ (rw (payload_of_packet settings groups a packet is) (c.packet_payload-payload.ensures.value settings.reassembly groups keeps.waiting)))
+    rw (payload_of_packet settings groups a packet is) (c.packet_payload-payload.ensures.value settings.reassembly groups keeps.waiting)

@@ -1,0 +1,40 @@
+-- A link after a frame that was kept away: nothing was published or queued.
+use Rattle.std.proofs.Common.{◌≡◌, ap, refl, true, false, List, ◌∷◌, None, Some}
+use Rattle.es_base.specs.declared.event.Arrival.{Arrival}
+use Rattle.es_base.specs.declared.event.Event.{Event}
+use Rattle.es_base.specs.declared.place.PortNo.{PortNo}
+use Rattle.es_base.specs.declared.verdict.Verdict.{Verdict}
+use Rattle.es_base.specs.Deliveries.{number_delivered}
+use Rattle.es_base.specs.Outcome as way
+use Rattle.es_base.specs.Past.{event_of}
+use Rattle.es_base.specs.Run.{settled}
+use Rattle.es_base.specs.Settings.{Settings}
+use Rattle.link_core.specs.declared.rules_state.RulesState.{RulesState as Kept}
+use Rattle.link_core.specs.Counted.{port_no}
+use Rattle.link_core.specs.Kept.{Keeps}
+use Rattle.link_core.specs.Seen.{kept_away}
+use Rattle.link_core.proofs.Away.{away_decided, away_delivers_nothing}
+use Rattle.link_receiver.specs.declared.outlet.Outlet.{Outlet}
+use Rattle.link_receiver.specs.Kept.{brings_to}
+use Rattle.link_receiver.proofs.Kept.{IsNext}
+
+brings_nothing : (outcome : way.Outcome) (verdict : Verdict) (port : PortNo) → kept_away outcome ≡ Some verdict → brings_to outcome port ≡ false
+brings_nothing way.out_of_sequence verdict port away = refl
+brings_nothing way.redundant verdict port away = refl
+brings_nothing (way.refused other) verdict port away = cc
+brings_nothing (way.brings payload) verdict port away = cc
+
+pub turned : (o : Settings) (past : List Event) (a : Arrival) (verdict : Verdict) (outlets : List Outlet) (new : Kept) → kept_away (way.outcome o past a) ≡ Some verdict
+    → Keeps new o (event_of a true verdict ∷ past) → IsNext o past (event_of a true verdict) outlets outlets new
+turned o past a verdict outlets new away keeps =
+    let outcome = way.outcome o past a in
+    record {
+      verdict = ap (λ d. settled d true) (away_decided outcome verdict (number_delivered o past) away);
+      may = tt;
+      keeps = keeps;
+      delivery = None;
+      publishes = (refl, refl);
+      within = tt;
+      delivers = λ port. away_delivers_nothing outcome verdict true a.time port (number_delivered o past port) away;
+      brought = λ port queuing. brings_nothing outcome verdict (port_no port) away;
+    }
