@@ -1,29 +1,29 @@
--- Where at most three other datagrams have a fragment meanwhile, a group isn't given up.
-use Rattle.std.proofs.Common.{◌≡◌, ◌∙◌, ap, sym, subst, ℕ, zero, suc, ◌<◌, ◌≤◌, inl, inr, ⊎_elim, Bool, true, false, List, [], ◌∷◌, ◌++◌, length, remove, Some, refl, arith}
+-- Where at most three other datagrams have a fragment meanwhile, or at most four are in parts at a time, a group isn't
+-- given up.
+use Rattle.std.proofs.Common.{◌≡◌, ◌∙◌, ap, sym, subst, ℕ, zero, suc, ◌<◌, ◌≤◌, inl, inr, ⊎_elim, Bool, true, false, List, [], ◌∷◌, ◌++◌, length, remove, Some, refl, arith, append-nil}
 use Rattle.std.specs.Prelude.{◌&&◌, ◌||◌, not, ◌⊎◌, slice_get, slice_set, if◌then◌else◌}
-use Rattle.std.proofs.lemmas.Bool.{both_ways, cases_Bool, or_cases}
+use Rattle.std.proofs.lemmas.Bool.{and_right, both_ways, cases_Bool, or_cases, or_left, or_right}
 use Rattle.std.proofs.lemmas.Option.{same_Some}
 use Rattle.es_base.specs.declared.fragment.DatagramKey.{DatagramKey}
 use Rattle.es_base.specs.Fragments.{Piece, is_bad, is_whole, key_of, piece_of}
-use Rattle.es_base.specs.Groups.{Found, Group, begins, found_for, group_with, groups_after, has_key, is_same_key, joins, with_room}
+use Rattle.es_base.specs.Groups.{Found, Group, begins, found_at, found_for, group_with, groups_after, has_key, is_same_key, joins, with_room}
 use Rattle.es_base.proofs.Keys.{key_itself, same_key}
-use Rattle.datagram_delivery.specs.Splitting.{Offer, begins_group, begun_meanwhile, begun_since, groups_after_offers, is_among, is_beginning, is_of, other_keys, others_in}
-use Rattle.datagram_delivery.specs.Datagrams.{KeepsPlace, IsInParts}
-use Rattle.datagram_delivery.proofs.Each.{AreDistinct, EachGroup, HasOther, IsAbsent, distinct_remove, each_at, each_more, each_push, each_remove, each_room, each_set, room_kept}
-use Rattle.datagram_delivery.proofs.Splits.{first_groups}
-use Rattle.datagram_delivery.proofs.Standing.{begins_absent, begins_from, kept_after}
-use Rattle.datagram_delivery.proofs.Unused.{free_begins, distinct_all}
+use Rattle.frame_delivery.proofs.Cases.{by_if}
+use Rattle.datagram_delivery.specs.Splitting.{Offer, begins_group, begun_meanwhile, begun_since, groups_after_offers, is_among, is_beginning, is_of, keys_in_parts, none_in_parts, pieces_of, other_keys, others_in, with_key, without_key, AreFewInParts, LeavesRoom}
+use Rattle.es_base.specs.Outcome.{Payload}
+use Rattle.es_base.specs.Settings.{Settings}
+use Rattle.datagram_delivery.specs.Datagrams.{Completes, KeepsPlace, IsInParts}
+use Rattle.datagram_delivery.specs.Interleaved.{AreInterleaved, Carried, SendsNext, carried_offers}
+use Rattle.datagram_delivery.proofs.Unused.{all_begun, free_begins, distinct_all}
+use Rattle.datagram_delivery.proofs.Standing.{AreDistinct, EachGroup, HasOther, IsAbsent, distinct_remove, each_at, each_more, each_push, each_remove, each_room, each_set, room_kept, absent_place, begins_absent, begins_from, kept_after, part_begins, whole_leaves_none, offers_join}
+use Rattle.datagram_delivery.proofs.Splits.{first_groups, state_joins, in_parts}
+use Rattle.datagram_delivery.proofs.Offered.{completed_fate}
 
 -- ---- keys among some
 
 abbrev IsAmong : DatagramKey → List DatagramKey → Type 0
 IsAmong key [] = ⊥
 IsAmong key (other ∷ keys) = (is_same_key other key ≡ true) ⊎ IsAmong key keys
-
--- some keys without the first that is this one
-abbrev without_key : DatagramKey → List DatagramKey → List DatagramKey
-without_key key [] = []
-without_key key (other ∷ keys) = if is_same_key other key then keys else other ∷ without_key key keys
 
 among_without : (one key : DatagramKey) (keys : List DatagramKey) → is_same_key one key ≡ false → IsAmong one keys → IsAmong one (without_key key keys)
 among_without one key [] differ among = absurd among
@@ -217,13 +217,6 @@ few_leave_room limit key earlier first (offer ∷ during) parts few =
     distinct : AreDistinct standing
     distinct = distinct_all limit earlier ours
 
-    not_whole : begins_group limit standing offer.packet offer.time ≡ true → is_whole offer.packet ≡ false
-    not_whole begun = go (is_whole offer.packet) refl begun
-      where
-        go : (all : Bool) → is_whole offer.packet ≡ all → (not all && not (is_bad offer.packet) && is_beginning (found_for limit standing (key_of offer.packet) offer.time)) ≡ true → is_whole offer.packet ≡ false
-        go true e is = cc
-        go false e is = e
-
     among : is_of key offer ≡ false → is_whole offer.packet ≡ false → IsCounted key keys offer → IsAmong (key_of offer.packet) keys
     among other part (inl ours) = absurd (both_ways (is_of key offer) other ours)
     among other part (inr (inl all)) = absurd (both_ways (is_whole offer.packet) part all)
@@ -238,5 +231,130 @@ few_leave_room limit key earlier first (offer ∷ during) parts few =
 
     room : is_of key offer ≡ false → begins_group limit standing offer.packet offer.time ≡ true → Adds key offer (other_keys key ours) keys → begun_meanwhile limit standing key offer.packet offer.time < 3
     room other begun added =
-        let less = counted (found_for limit standing (key_of offer.packet) offer.time) refl (added.kept standing (behind_all limit key earlier first during before)) (among other (not_whole begun) added.counted) in
+        let less = counted (found_for limit standing (key_of offer.packet) offer.time) refl (added.kept standing (behind_all limit key earlier first during before)) (among other (part_begins limit standing offer.packet offer.time begun) added.counted) in
         omega (arith, less, few)
+
+-- ---- at most four in parts, as their sender counts them
+
+from_among : (key : DatagramKey) (keys : List DatagramKey) → IsAmong key keys → is_among key keys ≡ true
+from_among key [] among = absurd among
+from_among key (other ∷ keys) (inl is) = or_left _ _ is
+from_among key (other ∷ keys) (inr later) = or_right _ _ (from_among key keys later)
+
+with_among : (key : DatagramKey) (keys : List DatagramKey) (groups : List Group) → AreAmong keys groups → IsAmong key (with_key key keys) × AreAmong (with_key key keys) groups
+with_among key keys groups among =
+    ⊎_elim
+    (λ (is : is_among key keys ≡ true). rw is (among_is key keys is, among))
+    (λ (new : is_among key keys ≡ false). rw new (inl (key_itself key), each_more (HasKeyAmong keys) (HasKeyAmong (key ∷ keys)) groups (λ group is. inr is) among))
+    (cases_Bool (is_among key keys))
+
+-- the groups that stand are of the keys in parts
+sent_among : (settings : Settings) (carried : List Carried) → AreInterleaved settings [] carried → AreAmong (keys_in_parts (carried_offers carried)) (groups_after_offers settings.reassembly [] (carried_offers carried))
+sent_among settings [] sends = tt
+sent_among settings (carried ∷ before) sends =
+    let limit : ℕ = settings.reassembly in
+    let offer : Offer = carried.offer in
+    let key : DatagramKey = key_of offer.packet in
+    let keys : List DatagramKey = keys_in_parts (carried_offers before) in
+    let groups : List Group = groups_after_offers limit [] (carried_offers before) in
+    let distinct : AreDistinct groups = (all_begun limit (carried_offers before)).1 in
+    let rest = sent_among settings before sends.1 in
+    let next : SendsNext settings (carried_offers before) carried = subst (λ (offers : List Offer). SendsNext settings offers carried) (append-nil (carried_offers before)) sends.0 in
+    by_if (λ (keys : List DatagramKey). AreAmong keys (groups_after limit groups offer.packet offer.time)) offer.packet.more (with_key key keys) (without_key key keys)
+    (λ more.
+    let (ours, all) = with_among key keys groups rest in
+    let Holds : Group → Type 0 = HasKeyAmong (with_key key keys) in
+    kept_after limit groups offer.packet offer.time (EachGroup Holds) distinct all (each_remove Holds)
+    (λ part place group is got over. each_set Holds groups place (group_with group (piece_of offer.packet offer.time)) all (each_at Holds groups place group all got)) (each_room Holds)
+    (λ part others absent standing. each_push Holds others (record { key = key; pieces = piece_of offer.packet offer.time ∷ [] }) standing ours))
+    (λ last.
+    let (octets, was_joined, is, admits) = completed_fate settings carried.payload (carried_offers before) offer (next.last last) in
+    let (gone, all) = whole_leaves_none limit groups offer.packet offer.time octets was_joined (HasKeyAmong keys) distinct rest is in
+    among_others key keys (groups_after limit groups offer.packet offer.time) gone all)
+
+-- so another key is free, after any of the packets
+pub sent_free : (settings : Settings) (carried : List Carried) (key : DatagramKey) (now : ℕ) (offers earlier : List Offer) → AreInterleaved settings [] carried → carried_offers carried ≡ offers ++ earlier
+    → is_among key (keys_in_parts earlier) ≡ false → none_in_parts settings.reassembly (groups_after_offers settings.reassembly [] earlier) key now ≡ true
+sent_free settings [] key now (offer ∷ offers) earlier sends is other = cc
+sent_free settings (carried ∷ before) key now (offer ∷ offers) earlier sends is other =
+    let same : carried_offers before ≡ offers ++ earlier = cc in sent_free settings before key now offers earlier sends.1 same other
+sent_free settings carried key now [] earlier sends is other =
+    let keys : List DatagramKey = keys_in_parts earlier in
+    let groups : List Group = groups_after_offers settings.reassembly [] earlier in
+    let among : AreAmong keys groups = subst (λ (offers : List Offer). AreAmong (keys_in_parts offers) (groups_after_offers settings.reassembly [] offers)) is (sent_among settings carried sends) in
+    ap (λ place. is_beginning (found_at settings.reassembly groups now place)) (absent_place key groups (each_more (HasKeyAmong keys) (HasOther key) groups
+    (λ group one.
+    ⊎_elim
+    (λ (is : has_key key group ≡ true). absurd (both_ways (is_among key keys) other (from_among key keys (subst (λ (k : DatagramKey). IsAmong k keys) (same_key group.key key is) one))))
+    (λ (is : has_key key group ≡ false). is)
+    (cases_Bool (has_key key group))) among))
+
+begun_less : (key : DatagramKey) (groups : List Group) → length groups ≤ 3 → begun_since key groups < 3
+begun_less key [] few = omega arith
+begun_less key (group ∷ groups) few =
+    ⊎_elim
+    (λ (is : has_key key group ≡ true). rw is (omega (arith, few)))
+    (λ (is : has_key key group ≡ false). rw is (begun_less key groups (omega (arith, few))))
+    (cases_Bool (has_key key group))
+
+ends_begin_none : (settings : Settings) (payload : Payload) (offers : List Offer) (last : Offer) → Completes settings payload offers last
+    → begins_group settings.reassembly (groups_after_offers settings.reassembly [] offers) last.packet last.time ≡ false
+ends_begin_none settings payload offers last (inl all) = rw all.whole refl
+ends_begin_none settings payload offers last (inr split) =
+    let limit : ℕ = settings.reassembly in
+    let key : DatagramKey = key_of last.packet in
+    let groups : List Group = groups_after_offers limit [] (split.during ++ split.first ∷ split.earlier) in
+    ap (λ (offers : List Offer). begins_group limit (groups_after_offers limit [] offers) last.packet last.time) split.is
+    ∙ and_right (not (is_whole last.packet) && not (is_bad last.packet)) _ (state_joins limit key (pieces_of key (split.during ++ split.first ∷ [])) (begun_since key groups) groups last.time
+    (in_parts limit key split.earlier split.first split.during split.parts split.room) split.ends.next.soon)
+
+-- and as another begins at most three stand
+begins_few : (settings : Settings) (carried : Carried) (before : List Carried) (key : DatagramKey) → AreInterleaved settings [] (carried ∷ before) → length (keys_in_parts (carried_offers (carried ∷ before))) ≤ 4
+    → begins_group settings.reassembly (groups_after_offers settings.reassembly [] (carried_offers before)) carried.offer.packet carried.offer.time ≡ true
+    → begun_meanwhile settings.reassembly (groups_after_offers settings.reassembly [] (carried_offers before)) key carried.offer.packet carried.offer.time < 3
+begins_few settings carried before key sends few begun =
+    ⊎_elim
+    (λ (more : carried.offer.packet.more ≡ true).
+    let all = with_among new keys groups (sent_among settings before sends.1) in
+    go (found_for settings.reassembly groups new carried.offer.time) refl all.0 all.1 (rw more at few))
+    (λ (last : carried.offer.packet.more ≡ false).
+    let next : SendsNext settings (carried_offers before) carried = subst (λ (offers : List Offer). SendsNext settings offers carried) (append-nil (carried_offers before)) sends.0 in
+    absurd (both_ways (begins_group settings.reassembly groups carried.offer.packet carried.offer.time) (ends_begin_none settings carried.payload (carried_offers before) carried.offer (next.last last)) begun))
+    (cases_Bool carried.offer.packet.more)
+  where
+    new : DatagramKey
+    new = key_of carried.offer.packet
+
+    keys : List DatagramKey
+    keys = keys_in_parts (carried_offers before)
+
+    groups : List Group
+    groups = groups_after_offers settings.reassembly [] (carried_offers before)
+
+    distinct : AreDistinct groups
+    distinct = (all_begun settings.reassembly (carried_offers before)).1
+
+    go : (found : Found) → found_for settings.reassembly groups new carried.offer.time ≡ found → IsAmong new (with_key new keys) → AreAmong (with_key new keys) groups → length (with_key new keys) ≤ 4 → begun_since key (others_in found) < 3
+    go (joins place group) is ours all few = omega arith
+    go (begins others) is ours all few =
+        let Holds : Group → Type 0 = HasKeyAmong (with_key new keys) in
+        let among = begins_from settings.reassembly groups others new carried.offer.time is (EachGroup Holds) all (λ place there. each_remove Holds groups place all) in
+        let apart = begins_from settings.reassembly groups others new carried.offer.time is AreDistinct distinct (λ place there. distinct_remove groups place distinct) in
+        let fewer = at_most_keys (without_key new (with_key new keys)) others apart (among_others new (with_key new keys) others (begins_absent settings.reassembly groups others new carried.offer.time distinct is) among) in
+        let one = without_length new (with_key new keys) ours in
+        begun_less key others (omega (arith, fewer, one, few))
+
+pub sent_room : (settings : Settings) (carried : List Carried) (key : DatagramKey) (offers earlier : List Offer) → AreInterleaved settings [] carried → AreFewInParts (carried_offers carried) → carried_offers carried ≡ offers ++ earlier
+    → LeavesRoom settings.reassembly (groups_after_offers settings.reassembly [] earlier) key offers
+sent_room settings carried key [] earlier sends few is = tt
+sent_room settings [] key (offer ∷ offers) earlier sends few is = cc
+sent_room settings (carried ∷ before) key (offer ∷ offers) earlier sends few is =
+    let limit : ℕ = settings.reassembly in
+    let one : carried.offer ≡ offer = cc in
+    let same : carried_offers before ≡ offers ++ earlier = cc in
+    let groups : List Group = groups_after_offers limit [] (carried_offers before) in
+    let are : groups ≡ groups_after_offers limit (groups_after_offers limit [] earlier) offers = ap (groups_after_offers limit []) same ∙ offers_join limit [] offers earlier in (
+      λ other. subst (λ (groups : List Group). begins_group limit groups offer.packet offer.time ≡ true → begun_meanwhile limit groups key offer.packet offer.time < 3) are
+          (subst (λ (o : Offer). begins_group limit groups o.packet o.time ≡ true → begun_meanwhile limit groups key o.packet o.time < 3) one (begins_few settings carried before key sends few.0)),
+      sent_room settings before key offers earlier sends.1 few.1 same,
+    )

@@ -1,32 +1,59 @@
--- What any past delivers, by what it offered; and what copies after it offer.
-use Rattle.std.proofs.Common.{◌≡◌, ◌∙◌, ap, ℕ, Bool, true, false, List, [], ◌∷◌, ◌++◌, Option, None, Some, Result, Ok, Err, refl, ⊎_elim, append-nil, inl, inr}
-use Rattle.std.proofs.lemmas.Bool.{cases_Bool}
+-- What one offer delivers.
+use Rattle.std.proofs.Common.{◌≡◌, ap, ℕ, ◌<◌, Bool, true, false, cond, List, [], ◌∷◌, ◌++◌, Ok, refl, ◌∙◌, Option, None, Some, Result, Err, ⊎_elim, append-nil, inl, inr}
 use Rattle.es_base.specs.declared.place.PortNo.{PortNo}
+use Rattle.es_base.specs.Limits.{most_samples}
+use Rattle.es_base.specs.Packet.{PacketParts}
+use Rattle.es_base.specs.Fragments.{is_whole, key_of}
+use Rattle.es_base.specs.Groups.{Group, fate, groups_after, held, whole}
+use Rattle.es_base.specs.Outcome.{Payload, brings, brought, datagram_payload, packet_payload, frame_payload, outcome, refused}
+use Rattle.es_base.specs.Deliveries.{delivered, deliveries, number_delivered}
+use Rattle.es_base.specs.Settings.{Settings}
+use Rattle.frame_delivery.specs.Messages.{goes_to}
+use Rattle.datagram_delivery.specs.Splitting.{Offer, groups_after_offers, joined, pieces_of}
+use Rattle.frame_delivery.proofs.Delivered.{takes, forwarded_brings, nothing_delivered}
+use Rattle.std.proofs.lemmas.Bool.{cases_Bool}
 use Rattle.es_base.specs.declared.event.Arrival.{Arrival}
 use Rattle.es_base.specs.declared.event.Event.{Event}
 use Rattle.es_base.specs.declared.fault.PacketFault.{PacketFault}
 use Rattle.es_base.specs.declared.verdict.Verdict.TheVariants as verdicts
 use Rattle.es_base.specs.Past.{arrival_of}
-use Rattle.es_base.specs.Packet.{PacketParts}
-use Rattle.es_base.specs.Fragments.{key_of}
-use Rattle.es_base.specs.Groups.{Group, groups_after}
 use Rattle.es_base.specs.Reassembly.{groups_by, groups_in, offered, packet_in}
 use Rattle.es_base.specs.Redundancy.{is_forwarded}
 use Rattle.std.specs.Result.{result_ok}
-use Rattle.es_base.specs.Outcome.{Payload, brings, brought, frame_payload, outcome, packet_payload, refused}
-use Rattle.es_base.specs.Deliveries.{delivered, deliveries, number_delivered}
-use Rattle.es_base.specs.Settings.{Settings}
 use Rattle.frame_delivery.specs.Sending.{Copy, Numbering, events_since}
 use Rattle.frame_delivery.specs.Once.{new_copies}
 use Rattle.frame_delivery.specs.Network.{Timing}
 use Rattle.frame_delivery.specs.Since.{PassTimely, forwarded_since, passing_since}
-use Rattle.frame_delivery.proofs.Delivered.{forwarded_brings, nothing_delivered}
 use Rattle.frame_delivery.proofs.Since.{news_before, news_since}
-use Rattle.datagram_delivery.specs.Splitting.{Offer, groups_after_offers, joined, pieces_of}
 use Rattle.datagram_delivery.specs.Datagrams.{CarryPackets, messages_by, offers_of, Completes}
 use Rattle.datagram_delivery.specs.Offers.{offer_with, offered_in}
-use Rattle.datagram_delivery.proofs.InParts.{last_completes}
-use Rattle.datagram_delivery.proofs.Datagrams.{whole_brings, whole_fate}
+use Rattle.datagram_delivery.proofs.Splits.{last_completes}
+
+-- ---- what an offer delivers
+
+pub held_delivers : (settings : Settings) (groups : List Group) (offer : Offer) (port : PortNo) (number : ℕ) → fate settings.reassembly groups offer.packet offer.time ≡ held
+    → delivered (brought (packet_payload settings.ports settings.reassembly groups offer.packet offer.time)) offer.room offer.time port number ≡ []
+held_delivers settings groups offer port number is = rw is refl
+
+pub brings_delivers : (settings : Settings) (groups : List Group) (offer : Offer) (port : PortNo) (number : ℕ) (payload : Payload)
+    → brought (packet_payload settings.ports settings.reassembly groups offer.packet offer.time) ≡ brings payload → number < most_samples
+    → delivered (brought (packet_payload settings.ports settings.reassembly groups offer.packet offer.time)) offer.room offer.time port number
+    ≡ cond (goes_to port payload offer.room) (record { time = offer.time; octets = payload.octets } ∷ []) []
+brings_delivers settings groups offer port number payload is few = rw (is, takes payload.kind offer.room number few) refl
+
+-- ---- one datagram
+
+pub whole_fate : (limit : ℕ) (groups : List Group) (packet : PacketParts) (now : ℕ) → is_whole packet ≡ true → fate limit groups packet now ≡ whole packet.octets false
+unfolding fate
+whole_fate limit groups packet now is = rw is refl
+
+pub whole_brings : (settings : Settings) (groups : List Group) (offer : Offer) (octets : List ℕ) (was_joined : Bool) (payload : Payload)
+    → fate settings.reassembly groups offer.packet offer.time ≡ whole octets was_joined
+    → datagram_payload settings.ports (record { destination = offer.packet.destination; joined = was_joined; octets = octets }) ≡ Ok payload
+    → brought (packet_payload settings.ports settings.reassembly groups offer.packet offer.time) ≡ brings payload
+whole_brings settings groups offer octets was_joined payload is admits = rw (is, admits) refl
+
+-- ---- what any past delivers, by what it offered; and what copies after it offer
 
 -- ---- any past
 
@@ -103,16 +130,23 @@ packets_before settings numbering timing packet old copy before pass carry is =
 
 -- ---- a packet that completes a message
 
+pub completed_fate : (settings : Settings) (payload : Payload) (offers : List Offer) (last : Offer) → Completes settings payload offers last
+    → (octets : List ℕ) × (was_joined : Bool) × (fate settings.reassembly (groups_after_offers settings.reassembly [] offers) last.packet last.time ≡ whole octets was_joined)
+    × (datagram_payload settings.ports (record { destination = last.packet.destination; joined = was_joined; octets = octets }) ≡ Ok payload)
+completed_fate settings payload offers last (inl all) = (last.packet.octets, false, whole_fate settings.reassembly (groups_after_offers settings.reassembly [] offers) last.packet last.time all.whole, all.admits)
+completed_fate settings payload offers last (inr split) = (
+  joined (pieces_of (key_of last.packet) (split.during ++ split.first ∷ [])) ++ last.packet.octets,
+  true,
+  ap (λ (offers : List Offer). fate settings.reassembly (groups_after_offers settings.reassembly [] offers) last.packet last.time) split.is
+      ∙ last_completes settings.reassembly split.earlier split.first split.during last split.parts split.room split.ends,
+  split.admits,
+)
+
 pub completed_by : (settings : Settings) (payload : Payload) (offers : List Offer) (last : Offer) → Completes settings payload offers last
     → brought (packet_payload settings.ports settings.reassembly (groups_after_offers settings.reassembly [] offers) last.packet last.time) ≡ brings payload
-completed_by settings payload offers last (inl all) =
-    let groups : List Group = groups_after_offers settings.reassembly [] offers in
-    whole_brings settings groups last last.packet.octets false payload (whole_fate settings.reassembly groups last.packet last.time all.whole) all.admits
-completed_by settings payload offers last (inr split) =
-    let ours : List Offer = split.during ++ split.first ∷ [] in
-    ap (λ (offers : List Offer). brought (packet_payload settings.ports settings.reassembly (groups_after_offers settings.reassembly [] offers) last.packet last.time)) split.is
-    ∙ whole_brings settings (groups_after_offers settings.reassembly [] (split.during ++ split.first ∷ split.earlier)) last (joined (pieces_of (key_of last.packet) ours) ++ last.packet.octets) true payload
-    (last_completes settings.reassembly split.earlier split.first split.during last split.parts split.room split.ends) split.admits
+completed_by settings payload offers last completes =
+    let (octets, was_joined, is, admits) = completed_fate settings payload offers last completes in
+    whole_brings settings (groups_after_offers settings.reassembly [] offers) last octets was_joined payload is admits
 
 -- the frame that is forwarded with the packet brings it
 pub completed_in : (settings : Settings) (past : List Event) (a : Arrival) (room : Bool) (packet : PacketParts) (payload : Payload) → is_forwarded settings past a ≡ true → packet_in a.frame ≡ Ok packet

@@ -10,11 +10,9 @@ use Rattle.es_base.specs.Groups.{Found, Group, bad, begin_of, begins, datagram_w
 use Rattle.datagram_delivery.specs.Splitting.{Offer, groups_after_offers, is_of}
 use Rattle.datagram_delivery.specs.Datagrams.{IsUnused}
 use Rattle.datagram_delivery.specs.Parts.{IsPartOf}
-use Rattle.datagram_delivery.proofs.Each.{AreDistinct, EachGroup, each_at, each_more, each_push, each_remove, each_room, each_set}
-use Rattle.datagram_delivery.proofs.Standing.{joins_from, kept_after}
+use Rattle.datagram_delivery.proofs.Standing.{AreDistinct, EachGroup, each_at, each_more, each_push, each_remove, each_room, each_set, joins_from, kept_after}
 use Rattle.datagram_delivery.proofs.Unused.{Begun, all_begun, are_some, begin_same, distinct_all, unused_at}
-use Rattle.datagram_delivery.proofs.Slices.{AreSlices, IsSlice, made_is}
-use Rattle.datagram_delivery.proofs.Rows.{take_all}
+use Rattle.datagram_delivery.proofs.Rows.{AreSlices, IsSlice, made_is, take_all}
 
 -- an offer, and the datagram of which it has a part
 pub record Part : Type 0 where

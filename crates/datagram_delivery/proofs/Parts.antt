@@ -1,6 +1,6 @@
 -- A message that is brought to a port is that of a datagram that was sent.
-use Rattle.std.proofs.Common.{◌≡◌, ◌∙◌, ap, sym, append-nil, append_assoc, ℕ, Bool, true, false, List, [], ◌∷◌, ◌++◌, inl, inr, Some, Result, Ok, Err, refl}
-use Rattle.std.specs.Prelude.{◌&&◌, if◌then◌else◌}
+use Rattle.std.proofs.Common.{◌≡◌, ◌∙◌, ap, sym, append-nil, append_assoc, ℕ, Bool, true, false, List, [], ◌∷◌, ◌++◌, inl, inr, Some, Result, Ok, Err, refl, ◌+◌, ◌<◌, Option, None, ⊎_elim, not, length, take, drop, arith}
+use Rattle.std.specs.Prelude.{◌&&◌, if◌then◌else◌, ◌==◌}
 use Rattle.es_base.specs.declared.event.Arrival.{Arrival}
 use Rattle.es_base.specs.declared.event.Event.{Event}
 use Rattle.es_base.specs.declared.place.PortNo.{PortNo}
@@ -20,10 +20,16 @@ use Rattle.es_base.specs.Outcome.{Outcome, Payload, brings, brought, datagram_pa
 use Rattle.es_base.specs.Deliveries.{delivered, deliveries, is_same_port, number_delivered, takes_one_more}
 use Rattle.es_base.specs.Settings.{Settings}
 use Rattle.datagram_delivery.specs.Splitting.{Offer, groups_after_offers}
-use Rattle.datagram_delivery.specs.Offers.{offered_in}
-use Rattle.datagram_delivery.specs.Parts.{AreOfOne, AreOfOneWith, HaveParts, HavePartsSince, IsMessageOfDatagram, IsPart, IsUnusedIn, WereSentIn}
+use Rattle.datagram_delivery.specs.Offers.{offered_in, offer_with}
+use Rattle.datagram_delivery.specs.Parts.{AreOfOne, AreOfOneWith, HaveParts, HavePartsSince, IsMessageOfDatagram, IsPart, IsUnusedIn, WereSentIn, ComeAfterLimit, AreWhole, IsPartOf, IsWholeIn}
 use Rattle.datagram_delivery.proofs.Origins.{Agree, AreParts, AreUnused, Part, handed_on_is_sent, offers_in}
 use Rattle.datagram_delivery.proofs.Offered.{groups_by_offers}
+use Rattle.std.proofs.lemmas.Bool.{cases_Bool, eqb-true}
+use Rattle.es_base.specs.declared.fragment.DatagramKey.{DatagramKey}
+use Rattle.es_base.specs.Fragments.{key_of, is_whole}
+use Rattle.frame_delivery.specs.Running.{EachForwarded}
+use Rattle.datagram_delivery.specs.Datagrams.{IsUnused}
+use Rattle.datagram_delivery.proofs.Rows.{take_all}
 
 -- ---- the parts that reassembly is offered
 
@@ -213,3 +219,57 @@ all_since settings datagram old (e ∷ past) port have =
 pub parts_alone : (settings : Settings) (datagram : Event → List ℕ) (past : List Event) → HaveParts settings.reassembly datagram past → HavePartsSince settings datagram [] past
 parts_alone settings datagram [] have = tt
 parts_alone settings datagram (e ∷ past) have = (have.0, have.1, λ packet reads fragment. tt, parts_alone settings datagram past have.2)
+
+-- ---- once the limit is over since all that was forwarded in an old past, any identification may be used
+
+over_unused : (settings : Settings) (key : DatagramKey) (time : ℕ) (old : List Event) → EachForwarded settings (λ e. e.time + settings.reassembly < time) old
+    → IsUnused settings.reassembly key time (offered_in settings old)
+over_unused settings key time [] over = tt
+over_unused settings key time (e ∷ old) over =
+    let rest = over_unused settings key time old over.1 in
+    ⊎_elim
+    (λ (is : is_forwarded settings old (arrival_of e) ≡ true). rw is (go (offered true e.frame) (over.0 is) rest))
+    (λ (is : is_forwarded settings old (arrival_of e) ≡ false). rw is rest)
+    (cases_Bool (is_forwarded settings old (arrival_of e)))
+  where
+    go : (packet : Option PacketParts) → e.time + settings.reassembly < time → IsUnused settings.reassembly key time (offered_in settings old)
+        → IsUnused settings.reassembly key time (offer_with packet e (offered_in settings old))
+    go None over rest = rest
+    go (Some packet) over rest = (λ same. over, rest)
+
+pub limit_is_over : (settings : Settings) (datagram : Event → List ℕ) (old past : List Event) → HaveParts settings.reassembly datagram past → ComeAfterLimit settings old past
+    → HavePartsSince settings datagram old past
+limit_is_over settings datagram old [] have over = tt
+limit_is_over settings datagram old (e ∷ past) (part, one, rest) over =
+    (part, one, λ packet read fragment. over_unused settings (key_of packet) e.time old over.0, limit_is_over settings datagram old past rest over.1)
+
+-- ---- datagrams that are sent whole aren't mixed, whatever their identifications are
+
+whole_is_part : (datagram : List ℕ) (packet : PacketParts) → is_whole packet ≡ true → packet.octets ≡ datagram → IsPartOf datagram packet
+whole_is_part datagram packet is_all same = go (packet.offset == 0) refl is_all
+  where
+    go : (first : Bool) → (packet.offset == 0) ≡ first → (first && not packet.more) ≡ true → IsPartOf datagram packet
+    go false e all = cc
+    go true e all =
+        let start : packet.offset ≡ 0 = eqb-true packet.offset 0 e in
+        let long : length packet.octets ≡ length datagram = ap length same in
+        record {
+          within = omega (arith, start, long);
+          octets = same ∙ sym (ap (λ (n : ℕ). take (length packet.octets) (drop n datagram)) start ∙ ap (λ (n : ℕ). take n datagram) long ∙ take_all datagram);
+          ends = λ last. omega (arith, start, long);
+        }
+
+whole_agrees : (limit : ℕ) (datagram : Event → List ℕ) (e : Event) (past : List Event) → IsWholeIn datagram e → AreOfOneWith limit datagram e past
+whole_agrees limit datagram e [] all = tt
+whole_agrees limit datagram e (earlier ∷ past) all = (
+  λ one other read read_too fragment part same soon. let both : true ≡ false = sym (all one read).0 ∙ fragment in cc,
+  whole_agrees limit datagram e past all,
+)
+
+pub whole_have_parts : (limit : ℕ) (datagram : Event → List ℕ) (past : List Event) → AreWhole datagram past → HaveParts limit datagram past
+whole_have_parts limit datagram [] all = tt
+whole_have_parts limit datagram (e ∷ past) all = (
+  λ packet read. let is = all.0 packet read in whole_is_part (datagram e) packet is.0 is.1,
+  whole_agrees limit datagram e past all.0,
+  whole_have_parts limit datagram past all.1,
+)

@@ -1,5 +1,5 @@
 -- A datagram that is split, among other packets: each piece but the last is held, and the last completes it.
-use Rattle.std.proofs.Common.{◌≡◌, ◌∙◌, ap, sym, subst, ℕ, suc, ◌+◌, ◌<◌, ◌≤◌, inl, inr, ⊎_elim, Bool, true, false, not, List, [], ◌∷◌, ◌++◌, None, Some, is_some, refl, arith, option_map}
+use Rattle.std.proofs.Common.{◌≡◌, ◌∙◌, ap, sym, subst, ℕ, suc, ◌+◌, ◌<◌, ◌≤◌, inl, inr, ⊎_elim, Bool, true, false, not, List, [], ◌∷◌, ◌++◌, None, Some, is_some, refl, arith, option_map, append_assoc}
 use Rattle.std.specs.Prelude.{◌==◌, ◌&&◌, slice_get, slice_set}
 use Rattle.std.proofs.lemmas.Bool.{cases_Bool, le-ltb, ne_eqb}
 use Rattle.es_base.specs.declared.fragment.DatagramKey.{DatagramKey}
@@ -8,11 +8,11 @@ use Rattle.es_base.specs.Copies.{elapsed}
 use Rattle.es_base.specs.Fragments.{Piece, datagram_from, is_whole, key_of, piece_of}
 use Rattle.es_base.specs.Groups.{Found, Group, begin_or, begins, datagram_with, fate, fate_if, found_at, found_for, found_if, groups_after, groups_with, has_key, held, is_over, is_same_key, joins, pieces_with, place_of, whole, with_room}
 use Rattle.es_base.proofs.Keys.{key_itself, same_key}
-use Rattle.datagram_delivery.specs.Splitting.{AreFronts, IsFront, IsLastFragment, Offer, LeavesRoom, begins_group, begun_meanwhile, begun_since, groups_after_offers, is_of, joined, pieces_of}
-use Rattle.datagram_delivery.proofs.Places.{place_here, place_later}
-use Rattle.datagram_delivery.proofs.Each.{HasOther, IsAbsent, each_room}
-use Rattle.datagram_delivery.proofs.Standing.{Stands, stands_after, stands_exactly}
+use Rattle.datagram_delivery.specs.Splitting.{AreFronts, IsFront, IsLastFragment, Offer, LeavesRoom, begins_group, begun_meanwhile, begun_since, groups_after_offers, is_beginning, is_of, joined, pieces_of}
+use Rattle.datagram_delivery.proofs.Standing.{place_here, place_later, HasOther, IsAbsent, each_room, Stands, stands_after, stands_exactly, offers_join}
 use Rattle.datagram_delivery.proofs.Rows.{AreFollowed, AreInRow, row_is_held, row_is_joined}
+use Rattle.datagram_delivery.specs.Datagrams.{KeepsPlace, IsInParts, IsNextFront}
+use Rattle.datagram_delivery.proofs.Unused.{free_begins}
 
 -- ---- the group of the key, where it stands
 
@@ -52,6 +52,11 @@ joins_ours limit key first earlier n groups now stands soon =
     let found = our_place key (first ∷ earlier) n groups stands in
     let not_over : is_over limit now (record { key = key; pieces = first ∷ earlier }) ≡ false = le-ltb limit (elapsed now (begin_or first.time earlier)) (omega arith) in
     ap (found_at limit groups now) found.there ∙ ap (found_if limit groups now found.place) found.got ∙ rw not_over refl
+
+pub state_joins : (limit : ℕ) (key : DatagramKey) (pieces : List Piece) (n : ℕ) (groups : List Group) (now : ℕ) → IsState key pieces n groups → now ≤ begin_or now pieces + limit
+    → is_beginning (found_for limit groups key now) ≡ false
+state_joins limit key [] n groups now state soon = absurd state
+state_joins limit key (first ∷ earlier) n groups now state soon = ap is_beginning (joins_ours limit key first earlier n groups now state soon)
 
 -- the pieces with the next one
 found_pieces : (limit : ℕ) (key : DatagramKey) (earlier : List Piece) (n : ℕ) (groups : List Group) (offer : Offer) → IsState key earlier n groups → offer.time ≤ begin_or offer.time earlier + limit
@@ -205,3 +210,51 @@ last_is_whole limit key earlier n groups offer same state row is_last =
     ∙ ap datagram_from (found_pieces limit key earlier n groups offer state is_last.next.soon)
     ∙ row_is_joined piece earlier (is_last.next.begins, row) is_last.more in
     rw (last_not_whole offer.packet is_last.after, is_last.next.good) (ap fate_if datagram)
+
+-- ---- a datagram in parts, among other packets: each fragment but the last is held, and the last completes it
+
+-- the groups that stand
+groups_join : (limit : ℕ) (first : Offer) (during earlier : List Offer)
+    → groups_after_offers limit [] (during ++ first ∷ earlier) ≡ groups_after_offers limit (groups_after_offers limit [] earlier) (during ++ first ∷ [])
+groups_join limit first during earlier = ap (groups_after_offers limit []) (sym (append_assoc during (first ∷ []) earlier)) ∙ offers_join limit [] (during ++ first ∷ []) earlier
+
+pub in_parts : (limit : ℕ) (key : DatagramKey) (earlier : List Offer) (first : Offer) (during : List Offer) → IsInParts limit key earlier first during → KeepsPlace limit key earlier first during
+    → IsState key (pieces_of key (during ++ first ∷ [])) (begun_since key (groups_after_offers limit [] (during ++ first ∷ earlier))) (groups_after_offers limit [] (during ++ first ∷ earlier))
+in_parts limit key earlier first during parts room =
+    let begun = free_begins limit key first.time earlier parts.free in
+    subst (λ (groups : List Group). IsState key (pieces_of key (during ++ first ∷ [])) (begun_since key groups) groups) (sym (groups_join limit first during earlier))
+    (state_after limit (groups_after_offers limit [] earlier) begun.others key first during parts.begins begun.found begun.absent parts.fronts room)
+
+pub front_held : (limit : ℕ) (offers : List Offer) (front : Offer) → IsNextFront limit offers front → fate limit (groups_after_offers limit [] offers) front.packet front.time ≡ held
+front_held limit offers front next = go next.during next.is next.parts next.room
+  where
+    key : DatagramKey
+    key = key_of front.packet
+
+    go : (during : List Offer) → front ∷ offers ≡ during ++ next.first ∷ next.earlier → IsInParts limit key next.earlier next.first during → KeepsPlace limit key next.earlier next.first during
+        → fate limit (groups_after_offers limit [] offers) front.packet front.time ≡ held
+    go [] is parts room =
+        let begun = free_begins limit key next.first.time next.earlier parts.free in
+        let one : front ≡ next.first = cc in
+        let same : offers ≡ next.earlier = cc in
+        ap (λ (offers : List Offer). fate limit (groups_after_offers limit [] offers) front.packet front.time) same
+        ∙ ap (λ (o : Offer). fate limit (groups_after_offers limit [] next.earlier) o.packet o.time) one
+        ∙ first_is_held limit key (groups_after_offers limit [] next.earlier) begun.others next.first (same_key (key_of next.first.packet) key parts.begins) begun.found (parts.fronts.0 parts.begins)
+    go (offer ∷ during) is parts room =
+        let one : offer ≡ front = cc in
+        let same : offers ≡ during ++ next.first ∷ next.earlier = cc in
+        let ours : List Offer = during ++ next.first ∷ [] in
+        let groups : List Group = groups_after_offers limit [] (during ++ next.first ∷ next.earlier) in
+        let before : IsInParts limit key next.earlier next.first during = record { begins = parts.begins; free = parts.free; fronts = parts.fronts.1 } in
+        let front_is = parts.fronts.0 (ap (λ (o : Offer). is_of key o) one ∙ key_itself key) in
+        ap (λ (offers : List Offer). fate limit (groups_after_offers limit [] offers) front.packet front.time) same
+        ∙ front_is_held limit key (pieces_of key ours) (begun_since key groups) groups front refl (in_parts limit key next.earlier next.first during before room.1)
+        (subst (λ (o : Offer). IsFront limit (pieces_of key ours) o) one front_is) (fronts_row limit key ours parts.fronts.1).1
+
+pub last_completes : (limit : ℕ) (earlier : List Offer) (first : Offer) (during : List Offer) (last : Offer) → IsInParts limit (key_of last.packet) earlier first during → KeepsPlace limit (key_of last.packet) earlier first during
+    → IsLastFragment limit (pieces_of (key_of last.packet) (during ++ first ∷ [])) last
+    → fate limit (groups_after_offers limit [] (during ++ first ∷ earlier)) last.packet last.time ≡ whole (joined (pieces_of (key_of last.packet) (during ++ first ∷ [])) ++ last.packet.octets) true
+last_completes limit earlier first during last parts room is_last =
+    let key : DatagramKey = key_of last.packet in
+    let groups : List Group = groups_after_offers limit [] (during ++ first ∷ earlier) in
+    last_is_whole limit key (pieces_of key (during ++ first ∷ [])) (begun_since key groups) groups last refl (in_parts limit key earlier first during parts room) (fronts_row limit key (during ++ first ∷ []) parts.fronts).0 is_last

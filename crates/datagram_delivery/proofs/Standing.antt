@@ -1,18 +1,107 @@
--- The group of one key, and what a packet of another key leaves of it.
-use Rattle.std.proofs.Common.{◌≡◌, ◌∙◌, ap, sym, subst, ℕ, zero, suc, ◌<◌, ◌≤◌, inl, inr, ⊎_elim, Bool, true, false, not, cond, List, [], ◌∷◌, ◌++◌, length, drop, remove, Option, None, Some, is_some, refl, arith, option_map}
-use Rattle.std.specs.Prelude.{◌==◌, ◌&&◌, ◌⊎◌, slice_get, slice_set}
-use Rattle.std.proofs.lemmas.Bool.{cases_Bool, false≢true, eqb-true}
+-- The first place at which a test passes, in a list with one element more at its front.
+use Rattle.std.proofs.Common.{◌≡◌, ◌∙◌, ℕ, suc, Bool, true, false, List, ◌∷◌, Option, None, Some, refl, option_map, subst, zero, cond, [], ◌++◌, length, drop, remove, ap, sym, ◌<◌, ◌≤◌, inl, inr, ⊎_elim, not, is_some, arith}
+use Rattle.std.specs.Prelude.{position, ◌==◌, slice_get, slice_set, ◌&&◌, ◌⊎◌}
+use Rattle.es_base.proofs.Places.{position_cons}
 use Rattle.std.proofs.lemmas.Option.{same_Some}
 use Rattle.es_base.specs.declared.fragment.DatagramKey.{DatagramKey}
 use Rattle.es_base.specs.Limits.{most_partials}
-use Rattle.es_base.specs.Packet.{PacketParts}
 use Rattle.es_base.specs.Fragments.{Piece, is_bad, is_whole, key_of, piece_of}
-use Rattle.es_base.specs.Groups.{Found, Group, begins, datagram_with, found_at, found_for, found_if, group_with, groups_after, groups_with, has_key, is_over, is_same_key, joins, place_of, with_room, without_group}
+use Rattle.es_base.specs.Groups.{Group, group_with, has_key, with_room, Found, begins, datagram_with, fate, found_at, found_for, found_if, groups_after, groups_with, is_over, is_same_key, joins, place_of, whole, without_group}
+use Rattle.std.proofs.lemmas.Bool.{cases_Bool, false≢true, eqb-true}
+use Rattle.es_base.specs.Packet.{PacketParts}
 use Rattle.es_base.proofs.Firsts.{found_at as found_place, passes_found}
 use Rattle.es_base.proofs.Keys.{key_itself, other_way, same_key}
-use Rattle.datagram_delivery.specs.Splitting.{begins_group, begun_meanwhile, begun_since, is_beginning, others_in}
-use Rattle.datagram_delivery.proofs.Each.{AreDistinct, HasOther, IsAbsent, each_push, each_room}
-use Rattle.datagram_delivery.proofs.Places.{later_place, place_here, place_later}
+use Rattle.datagram_delivery.specs.Splitting.{Offer, groups_after_offers, begins_group, begun_meanwhile, begun_since, is_beginning, others_in}
+
+-- it passes at the first
+pub place_here : {X : Type 0} (p : X → Bool) (x : X) (xs : List X) → p x ≡ true → position p (x ∷ xs) ≡ Some 0
+place_here p x xs is = position_cons p x xs ∙ rw is refl
+
+-- it doesn't
+pub place_later : {X : Type 0} (p : X → Bool) (x : X) (xs : List X) → p x ≡ false → position p (x ∷ xs) ≡ option_map suc (position p xs)
+place_later p x xs is = position_cons p x xs ∙ rw is refl
+
+pub later_place : (place : Option ℕ) (i : ℕ) → option_map suc place ≡ Some i → (j : ℕ) × (i ≡ suc j) × (place ≡ Some j)
+later_place None i is = cc
+later_place (Some j) i is = (j, cc, refl)
+
+-- ---- what holds of each group of a link, and that no two have one key, after each change of the groups
+
+-- ---- each group
+
+abbrev pub EachGroup : (Group → Type 0) → List Group → Type 0
+EachGroup Holds [] = Unit {0}
+EachGroup Holds (group ∷ groups) = Holds group × EachGroup Holds groups
+
+pub each_at : (Holds : Group → Type 0) (groups : List Group) (i : ℕ) (group : Group) → EachGroup Holds groups → slice_get groups i ≡ Some group → Holds group
+each_at Holds [] i group each at = cc
+each_at Holds (first ∷ groups) zero group each at = subst Holds (same_Some first group at) each.0
+each_at Holds (first ∷ groups) (suc i) group each at = each_at Holds groups i group each.1 at
+
+pub each_more : (Holds Also : Group → Type 0) (groups : List Group) → ((group : Group) → Holds group → Also group) → EachGroup Holds groups → EachGroup Also groups
+each_more Holds Also [] more each = tt
+each_more Holds Also (group ∷ groups) more each = (more group each.0, each_more Holds Also groups more each.1)
+
+pub each_remove : (Holds : Group → Type 0) (groups : List Group) (i : ℕ) → EachGroup Holds groups → EachGroup Holds (remove groups i)
+each_remove Holds [] zero each = tt
+each_remove Holds [] (suc i) each = tt
+each_remove Holds (group ∷ groups) zero each = each.1
+each_remove Holds (group ∷ groups) (suc i) each = (each.0, each_remove Holds groups i each.1)
+
+pub each_set : (Holds : Group → Type 0) (groups : List Group) (i : ℕ) (group : Group) → EachGroup Holds groups → Holds group → EachGroup Holds (slice_set groups i group)
+each_set Holds [] i group each is = tt
+each_set Holds (first ∷ groups) zero group each is = (is, each.1)
+each_set Holds (first ∷ groups) (suc i) group each is = (each.0, each_set Holds groups i group each.1 is)
+
+pub each_push : (Holds : Group → Type 0) (groups : List Group) (group : Group) → EachGroup Holds groups → Holds group → EachGroup Holds (groups ++ group ∷ [])
+each_push Holds [] group each is = (is, tt)
+each_push Holds (first ∷ groups) group each is = (each.0, each_push Holds groups group each.1 is)
+
+-- what holds of groups without the first, if it holds of all, holds of those that are left as room is made
+pub room_kept : (Hold : List Group → Type 0) → ((group : Group) (groups : List Group) → Hold (group ∷ groups) → Hold groups) → (groups : List Group) → Hold groups → Hold (with_room groups)
+room_kept Hold fewer groups all = go (length groups == most_partials)
+  where
+    shorter : (groups : List Group) → Hold groups → Hold (drop 1 groups)
+    shorter [] all = all
+    shorter (group ∷ groups) all = fewer group groups all
+
+    go : (full : Bool) → Hold (cond full (drop 1 groups) groups)
+    go true = shorter groups all
+    go false = all
+
+pub each_room : (Holds : Group → Type 0) (groups : List Group) → EachGroup Holds groups → EachGroup Holds (with_room groups)
+each_room Holds groups each = room_kept (EachGroup Holds) (λ group groups all. all.1) groups each
+
+-- ---- no group has a key
+
+abbrev pub HasOther : DatagramKey → Group → Type 0
+HasOther key group = has_key key group ≡ false
+
+abbrev pub IsAbsent : DatagramKey → List Group → Type 0
+IsAbsent key groups = EachGroup (HasOther key) groups
+
+-- a piece more changes no key
+pub absent_set : (key : DatagramKey) (groups : List Group) (i : ℕ) (group : Group) (piece : Piece) → IsAbsent key groups → slice_get groups i ≡ Some group → IsAbsent key (slice_set groups i (group_with group piece))
+absent_set key groups i group piece absent at = each_set (HasOther key) groups i (group_with group piece) absent (each_at (HasOther key) groups i group absent at)
+
+-- ---- no two have one
+
+abbrev pub AreDistinct : List Group → Type 0
+AreDistinct [] = Unit {0}
+AreDistinct (group ∷ groups) = IsAbsent group.key groups × AreDistinct groups
+
+pub distinct_remove : (groups : List Group) (i : ℕ) → AreDistinct groups → AreDistinct (remove groups i)
+distinct_remove [] zero distinct = tt
+distinct_remove [] (suc i) distinct = tt
+distinct_remove (group ∷ groups) zero distinct = distinct.1
+distinct_remove (group ∷ groups) (suc i) distinct = (each_remove (HasOther group.key) groups i distinct.0, distinct_remove groups i distinct.1)
+
+pub distinct_set : (groups : List Group) (i : ℕ) (group : Group) (piece : Piece) → AreDistinct groups → slice_get groups i ≡ Some group → AreDistinct (slice_set groups i (group_with group piece))
+distinct_set [] i group piece distinct at = tt
+distinct_set (first ∷ groups) zero group piece distinct at = (subst (λ (g : Group). IsAbsent g.key groups) (same_Some first group at) distinct.0, distinct.1)
+distinct_set (first ∷ groups) (suc i) group piece distinct at = (absent_set first.key groups i group piece distinct.0 at, distinct_set groups i group piece distinct.1 at)
+
+-- ---- the group of one key, and what a packet of another key leaves of it
 
 -- ---- no group has the key
 
@@ -227,17 +316,17 @@ after_other limit groups packet now P Q before removed put room push = go (is_wh
     given_up None is = before
     given_up (Some place) is = removed place is
 
-    begun : (found : Found) → found_for limit groups key now ≡ found → is_beginning found ≡ true → begins_group limit groups packet now ≡ true → (whole : Bool) → Q (groups_with groups key (piece_of packet now) found whole)
-    begun (joins place group) is true_is is_begun whole = cc
+    begun : (found : Found) → found_for limit groups key now ≡ found → is_beginning found ≡ true → begins_group limit groups packet now ≡ true → (all : Bool) → Q (groups_with groups key (piece_of packet now) found all)
+    begun (joins place group) is true_is is_begun all = cc
     begun (begins others) is true_is is_begun true = room is_begun others is (begins_from limit groups others key now is P before removed)
     begun (begins others) is true_is is_begun false = push is_begun others is (begins_from limit groups others key now is P before removed)
 
-    kept : is_whole packet ≡ false → (found : Found) → IsFoundIn limit now groups key found → is_beginning found ≡ false → (whole : Bool) → P (groups_with groups key (piece_of packet now) found whole)
+    kept : is_whole packet ≡ false → (found : Found) → IsFoundIn limit now groups key found → is_beginning found ≡ false → (all : Bool) → P (groups_with groups key (piece_of packet now) found all)
     kept part (joins place group) found none true = removed place found.0
     kept part (joins place group) found none false = put part place group found.0 found.1 found.2
-    kept part (begins others) found none whole = cc
+    kept part (begins others) found none all = cc
 
-    go : (whole bad : Bool) → is_whole packet ≡ whole → is_bad packet ≡ bad
+    go : (all bad : Bool) → is_whole packet ≡ all → is_bad packet ≡ bad
         → (begins_group limit groups packet now ≡ true → Q (groups_after limit groups packet now)) × (begins_group limit groups packet now ≡ false → P (groups_after limit groups packet now))
     go true bad e f = (λ is. absurd (false≢true (rw e at is)), λ is. rw e (given_up (place_of key groups) refl))
     go false true e f = (λ is. absurd (false≢true (rw (e, f) at is)), λ is. rw (e, f) before)
@@ -245,6 +334,13 @@ after_other limit groups packet now P Q before removed put room push = go (is_wh
       λ is. rw (e, f) (begun (found_for limit groups key now) refl (rw (e, f) at is) is complete),
       λ is. rw (e, f) (kept e (found_for limit groups key now) (found_in limit groups key now (found_for limit groups key now) refl) (rw (e, f) at is) complete),
     )
+
+pub part_begins : (limit : ℕ) (groups : List Group) (packet : PacketParts) (now : ℕ) → begins_group limit groups packet now ≡ true → is_whole packet ≡ false
+part_begins limit groups packet now is = go (is_whole packet) refl is
+  where
+    go : (all : Bool) → is_whole packet ≡ all → (not all && not (is_bad packet) && is_beginning (found_for limit groups (key_of packet) now)) ≡ true → is_whole packet ≡ false
+    go true e is = cc
+    go false e is = e
 
 -- what is kept by the beginning of a group, too
 pub kept_after : (limit : ℕ) (groups : List Group) (packet : PacketParts) (now : ℕ) (Hold : List Group → Type 0) → AreDistinct groups → Hold groups → ((groups : List Group) (place : ℕ) → Hold groups → Hold (remove groups place))
@@ -257,18 +353,38 @@ kept_after limit groups packet now Hold distinct all removed put room push =
     let both = after_other limit groups packet now Hold Hold all (λ place there. removed groups place all)
     (λ part place group there got over. put part place group (passes_found (has_key (key_of packet)) groups group (found_place (has_key (key_of packet)) groups place there ∙ got)) got over)
     (λ is others found standing. room others standing)
-    (λ is others found standing. push (part_begins is) (with_room others) (each_room (HasOther (key_of packet)) others (begins_absent limit groups others (key_of packet) now distinct found)) (room others standing)) in
+    (λ is others found standing. push (part_begins limit groups packet now is) (with_room others) (each_room (HasOther (key_of packet)) others (begins_absent limit groups others (key_of packet) now distinct found)) (room others standing)) in
     ⊎_elim
     (λ (is : begins_group limit groups packet now ≡ true). both.0 is)
     (λ (is : begins_group limit groups packet now ≡ false). both.1 is)
     (cases_Bool (begins_group limit groups packet now))
+
+-- a packet that is or completes a datagram leaves no group of its key
+pub whole_leaves_none : (limit : ℕ) (groups : List Group) (packet : PacketParts) (now : ℕ) (octets : List ℕ) (was_joined : Bool) (Holds : Group → Type 0) → AreDistinct groups → EachGroup Holds groups
+    → fate limit groups packet now ≡ whole octets was_joined → IsAbsent (key_of packet) (groups_after limit groups packet now) × EachGroup Holds (groups_after limit groups packet now)
+unfolding fate groups_after IsFoundIn
+whole_leaves_none limit groups packet now octets was_joined Holds distinct each is = go (is_whole packet) (is_bad packet) (datagram_with limit groups packet now) refl refl refl
   where
-    part_begins : begins_group limit groups packet now ≡ true → is_whole packet ≡ false
-    part_begins is = go (is_whole packet) refl is
-      where
-        go : (all : Bool) → is_whole packet ≡ all → (not all && not (is_bad packet) && is_beginning (found_for limit groups (key_of packet) now)) ≡ true → is_whole packet ≡ false
-        go true e is = cc
-        go false e is = e
+    key : DatagramKey
+    key = key_of packet
+
+    removed : (place : ℕ) → place_of key groups ≡ Some place → IsAbsent key (remove groups place) × EachGroup Holds (remove groups place)
+    removed place there = (removed_absent key groups place distinct there, each_remove Holds groups place each)
+
+    without : (place : Option ℕ) → place_of key groups ≡ place → IsAbsent key (without_group groups place) × EachGroup Holds (without_group groups place)
+    without None none = (place_absent key groups none, each)
+    without (Some place) there = removed place there
+
+    completed : (found : Found) → found_for limit groups key now ≡ found → IsAbsent key (groups_with groups key (piece_of packet now) found true) × EachGroup Holds (groups_with groups key (piece_of packet now) found true)
+    completed (joins place group) is = removed place (found_in limit groups key now (joins place group) is).0
+    completed (begins others) is = (each_room (HasOther key) others (begins_absent limit groups others key now distinct is), each_room Holds others (begins_from limit groups others key now is (EachGroup Holds) each (λ place there. each_remove Holds groups place each)))
+
+    go : (all bad : Bool) (datagram : Option (List ℕ)) → is_whole packet ≡ all → is_bad packet ≡ bad → datagram_with limit groups packet now ≡ datagram
+        → IsAbsent key (groups_after limit groups packet now) × EachGroup Holds (groups_after limit groups packet now)
+    go true bad datagram e f g = rw e (without (place_of key groups) refl)
+    go false true datagram e f g = let never = rw (e, f) at is in cc
+    go false false None e f g = let never = rw (e, f, g) at is in cc
+    go false false (Some all) e f g = rw (e, f, g) (completed (found_for limit groups key now) refl)
 
 -- ---- a packet of another key, and the group of ours
 
@@ -303,3 +419,9 @@ stands_after limit key pieces n groups packet now other stands =
     stands_there others found standing few =
         let e : begun_since key others ≡ begun_meanwhile limit groups key packet now = sym (ap (λ (f : Found). begun_since key (others_in f)) found) in
         stands_room key pieces (begun_meanwhile limit groups key packet now) others few (subst (λ (m : ℕ). Stands key pieces m others) e (stands_exactly key pieces n others standing))
+
+-- ---- offers after offers
+
+pub offers_join : (limit : ℕ) (groups : List Group) (later earlier : List Offer) → groups_after_offers limit groups (later ++ earlier) ≡ groups_after_offers limit (groups_after_offers limit groups earlier) later
+offers_join limit groups [] earlier = refl
+offers_join limit groups (offer ∷ later) earlier = ap (λ groups. groups_after limit groups offer.packet offer.time) (offers_join limit groups later earlier)

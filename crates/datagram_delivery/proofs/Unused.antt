@@ -9,9 +9,7 @@ use Rattle.es_base.specs.Groups.{Found, Group, begin_of, begin_or, begins, found
 use Rattle.es_base.proofs.Firsts.{found_at as found_place, passes_found}
 use Rattle.datagram_delivery.specs.Splitting.{Offer, groups_after_offers, is_of, none_in_parts, is_beginning}
 use Rattle.datagram_delivery.specs.Datagrams.{IsUnused}
-use Rattle.datagram_delivery.proofs.Each.{AreDistinct, EachGroup, IsAbsent, distinct_remove, distinct_set, each_at, each_more, each_push, each_remove, each_room, each_set, room_kept}
-use Rattle.datagram_delivery.proofs.Datagrams.{offers_join}
-use Rattle.datagram_delivery.proofs.Standing.{begins_absent, distinct_push, kept_after}
+use Rattle.datagram_delivery.proofs.Standing.{AreDistinct, EachGroup, IsAbsent, distinct_remove, distinct_set, each_at, each_more, each_push, each_remove, each_room, each_set, room_kept, offers_join, begins_absent, distinct_push, kept_after}
 
 -- ---- where a group comes from
 

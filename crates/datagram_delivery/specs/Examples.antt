@@ -1,6 +1,6 @@
 -- A message in two fragments of which each network loses one, two messages among one another, and fragments that meet
 -- all that is asked but one thing, of which a datagram isn't completed or is mixed. Times are in microseconds.
-use Rattle.std.specs.Prelude.{ℕ, ◌+◌, ◌*◌, zero, suc, ◌==◌, nat_lt, Bool, true, false, List, [], ◌∷◌, ◌++◌, if◌then◌else◌}
+use Rattle.std.specs.Prelude.{ℕ, ◌+◌, ◌*◌, zero, suc, ◌==◌, nat_lt, true, false, List, [], ◌∷◌, ◌++◌, if◌then◌else◌}
 use Rattle.es_base.specs.declared.place.Net.{Net}
 use Rattle.es_base.specs.declared.place.Net.TheVariants as nets
 use Rattle.es_base.specs.declared.verdict.Verdict.TheVariants as verdicts
@@ -115,32 +115,17 @@ one_after = came_with nets.B 3 (frame_with 64 3 2) 1600
 
 -- ---- one thing isn't met
 
--- a fragment of 8 octets that all have this value
-abbrev pub fragment : ℕ → ℕ → Bool → ℕ → Offer
-fragment ident offset more value = record {
-  packet = record {
-    source = 1;
-    destination = 2;
-    ident = ident;
-    more = more;
-    offset = offset;
-    octets = value ∷ value ∷ value ∷ value ∷ value ∷ value ∷ value ∷ value ∷ [];
-  };
-  time = 100;
-  room = true;
-}
-
 -- the first fragments of three datagrams that begin after another
 abbrev pub three_begun : List Offer
-three_begun = fragment 4 0 true 4 ∷ fragment 3 0 true 3 ∷ fragment 2 0 true 2 ∷ []
+three_begun = (part_sent 4 0 400).offer ∷ (part_sent 3 0 300).offer ∷ (part_sent 2 0 200).offer ∷ []
 
 -- the key of that one
 abbrev pub first_key : DatagramKey
-first_key = key_of (fragment 1 0 true 1).packet
+first_key = key_of (part_sent 1 0 100).offer.packet
 
 -- the first fragments of five
-abbrev pub five_begun : List Offer
-five_begun = fragment 5 0 true 5 ∷ three_begun ++ fragment 1 0 true 1 ∷ []
+abbrev pub five_begun : List Carried
+five_begun = part_sent 5 0 500 ∷ part_sent 4 0 400 ∷ part_sent 3 0 300 ∷ part_sent 2 0 200 ∷ part_sent 1 0 100 ∷ []
 
 -- ---- two datagrams of one identification
 

@@ -19,7 +19,7 @@ ghost use Rattle.frame_delivery.specs.Sending.{Copy, Numbering, events_of_copies
 ghost use Rattle.frame_delivery.specs.Once.{FirstsInOrder, new_copies};
 ghost use Rattle.frame_delivery.specs.Network.{ComeWhole, KeepsGap, KeepsPause, KeepsTimes, Timing};
 ghost use Rattle.frame_delivery.specs.Since.{PassTimely, forwarded_since, passing_since};
-ghost use Rattle.datagram_delivery.specs.Splitting.{IsLastFragment, Offer, groups_after_offers, none_in_parts, joined, other_keys, pieces_of};
+ghost use Rattle.datagram_delivery.specs.Splitting.{AreFewInParts, IsLastFragment, LeavesRoom, Offer, groups_after_offers, is_among, keys_in_parts, none_in_parts, joined, other_keys, pieces_of};
 ghost use Rattle.datagram_delivery.specs.Datagrams.{CarryPackets, Completes, KeepsPlace, IsInParts, IsNextFront, IsUnused, messages_by, offers_of};
 ghost use Rattle.datagram_delivery.specs.Offers.{offered_in};
 ghost use Rattle.datagram_delivery.specs.Arriving.{Arrives, past_before};
@@ -27,7 +27,7 @@ ghost use Rattle.datagram_delivery.specs.Interleaved.{AreInterleaved, BringDatag
 ghost use Rattle.datagram_delivery.specs.Parts.{AreWhole, ComeAfterLimit, HaveParts, HavePartsSince, IsMessageOfDatagram, WereSentIn};
 ghost use Rattle.datagram_delivery.specs.Counting.{CarryParts, Counting, CountsUp, IsOverBefore, KeepsCount, TurnsOverLate};
 ghost use Rattle.frame_delivery.specs.Examples.{numbering, timing};
-ghost use Rattle.datagram_delivery.specs.Examples.{a_part_before, after_a_part, among_one_another, counted_anew, counting_anew, datagram_at, datagram_before_restart, datagram_octets, eight, first_key, five_begun, fragment, in_two_fragments, link_of_100, link_with_queue, message_in_two, sixteen_octets, one_after, one_identification, one_overtaken, payload_sent, payload_with, restarting, three_begun, timing_with_pause};
+ghost use Rattle.datagram_delivery.specs.Examples.{a_part_before, after_a_part, among_one_another, counted_anew, counting_anew, datagram_at, datagram_before_restart, datagram_octets, eight, first_key, five_begun, in_two_fragments, link_of_100, link_with_queue, message_in_two, sixteen_octets, one_after, one_identification, one_overtaken, part_sent, payload_sent, payload_with, restarting, three_begun, timing_with_pause};
 
 /// A datagram that is split into fragments is joined whole: each fragment but the last is held, and the last brings
 /// exactly the octets of all, one after the other. They come in order and within the limit of time, none is missing,
@@ -50,17 +50,27 @@ pub fn three_others_leave_room()
     ensures unused { (limit : ℕ) (key : DatagramKey) (now : ℕ) (earlier : List Offer) → IsUnused limit key now earlier → none_in_parts limit (groups_after_offers limit [] earlier) key now ≡ true }
 {}
 
-/// What a port gets is what it would get if the packets of the frames that were forwarded were offered one by one, in any
-/// past of a link: this asks nothing of senders and of networks, and no fault voids it. The groups stand as after these
-/// offers.
+/// Four datagrams may be in parts at a time, by the sender's count, if each packet is the next of its datagram: each
+/// keeps its place then, whatever others begin and end meanwhile. And an identification is free again with its
+/// datagram's last fragment.
+pub fn four_may_be_in_parts()
+    ensures room { (settings : Settings) (carried : List Carried) (key : DatagramKey) (offers earlier : List Offer) → AreInterleaved settings [] carried → AreFewInParts (carried_offers carried)
+        → carried_offers carried ≡ offers ++ earlier → LeavesRoom settings.reassembly (groups_after_offers settings.reassembly [] earlier) key offers }
+    ensures free { (settings : Settings) (carried : List Carried) (key : DatagramKey) (now : ℕ) (offers earlier : List Offer) → AreInterleaved settings [] carried
+        → carried_offers carried ≡ offers ++ earlier → is_among key (keys_in_parts earlier) ≡ false → none_in_parts settings.reassembly (groups_after_offers settings.reassembly [] earlier) key now ≡ true }
+{}
+
+/// What a port gets is what it would get if the packets of the frames that were forwarded were offered one by one, in
+/// any past of a link: this asks nothing of senders and of networks, and no fault voids it. The groups stand as after
+/// these offers.
 pub fn deliveries_are_of_what_was_offered()
     ensures messages { (settings : Settings) (past : List Event) (port : PortNo) → deliveries settings past port ≡ messages_by settings (offered_in settings past) port }
     ensures groups { (settings : Settings) (past : List Event) → groups_in settings past ≡ groups_after_offers settings.reassembly [] (offered_in settings past) }
 {}
 
-/// After any past the packet of each frame of which a copy passes before all copies of later frames, from the first on that
-/// is forwarded, is offered once, in the order of sending, at the time of the first that passes: whatever is lost of others,
-/// and whatever the packets are.
+/// After any past the packet of each frame of which a copy passes before all copies of later frames, from the first on
+/// that is forwarded, is offered once, in the order of sending, at the time of the first that passes: whatever is lost
+/// of others, and whatever the packets are.
 pub fn each_passing_packet_is_offered_once()
     ensures { (settings : Settings) (numbering : Numbering) (timing : Timing) (packet : ℕ → PacketParts) (old : List Event) (copies : List Copy) → PassTimely settings numbering timing old copies
         → CarryPackets packet (forwarded_since settings old copies)
@@ -68,9 +78,9 @@ pub fn each_passing_packet_is_offered_once()
 {}
 
 /// If a sender sends its datagrams whole, or the fragments of up to four of them among one another, as its sub-virtual
-/// links do, a port gets after any past exactly the messages whose last packet comes before all copies of later frames: each
-/// once, whole, in the order of ending, with the time of the first copy of its last fragment that passes; but for those whose
-/// queue was full then.
+/// links do, a port gets after any past exactly the messages whose last packet comes before all copies of later frames:
+/// each once, whole, in the order of ending, with the time of the first copy of its last fragment that passes; but for
+/// those whose queue was full then.
 pub fn each_datagram_among_others_is_delivered_once()
     ensures { (settings : Settings) (numbering : Numbering) (timing : Timing) (packet : ℕ → PacketParts) (old : List Event) (copies : List Copy) (carried : List Carried) (port : PortNo)
         → PassTimely settings numbering timing old copies → CarryPackets packet (forwarded_since settings old copies) → offers_of packet (new_copies (passing_since settings old copies)) ≡ carried_offers carried
@@ -79,9 +89,9 @@ pub fn each_datagram_among_others_is_delivered_once()
 {}
 
 /// So a message that arrives is delivered to its port: whatever came before its sender's copies, whatever was lost of
-/// others, or came after one of a later frame, and whatever comes after it. No fault of a sender or a network, once it is over, voids this. It stands right
-/// after what was delivered before it: so each that arrives has a place of its own. For any frame that is forwarded
-/// brings the message that its packet completes, whatever groups stand.
+/// others, or came after one of a later frame, and whatever comes after it. No fault of a sender or a network, once it
+/// is over, voids this. It stands right after what was delivered before it: so each that arrives has a place of its
+/// own. For any frame that is forwarded brings the message that its packet completes, whatever groups stand.
 pub fn each_message_that_arrives_is_delivered()
     ensures completed { (settings : Settings) (past : List Event) (a : Arrival) (room : Bool) (packet : PacketParts) (payload : Payload) → is_forwarded settings past a ≡ true → packet_in a.frame ≡ Ok packet
         → Completes settings payload (offered_in settings past) (record { packet = packet; time = a.time; room = room }) → outcome settings past a ≡ brings payload }
@@ -90,11 +100,12 @@ pub fn each_message_that_arrives_is_delivered()
         → (later : List Message) × (deliveries settings past payload.port ≡ deliveries settings (past_before one) payload.port ++ record { time = time; octets = payload.octets } ∷ later) }
 {}
 
-/// Nothing is made up, mixed or cut, whatever is lost, brought twice or out of order, and whatever came before: a message
-/// that a port gets is that of the datagram of which the frame has a part that came at its time. It is only asked that no
-/// two fragments that come within the limit of time of each other are of different datagrams with one identification,
-/// and that an old past hasn't these identifications within it: they may be any once the limit is over since all that was
-/// forwarded there, or with nothing before. Nothing is asked of the identifications of datagrams that are sent whole.
+/// Nothing is made up, mixed or cut, whatever is lost, brought twice or out of order, and whatever came before: a
+/// message that a port gets is that of the datagram of which the frame has a part that came at its time. It is only
+/// asked that no two fragments that come within the limit of time of each other are of different datagrams with one
+/// identification, and that an old past hasn't these identifications within it: they may be any once the limit is over
+/// since all that was forwarded there, or with nothing before. Nothing is asked of the identifications of datagrams
+/// that are sent whole.
 pub fn each_message_was_sent()
     ensures brought { (settings : Settings) (datagram : Event → List ℕ) (old : List Event) (e : Event) (past : List Event) (payload : Payload) → HavePartsSince settings datagram old (e ∷ past)
         → outcome settings (past ++ old) (arrival_of e) ≡ brings payload → IsMessageOfDatagram settings e.frame (datagram e) payload }
@@ -106,10 +117,10 @@ pub fn each_message_was_sent()
     ensures whole { (limit : ℕ) (datagram : Event → List ℕ) (past : List Event) → AreWhole datagram past → HaveParts limit datagram past }
 {}
 
-/// A sender may count identifications if one comes again only after longer than the reassembly limit and what the times on
-/// the way differ by. It may begin the count anew at a restart if its pause is longer than that. A count that goes on over
-/// restarts needs no pause. Where datagrams are sent one after another, a count turns over after 65,536 frames at the
-/// soonest.
+/// A sender may count identifications if one comes again only after longer than the reassembly limit and what the times
+/// on the way differ by. It may begin the count anew at a restart if its pause is longer than that. A count that goes
+/// on over restarts needs no pause. Where datagrams are sent one after another, a count turns over after 65,536 frames
+/// at the soonest.
 pub fn a_count_of_identifications_mixes_nothing()
     ensures parts { (limit : ℕ) (numbering : Numbering) (timing : Timing) (counting : Counting) (datagram : Event → List ℕ) (copies : List Copy) → KeepsTimes numbering timing copies
         → CarryParts counting datagram copies → KeepsCount limit numbering timing counting → HaveParts limit datagram (events_of_copies copies) }
@@ -119,13 +130,13 @@ pub fn a_count_of_identifications_mixes_nothing()
         → KeepsCount limit numbering timing counting }
 {}
 
-/// The conditions can be met: by a message in two fragments, of which each network loses one, also after a part of another
-/// with its identification, of which the rest was lost, and a frame of no sender; by two messages among one another; and by a
-/// message after a frame that is lost, since its one copy comes after one of a later frame: those before it are delivered,
-/// and so is this.
+/// The conditions can be met: by a message in two fragments, of which each network loses one, also after a part of
+/// another with its identification, of which the rest was lost, and a frame of no sender; by two messages among one
+/// another; and by a message after a frame that is lost, since its one copy comes after one of a later frame: those
+/// before it are delivered, and so is this.
 pub fn the_conditions_can_be_met()
     ensures in_fragments { BringDatagrams link_with_queue (events_of_copies in_two_fragments) message_in_two }
-    ensures among { AreInterleaved link_with_queue [] among_one_another }
+    ensures among { AreInterleaved link_with_queue [] among_one_another × AreFewInParts (carried_offers among_one_another) }
     ensures arrives { Arrives link_with_queue (events_since after_a_part a_part_before) payload_sent 61500 }
     ensures after_overtaken { Arrives link_with_queue (events_of_copies (one_after ∷ one_overtaken)) (payload_with 3) 1600 × (FirstsInOrder (passing_since link_with_queue [] one_overtaken) → ⊥)
         × (deliveries link_with_queue (events_of_copies (one_after ∷ one_overtaken)) (record { 0 = 0 })
@@ -136,13 +147,15 @@ pub fn the_conditions_can_be_met()
 
 /// Counterexamples with one condition not met, and all others met: with a fifth datagram in parts the first isn't
 /// completed, so its message isn't delivered; and within the limit of time, to the microsecond, one identification for
-/// two datagrams mixes them. So does a count of identifications that a restart begins anew, with a limit of 50,000 and a
-/// pause of 10,000: one fragment is lost on both networks. That pause is long enough for a limit of 9,999, with which no
-/// message is delivered.
+/// two datagrams mixes them. So does a count of identifications that a restart begins anew, with a limit of 50,000 and
+/// a pause of 10,000: one fragment is lost on both networks. That pause is long enough for a limit of 9,999, with which
+/// no message is delivered.
 pub fn each_condition_is_needed()
-    ensures fifth_group { IsInParts 50000 first_key [] (fragment 1 0 true 1) (fragment 5 0 true 5 ∷ three_begun) × IsLastFragment 50000 (pieces_of first_key five_begun) (fragment 1 8 false 1)
-        × KeepsPlace 50000 first_key [] (fragment 1 0 true 1) three_begun × (KeepsPlace 50000 first_key [] (fragment 1 0 true 1) (fragment 5 0 true 5 ∷ three_begun) → ⊥)
-        × (fate 50000 (groups_after_offers 50000 [] five_begun) (fragment 1 8 false 1).packet 100 ≡ held) }
+    ensures fifth_group { IsInParts 50000 first_key [] (part_sent 1 0 100).offer ((part_sent 5 0 500).offer ∷ three_begun) × IsLastFragment 50000 (pieces_of first_key (carried_offers five_begun)) (part_sent 1 1 600).offer
+        × KeepsPlace 50000 first_key [] (part_sent 1 0 100).offer three_begun × (KeepsPlace 50000 first_key [] (part_sent 1 0 100).offer ((part_sent 5 0 500).offer ∷ three_begun) → ⊥)
+        × AreInterleaved link_with_queue [] five_begun × (AreFewInParts (carried_offers five_begun) → ⊥)
+        × (fate 50000 (groups_after_offers 50000 [] (carried_offers five_begun)) (part_sent 1 1 600).offer.packet 600 ≡ held)
+        × (messages_by link_with_queue ((part_sent 1 1 600).offer ∷ carried_offers five_begun) (record { 0 = 0 }) ≡ []) }
     ensures identification_again { HaveParts 99 datagram_at (events_of_copies one_identification) × (HaveParts 100 datagram_at (events_of_copies one_identification) → ⊥)
         × (deliveries link_of_100 (events_of_copies one_identification) (record { 0 = 0 }) ≡ record { time = 200; octets = eight 1 ++ eight 2 } ∷ []) }
     ensures counted_anew_too_soon { ComeWhole link_with_queue restarting timing_with_pause counted_anew × CarryParts counting_anew datagram_before_restart counted_anew × TurnsOverLate 50000 timing_with_pause counting_anew

@@ -24,7 +24,7 @@ use Rattle.datagram_delivery.specs.Splitting.{Offer}
 use Rattle.datagram_delivery.specs.Datagrams.{CarryPackets, IsInParts, offers_of}
 use Rattle.datagram_delivery.specs.Examples.{packet_sent, part_sent}
 use Rattle.datagram_delivery.specs.Interleaved.{AreInterleaved, BringDatagrams, carried_offers}
-use Rattle.datagram_delivery.proofs.Interleaved.{brought_by}
+use Rattle.datagram_delivery.proofs.Arriving.{brought_by}
 use Rattle.delivery_example.proofs.Rooms.{three}
 use Rattle.delivery_example.specs.Example.{arrival_on_a, first_arrival_on_b, first_on_a, first_on_b, link_with_nav, nav_message, nav, past, past_if_b_is_first, second_arrival_on_b, second_on_b, second_time_on_b, first_time_on_b, time_on_a, sent, sent_if_b_is_first}
 

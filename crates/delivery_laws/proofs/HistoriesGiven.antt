@@ -9,8 +9,7 @@ use Rattle.es_base.specs.Outcome.{Payload}
 use Rattle.link_receiver.specs.Link.{Link, message_words, past_of}
 use Rattle.datagram_delivery.specs.Arriving.{Arrives, past_before}
 use Rattle.datagram_delivery.specs.Interleaved.{BringDatagrams, Carried, messages_ended}
-use Rattle.datagram_delivery.proofs.Arriving.{arriving_is_delivered}
-use Rattle.datagram_delivery.proofs.Interleaved.{brought_by}
+use Rattle.datagram_delivery.proofs.Arriving.{arriving_is_delivered, brought_by}
 use Rattle.datagram_delivery.proofs.Offered.{deliveries_by_offers}
 use Rattle.end_system.specs.declared.ends.LinkEnds.{LinkEnds}
 use Rattle.end_system.specs.Run.{HasEnded, Step}

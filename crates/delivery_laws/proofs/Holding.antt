@@ -15,7 +15,7 @@ use Rattle.link_receiver.specs.Ends.{IsOfItsPort}
 use Rattle.link_receiver.specs.Link.{Link, message_words, past_of, published_at}
 use Rattle.link_receiver.specs.Outlet.{ShowsDelivered}
 use Rattle.datagram_delivery.specs.Interleaved.{BringDatagrams, Carried, messages_ended}
-use Rattle.datagram_delivery.proofs.Interleaved.{brought_by}
+use Rattle.datagram_delivery.proofs.Arriving.{brought_by}
 use Rattle.end_system.specs.declared.ends.LinkEnds.{LinkEnds}
 use Rattle.end_system.specs.Run.{HasEnded, Step}
 use Rattle.end_system.specs.System.{System}

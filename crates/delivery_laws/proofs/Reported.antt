@@ -23,8 +23,7 @@ use Rattle.trace_player.specs.Merge.{merged}
 use Rattle.trace_player.specs.Output.{lines_of, output_of, report_time_of}
 use Rattle.datagram_delivery.specs.Arriving.{Arrives, past_before}
 use Rattle.datagram_delivery.specs.Interleaved.{BringDatagrams, Carried}
-use Rattle.datagram_delivery.proofs.Arriving.{arriving_is_delivered}
-use Rattle.datagram_delivery.proofs.Interleaved.{brought_by}
+use Rattle.datagram_delivery.proofs.Arriving.{arriving_is_delivered, brought_by}
 use Rattle.datagram_delivery.proofs.Offered.{deliveries_by_offers}
 use Rattle.delivery_laws.specs.Reported.{AreWritten, IsReported, StandsIn, lines_offered, lines_sent}
 

@@ -11,8 +11,7 @@ use Rattle.receiver.specs.Outlet.{ShowsAt}
 use Rattle.receiver.specs.Run.{Call, EachHasItsPast}
 use Rattle.datagram_delivery.specs.Arriving.{Arrives}
 use Rattle.datagram_delivery.specs.Interleaved.{BringDatagrams, Carried}
-use Rattle.datagram_delivery.proofs.Arriving.{arriving_is_delivered}
-use Rattle.datagram_delivery.proofs.Interleaved.{brought_by}
+use Rattle.datagram_delivery.proofs.Arriving.{arriving_is_delivered, brought_by}
 use Rattle.datagram_delivery.proofs.Offered.{deliveries_by_offers}
 use Rattle.delivery_laws.specs.Task.{DeliversEach, GivesEach, WasGiven, WereGiven, WereOffered}
 

@@ -1,25 +1,127 @@
--- After any past, from the first copy on that is forwarded, the new copies of those that pass are forwarded.
-use Rattle.std.proofs.Common.{◌≡◌, ◌∙◌, sym, ap, subst, ℕ, ◌+◌, ◌<◌, ◌≤◌, Bool, true, false, not, List, [], ◌∷◌, ◌++◌, inl, refl, ⊎_elim, arith}
-use Rattle.std.specs.Prelude.{◌&&◌, ◌||◌, ◌⊎◌, nat_lt, max}
-use Rattle.std.proofs.lemmas.Bool.{and_from, and_right, cases_Bool}
+-- Redundancy management forwards the copies that are new.
+use Rattle.std.proofs.Common.{◌≡◌, ◌∙◌, sym, ap, ℕ, ◌+◌, ◌<◌, ◌≤◌, true, false, List, [], ◌∷◌, refl, ⊎_elim, arith, subst, Bool, not, ◌++◌, inl}
+use Rattle.std.specs.Prelude.{◌||◌, nat_lt, max, ◌&&◌, ◌⊎◌}
+use Rattle.std.proofs.lemmas.Bool.{cases_Bool, cases_lt, lt-ltb, le-ltb, ltb-false, or_left, or_right, or_from, and_from, and_right}
+use Rattle.es_base.specs.Frame.{sequence_number_of}
+use Rattle.es_base.specs.Copies.{is_ahead, elapsed, greatest_time, is_first_copy, Forwarded}
+use Rattle.frame_delivery.specs.Sending.{Copy, HaveNumbers, Numbering, number_of_frame, EachCopy, events_of_copies, events_since}
+use Rattle.frame_delivery.specs.Once.{AreInOrder, ComesInTime, as_forwarded, greatest_index, is_new, new_copies, newest_time, FirstsInOrder, first_copies, has_come}
+use Rattle.frame_delivery.proofs.Cases.{by_if}
+use Rattle.frame_delivery.proofs.Numbers.{ahead_of_earlier, not_ahead_of_later}
 use Rattle.es_base.specs.declared.event.Arrival.{Arrival}
 use Rattle.es_base.specs.declared.event.Event.{Event}
-use Rattle.es_base.specs.Frame.{sequence_number_of}
 use Rattle.es_base.specs.Past.{arrival_of}
 use Rattle.es_base.specs.Integrity.{passes}
-use Rattle.es_base.specs.Copies.{Forwarded, elapsed, greatest_time, is_ahead, is_first_copy}
 use Rattle.es_base.specs.Redundancy.{forwarded, is_forwarded, is_forwarded_after}
 use Rattle.es_base.specs.Settings.{Settings}
-use Rattle.frame_delivery.specs.Sending.{Copy, EachCopy, HaveNumbers, Numbering, events_of_copies, events_since, number_of_frame}
-use Rattle.frame_delivery.specs.Once.{AreInOrder, FirstsInOrder, as_forwarded, first_copies, is_new, new_copies, newest_time}
 use Rattle.frame_delivery.specs.Network.{BeginNear, ComeTimely, HasNoOvertaking, IsNeverLate, IsOnItsWay, IsOverSoon, KeepsTimes, Timing, time_of_all}
 use Rattle.frame_delivery.specs.Running.{EachForwarded}
 use Rattle.frame_delivery.specs.Since.{ComeAfter, PassInOrder, PassTimely, counts, forwarded_since, passing_since}
-use Rattle.frame_delivery.proofs.Cases.{by_if}
-use Rattle.frame_delivery.proofs.Forwarding.{ComesInTime, first_is_new, new_in_order, newest_of}
-use Rattle.frame_delivery.proofs.Firsts.{first_are_new, new_are_first}
+use Rattle.frame_delivery.proofs.Firsts.{first_are_new, new_are_first, new_is_first}
 use Rattle.frame_delivery.proofs.Running.{all_over, first_when_over}
 use Rattle.frame_delivery.proofs.Times.{all_in_time, begin_near, none_overtaken, not_late}
+
+-- ---- the newest of some copies
+
+-- the copy that is listed first of the new ones, and what holds of it
+pub record Newest (numbering : Numbering) (copies : List Copy) : Type 0 where
+  pub copy : Copy
+  pub earlier : List Copy
+  pub is : new_copies copies ≡ copy ∷ earlier
+  pub greatest : copy.index ≡ greatest_index copies
+  pub number : sequence_number_of copy.event.frame ≡ number_of_frame numbering copy.index
+
+pub newest_of : (numbering : Numbering) (copy : Copy) (before : List Copy) → HaveNumbers numbering (copy ∷ before) → Newest numbering (copy ∷ before)
+newest_of numbering copy [] numbers = record { copy = copy; earlier = []; is = refl; greatest = omega arith; number = numbers.0 }
+newest_of numbering copy (other ∷ before) numbers =
+    ⊎_elim
+    (λ (less : greatest_index (other ∷ before) < copy.index). record {
+      copy = copy;
+      earlier = new_copies (other ∷ before);
+      is = rw (lt-ltb (greatest_index (other ∷ before)) copy.index less) refl;
+      greatest = omega arith;
+      number = numbers.0;
+    })
+    (λ (more : copy.index ≤ greatest_index (other ∷ before)).
+    let found = newest_of numbering other before numbers.1 in
+    record {
+      copy = found.copy;
+      earlier = found.earlier;
+      is = rw (le-ltb (greatest_index (other ∷ before)) copy.index more) found.is;
+      greatest = omega (arith, found.greatest);
+      number = found.number;
+    })
+    (cases_lt (greatest_index (other ∷ before)) copy.index)
+
+-- ---- the first copy is a new one
+
+pub first_is_new : (numbering : Numbering) (skew_max : ℕ) (before : List Copy) (copy : Copy) → numbering.first ≤ 255 → HaveNumbers numbering before → sequence_number_of copy.event.frame ≡ number_of_frame numbering copy.index
+    → ComesInTime numbering skew_max before copy
+    → is_first_copy skew_max (as_forwarded (new_copies before)) (sequence_number_of copy.event.frame) copy.event.time ≡ is_new copy.index before
+first_is_new numbering skew_max [] copy small numbers number in_time = refl
+first_is_new numbering skew_max (other ∷ before) copy small numbers number in_time =
+    let found = newest_of numbering other before numbers in
+    let all = other ∷ before in
+    let time : ℕ = newest_time all in
+    let as_time : greatest_time (as_forwarded (found.copy ∷ found.earlier)) ≡ time = ap (λ copies. greatest_time (as_forwarded copies)) (sym found.is) in
+    let opened : is_first_copy skew_max (as_forwarded (new_copies all)) (sequence_number_of copy.event.frame) copy.event.time
+    ≡ (nat_lt skew_max (elapsed copy.event.time time) || is_ahead (number_of_frame numbering (greatest_index all)) (number_of_frame numbering copy.index)) =
+    ap (λ copies. is_first_copy skew_max (as_forwarded copies) (sequence_number_of copy.event.frame) copy.event.time) found.is
+    ∙ ap (λ (t : ℕ). nat_lt skew_max (elapsed copy.event.time t) || is_ahead (sequence_number_of found.copy.event.frame) (sequence_number_of copy.event.frame)) as_time
+    ∙ ap (λ (n : ℕ). nat_lt skew_max (elapsed copy.event.time time) || is_ahead n (sequence_number_of copy.event.frame)) (found.number ∙ ap (number_of_frame numbering) found.greatest)
+    ∙ ap (λ (n : ℕ). nat_lt skew_max (elapsed copy.event.time time) || is_ahead (number_of_frame numbering (greatest_index all)) n) number in
+    opened
+    ∙ ⊎_elim
+    (λ (new : greatest_index all < copy.index).
+    ⊎_elim
+    (λ (over : time + skew_max < copy.event.time).
+    or_left _ _ (lt-ltb skew_max (elapsed copy.event.time time) (omega arith)) ∙ sym (lt-ltb (greatest_index all) copy.index new))
+    (λ (soon : copy.event.time ≤ time + skew_max).
+    or_right _ _ (ahead_of_earlier numbering (greatest_index all) copy.index small new (in_time.after soon).0 (in_time.after soon).1) ∙ sym (lt-ltb (greatest_index all) copy.index new))
+    (cases_lt (time + skew_max) copy.event.time))
+    (λ (old : copy.index ≤ greatest_index all).
+    let not_new : is_new copy.index all ≡ false = le-ltb (greatest_index all) copy.index old in
+    let soon : copy.event.time ≤ time + skew_max = in_time.late not_new in
+    or_from _ _ (le-ltb skew_max (elapsed copy.event.time time) (omega arith)) (not_ahead_of_later numbering (greatest_index all) copy.index small old (in_time.behind soon).0 (in_time.behind soon).1)
+    ∙ sym not_new)
+    (cases_lt (greatest_index all) copy.index)
+
+-- ---- in order
+
+pub same_greatest : (copies : List Copy) → greatest_index (new_copies copies) ≡ greatest_index copies
+same_greatest [] = refl
+same_greatest (copy ∷ []) = refl
+same_greatest (copy ∷ other ∷ before) =
+    let rest = same_greatest (other ∷ before) in
+    ⊎_elim
+    (λ (less : greatest_index (other ∷ before) < copy.index).
+    rw (lt-ltb (greatest_index (other ∷ before)) copy.index less) (ap (max copy.index) rest))
+    (λ (more : copy.index ≤ greatest_index (other ∷ before)).
+    rw (le-ltb (greatest_index (other ∷ before)) copy.index more) (rest ∙ omega arith))
+    (cases_lt (greatest_index (other ∷ before)) copy.index)
+
+-- what is new after some copies is new after the new ones of them
+pub new_by_news : (index : ℕ) (copies : List Copy) → is_new index (new_copies copies) ≡ is_new index copies
+new_by_news index [] = refl
+new_by_news index (copy ∷ before) =
+    ⊎_elim
+    (λ (new : is_new copy.index before ≡ true). rw new (ap (λ (greatest : ℕ). nat_lt (max copy.index greatest) index) (same_greatest before)))
+    (λ (old : is_new copy.index before ≡ false). rw old (new_by_news index before ∙ go before old))
+    (cases_Bool (is_new copy.index before))
+  where
+    go : (before : List Copy) → is_new copy.index before ≡ false → is_new index before ≡ is_new index (copy ∷ before)
+    go [] old = cc
+    go (other ∷ earlier) old =
+        let most : copy.index ≤ greatest_index (other ∷ earlier) = ltb-false (greatest_index (other ∷ earlier)) copy.index old in
+        let same : greatest_index (other ∷ earlier) ≡ max copy.index (greatest_index (other ∷ earlier)) = omega arith in
+        ap (λ (greatest : ℕ). nat_lt greatest index) same
+
+pub new_in_order : (copies : List Copy) → AreInOrder (new_copies copies)
+new_in_order [] = tt
+new_in_order (copy ∷ before) =
+    by_if AreInOrder (is_new copy.index before) (copy ∷ new_copies before) (new_copies before) (λ new. (new_by_news copy.index before ∙ new, new_in_order before)) (λ old. new_in_order before)
+
+-- ---- after any past, from the first copy on that is forwarded, the new copies of those that pass are forwarded
 
 -- ---- whether a copy counts
 
@@ -194,6 +296,15 @@ news_before settings numbering timing old copy before pass =
     let timely = pass.timely in
     new_since settings numbering old timely.redundancy timely.first before (sound_before settings numbering old timely.redundancy timely.first copy before (sound_timely settings numbering timing old (copy ∷ before) pass))
 
+-- where those that count come in time, a copy is forwarded exactly if it counts and is new
+pub new_in_time : (settings : Settings) (numbering : Numbering) (old : List Event) (copy : Copy) (before : List Copy) → settings.redundancy ≡ true → numbering.first ≤ 255
+    → HaveNumbers numbering (passing_since settings old (copy ∷ before)) → ComeAfter settings old (passing_since settings old (copy ∷ before)) → EachCopy (ComesInTime numbering settings.skew_max) (passing_since settings old (copy ∷ before))
+    → is_forwarded settings (events_since before old) (arrival_of copy.event)
+    ≡ (counts settings (events_since before old) (arrival_of copy.event) (passing_since settings old before) && is_new copy.index (passing_since settings old before))
+new_in_time settings numbering old copy before on small numbers after in_time =
+    let sound : AreSound settings numbering old (passing_since settings old (copy ∷ before)) = (numbers, old_times settings old (passing_since settings old (copy ∷ before)) after, in_time) in
+    as_new settings numbering old on small copy before (new_since settings numbering old on small before (sound_before settings numbering old on small copy before sound)) sound
+
 -- and the last is forwarded exactly if it counts and is new
 pub new_if : (settings : Settings) (numbering : Numbering) (timing : Timing) (old : List Event) (copy : Copy) (before : List Copy) → PassTimely settings numbering timing old (copy ∷ before)
     → is_forwarded settings (events_since before old) (arrival_of copy.event)
@@ -207,6 +318,18 @@ pub firsts_since : (settings : Settings) (numbering : Numbering) (timing : Timin
     → (forwarded_since settings old copies ≡ first_copies (passing_since settings old copies)) × AreInOrder (first_copies (passing_since settings old copies))
 firsts_since settings numbering timing old copies pass =
     subst (λ (some : List Copy). (forwarded_since settings old copies ≡ some) × AreInOrder some) (new_are_first (passing_since settings old copies) pass.firsts) (news_since settings numbering timing old copies pass.timely)
+
+pub first_if : (settings : Settings) (numbering : Numbering) (timing : Timing) (old : List Event) (copy : Copy) (before : List Copy) → PassInOrder settings numbering timing old (copy ∷ before)
+    → is_forwarded settings (events_since before old) (arrival_of copy.event)
+    ≡ (counts settings (events_since before old) (arrival_of copy.event) (passing_since settings old before) && not (has_come copy.index (passing_since settings old before)))
+first_if settings numbering timing old copy before pass =
+    new_if settings numbering timing old copy before pass.timely
+    ∙ ⊎_elim
+    (λ (is : counts settings (events_since before old) (arrival_of copy.event) (passing_since settings old before) ≡ true).
+    let firsts : FirstsInOrder (copy ∷ passing_since settings old before) = rw is at pass.firsts in
+    rw is (new_is_first copy (passing_since settings old before) firsts.0))
+    (λ (is : counts settings (events_since before old) (arrival_of copy.event) (passing_since settings old before) ≡ false). rw is refl)
+    (cases_Bool (counts settings (events_since before old) (arrival_of copy.event) (passing_since settings old before)))
 
 -- and only there
 pub order_is_needed : (settings : Settings) (numbering : Numbering) (timing : Timing) (old : List Event) (copies : List Copy) → PassTimely settings numbering timing old copies

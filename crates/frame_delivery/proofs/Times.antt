@@ -4,10 +4,9 @@ use Rattle.std.specs.Prelude.{max}
 use Rattle.std.proofs.lemmas.Bool.{cases_Bool, cases_lt, lt-ltb, le-ltb, ltb-false}
 use Rattle.es_base.specs.Integrity.{latest}
 use Rattle.frame_delivery.specs.Sending.{Copy, EachCopy, Numbering, RunsOn}
-use Rattle.frame_delivery.specs.Once.{FirstsInOrder, IsNotOvertaken, greatest_index, has_come, newest_time}
+use Rattle.frame_delivery.specs.Once.{ComesInTime, IsInTime, FirstsInOrder, IsNotOvertaken, greatest_index, has_come, newest_time}
 use Rattle.frame_delivery.specs.Network.{BeginNear, BeginsNear, IsAfterCut, IsNeverLate, FitsSkew, HasNoOvertaking, IsOnItsWay, IsOverSoon, KeepsGap, KeepsPause, KeepsTimes, Timing, indices_on, time_of_all}
 use Rattle.frame_delivery.proofs.Firsts.{latest_has_come}
-use Rattle.frame_delivery.proofs.Forwarding.{ComesInTime, IsInTime}
 use Rattle.frame_delivery.proofs.Passing.{IsAtMost, latest_at_most}
 
 -- a frame of which a copy may be taken after one of another is at most 127 before that, with no restart between

@@ -1,8 +1,8 @@
 -- What of the copies is to be forwarded: one copy of each frame, in the order of sending.
-use Rattle.std.specs.Prelude.{◌≡◌, ℕ, ◌<◌, ◌==◌, Bool, true, false, ◌||◌, nat_lt, max, List, [], ◌∷◌, if◌then◌else◌}
+use Rattle.std.specs.Prelude.{◌≡◌, ℕ, ◌+◌, ◌<◌, ◌≤◌, ◌==◌, Bool, true, false, ◌||◌, nat_lt, max, List, [], ◌∷◌, if◌then◌else◌}
 use Rattle.es_base.specs.Frame.{sequence_number_of}
 use Rattle.es_base.specs.Copies.{Forwarded, greatest_time}
-use Rattle.frame_delivery.specs.Sending.{Copy, EachCopy}
+use Rattle.frame_delivery.specs.Sending.{Copy, EachCopy, Numbering, RunsOn}
 
 -- ---- copies of later and later frames
 
@@ -50,6 +50,19 @@ as_forwarded (copy ∷ before) = record { sequence_number = sequence_number_of c
 -- the greatest time of the copies that were new when they came
 abbrev pub newest_time : List Copy → ℕ
 newest_time copies = greatest_time (as_forwarded (new_copies copies))
+
+-- what redundancy management needs of a copy, after others came: if it isn't new, it comes no later than SkewMax
+-- after the new ones; and one that comes no later than this is of a frame at most 127 after the latest or before it,
+-- with no restart of the sender between the two
+-- rule: DELIV-3
+pub record IsInTime (numbering : Numbering) (skew_max : ℕ) (before : List Copy) (copy : Copy) : Type 0 where
+  pub late : is_new copy.index before ≡ false → copy.event.time ≤ newest_time before + skew_max
+  pub after : copy.event.time ≤ newest_time before + skew_max → (copy.index ≤ greatest_index before + 127) × RunsOn numbering (greatest_index before) copy.index
+  pub behind : copy.event.time ≤ newest_time before + skew_max → (greatest_index before ≤ copy.index + 127) × RunsOn numbering copy.index (greatest_index before)
+
+abbrev pub ComesInTime : Numbering → ℕ → List Copy → Copy → Type 0
+ComesInTime numbering skew_max [] copy = Unit {0}
+ComesInTime numbering skew_max (other ∷ before) copy = IsInTime numbering skew_max (other ∷ before) copy
 
 -- a copy that comes after one of a later frame isn't the first of its own
 abbrev pub IsNotOvertaken : List Copy → Copy → Type 0

@@ -1,5 +1,5 @@
 //! Which networks bring each frame once, in order, and what a port gets of frames that have whole messages.
-ghost use Rattle.std.specs.Prelude.{◌≡◌, ℕ, ◌<◌, ◌≤◌, ◌+◌, ◌&&◌, true, false, List, [], ◌∷◌, ◌++◌, length, Some};
+ghost use Rattle.std.specs.Prelude.{◌≡◌, ℕ, ◌<◌, ◌≤◌, ◌+◌, ◌&&◌, not, true, false, List, [], ◌∷◌, ◌++◌, length, Some};
 ghost use Rattle.es_base.specs.declared.place.Net.{Net};
 ghost use Rattle.es_base.specs.declared.place.Net.TheVariants as nets;
 ghost use Rattle.es_base.specs.declared.place.PortNo.{PortNo};
@@ -15,7 +15,7 @@ ghost use Rattle.es_base.specs.Redundancy.{forwarded, is_forwarded};
 ghost use Rattle.es_base.specs.Outcome.{Payload};
 ghost use Rattle.es_base.specs.Deliveries.{deliveries, number_delivered};
 ghost use Rattle.frame_delivery.specs.Sending.{Copy, EachCopy, HaveNumbers, Numbering, RunsOn, events_of_copies, events_since, number_of_frame};
-ghost use Rattle.frame_delivery.specs.Once.{AreInOrder, FirstsInOrder, IsOvertaken, as_forwarded, first_copies, has_come, is_new, new_copies};
+ghost use Rattle.frame_delivery.specs.Once.{AreInOrder, ComesInTime, FirstsInOrder, IsOvertaken, as_forwarded, first_copies, has_come, is_new, new_copies};
 ghost use Rattle.frame_delivery.specs.Running.{EachForwarded, SomeForwarded};
 ghost use Rattle.frame_delivery.specs.Since.{ComeAfter, PassInOrder, PassTimely, counts, forwarded_since, passing_since};
 ghost use Rattle.frame_delivery.specs.Network.{BeginNear, BringsInRow, ComeTimely, ComeWhole, Delays, HasAge, HasNoOvertaking, IsNeverLate, IsOverSoon, KeepOrderTogether, KeepsBefore, KeepsDelays, KeepsOrder, KeepsTimes, LosesFew, MayFollow, Timing, copies_on, indices_on};
@@ -48,12 +48,18 @@ pub fn skew_max_runs_from_each_forwarded_frame()
 
 /// No frame is forwarded twice, and none after a later one, whatever the networks lose, bring twice or out of order: of
 /// the copies that pass those are forwarded that are of a later frame than all before, if they come at times that fit
-/// SkewMax, none is too late, and networks begin near each other. So a frame whose copies all come after one of a later frame
-/// is lost, and costs no other. With no old past all copies that pass count.
+/// SkewMax, none is too late, and networks begin near each other. So a frame whose copies all come after one of a later
+/// frame is lost, and costs no other. With no old past all copies that pass count. Of times no more is needed than that
+/// these copies come in time (`ComesInTime`).
 pub fn no_frame_is_forwarded_twice()
     ensures forwarded { (settings : Settings) (numbering : Numbering) (timing : Timing) (old : List Event) (copies : List Copy) → PassTimely settings numbering timing old copies
-        → (forwarded_since settings old copies ≡ new_copies (passing_since settings old copies)) × AreInOrder (new_copies (passing_since settings old copies)) }
+        → forwarded_since settings old copies ≡ new_copies (passing_since settings old copies) }
+    ensures in_order { (copies : List Copy) → AreInOrder (new_copies copies) }
     ensures each { (settings : Settings) (numbering : Numbering) (timing : Timing) (old : List Event) (copy : Copy) (before : List Copy) → PassTimely settings numbering timing old (copy ∷ before)
+        → is_forwarded settings (events_since before old) (arrival_of copy.event)
+        ≡ (counts settings (events_since before old) (arrival_of copy.event) (passing_since settings old before) && is_new copy.index (passing_since settings old before)) }
+    ensures in_time { (settings : Settings) (numbering : Numbering) (old : List Event) (copy : Copy) (before : List Copy) → settings.redundancy ≡ true → numbering.first ≤ 255
+        → HaveNumbers numbering (passing_since settings old (copy ∷ before)) → ComeAfter settings old (passing_since settings old (copy ∷ before)) → EachCopy (ComesInTime numbering settings.skew_max) (passing_since settings old (copy ∷ before))
         → is_forwarded settings (events_since before old) (arrival_of copy.event)
         ≡ (counts settings (events_since before old) (arrival_of copy.event) (passing_since settings old before) && is_new copy.index (passing_since settings old before)) }
     ensures nothing_before { (settings : Settings) (copy : Copy) (before : List Copy)
@@ -69,6 +75,8 @@ pub fn no_frame_is_lost()
         → PassInOrder settings numbering timing [] copies × (first_copies (passing_since settings [] copies) ≡ first_copies copies) }
     ensures forwarded { (settings : Settings) (numbering : Numbering) (timing : Timing) (copies : List Copy) → ComeWhole settings numbering timing copies
         → (forwarded_since settings [] copies ≡ first_copies copies) × AreInOrder (first_copies copies) }
+    ensures first { (settings : Settings) (numbering : Numbering) (timing : Timing) (copy : Copy) (before : List Copy) → ComeWhole settings numbering timing (copy ∷ before)
+        → is_forwarded settings (events_of_copies before) (arrival_of copy.event) ≡ not (has_come copy.index before) }
     ensures all { (copies : List Copy) (index : ℕ) → has_come index (first_copies copies) ≡ has_come index copies }
 {}
 
@@ -100,6 +108,9 @@ pub fn forwarding_recovers()
         → (forwarded_since settings old copies ≡ first_copies (passing_since settings old copies)) × AreInOrder (first_copies (passing_since settings old copies)) }
     ensures each { (settings : Settings) (numbering : Numbering) (timing : Timing) (old : List Event) (copies : List Copy) (index : ℕ) → PassInOrder settings numbering timing old copies
         → has_come index (forwarded_since settings old copies) ≡ has_come index (passing_since settings old copies) }
+    ensures first { (settings : Settings) (numbering : Numbering) (timing : Timing) (old : List Event) (copy : Copy) (before : List Copy) → PassInOrder settings numbering timing old (copy ∷ before)
+        → is_forwarded settings (events_since before old) (arrival_of copy.event)
+        ≡ (counts settings (events_since before old) (arrival_of copy.event) (passing_since settings old before) && not (has_come copy.index (passing_since settings old before))) }
 {}
 
 /// A link has recovered at the latest with the first copy that passes once SkewMax is over since all that was forwarded
@@ -110,11 +121,12 @@ pub fn a_link_recovers_within_skew_max()
         → EachForwarded settings (λ e. e.time + settings.skew_max < copy.event.time) old → passing_since settings old (copy ∷ before) ≡ copy ∷ passing_since settings old before }
 {}
 
-/// The first copies come in order, and none is late, if the times on the way, with the wait, differ by less than the gap.
-/// They come in order, too, if each network keeps the order, and of each one of this holds: its greatest time on the way less
-/// the other's least, with the wait, is below the gap; or the other loses no frame that it brings. Times on one network may
-/// then differ by more. The same holds of the copies that pass, where a frame counts as lost on a network of which no copy
-/// passes there. No less would do: where all else is met, the first copies are forwarded only if they come in order.
+/// The first copies come in order, and none is late, if the times on the way, with the wait, differ by less than the
+/// gap. They come in order, too, if each network keeps the order, and of each one of this holds: its greatest time on
+/// the way less the other's least, with the wait, is below the gap; or the other loses no frame that it brings. Times
+/// on one network may then differ by more. The same holds of the copies that pass, where a frame counts as lost on a
+/// network of which no copy passes there. No less would do: where all else is met, the first copies are forwarded only
+/// if they come in order.
 pub fn first_copies_come_in_order()
     ensures all { (numbering : Numbering) (timing : Timing) (copies : List Copy) → KeepsTimes numbering timing copies → HasNoOvertaking timing → IsNeverLate timing × FirstsInOrder copies }
     ensures passing { (settings : Settings) (numbering : Numbering) (timing : Timing) (old : List Event) (copies : List Copy) → KeepsTimes numbering timing copies → HasNoOvertaking timing
@@ -142,9 +154,9 @@ pub fn each_message_has_its_age()
     ensures { (numbering : Numbering) (timing : Timing) (copies : List Copy) (now : ℕ) → KeepsTimes numbering timing copies → EachCopy (λ before copy. HasAge timing now copy) (first_copies copies) }
 {}
 
-/// After any past a port gets the message of each frame of which a copy passes, from the first on that is forwarded: once,
-/// in the order of sending, whole, with the time of the first that passes; but for those whose queue was full then. It
-/// is lost only if no copy passes, whatever was lost of others.
+/// After any past a port gets the message of each frame of which a copy passes, from the first on that is forwarded:
+/// once, in the order of sending, whole, with the time of the first that passes; but for those whose queue was full
+/// then. It is lost only if no copy passes, whatever was lost of others.
 pub fn each_passing_message_is_delivered_once()
     ensures { (settings : Settings) (numbering : Numbering) (timing : Timing) (payload : ℕ → Payload) (old : List Event) (copies : List Copy) (port : PortNo) → PassInOrder settings numbering timing old copies
         → CarryWhole settings payload (forwarded_since settings old copies) → number_delivered settings old port + length copies ≤ most_samples
@@ -165,8 +177,8 @@ pub fn all_messages_are_delivered_by_one_network()
         → octets_of_messages (deliveries settings (events_of_copies copies) port) ≡ octets_sent payload port n }
 {}
 
-/// The conditions that `no_frame_is_lost` asks, one by one: where each of them is met, the law holds. So the examples below
-/// leave none out. And those of `no_frame_is_forwarded_twice`, asked of all copies.
+/// The conditions that `no_frame_is_lost` asks, one by one: where each of them is met, the law holds. So the examples
+/// below leave none out. And those of `no_frame_is_forwarded_twice`, asked of all copies.
 pub fn these_are_the_conditions()
     ensures all { (settings : Settings) (numbering : Numbering) (timing : Timing) (copies : List Copy) → AreCopies settings numbering timing copies
         → ((condition : Condition) → IsMet condition settings numbering timing copies) → ComeWhole settings numbering timing copies }
@@ -175,8 +187,9 @@ pub fn these_are_the_conditions()
 {}
 
 /// The conditions can be met: by four frames that two networks bring, each with a loss, over the end of the sequence
-/// numbers, and all four are forwarded; with any SkewMax that covers what the times on the way differ by. And by a network that is slower than the other by more than a gap: its copies come
-/// after those of later frames, but none of them is the first of its frame.
+/// numbers, and all four are forwarded; with any SkewMax that covers what the times on the way differ by. And by a
+/// network that is slower than the other by more than a gap: its copies come after those of later frames, but none of
+/// them is the first of its frame.
 pub fn the_conditions_can_be_met()
     ensures met { (skew_max pause : ℕ) → 800 ≤ skew_max → skew_max + 800 < pause → ComeWhole (link skew_max) numbering (timed 1000 pause 100 900 100) with_losses }
     ensures with_a_slower_network { ComeWhole (link 1200) from_one (timed 1000 4000 100 1300 0) slower_network × KeepOrderTogether (timed 1000 4000 100 1300 0) slower_on_b slower_network
@@ -185,13 +198,13 @@ pub fn the_conditions_can_be_met()
 {}
 
 /// No frame is lost while one network is out for longer than the window and the other brings each: this breaks that few
-/// are lost, which `no_frame_is_lost` asks, and nothing that `one_network_is_enough` does. Of three frames after strange
-/// ones the second is forwarded, with its first copy that passes once SkewMax is over since those, and so is the third, as
-/// `forwarding_recovers` says, though one more strange frame comes meanwhile, which is out of sequence. But a frame of
-/// which a copy passes can be lost if one was forwarded before with a later time than the copies have that come; or while
-/// SkewMax runs since a stranger's frame that passes, though on the other network. And the copies of
-/// `each_condition_is_needed` all pass where SkewMax is too short or too long, a first copy is overtaken, networks begin far
-/// apart, or a copy is too late: so each of these conditions is needed of copies that pass, too.
+/// are lost, which `no_frame_is_lost` asks, and nothing that `one_network_is_enough` does. Of three frames after
+/// strange ones the second is forwarded, with its first copy that passes once SkewMax is over since those, and so is
+/// the third, as `forwarding_recovers` says, though one more strange frame comes meanwhile, which is out of sequence.
+/// But a frame of which a copy passes can be lost if one was forwarded before with a later time than the copies have
+/// that come; or while SkewMax runs since a stranger's frame that passes, though on the other network. And the copies
+/// of `each_condition_is_needed` all pass where SkewMax is too short or too long, a first copy is overtaken, networks
+/// begin far apart, or a copy is too late: so each of these conditions is needed of copies that pass, too.
 pub fn a_link_recovers_in_examples()
     ensures one_network_out { MeetAllBut losses (link 1000) from_one timing one_network_out × BringsInRow from_one 2 nets.A one_network_out
         × (forwarded (link 1000) (events_of_copies one_network_out) ≡ frame_at 5 4100 ∷ frame_at 4 3100 ∷ frame_at 3 2100 ∷ frame_at 2 1100 ∷ frame_at 1 100 ∷ []) }

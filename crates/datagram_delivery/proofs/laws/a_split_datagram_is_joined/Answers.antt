@@ -1,4 +1,4 @@
-use Rattle.datagram_delivery.proofs.InParts.{front_held, last_completes}
+use Rattle.datagram_delivery.proofs.Splits.{front_held, last_completes}
 use Rattle.datagram_delivery.proofs.laws.a_split_datagram_is_joined.Goals as goal
 
 pub returns : goal.returns

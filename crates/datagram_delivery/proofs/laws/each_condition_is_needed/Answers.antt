@@ -1,5 +1,4 @@
-use Rattle.datagram_delivery.proofs.Examples.{are_mixed, fifth_gives_up}
-use Rattle.datagram_delivery.proofs.CountingExample.{anew_too_soon}
+use Rattle.datagram_delivery.proofs.Examples.{are_mixed, fifth_gives_up, anew_too_soon}
 use Rattle.datagram_delivery.proofs.laws.each_condition_is_needed.Goals as goal
 
 pub returns : goal.returns

@@ -1,6 +1,4 @@
-use Rattle.datagram_delivery.proofs.Parts.{all_since, brought_since, parts_alone}
-use Rattle.datagram_delivery.proofs.LimitOver.{limit_is_over}
-use Rattle.datagram_delivery.proofs.WholeParts.{whole_have_parts}
+use Rattle.datagram_delivery.proofs.Parts.{all_since, brought_since, parts_alone, limit_is_over, whole_have_parts}
 use Rattle.datagram_delivery.proofs.laws.each_message_was_sent.Goals as goal
 
 pub returns : goal.returns

@@ -1,4 +1,4 @@
-use Rattle.frame_delivery.proofs.SinceExamples.{later_is_lost, needed_too, one_is_enough, strange_recovers, stranger_hides}
+use Rattle.frame_delivery.proofs.Examples.{later_is_lost, needed_too, one_is_enough, strange_recovers, stranger_hides}
 use Rattle.frame_delivery.proofs.laws.a_link_recovers_in_examples.Goals as goal
 
 pub returns : goal.returns

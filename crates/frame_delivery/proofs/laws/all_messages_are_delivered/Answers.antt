@@ -1,4 +1,4 @@
-use Rattle.frame_delivery.proofs.Messages.{all_delivered}
+use Rattle.frame_delivery.proofs.Delivered.{all_delivered}
 use Rattle.frame_delivery.proofs.laws.all_messages_are_delivered.Goals as goal
 
 pub returns : goal.returns

@@ -1,4 +1,4 @@
-use Rattle.frame_delivery.proofs.Messages.{all_by_one}
+use Rattle.frame_delivery.proofs.Delivered.{all_by_one}
 use Rattle.frame_delivery.proofs.laws.all_messages_are_delivered_by_one_network.Goals as goal
 
 pub returns : goal.returns

@@ -1,5 +1,5 @@
-use Rattle.frame_delivery.proofs.OneNetwork.{row_forwarded, row_passes}
 use Rattle.frame_delivery.proofs.Passing.{passes_again}
+use Rattle.frame_delivery.proofs.Main.{row_forwarded, row_passes}
 use Rattle.frame_delivery.proofs.laws.one_network_is_enough.Goals as goal
 
 pub returns : goal.returns
