@@ -399,7 +399,8 @@ def test_a_configuration_that_is_refused_is_told_once(written):
     assert (found.returncode, found.stdout) == (1, b"") and found.stderr.count(b"\n") == 1
 
 
-@pytest.mark.parametrize("words", [["--workers", "1", "--json"], ["--workers", "1", "--link", "17"], ["--to", "t.csv"]])
+@pytest.mark.parametrize("words", [["--workers", "1", "--json"], ["--workers", "1", "--link", "17"], ["--to", "t.csv"],
+                                   ["--json", "--csv"], ["--link", "17", "--json"], ["--link", "17", "--csv"]])
 def test_words_that_do_not_go_together(words):
     found = run("health", "--config", CONFIG, FAULTS, *words)
     assert found.returncode == 2 and b"yelunnavi: error: " in found.stderr and not found.stdout

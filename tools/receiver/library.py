@@ -12,7 +12,7 @@ BUILT = ROOT / "out" / "library" / f"{platform.machine()}-unknown-linux-gnu" / "
 HOW = "./build library proves and builds it; YELUNNAVI_LIBRARY names another"
 
 
-class NoLibrary(Exception):
+class NoLibrary(OSError):
     """Why the library wasn't loaded."""
 
 

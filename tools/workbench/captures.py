@@ -6,7 +6,6 @@ a torn file, or a block of an absurd length, for the end of the capture. What is
 """
 import struct
 from collections import Counter, namedtuple
-from typing import NamedTuple, Optional
 
 from workbench.faults import Broken
 
@@ -26,19 +25,9 @@ HEADS = {PACKET: "5I", OBSOLETE_PACKET: "HxxIIII", SIMPLE_PACKET: "I"}  # of a b
 END, COMMENT, NAME, DESCRIPTION, RESOLUTION, FCS_LENGTH, OFFSET = 0, 1, 2, 3, 9, 13, 14
 # Of an interface's statistics: how many packets were lost there, and in the system above it.
 LOST = (5, 7)
-
-
-class Interface(NamedTuple):
-    """What the capture says of where its packets came from. `fcs` is whether they end with a frame check sequence,
-    None if that isn't said."""
-    link_type: int
-    fcs: Optional[bool]
-    snapshot: int = 0
-    units: int = SECOND  # of a second, of times in pcapng
-    offset: int = 0  # of times in pcapng, in nanoseconds
-    unit: int = 0  # in nanoseconds, 0 if it is no whole number of them
-
-
+# Where packets came from: whether they end with a frame check sequence, None if that isn't said; and of times in
+# pcapng how many units a second has, an offset in nanoseconds, and a unit in them, 0 if it is no whole number of them.
+Interface = namedtuple("Interface", "link_type fcs snapshot units offset unit", defaults=(0, SECOND, 0, 0))
 # A packet: its number counts from 1, as Wireshark's does; its time is in nanoseconds of 1970, None if there is none;
 # its length is what it had before the snapshot length cut it; and it is about an Interface.
 Packet = namedtuple("Packet", "number interface time octets length about")

@@ -9,7 +9,7 @@ import ipaddress
 import json
 import operator
 
-from receiver import ConfigFault
+from receiver import ConfigFault, Receiver
 from workbench import files, settings
 from workbench.faults import REFUSED, Fault, plain
 from workbench.places import Document, members
@@ -60,10 +60,9 @@ def slips_of(given):
 
 def fault_of(octets):
     try:
-        settings.opened(octets).close()
+        Receiver(octets).close()
     except ConfigFault as fault:
         return fault
-    return None
 
 
 def refused(config, fault):

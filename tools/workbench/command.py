@@ -174,6 +174,8 @@ def look_at(parser, given):
         parser.error("one capture or trace, or two; or with --in-a-row those of one capture")
     if is_many and ("-" in names or given.json or given.csv or given.link is not None):
         parser.error("many captures are files, and make a table: without --json, --csv and --link")
+    if hasattr(given, "workers") and given.json + given.csv + (given.link is not None) > 1:
+        parser.error("one form: --link, --json or --csv")
     if not is_many and getattr(given, "workers", 0) is None and given.to:
         parser.error("--to is for --workers or --scheduler")
     if hasattr(given, "place"):

@@ -59,11 +59,10 @@ def traces(given):
     a, b = (files.writing(os.devnull if given.network not in (None, net) else "-" if given.to == "-" else
                           os.path.join(given.to, f"{net.lower()}.trace")) for net in NETWORKS)
     with a as of_a, b as of_b, stream.opened(given) as found:
-        outs = of_a, of_b
         for one in found:
             if one.left_out:
                 found.clock.since(one.time)  # it may be the first
             else:
-                outs[one.net].write(b"%d %s\n" % (found.clock.of(one.net, one.time), one.octets.hex().encode()))
+                (of_a, of_b)[one.net].write(b"%d %s\n" % (found.clock.of(one.net, one.time), one.octets.hex().encode()))
     found.tell_beginning()
     return found.status

@@ -17,8 +17,8 @@ QUIET_SECONDS, REDRAW_SECONDS = 1.0, 0.2
 @contextlib.contextmanager
 def bar(what, total):
     """Shows on a terminal how far the work is, once it has taken a second. Yields what adds to it."""
-    is_terminal = sys.stderr and sys.stderr.isatty()
-    done, shown, due = 0, False, time.monotonic() + QUIET_SECONDS if is_terminal else float("inf")
+    due = time.monotonic() + QUIET_SECONDS if sys.stderr and sys.stderr.isatty() else float("inf")
+    done, shown = 0, False
 
     def add(amount):
         nonlocal done, shown, due
@@ -87,13 +87,8 @@ def telling(name, what):
 def writing(name):
     """A file that has its name once it is whole; `-` is the standard output. A device or a pipe is written as it is."""
     with telling(name, "written"):
-        if name == "-":
-            chosen = output()
-        elif os.path.isfile(name) or not os.path.exists(name):
-            chosen = beside(name)
-        else:
-            chosen = open(name, "wb", BLOCK)
-        with chosen as file:
+        is_own = os.path.isfile(name) or not os.path.exists(name)
+        with output() if name == "-" else beside(name) if is_own else open(name, "wb", BLOCK) as file:
             yield file
 
 

@@ -5,8 +5,9 @@ What is kept grows with the links and the ports, not with the frames.
 import operator
 from collections import Counter
 
+from receiver import Receiver
 from verdict_words import KINDS, NETWORKS, NOT_FORWARDED, OUT_OF_SEQUENCE, REFUSED
-from workbench import copies, settings
+from workbench import copies
 from workbench.conditions import BROKEN_BY, BY_CLOCKS, BY_NUMBERS, CONDITIONS, Conditions
 from workbench.copies import ANEW, COPY, FIRST, HALF_TURN, RESET, Copies
 from workbench.delays import Delays
@@ -437,7 +438,7 @@ class Alone:
     UDP, at which no receiver looks."""
 
     def __init__(self, octets):
-        self.receivers = [settings.opened(octets) for _ in NETWORKS]
+        self.receivers = [Receiver(octets) for _ in NETWORKS]
 
     def fault(self, one, now, reply, note):
         """The verdict of a frame on its network alone, if it is a fault that the other network's good copy hides."""

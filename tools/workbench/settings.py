@@ -1,7 +1,7 @@
 """A configuration: the receiver that it opens, and the keys that it passes over, of names, BAGs and partitions."""
-from receiver import ConfigFault, NoLibrary, Receiver
+from receiver import ConfigFault, Receiver
 from workbench import files, places
-from workbench.faults import NOT_READ, Fault, plain
+from workbench.faults import Fault, plain
 
 MOST_PERIOD, LONGEST_NAME, LONGEST_TEXT = 10**9, 40, 200  # microseconds, letters
 MOST_LINKS, MOST_PORTS, AHEAD = 64, 32, 128  # and gaps after which a sequence number isn't ahead any more
@@ -21,14 +21,6 @@ OWN_KEYS = {"a link": {**{key: f"a text of 1 to {most} letters" for key, most in
 def read(path):
     with files.reading(path) as file:
         return file.read()
-
-
-def opened(octets):
-    """The receiver of a configuration's text."""
-    try:
-        return Receiver(octets)
-    except NoLibrary as error:
-        raise Fault(error, NOT_READ) from None
 
 
 def refusal(fault):
@@ -59,7 +51,7 @@ def wrong_keys(config):
 def receiver_of(path, octets):
     """The receiver of a configuration; where it is refused the fault is told with its place."""
     try:
-        return opened(octets)
+        return Receiver(octets)
     except ConfigFault as fault:
         raise Fault(places.Document(path, octets, fault).slip(*refusal(fault))) from None
 

@@ -23,8 +23,7 @@ class Station:
         if left_out:
             return self.clock.since(time), None
         partition, now = self.partition, self.clock.of(net, time)
-        if now > self.latest:
-            self.latest = now
+        self.latest = max(self.latest, now)
         if partition and now > partition.due[0][0]:
             partition.wake(now - 1)
         reply = self.receive(net, now, octets)

@@ -3,10 +3,9 @@ import collections
 import contextlib
 import gc
 import heapq
-import operator
 import os
 import sys
-from typing import NamedTuple, Optional
+from typing import NamedTuple
 from zlib import crc32
 
 from verdict_words import NETWORKS
@@ -48,19 +47,11 @@ class Where(NamedTuple):
         return f"{self.packet} at {moments.told(self.time)}"
 
 
-class Arrival(NamedTuple):
+class Arrival(collections.namedtuple("Arrival", "time net number octets left_out length")):
     """A packet of a network, 0 for A: its time in nanoseconds of 1970, its number in the capture, its octets without
     check sequence, why it was left out, and its length before the snapshot length cut it."""
-    time: int
-    net: int
-    number: int
-    octets: bytes
-    left_out: Optional[str]
-    length: int
-
-    @property
-    def where(self):
-        return Where(self.number, self.net, self.time)
+    __slots__ = ()
+    where = property(lambda self: Where(self.number, self.net, self.time))
 
 
 class Account:
@@ -102,10 +93,9 @@ class Account:
                (self.moved, "put in order"))
         if more := "".join(f", {count} {what}" for count, what in met if count):
             yield f"{self.name}: {self.packets} packets{more}"
-        for interface, count in self.lost.items():
-            if count:
-                yield (f"{self.name}: {count} packets were lost while it was captured, on interface {interface}: what "
-                       "they were is unknown, and looks like a fault of the network")
+        for interface, count in (+self.lost).items():
+            yield (f"{self.name}: {count} packets were lost while it was captured, on interface {interface}: what "
+                   "they were is unknown, and looks like a fault of the network")
         if not self.packets and not self.broken and not self.counts:
             yield f"{self.name}: it has no packet"
         for reason, numbers in self.left_out.items():
@@ -130,15 +120,12 @@ class Clock:
 
     def of(self, net, time):
         """Of a frame that is handed in."""
-        if self.base is None:
-            self.base = time
-        found = (time - self.base) // 1000
+        found = self.since(time)
         if found <= self.newest:
             other = self.times[1 - net]
             is_after = time > other or time == other and net
-            found = max(0, found, self.found[net], self.found[1 - net] + (net == 0) if is_after else 0)
-        if found > self.newest:
-            self.newest = found
+            found = max(found, self.found[net], self.found[1 - net] + (net == 0) if is_after else 0)
+        self.newest = max(self.newest, found)
         self.times[net], self.found[net] = time, found
         return found
 
@@ -234,10 +221,8 @@ class Order:
             account.leave_out(number, left_out)
             return one._replace(left_out=left_out)
         self.latest[net] = time
-        if number > account.newest:
-            account.newest = number
-        else:
-            account.moved += 1
+        account.moved += number < account.newest
+        account.newest = max(account.newest, number)
         return one
 
     def lateness(self, time, net):
@@ -255,13 +240,10 @@ class Order:
 def in_order(found, window, pipe, account):
     """Each waits for so many packets or, of a pipe, for a time by the packets' clock, and for none once it is quiet."""
     order = Order(account)
-    row, heap = order.row, order.heap
     for one in found:
-        if one and row and row[-1] <= one:
-            row.append(one)
-        elif one:
+        if one:
             order.add(one)
-        if len(row) + len(heap) > window:
+        if len(order.row) + len(order.heap) > window:
             yield order.next()
         if pipe:
             is_quiet = files.is_quiet(pipe, HOLD_OF_A_PIPE / captures.SECOND)
@@ -315,7 +297,7 @@ class Stream:
         return self.accounts[net % len(self.accounts)].name
 
     def __iter__(self):
-        merged = self.feeds[0] if len(self.feeds) == 1 else heapq.merge(*self.feeds, key=operator.itemgetter(0, 1))
+        merged = self.feeds[0] if len(self.feeds) == 1 else heapq.merge(*self.feeds, key=lambda one: one[:2])
         since, until = self.given.since, self.given.until
         found = iter(moments.between(merged, since, until) if since or until else merged)
         for one in found if self.is_of_captures else ():
