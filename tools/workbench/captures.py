@@ -68,13 +68,12 @@ def pcapng(file, magic, lost):
         if kind in HEADS:
             number += 1
             yield (one := packet(order, kind, body, number, interfaces))
-            if kind != PACKET or not one[-1].unit:
-                continue  # to look ahead copies all that follows
-            found, octets = usual_packets(file.peek(), order, number, interfaces)
-            yield from found[:-1]
-            file.read(octets)  # before the last one, after which nothing may come for a while
-            yield from found[-1:]
-            number += len(found)
+            if kind == PACKET and one[-1].unit:  # to look ahead copies all that follows
+                found, octets = usual_packets(file.peek(), order, number, interfaces)
+                yield from found[:-1]
+                file.read(octets)  # before the last one, after which nothing may come for a while
+                yield from found[-1:]
+                number += len(found)
             continue
         if kind == SECTION:
             interfaces, lost_before = [], lost.copy()

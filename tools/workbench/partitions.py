@@ -59,8 +59,7 @@ class QueueEnd:
     def serve(self, now, _):
         """Takes all that waits; after the first of many takings nothing does."""
         found = [self.taker.take() for _ in range(self.waiting)]
-        self.taken += self.waiting
-        self.waiting = 0
+        self.taken, self.waiting = self.taken + self.waiting, 0
         if found:
             self.oldest = max(self.oldest, now - found[0].time)
         return found

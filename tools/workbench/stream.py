@@ -39,9 +39,7 @@ class Where(NamedTuple):
     net: int
     time: int
 
-    @property
-    def packet(self):
-        return f"{self.number} of {NETWORKS[self.net]}"
+    packet = property(lambda self: f"{self.number} of {NETWORKS[self.net]}")
 
     def __str__(self):
         return f"{self.packet} at {moments.told(self.time)}"
