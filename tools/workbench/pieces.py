@@ -97,11 +97,11 @@ class Pieces:
             if is_used:
                 self.tell("identification", packet, packet)
             group = self.begin(key, now, offset, packet)
-        elif offset in group.places:
-            self.tell("identification", group.packet, packet)
-        if (wrong := group.add(offset, octets, more)) and wrong not in group.wrong:
-            group.wrong.append(wrong)
-            self.tell(wrong, group.packet, packet)
+        again = "identification" if offset in group.places else None
+        for wrong in filter(None, (again, group.add(offset, octets, more))):
+            if wrong not in group.wrong:
+                group.wrong.append(wrong)
+                self.tell(wrong, group.packet, packet)
         if kind == HELD:
             return True
         self.joined += 1
