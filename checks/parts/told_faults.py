@@ -152,6 +152,8 @@ ROWS = [
      {"senders": 2, "out-of-sequence": 2398, "dropped": 1199}, "lost"),
     ("two series of numbers of one address", {}, [also(first=90, ident=20_000)],
      {"senders": 2, "numbers": 1, "out-of-sequence": 2398}, "not known"),
+    ("two series of one address, of which one is slower", {}, [also(first=90, ident=20_000, gap=7 * GAP, count=80)],
+     {"senders": 2, "numbers": 1, "out-of-sequence": 318}, "not known"),
     ("another sender goes on", {}, [restart(310, 90_000), alter(BOTH, 310, COUNT, sender=9)], {"senders": 2}, "no loss"),
     ("numbers that don't count", {}, [alter(BOTH, 0, COUNT, number=7)], {"numbers": 1, "out-of-sequence": 1198}, "not known"),
     ("a number damaged on A", {}, [alter(A, 210, ahead=90)], {"lost-a": 1, "astray": 1, "out-of-sequence": 2}, "all"),

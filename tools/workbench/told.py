@@ -16,7 +16,8 @@ def of_network(link, number, latest):
             "least_gap_us": micro(net.least), "greatest_gap_us": micro(net.most), "least_128_gaps_us": micro(net.closest),
             "usual_gap_ms": net.usual,
             "jitter_us": max(0, bag - micro(net.least)) if bag and net.least is not None else None,
-            "early": net.early, **counts, "silent_us": None if net.last is None else micro(latest - net.last),
+            "early": None if link.nonsense() else net.early, **counts,
+            "silent_us": None if net.last is None else micro(latest - net.last),
             "refused": {cause: {"count": count, "first": str(first)} for cause, (count, first) in link.refused[number].items()},
             "hidden": dict(link.hidden[number]), "verdicts": dict(net.kinds)}
 
@@ -126,7 +127,8 @@ AMISS = {
     "numbers": lambda link: link["nonsense"] is not None,
     "law": lambda link: link["law"] in ("lost", "twice", "not known"),
 }
-BY_NUMBERS = {"lost-a", "lost-b", "lost-both", "dropped", "delay", "twice", "overtaken", "repeated", "astray", "reset"}
+BY_NUMBERS = {"lost-a", "lost-b", "lost-both", "dropped", "delay", "twice", "overtaken", "repeated", "astray", "reset",
+              "early"}
 OF_ALL = ("filtered", "left-out", "tap", "drift")
 # A sender may restart without a fault.
 NOT_BY_DEFAULT = ("reset",)
