@@ -1,4 +1,5 @@
 """What of captures is played: those in a row, from one moment to another, compressed, and without VLAN tags."""
+import json
 import re
 import shutil
 import subprocess
@@ -29,6 +30,8 @@ def test_a_capture_of_a_row_that_is_cut_is_told_by_its_place(tmp_path):
     first.write_bytes(first.read_bytes()[:-10])
     found = run("play", "--config", CONFIG, "--in-a-row", first, second)
     assert b"cut by the end of the capture: packet 60" in found.stderr
+    told = json.loads(run("health", "--json", "--config", CONFIG, "--in-a-row", first, second).stdout)
+    assert told["first_packets"]["neither"] == {"cut by the end of the capture": "60"}
     assert len(verdicts(found.stdout)) == len(verdicts(play(FAULTS))) - 1
 
 

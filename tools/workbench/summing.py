@@ -56,7 +56,8 @@ def beside(accounts):
     cuts, and files that aren't of their form up to it."""
     for account in accounts:
         yield from ((f"of interface {interface}", *other) for interface, other in account.others.items())
-        yield stream.TORN, account.counts[stream.TORN], None
+        torn = account.left_out.get(stream.TORN)
+        yield stream.TORN, account.counts[stream.TORN], torn and str(torn[0])
         yield BROKEN_OFF, int(bool(account.broken)), None
 
 
