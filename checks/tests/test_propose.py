@@ -3,7 +3,7 @@ import tomllib
 
 import pytest
 from conftest import CAPTURES, done, run
-from parts.told_faults import FIRST_VL, ROWS, capture, frames_of
+from parts.told_faults import END, FIRST_VL, ROWS, capture, frames_of
 from workbench import proposing
 
 
@@ -24,6 +24,13 @@ def test_what_a_sender_sent_is_seen():
     assert [(port["udp"], port["kind"], port["max"]) for port in link["port"]] == [
         (5000, "sampling", 100), (5002, "queuing", 3000)]
     assert all("#" in line for line in text.splitlines() if line.startswith(("kind", "max", "skew_max_us", "reassembly_us")))
+
+
+def test_a_link_that_ended_before_the_capture_has_no_slip(written):
+    frames = frames_of(0, ROWS[0]) + [one for one in frames_of(1, ROWS[0]) if one[0] < END // 2]
+    names = [written("x.pcapng", capture(sorted(frames)))]
+    text = done("propose", *names).decode()
+    assert text.count('"sampling"') == 2 and not done("check", written("made.toml", text), *names)
 
 
 def test_next_of_1_2_5():

@@ -98,27 +98,28 @@ class Shown:
                 yield f"no frame of it on {letter}"
         if not is_known:
             yield from filter(None, [link.why_not_one_sender()])
-            yield from of_times(link) if is_timed else ()
+            yield from of_times(link) if is_timed and not link.nonsense() else ()
         for (of, pair), (first, number) in self.strays.items():
             if of == vl:
                 yield f"no port for {pair}: {number} frames, the first {self.packets.unit} {first.where.packet}"
 
     def of_port(self, port):
         end = self.ends[port["name"]]
-        found = told.of_port(end, self.latest)
+        nets = self.health.links[end.port.vl].nets
+        latest = self.packets.clock.since(max(net.last or 0 for net in nets))  # a link that ended is no slip
+        found = told.of_port(end, latest)
         came = found["messages"] if end.port.is_sampling else found["taken"] + found["waiting"] + found["overflows"]
         if port["name"] in self.too_long:
             first, number = self.too_long[port["name"]]
             which = f"{number} of its {came + number} messages were" if came else f"each of its {number} messages was"
             yield (f"{which} longer than max {port.get('max', 'of its kind')}, the first {self.packets.unit} "
                    f"{first.where.packet}")
-        elif not came and any(net.frames for net in self.health.links[end.port.vl].nets):
+        elif not came and any(net.frames for net in nets):
             yield "no message came to it"
-        if not end.port.is_sampling:
-            if found["overflows"]:
-                yield f"depth {port['depth']}: {found['overflows']} messages were lost, since it was full"
-            return
-        oldest, stale = end.worst(self.latest)  # also where a partition reads: its reads aren't messages
+        if found.get("overflows"):
+            yield f"depth {port['depth']}: {found['overflows']} messages were lost, since it was full"
+        # Also where a partition reads: its reads aren't messages.
+        oldest, stale = end.worst(latest) if end.port.is_sampling else (0, 0)
         if came > 2 and 2 * stale > came:
             yield (f"refresh_us {port['refresh_us']}: the message was stale {stale} times, before most of {came} "
                    f"messages; it was {oldest} us old at most")
@@ -135,15 +136,14 @@ def count(found, thing, one):
 def of_times(link):
     """Slips of a link that its times show."""
     skew_max, greatest = link.link.skew_max, link.greatest_delay
-    is_timed = link.link.redundancy and not link.nonsense()
-    if is_timed and link.beyond:
+    if link.link.redundancy and link.beyond:
         twice = f"; {link.twice.count} messages came twice" if link.twice.count else ""
         yield (f"skew_max_us {skew_max} is below the delays of {link.beyond} of {link.delays.number} second copies, up "
                f"to {greatest} us{twice}")
     closest = min((net.closest // 1000 for net in link.nets if net.closest is not None), default=None)
     for time, what in ((closest, f"in which {AHEAD} more of its frames came"),
                        (link.least_pause, "after which its sender restarted")):
-        if is_timed and time is not None and time <= skew_max + greatest:
+        if link.link.redundancy and time is not None and time <= skew_max + greatest:
             yield (f"skew_max_us {skew_max} and the {greatest} us that delays differ by aren't below the {time} us "
                    f"{what} (docs/DELIVERY.md)")
     if link.unfinished.count and not link.pieces.joined:
