@@ -3,6 +3,7 @@ import argparse
 import contextlib
 import os
 import pkgutil
+import re
 import signal
 import sys
 
@@ -160,6 +161,7 @@ def words(told_version):
         command = commands.add_parser(name, help=text, description=f"{text[0].upper()}{text[1:]}.",
                                       epilog="\n".join(rest), allow_abbrev=False,
                                       formatter_class=argparse.RawDescriptionHelpFormatter)
+        command._negative_number_matcher = re.compile("-[0-9][0-9.,-]*$")  # a shift with its rate is no word by itself
         for word, about in own.items():
             command.add_argument(word, **about)
         command.set_defaults(function=function)
