@@ -14,8 +14,9 @@ BESIDES = {"none came": b"it has no packet", "B slower by two gaps, within SkewM
 
 # What check says of a file whose times are wrong or whose numbers make no sense: this, and nothing else.
 SLIPS = {"B appended to A": ": 499 packets are far behind the other network: --reorder ", "B's clock ahead": " 2300 us ahead ",
-         "B's clock faster": " 40.0 parts per million: ", "B's clock faster, beyond SkewMax": " 99.99 parts per million: ",
-         "B's clock faster, and set right": "",
+         "B's clock an hour ahead": " 3600000300 us ahead ", "B's clock faster": " 40.0 parts per million: ",
+         "B's clock faster, beyond SkewMax": " 99.99 parts per million: ", "B's clock faster, and set right": "",
+         "B's clock ahead and faster, and set right": "",
          "check sequences that are taken for frames": ": link 300: its numbers make no sense: "}
 
 

@@ -110,7 +110,7 @@ class Link(copies.Listener):
         self.spans, self.outages, self.free_outages = Spans(link.skew_max), Events(), 0
         self.hidden, self.refused = tuple(Counter() for _ in NETWORKS), tuple({} for _ in NETWORKS)
         self.twice, self.resets, self.unfinished, self.again, self.fragments = (Events() for _ in range(5))
-        self.least_pause = None
+        self.least_pause, self.ahead = None, 0  # nanoseconds by which B's clock seems ahead, at the end
 
     def see(self, now, one, reply):
         """Returns what the frame is beside the others."""
@@ -290,6 +290,8 @@ class Link(copies.Listener):
         """Why the numbers of its frames make no sense, if they make none: then nothing is counted by them."""
         if self.mixed_at:
             return f"two series of numbers alternate, from {self.mixed_at} on"
+        if self.is_apart():
+            return "a clock is so far ahead of the other that copies don't find each other"
         for one in self.senders.values():
             if one.lost_both > one.room():
                 return f"{one.lost_both} numbers are missing, where there was time for {max(0, one.room())} frames more"
@@ -299,6 +301,10 @@ class Link(copies.Listener):
             if (odd := one.odd()) > max(LEAST_ODD, one.seen):
                 return f"the numbers of {odd} frames don't go on from those before"
         return None
+
+    def is_apart(self):
+        """Whether a clock is ahead by more than a copy is waited for, or than numbers can tell."""
+        return abs(self.ahead) > min(self.copies.wait, HALF_TURN * self.copies.gap())
 
     def untimed(self):
         """Why its delays, and what rests on them, aren't known, if they aren't."""
@@ -312,7 +318,7 @@ class Link(copies.Listener):
         """Why its frames aren't one sender's, numbered in turn, if they aren't."""
         if self.sender_count() > 1:
             return f"{self.sender_count()} senders, by their source addresses or their numbers"
-        reason = self.nonsense()
+        reason = not self.is_apart() and self.nonsense() or None
         return reason and f"its numbers make no sense: {reason}"
 
     def summed(self, name):
@@ -328,7 +334,7 @@ class Link(copies.Listener):
 
     def broken(self):
         """The conditions that were broken, in the page's order, but for those by numbers or clocks that make no sense."""
-        hidden = BY_NUMBERS if self.nonsense() else BY_CLOCKS if self.untimed() else ()
+        hidden = (*BY_NUMBERS, "sender") if self.is_apart() else BY_NUMBERS if self.nonsense() else BY_CLOCKS if self.untimed() else ()
         found = self.conditions.found
         return {word: found[word] for word in CONDITIONS if word in found and word not in hidden}
 
@@ -397,8 +403,10 @@ class Health:
         for link in self.links.values():
             link.pass_time(time)
 
-    def finish(self, now):
+    def finish(self, now, ahead=0):
+        """B's clock seems so many nanoseconds ahead."""
         for link in self.links.values():
+            link.ahead = ahead
             link.finish(self.latest, now)
 
     def swapped(self):

@@ -23,10 +23,10 @@ class Shown:
                 self.health.see(one, now, reply)
                 if reply:
                     self.see(one, reply)
-        self.packets, self.latest = packets, played.latest
+        self.packets = packets
         self.hint = packets.shift.hint() or self.health.drift.hint()
         self.behind = sum(counts[stream.BEHIND] for counts in self.health.left_out)
-        self.health.finish(played.latest)
+        self.health.finish(played.latest, packets.shift.found())
         self.frames = [sum(link.nets[net].frames for link in self.health.links.values()) for net in (0, 1)]
 
     def see(self, one, reply):

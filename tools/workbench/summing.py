@@ -36,7 +36,7 @@ def summed(given):
             note = found.see(one, now, reply)
             if alone and reply and reply.vl is not None and (fault := alone.fault(one, now, reply, note)):
                 found.links[reply.vl].hidden[one.net][f"{fault.kind} {fault.cause}".rstrip()] += 1
-    found.finish(played.latest)
+    found.finish(played.latest, packets.shift.found())
     for hint in found.hints():
         print(f"yelunnavi: {hint}", file=sys.stderr)
     lost, others = lost_by_tap(packets), beside(packets.accounts)
