@@ -69,6 +69,12 @@ def test_from_one_moment_to_another(since, until):
     assert times(play(FAULTS, "--from", since, "--until", until)) == [time - whole[0] for time in whole]
 
 
+def test_where_no_packet_is_of_that_time_the_first_is_told():
+    for words in (["--from", "23:00"], ["--until", "2023-11-14T22:13:20"], ["--from", "2", "--until", "1"]):
+        found = run("play", "--config", CONFIG, FAULTS, *words)
+        assert b"no packet of that time; the first came at 2023-11-14T22:13:20.000100" in found.stderr and not times(found.stdout)
+
+
 def test_what_is_no_moment_is_refused():
     found = run("play", "--config", CONFIG, FAULTS, "--from", "noon")
     assert found.returncode == 2 and b"'noon' is no moment" in found.stderr

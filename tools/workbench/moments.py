@@ -3,6 +3,7 @@ said). All are nanoseconds here."""
 import argparse
 import datetime
 import re
+import sys
 from decimal import Decimal
 
 SECOND, DAY = 10**9, 86_400 * 10**9
@@ -48,13 +49,15 @@ def in_capture(found, first):
 
 
 def between(found, since, until):
-    """The arrivals from one moment to another."""
-    began, ended = None, None
+    """The arrivals from one moment to another. Where there is none the time of the first of all is told."""
+    first, began, ended, is_empty = None, None, None, True
     for one in found:
-        if began is None:
-            began, ended = (word and in_capture(word, one.time) for word in (since, until))
-            began = began or 0
+        if first is None:
+            first, (began, ended) = one.time, (word and in_capture(word, one.time) for word in (since, until))
         if ended is not None and one.time > ended:
-            return
-        if one.time >= began:
+            break
+        if one.time >= (began or 0):
+            is_empty = False
             yield one
+    if is_empty and first is not None:
+        print(f"yelunnavi: no packet of that time; the first came at {told(first)}", file=sys.stderr)
