@@ -45,6 +45,13 @@ def test_each_fault_alone(place, row, written):
     assert found.stderr.count(b"\n") == (row[0] in BESIDES) and BESIDES.get(row[0], b"") in found.stderr
 
 
+def test_a_page_says_nothing_that_isnt_known(written):
+    place, row = next((place, row) for place, row in enumerate(ROWS) if "one is slower" in row[0])
+    page = run("draw", "--config", written("c.toml", "\n".join(config([(place, row)]))),
+               written("x.pcapng", capture(sorted(frames_of(place, row))))).stdout.decode()
+    assert "Link 327" in page and "before their BAG" not in page
+
+
 def test_all_faults_together(written):
     frames = sorted(frame for place, row in enumerate(ROWS) for frame in frames_of(place, row))
     links, report, found = told(written, list(enumerate(ROWS)), [capture(frames)])

@@ -210,12 +210,12 @@ def rows_of(drawn, network):
             for name in (*names, *reversed(NOT_FORWARDED), LOST, TWICE, RESTART, UNFINISHED) if name in rows]
 
 
-def rate_of(net):
+def rate_of(drawn, net):
     """How often frames came on a network, beside the BAG."""
     if net.frames < 2:
         return ""
     beside = f", where the BAG allows {10**6 / net.bag:,.1f}" if net.bag else ""
-    early = f"; {plural(net.early, 'frame')} came before their BAG was over" if net.early else ""
+    early = f"; {plural(net.early, 'frame')} came before their BAG was over" if net.early and not drawn.nonsense() else ""
     return f" {net.rate:,.1f} frames a second{beside}; the least gap is {net.least // 1000:,} µs{early}."
 
 
@@ -228,7 +228,7 @@ def verdicts_figure(drawn, times):
         lost = drawn.rows[network][LOST].total if LOST in drawn.rows[network] else 0
         found[f"lost_{name.lower()}"] = " ".join(map(str, (lost, *shown[2:])))
         said.append(f"Network {name} brought {plural(net.frames, 'frame')}{': ' + counts if net.frames else ''}."
-                    f"{rate_of(net)}" + (f" {plural(lost, 'copy was', 'copies were')} lost, at most {shown[2]} in a row."
+                    f"{rate_of(drawn, net)}" + (f" {plural(lost, 'copy was', 'copies were')} lost, at most {shown[2]} in a row."
                                          if lost else ""))
     return figure(rows_picture(f"Verdicts of link {drawn.label} over time, network A above and B below", times, bands),
                   " ".join(said), verdicts=number, **found)

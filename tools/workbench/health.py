@@ -334,7 +334,8 @@ class Link(copies.Listener):
 
     def broken(self):
         """The conditions that were broken, in the page's order, but for those by numbers or clocks that make no sense."""
-        hidden = (*BY_NUMBERS, "sender") if self.is_apart() else BY_NUMBERS if self.nonsense() else BY_CLOCKS if self.untimed() else ()
+        hidden = BY_NUMBERS if self.nonsense() else BY_CLOCKS if self.untimed() else ()
+        hidden += ("sender",) if self.is_apart() else ()
         found = self.conditions.found
         return {word: found[word] for word in CONDITIONS if word in found and word not in hidden}
 
