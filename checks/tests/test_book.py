@@ -8,7 +8,7 @@ from conftest import ROOT
 
 COPIED = ("checks", "docs", "wrong_bodies", "crates.txt", "afdx_play")
 RULES, MATRIX = "checks/rules.txt", "docs/made/TRACEABILITY.md"
-INTEGRITY = "crates/es_base/specs/Integrity.antt"
+INTEGRITY = "crates/link_rules/specs/Integrity.antt"
 TESTS = "crates/test_link_receiver/src/integrity.rt"
 BODY = "wrong_bodies/redundancy_manager/first_frame_with_number_0_redundant.edit"
 

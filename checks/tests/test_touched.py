@@ -9,7 +9,7 @@ from conftest import ROOT
 COPIED = ("README.md", "docs", "peer", "examples", "tools", "checks", "bench")
 PAGE = "docs/made/TOUCHED.md"
 WORDS, PORTS, REPLIES = "tools/verdict_words.py", "crates/es_base/src/port.rt", "crates/receiver_slots/src/told/replies.rt"
-OUTCOMES, OUTCOME = "crates/workloads/src/outcomes.rt", "crates/es_base/specs/Outcome.antt"
+OUTCOMES, OUTCOME = "crates/workloads/src/outcomes.rt", "crates/link_rules/specs/Outcome.antt"
 
 
 @pytest.fixture

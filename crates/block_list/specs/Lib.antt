@@ -1,2 +1,3 @@
 pub mod BlockList
 pub mod Kept
+pub mod OctetBlock

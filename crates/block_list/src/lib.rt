@@ -1,4 +1,5 @@
-//! A list that grows by blocks: no growth moves an entry, however long the list is.
+//! A list that grows by blocks: no growth moves an entry, however long the list is. And octets of many items one after
+//! another (`OctetBlock`).
 //!
 //! A `Vec` grows by copying itself, so one of a million calls that add an entry copies all entries before it. Here a
 //! growth takes the memory of one block of `BLOCK` entries, and at most moves the list of the blocks, three words
@@ -11,6 +12,9 @@ ghost use Rattle.std.specs.Vec.{vec_capacity};
 ghost use Rattle.block_list.specs.BlockList.{Grows, block_size};
 ghost use Rattle.block_list.specs.Kept.{block_at};
 
+mod octet_block;
+
+pub use octet_block::{LentOctets, OctetBlock};
 use std::alloc::{AllocError, Global};
 use std::marker::Model;
 use std::mem;

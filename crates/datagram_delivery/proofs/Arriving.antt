@@ -6,8 +6,8 @@ use Rattle.es_base.specs.declared.event.Event.{Event}
 use Rattle.es_base.specs.declared.event.Message.{Message}
 use Rattle.es_base.specs.Limits.{most_samples}
 use Rattle.es_base.specs.Packet.{PacketParts}
-use Rattle.es_base.specs.Groups.{Group}
-use Rattle.es_base.specs.Deliveries.{deliveries, number_delivered, delivered, is_same_port, takes_one_more}
+use Rattle.link_rules.specs.Groups.{Group}
+use Rattle.link_rules.specs.Deliveries.{deliveries, number_delivered, delivered, is_same_port, takes_one_more}
 use Rattle.es_base.specs.Settings.{Settings}
 use Rattle.frame_delivery.specs.Messages.{goes_to, has_room}
 use Rattle.frame_delivery.specs.Network.{Timing}
@@ -22,7 +22,7 @@ use Rattle.datagram_delivery.proofs.Splits.{front_held}
 use Rattle.datagram_delivery.proofs.Offered.{brings_delivers, held_delivers, completed_by, deliveries_by_offers, packets_since, packets_before, completed_in}
 use Rattle.std.specs.Prelude.{◌&&◌, if◌then◌else◌}
 use Rattle.es_base.specs.Past.{arrival_of}
-use Rattle.es_base.specs.Outcome.{Payload, brings, outcome}
+use Rattle.link_rules.specs.Outcome.{Payload, brings, outcome}
 use Rattle.frame_delivery.proofs.Delivered.{takes}
 use Rattle.frame_delivery.proofs.Since.{new_if}
 use Rattle.datagram_delivery.specs.Arriving.{Arrives, past_before}

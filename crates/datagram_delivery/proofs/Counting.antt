@@ -3,8 +3,8 @@ use Rattle.std.proofs.Common.{◌≡◌, ◌∙◌, sym, ap, ℕ, zero, suc, ◌
 use Rattle.std.specs.Prelude.{◌⊎◌, ◌==◌}
 use Rattle.std.proofs.lemmas.Bool.{both_ways, cases_Bool, cases_lt, eqb-true}
 use Rattle.es_base.specs.declared.event.Event.{Event}
-use Rattle.es_base.specs.Fragments.{key_of}
-use Rattle.es_base.proofs.Keys.{same_key}
+use Rattle.link_rules.specs.Fragments.{key_of}
+use Rattle.link_rules.proofs.Keys.{same_key}
 use Rattle.frame_delivery.specs.Sending.{Copy, EachCopy, Numbering, events_of_copies}
 use Rattle.frame_delivery.specs.Network.{IsOnItsWay, KeepsGap, KeepsPause, KeepsTimes, Timing, time_of_all}
 use Rattle.frame_delivery.proofs.Times.{sent_after, sent_around, sent_in_order}

@@ -1,17 +1,17 @@
 -- The examples.
 use Rattle.std.proofs.Common.{◌≡◌, ℕ, Bool, true, false, List, [], ◌∷◌, ◌++◌, refl, arith, subst, Ok, Result, sym, ◌∙◌, inr, ◌+◌, ◌*◌, inl, zero, suc, ◌≤◌, ◌<◌}
 use Rattle.std.proofs.lemmas.Bool.{both_ways, false≢true, eqb-true, ne_eqb}
-use Rattle.es_base.proofs.Keys.{key_itself}
+use Rattle.link_rules.proofs.Keys.{key_itself}
 use Rattle.es_base.specs.declared.fault.PacketFault.{PacketFault}
-use Rattle.es_base.specs.Fragments as fragments
-use Rattle.es_base.specs.Fragments.{key_of}
+use Rattle.link_rules.specs.Fragments as fragments
+use Rattle.link_rules.specs.Fragments.{key_of}
 use Rattle.es_base.specs.Octets as words
 use Rattle.es_base.specs.Packet as packets
-use Rattle.es_base.specs.Outcome as outcomes
+use Rattle.link_rules.specs.Outcome as outcomes
 use Rattle.es_base.specs.Packet.{PacketParts}
-use Rattle.es_base.specs.Reassembly.{packet_in}
-use Rattle.es_base.specs.Deliveries.{deliveries}
-use Rattle.es_base.specs.Groups.{fate, groups_after, held}
+use Rattle.link_rules.specs.Reassembly.{packet_in}
+use Rattle.link_rules.specs.Deliveries.{deliveries}
+use Rattle.link_rules.specs.Groups.{fate, groups_after, held}
 use Rattle.frame_delivery.specs.Sending.{HaveNumbers, events_of_copies, Copy, events_since}
 use Rattle.frame_delivery.specs.Network.{KeepsTimes, Timing, ComeWhole}
 use Rattle.frame_delivery.specs.Since.{PassTimely, passing_since}

@@ -5,12 +5,12 @@ use Rattle.std.specs.Prelude.{◌&&◌, ◌||◌, not, ◌⊎◌, slice_get, sli
 use Rattle.std.proofs.lemmas.Bool.{and_right, both_ways, cases_Bool, or_cases, or_left, or_right}
 use Rattle.std.proofs.lemmas.Option.{same_Some}
 use Rattle.es_base.specs.declared.fragment.DatagramKey.{DatagramKey}
-use Rattle.es_base.specs.Fragments.{Piece, is_bad, is_whole, key_of, piece_of}
-use Rattle.es_base.specs.Groups.{Found, Group, begins, found_at, found_for, group_with, groups_after, has_key, is_same_key, joins, with_room}
-use Rattle.es_base.proofs.Keys.{key_itself, same_key}
+use Rattle.link_rules.specs.Fragments.{Piece, is_bad, is_whole, key_of, piece_of}
+use Rattle.link_rules.specs.Groups.{Found, Group, begins, found_at, found_for, group_with, groups_after, has_key, is_same_key, joins, with_room}
+use Rattle.link_rules.proofs.Keys.{key_itself, same_key}
 use Rattle.frame_delivery.proofs.Cases.{by_if}
 use Rattle.datagram_delivery.specs.Splitting.{Offer, begins_group, begun_meanwhile, begun_since, groups_after_offers, is_among, is_beginning, is_of, keys_in_parts, none_in_parts, pieces_of, other_keys, others_in, with_key, without_key, AreFewInParts, LeavesRoom}
-use Rattle.es_base.specs.Outcome.{Payload}
+use Rattle.link_rules.specs.Outcome.{Payload}
 use Rattle.es_base.specs.Settings.{Settings}
 use Rattle.datagram_delivery.specs.Datagrams.{Completes, KeepsPlace, IsInParts}
 use Rattle.datagram_delivery.specs.Interleaved.{AreInterleaved, Carried, SendsNext, carried_offers}

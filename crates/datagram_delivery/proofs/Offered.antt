@@ -3,10 +3,10 @@ use Rattle.std.proofs.Common.{◌≡◌, ap, ℕ, ◌<◌, Bool, true, false, co
 use Rattle.es_base.specs.declared.place.PortNo.{PortNo}
 use Rattle.es_base.specs.Limits.{most_samples}
 use Rattle.es_base.specs.Packet.{PacketParts}
-use Rattle.es_base.specs.Fragments.{is_whole, key_of}
-use Rattle.es_base.specs.Groups.{Group, fate, groups_after, held, whole}
-use Rattle.es_base.specs.Outcome.{Payload, brings, brought, datagram_payload, packet_payload, frame_payload, outcome, refused}
-use Rattle.es_base.specs.Deliveries.{delivered, deliveries, number_delivered}
+use Rattle.link_rules.specs.Fragments.{is_whole, key_of}
+use Rattle.link_rules.specs.Groups.{Group, fate, groups_after, held, whole}
+use Rattle.link_rules.specs.Outcome.{Payload, brings, brought, datagram_payload, packet_payload, frame_payload, outcome, refused}
+use Rattle.link_rules.specs.Deliveries.{delivered, deliveries, number_delivered}
 use Rattle.es_base.specs.Settings.{Settings}
 use Rattle.frame_delivery.specs.Messages.{goes_to}
 use Rattle.datagram_delivery.specs.Splitting.{Offer, groups_after_offers, joined, pieces_of}
@@ -17,8 +17,8 @@ use Rattle.es_base.specs.declared.event.Event.{Event}
 use Rattle.es_base.specs.declared.fault.PacketFault.{PacketFault}
 use Rattle.es_base.specs.declared.verdict.Verdict.TheVariants as verdicts
 use Rattle.es_base.specs.Past.{arrival_of}
-use Rattle.es_base.specs.Reassembly.{groups_by, groups_in, offered, packet_in}
-use Rattle.es_base.specs.Redundancy.{is_forwarded}
+use Rattle.link_rules.specs.Reassembly.{groups_by, groups_in, offered, packet_in}
+use Rattle.link_rules.specs.Redundancy.{is_forwarded}
 use Rattle.std.specs.Result.{result_ok}
 use Rattle.frame_delivery.specs.Sending.{Copy, Numbering, events_since}
 use Rattle.frame_delivery.specs.Once.{new_copies}

@@ -4,9 +4,9 @@ use Rattle.std.specs.Prelude.{◌==◌, ◌&&◌, ◌⊎◌, slice_get}
 use Rattle.std.proofs.lemmas.Bool.{eqb-true, ltb-false}
 use Rattle.es_base.specs.declared.fragment.DatagramKey.{DatagramKey}
 use Rattle.es_base.specs.Packet.{PacketParts}
-use Rattle.es_base.specs.Copies.{elapsed}
-use Rattle.es_base.specs.Fragments.{is_bad, is_whole, key_of, piece_of, Piece}
-use Rattle.es_base.specs.Groups.{Found, Group, bad, begin_of, begins, datagram_with, fate, fate_if, found_for, group_with, groups_after, has_key, is_over, is_same_key, joins, pieces_with, whole}
+use Rattle.es_base.specs.Age.{elapsed}
+use Rattle.link_rules.specs.Fragments.{is_bad, is_whole, key_of, piece_of, Piece}
+use Rattle.link_rules.specs.Groups.{Found, Group, bad, begin_of, begins, datagram_with, fate, fate_if, found_for, group_with, groups_after, has_key, is_over, is_same_key, joins, pieces_with, whole}
 use Rattle.datagram_delivery.specs.Splitting.{Offer, groups_after_offers, is_of}
 use Rattle.datagram_delivery.specs.Datagrams.{IsUnused}
 use Rattle.datagram_delivery.specs.Parts.{IsPartOf}

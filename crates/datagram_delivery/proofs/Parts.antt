@@ -12,12 +12,12 @@ use Rattle.es_base.specs.Returns.{◌>>=◌, map_err}
 use Rattle.std.specs.Result.{result_ok}
 use Rattle.es_base.specs.Past.{arrival_of}
 use Rattle.es_base.specs.Packet.{PacketParts}
-use Rattle.es_base.specs.Groups.{Fate, Group, bad, fate, held, whole}
-use Rattle.es_base.specs.Integrity.{passes}
-use Rattle.es_base.specs.Reassembly.{groups_by, groups_in, offered, packet_in}
-use Rattle.es_base.specs.Redundancy.{forwarded, is_forwarded, is_redundant}
-use Rattle.es_base.specs.Outcome.{Outcome, Payload, brings, brought, datagram_payload, frame_payload, out_of_sequence, outcome, packet_payload, reassembled, redundant, refused}
-use Rattle.es_base.specs.Deliveries.{delivered, deliveries, is_same_port, number_delivered, takes_one_more}
+use Rattle.link_rules.specs.Groups.{Fate, Group, bad, fate, held, whole}
+use Rattle.link_rules.specs.Integrity.{passes}
+use Rattle.link_rules.specs.Reassembly.{groups_by, groups_in, offered, packet_in}
+use Rattle.link_rules.specs.Redundancy.{forwarded, is_forwarded, is_redundant}
+use Rattle.link_rules.specs.Outcome.{Outcome, Payload, brings, brought, datagram_payload, frame_payload, out_of_sequence, outcome, packet_payload, reassembled, redundant, refused}
+use Rattle.link_rules.specs.Deliveries.{delivered, deliveries, is_same_port, number_delivered, takes_one_more}
 use Rattle.es_base.specs.Settings.{Settings}
 use Rattle.datagram_delivery.specs.Splitting.{Offer, groups_after_offers}
 use Rattle.datagram_delivery.specs.Offers.{offered_in, offer_with}
@@ -26,7 +26,7 @@ use Rattle.datagram_delivery.proofs.Origins.{Agree, AreParts, AreUnused, Part, h
 use Rattle.datagram_delivery.proofs.Offered.{groups_by_offers}
 use Rattle.std.proofs.lemmas.Bool.{cases_Bool, eqb-true}
 use Rattle.es_base.specs.declared.fragment.DatagramKey.{DatagramKey}
-use Rattle.es_base.specs.Fragments.{key_of, is_whole}
+use Rattle.link_rules.specs.Fragments.{key_of, is_whole}
 use Rattle.frame_delivery.specs.Running.{EachForwarded}
 use Rattle.datagram_delivery.specs.Datagrams.{IsUnused}
 use Rattle.datagram_delivery.proofs.Rows.{take_all}

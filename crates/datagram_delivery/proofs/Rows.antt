@@ -3,7 +3,7 @@ use Rattle.std.proofs.Common.{◌≡◌, ◌∙◌, ap, sym, ℕ, zero, suc, ◌
 use Rattle.std.specs.List.{slice_get}
 use Rattle.std.specs.Option.{option_or}
 use Rattle.std.proofs.lemmas.Bool.{cases_lt, lt-ltb, le-ltb, cases_Bool}
-use Rattle.es_base.specs.Fragments.{Piece, datagram_from, end_of, octet_at, octets_below, octets_if, octets_with, total_of, octet_in}
+use Rattle.link_rules.specs.Fragments.{Piece, datagram_from, end_of, octet_at, octets_below, octets_if, octets_with, total_of, octet_in}
 use Rattle.es_base.proofs.Elements.{there}
 use Rattle.datagram_delivery.specs.Splitting.{joined}
 use Rattle.std.proofs.lemmas.Option.{same_Some, slice_get_within}

@@ -4,10 +4,10 @@ use Rattle.std.specs.Prelude.{◌==◌, ◌&&◌, slice_get, slice_set}
 use Rattle.std.proofs.lemmas.Bool.{cases_Bool, le-ltb, ne_eqb}
 use Rattle.es_base.specs.declared.fragment.DatagramKey.{DatagramKey}
 use Rattle.es_base.specs.Packet.{PacketParts}
-use Rattle.es_base.specs.Copies.{elapsed}
-use Rattle.es_base.specs.Fragments.{Piece, datagram_from, is_whole, key_of, piece_of}
-use Rattle.es_base.specs.Groups.{Found, Group, begin_or, begins, datagram_with, fate, fate_if, found_at, found_for, found_if, groups_after, groups_with, has_key, held, is_over, is_same_key, joins, pieces_with, place_of, whole, with_room}
-use Rattle.es_base.proofs.Keys.{key_itself, same_key}
+use Rattle.es_base.specs.Age.{elapsed}
+use Rattle.link_rules.specs.Fragments.{Piece, datagram_from, is_whole, key_of, piece_of}
+use Rattle.link_rules.specs.Groups.{Found, Group, begin_or, begins, datagram_with, fate, fate_if, found_at, found_for, found_if, groups_after, groups_with, has_key, held, is_over, is_same_key, joins, pieces_with, place_of, whole, with_room}
+use Rattle.link_rules.proofs.Keys.{key_itself, same_key}
 use Rattle.datagram_delivery.specs.Splitting.{AreFronts, IsFront, IsLastFragment, Offer, LeavesRoom, begins_group, begun_meanwhile, begun_since, groups_after_offers, is_beginning, is_of, joined, pieces_of}
 use Rattle.datagram_delivery.proofs.Standing.{place_here, place_later, HasOther, IsAbsent, each_room, Stands, stands_after, stands_exactly, offers_join}
 use Rattle.datagram_delivery.proofs.Rows.{AreFollowed, AreInRow, row_is_held, row_is_joined}

@@ -5,12 +5,12 @@ use Rattle.es_base.proofs.Places.{position_cons}
 use Rattle.std.proofs.lemmas.Option.{same_Some}
 use Rattle.es_base.specs.declared.fragment.DatagramKey.{DatagramKey}
 use Rattle.es_base.specs.Limits.{most_partials}
-use Rattle.es_base.specs.Fragments.{Piece, is_bad, is_whole, key_of, piece_of}
-use Rattle.es_base.specs.Groups.{Group, group_with, has_key, with_room, Found, begins, datagram_with, fate, found_at, found_for, found_if, groups_after, groups_with, is_over, is_same_key, joins, place_of, whole, without_group}
+use Rattle.link_rules.specs.Fragments.{Piece, is_bad, is_whole, key_of, piece_of}
+use Rattle.link_rules.specs.Groups.{Group, group_with, has_key, with_room, Found, begins, datagram_with, fate, found_at, found_for, found_if, groups_after, groups_with, is_over, is_same_key, joins, place_of, whole, without_group}
 use Rattle.std.proofs.lemmas.Bool.{cases_Bool, false≢true, eqb-true}
 use Rattle.es_base.specs.Packet.{PacketParts}
 use Rattle.es_base.proofs.Firsts.{found_at as found_place, passes_found}
-use Rattle.es_base.proofs.Keys.{key_itself, other_way, same_key}
+use Rattle.link_rules.proofs.Keys.{key_itself, other_way, same_key}
 use Rattle.datagram_delivery.specs.Splitting.{Offer, groups_after_offers, begins_group, begun_meanwhile, begun_since, is_beginning, others_in}
 
 -- it passes at the first

@@ -3,9 +3,9 @@ use Rattle.std.proofs.Common.{◌≡◌, ◌∙◌, ap, sym, subst, ℕ, ◌+◌
 use Rattle.std.specs.Prelude.{◌⊎◌, slice_get, slice_set}
 use Rattle.std.proofs.lemmas.Bool.{both_ways, lt-ltb}
 use Rattle.es_base.specs.declared.fragment.DatagramKey.{DatagramKey}
-use Rattle.es_base.specs.Copies.{elapsed}
-use Rattle.es_base.specs.Fragments.{Piece, key_of, piece_of}
-use Rattle.es_base.specs.Groups.{Found, Group, begin_of, begin_or, begins, found_at, found_for, found_if, group_with, groups_after, has_key, is_over, is_same_key, joins, place_of, with_room}
+use Rattle.es_base.specs.Age.{elapsed}
+use Rattle.link_rules.specs.Fragments.{Piece, key_of, piece_of}
+use Rattle.link_rules.specs.Groups.{Found, Group, begin_of, begin_or, begins, found_at, found_for, found_if, group_with, groups_after, has_key, is_over, is_same_key, joins, place_of, with_room}
 use Rattle.es_base.proofs.Firsts.{found_at as found_place, passes_found}
 use Rattle.datagram_delivery.specs.Splitting.{Offer, groups_after_offers, is_of, none_in_parts, is_beginning}
 use Rattle.datagram_delivery.specs.Datagrams.{IsUnused}

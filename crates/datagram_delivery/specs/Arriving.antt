@@ -1,9 +1,9 @@
 -- A message that arrives at a link: whatever came before its sender's copies, and whatever comes after it.
 use Rattle.std.specs.Prelude.{◌≡◌, ◌<◌, ℕ, true, List, ◌∷◌, ◌++◌}
 use Rattle.es_base.specs.declared.event.Event.{Event}
-use Rattle.es_base.specs.Deliveries.{number_delivered}
+use Rattle.link_rules.specs.Deliveries.{number_delivered}
 use Rattle.es_base.specs.Limits.{most_samples}
-use Rattle.es_base.specs.Outcome.{Payload}
+use Rattle.link_rules.specs.Outcome.{Payload}
 use Rattle.es_base.specs.Packet.{PacketParts}
 use Rattle.es_base.specs.Past.{arrival_of}
 use Rattle.es_base.specs.Settings.{Settings}

@@ -4,8 +4,8 @@
 use Rattle.std.specs.Prelude.{◌≡◌, ◌⊎◌, ℕ, suc, ◌+◌, ◌*◌, ◌<◌, ◌≤◌, ◌==◌, max, Bool, true, false, List, if◌then◌else◌, Ok}
 use Rattle.es_base.specs.declared.event.Event.{Event}
 use Rattle.es_base.specs.Packet.{PacketParts}
-use Rattle.es_base.specs.Fragments.{is_whole}
-use Rattle.es_base.specs.Reassembly.{packet_in}
+use Rattle.link_rules.specs.Fragments.{is_whole}
+use Rattle.link_rules.specs.Reassembly.{packet_in}
 use Rattle.frame_delivery.specs.Sending.{Copy, EachCopy, Numbering}
 use Rattle.frame_delivery.specs.Network.{Timing}
 use Rattle.datagram_delivery.specs.Parts.{IsPart}

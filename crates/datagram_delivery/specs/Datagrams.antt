@@ -6,10 +6,10 @@ use Rattle.es_base.specs.declared.fragment.DatagramKey.{DatagramKey}
 use Rattle.es_base.specs.declared.place.PortNo.{PortNo}
 use Rattle.es_base.specs.declared.event.Message.{Message}
 use Rattle.es_base.specs.Packet.{PacketParts}
-use Rattle.es_base.specs.Fragments.{is_whole, key_of}
-use Rattle.es_base.specs.Reassembly.{packet_in}
-use Rattle.es_base.specs.Outcome.{Payload, brought, datagram_payload, packet_payload}
-use Rattle.es_base.specs.Deliveries.{delivered}
+use Rattle.link_rules.specs.Fragments.{is_whole, key_of}
+use Rattle.link_rules.specs.Reassembly.{packet_in}
+use Rattle.link_rules.specs.Outcome.{Payload, brought, datagram_payload, packet_payload}
+use Rattle.link_rules.specs.Deliveries.{delivered}
 use Rattle.es_base.specs.Settings.{Settings}
 use Rattle.frame_delivery.specs.Sending.{Copy, EachCopy}
 use Rattle.datagram_delivery.specs.Splitting.{AreFronts, IsLastFragment, Offer, LeavesRoom, groups_after_offers, is_of, joined, pieces_of, none_in_parts}

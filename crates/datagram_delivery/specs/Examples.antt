@@ -7,10 +7,10 @@ use Rattle.es_base.specs.declared.verdict.Verdict.TheVariants as verdicts
 use Rattle.es_base.specs.declared.port.PortKind.TheVariants.{Queuing}
 use Rattle.es_base.specs.declared.event.Event.{Event}
 use Rattle.es_base.specs.declared.fragment.DatagramKey.{DatagramKey}
-use Rattle.es_base.specs.Fragments.{key_of}
+use Rattle.link_rules.specs.Fragments.{key_of}
 use Rattle.es_base.specs.Packet.{PacketParts}
 use Rattle.es_base.specs.Settings.{Settings}
-use Rattle.es_base.specs.Outcome.{Payload}
+use Rattle.link_rules.specs.Outcome.{Payload}
 use Rattle.frame_delivery.specs.Network.{Timing}
 use Rattle.frame_delivery.specs.Sending.{Copy, Numbering}
 use Rattle.datagram_delivery.specs.Splitting.{Offer}

@@ -6,7 +6,7 @@ use Rattle.es_base.specs.declared.event.Event.{Event}
 use Rattle.es_base.specs.declared.place.PortNo.{PortNo}
 use Rattle.es_base.specs.declared.event.Message.{Message}
 use Rattle.es_base.specs.Limits.{most_samples}
-use Rattle.es_base.specs.Outcome.{Payload}
+use Rattle.link_rules.specs.Outcome.{Payload}
 use Rattle.es_base.specs.Packet.{PacketParts}
 use Rattle.es_base.specs.Settings.{Settings}
 use Rattle.frame_delivery.specs.Messages.{goes_to}

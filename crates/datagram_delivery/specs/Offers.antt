@@ -3,8 +3,8 @@ use Rattle.std.specs.Prelude.{List, [], ◌∷◌, Option, None, Some}
 use Rattle.es_base.specs.declared.event.Event.{Event}
 use Rattle.es_base.specs.Past.{arrival_of}
 use Rattle.es_base.specs.Packet.{PacketParts}
-use Rattle.es_base.specs.Reassembly.{offered}
-use Rattle.es_base.specs.Redundancy.{is_forwarded}
+use Rattle.link_rules.specs.Reassembly.{offered}
+use Rattle.link_rules.specs.Redundancy.{is_forwarded}
 use Rattle.es_base.specs.Settings.{Settings}
 use Rattle.datagram_delivery.specs.Splitting.{Offer}
 

@@ -6,12 +6,12 @@ use Rattle.std.specs.Prelude.{◌≡◌, ◌⊎◌, ℕ, ◌+◌, ◌≤◌, ◌
 use Rattle.es_base.specs.declared.place.PortNo.{PortNo}
 use Rattle.es_base.specs.declared.event.Event.{Event}
 use Rattle.es_base.specs.declared.event.Message.{Message}
-use Rattle.es_base.specs.Deliveries.{is_same_port}
+use Rattle.link_rules.specs.Deliveries.{is_same_port}
 use Rattle.es_base.specs.Packet.{PacketParts}
-use Rattle.es_base.specs.Fragments.{is_whole, key_of}
-use Rattle.es_base.specs.Groups.{is_same_key}
-use Rattle.es_base.specs.Outcome.{Payload, datagram_payload}
-use Rattle.es_base.specs.Reassembly.{packet_in}
+use Rattle.link_rules.specs.Fragments.{is_whole, key_of}
+use Rattle.link_rules.specs.Groups.{is_same_key}
+use Rattle.link_rules.specs.Outcome.{Payload, datagram_payload}
+use Rattle.link_rules.specs.Reassembly.{packet_in}
 use Rattle.es_base.specs.Settings.{Settings}
 use Rattle.frame_delivery.specs.Running.{EachForwarded}
 use Rattle.datagram_delivery.specs.Datagrams.{IsUnused}

@@ -4,7 +4,7 @@ use Rattle.std.specs.Prelude.{◌⊎◌}
 use Rattle.es_base.specs.declared.event.Arrival.{Arrival}
 use Rattle.es_base.specs.declared.event.Event.{Event}
 use Rattle.es_base.specs.declared.verdict.Verdict.{Verdict}
-use Rattle.es_base.specs.Run.{IsRun}
+use Rattle.link_rules.specs.Run.{IsRun}
 use Rattle.datagram_delivery.specs.Interleaved.{BringDatagrams, Carried, messages_ended}
 use Rattle.delivery_example.specs.Example.{arrival_on_a, first_arrival_on_b, link_with_nav, nav_message, nav, second_arrival_on_b, sent, sent_if_b_is_first}
 use Rattle.delivery_example.proofs.Example.{bring, bring_if_b_is_first}

@@ -3,16 +3,16 @@ use Rattle.std.proofs.Common.{◌≡◌, ℕ, ◌+◌, ◌≤◌, true, List, []
 use Rattle.std.proofs.lemmas.Bool.{false≢true}
 use Rattle.es_base.specs.declared.event.Event.{Event}
 use Rattle.es_base.specs.declared.verdict.Verdict.{Verdict}
-use Rattle.es_base.specs.Deliveries.{deliveries}
-use Rattle.es_base.specs.Fragments as fragments
-use Rattle.es_base.specs.Fragments.{key_of}
-use Rattle.es_base.specs.Reassembly.{packet_in}
-use Rattle.es_base.specs.Groups as groups
+use Rattle.link_rules.specs.Deliveries.{deliveries}
+use Rattle.link_rules.specs.Fragments as fragments
+use Rattle.link_rules.specs.Fragments.{key_of}
+use Rattle.link_rules.specs.Reassembly.{packet_in}
+use Rattle.link_rules.specs.Groups as groups
 use Rattle.es_base.specs.Octets as words
-use Rattle.es_base.specs.Outcome as outcomes
+use Rattle.link_rules.specs.Outcome as outcomes
 use Rattle.es_base.specs.Packet as packets
 use Rattle.es_base.specs.Past.{AreFramesOf}
-use Rattle.es_base.specs.Run.{IsRun}
+use Rattle.link_rules.specs.Run.{IsRun}
 use Rattle.frame_delivery.specs.Network.{KeepsTimes, Timing}
 use Rattle.frame_delivery.specs.Once.{new_copies}
 use Rattle.frame_delivery.specs.Sending.{Copy, HaveNumbers, events_of_copies}

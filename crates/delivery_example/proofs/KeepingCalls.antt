@@ -10,7 +10,7 @@ use Rattle.es_base.specs.declared.place.Net.{Net}
 use Rattle.es_base.specs.declared.place.Net.TheVariants.{A, B}
 use Rattle.es_base.specs.declared.verdict.Verdict.{Verdict}
 use Rattle.es_base.specs.Config.{Configuration, link_of}
-use Rattle.es_base.specs.Run.{IsRun}
+use Rattle.link_rules.specs.Run.{IsRun}
 use Rattle.es_base.specs.Settings.{Settings}
 use Rattle.datagram_delivery.specs.Interleaved.{BringDatagrams, Carried, messages_ended}
 use Rattle.link_receiver.specs.Outlet.{ShowsDelivered}
@@ -26,7 +26,9 @@ use Rattle.link_receiver.specs.Epoch.{Handed}
 use Rattle.link_receiver.specs.Link.{Link as Kept, past_of}
 use Rattle.end_system.specs.Calls.{events_of}
 use Rattle.end_system.specs.Run.{calls_in}
-use Rattle.end_system.specs.System.{KnownNet, Replies, System}
+use Rattle.network_calls.specs.Passes.{KnownNet, System}
+use Rattle.end_system.specs.Pass.{KnownLink}
+use Rattle.end_system.specs.System.{Replies}
 use Rattle.delivery_example.specs.Keeping.{HoldsMessage, IsHeldOnce, steps_of_keeping}
 use Rattle.delivery_example.specs.Order.{WasTakenBefore}
 use Rattle.delivery_example.proofs.Brings.{AreInEitherOrder, brings_message}
@@ -35,7 +37,7 @@ use Rattle.delivery_example.proofs.Named.{ComeToFirst, a_comes, first_of_b_comes
 use Rattle.delivery_example.proofs.Replied.{IsOfLink, is_call, link_17, never_filtered}
 
 -- the reply to a frame that comes to the link
-pub is_of_link : (system : System) (old new : KnownNet) (time : ℕ) (octets : List ℕ) (reply : Reply) → system.config ≡ configuration → ComeToFirst octets → Replies system.config old time octets reply new → IsOfLink reply
+pub is_of_link : (system : System) (old new : KnownNet KnownLink) (time : ℕ) (octets : List ℕ) (reply : Reply) → system.config ≡ configuration → ComeToFirst octets → Replies system.config old time octets reply new → IsOfLink reply
 is_of_link system old new time octets (Filtered cause) is comes replies = never_filtered system.config octets cause is comes replies.0
 is_of_link system old new time octets (Link vl place verdict) is comes replies = let at = replies in at.2 ∙ comes.number
 
@@ -70,11 +72,11 @@ in_either_order link epoch to_a first_to_b second_to_b of_a of_b of_c taken call
 
 -- the calls of the task, by their passes
 pub record RanKeeping (system : System) (on_a first_of_b second_of_b : List ℕ) (to_a first_to_b second_to_b : Reply) : Type 0 where
-  pub old_a : KnownNet
-  pub new_a : KnownNet
-  pub old_b : KnownNet
-  pub next_b : KnownNet
-  pub new_b : KnownNet
+  pub old_a : KnownNet KnownLink
+  pub new_a : KnownNet KnownLink
+  pub old_b : KnownNet KnownLink
+  pub next_b : KnownNet KnownLink
+  pub new_b : KnownNet KnownLink
   pub takes_a : Replies system.config old_a 100 on_a to_a new_a
   pub takes_b : Replies system.config old_b 900 first_of_b first_to_b next_b
   pub takes_again : Replies system.config next_b 10500 second_of_b second_to_b new_b

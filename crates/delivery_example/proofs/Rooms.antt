@@ -4,13 +4,13 @@ use Rattle.std.proofs.lemmas.Bool.{false≢true}
 use Rattle.es_base.specs.declared.event.Arrival.{Arrival}
 use Rattle.es_base.specs.declared.event.Event.{Event}
 use Rattle.es_base.specs.declared.verdict.Verdict.{Verdict}
-use Rattle.es_base.specs.Fragments as fragments
-use Rattle.es_base.specs.Groups as groups
+use Rattle.link_rules.specs.Fragments as fragments
+use Rattle.link_rules.specs.Groups as groups
 use Rattle.es_base.specs.Octets as words
-use Rattle.es_base.specs.Outcome as outcomes
+use Rattle.link_rules.specs.Outcome as outcomes
 use Rattle.es_base.specs.Packet as packets
 use Rattle.es_base.specs.Past.{event_of}
-use Rattle.es_base.specs.Run.{IsRun, MayAnswer, may_refuse}
+use Rattle.link_rules.specs.Run.{IsRun, MayAnswer, may_refuse}
 use Rattle.es_base.specs.Settings.{Settings}
 use Rattle.delivery_example.specs.Example.{arrival_on_a, first_arrival_on_b, first_on_a, first_on_b, link_with_nav, second_arrival_on_b, second_on_b}
 

@@ -10,7 +10,7 @@ use Rattle.es_base.specs.Addressing.{addressed_link}
 use Rattle.es_base.specs.Config.{Configuration}
 use Rattle.es_base.specs.Past.{arrived, event_of}
 use Rattle.es_base.specs.Port.{Port}
-use Rattle.es_base.specs.Run.{IsRun}
+use Rattle.link_rules.specs.Run.{IsRun}
 use Rattle.es_base.specs.Settings.{Settings}
 use Rattle.datagram_delivery.specs.Interleaved.{BringDatagrams, Carried, messages_ended}
 use Rattle.receiver.specs.declared.port.PortOutlet.{PortOutlet}

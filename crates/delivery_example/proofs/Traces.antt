@@ -3,10 +3,10 @@ use Rattle.std.proofs.Common.{◌≡◌, sym, subst, refl, ℕ, List, Option}
 use Rattle.std.specs.Prelude.{reverse, slice_get, Some}
 use Rattle.es_base.specs.declared.event.Event.{Event}
 use Rattle.es_base.specs.Addressing as addressing
-use Rattle.es_base.specs.Fragments as fragments
-use Rattle.es_base.specs.Groups as groups
+use Rattle.link_rules.specs.Fragments as fragments
+use Rattle.link_rules.specs.Groups as groups
 use Rattle.es_base.specs.Octets as words
-use Rattle.es_base.specs.Outcome as outcomes
+use Rattle.link_rules.specs.Outcome as outcomes
 use Rattle.es_base.specs.Packet as packets
 use Rattle.trace_player.specs.Histories.{past_after}
 use Rattle.trace_player.specs.Merge.{merged}

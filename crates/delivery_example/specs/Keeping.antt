@@ -9,9 +9,9 @@ use Rattle.link_receiver.specs.Link.{Link, all_deliveries_of}
 use Rattle.link_receiver.specs.Outlet.{ShowsDelivered}
 use Rattle.network_calls.specs.declared.reply.Reply.{Reply}
 use Rattle.end_system.specs.declared.ends.LinkEnds.{LinkEnds}
-use Rattle.end_system.specs.declared.settled.Settled.{Settled}
+use Rattle.network_calls.specs.declared.settled.Settled.{Settled}
 use Rattle.end_system.specs.Run.{Step, received, took}
-use Rattle.end_system.specs.System.{System}
+use Rattle.network_calls.specs.Passes.{System}
 use Rattle.delivery_laws.specs.Histories.{DeliversEach}
 use Rattle.delivery_laws.specs.Holding.{AreOutletsOf, EachHolds}
 use Rattle.delivery_example.specs.Example.{first_time_on_b, nav_message, nav, second_time_on_b, time_on_a}
@@ -25,7 +25,7 @@ steps_of_keeping on_a first_on_b second_on_b to_a first_to_b second_to_b epoch =
     ∷ []
 
 -- the system ended as its laws of delivery say of these calls
-pub record EndedKeeping (config : Configuration) (on_a first_on_b second_on_b : List ℕ) (to_a first_to_b second_to_b : Reply) (settled : Settled) : Type 0 where
+pub record EndedKeeping (config : Configuration) (on_a first_on_b second_on_b : List ℕ) (to_a first_to_b second_to_b : Reply) (settled : Settled Link) : Type 0 where
   pub system : System
   pub of_config : system.config ≡ config
   pub ends : List LinkEnds

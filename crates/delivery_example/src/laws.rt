@@ -1,8 +1,8 @@
 //! What is asked of senders and networks can be met by the past of a link, and by two traces.
 ghost use Rattle.std.specs.Prelude.{◌≡◌, ℕ, [], ◌∷◌, Option, reverse};
-ghost use Rattle.es_base.specs.Deliveries.{deliveries};
+ghost use Rattle.link_rules.specs.Deliveries.{deliveries};
 ghost use Rattle.es_base.specs.Past.{AreFramesOf};
-ghost use Rattle.es_base.specs.Run.{IsRun};
+ghost use Rattle.link_rules.specs.Run.{IsRun};
 ghost use Rattle.datagram_delivery.specs.Interleaved.{BringDatagrams, messages_ended};
 ghost use Rattle.trace_player.specs.Histories.{past_after};
 ghost use Rattle.trace_player.specs.Merge.{merged};

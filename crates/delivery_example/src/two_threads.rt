@@ -5,7 +5,7 @@ ghost use Rattle.live_system.specs.System.{IsPassOf};
 ghost use Rattle.delivery_example.specs.Example.{AreOfTheExample};
 ghost use Rattle.delivery_example.specs.Given.{WasGivenOnce};
 ghost use Rattle.delivery_example.specs.TwoThreads.{EndedAfter, GaveOne};
-ghost use Rattle.delivery_example.specs.Order.{WasTakenBefore};
+ghost use Rattle.delivery_example.specs.Order.{WasTakenBefore, without_index};
 
 use delivery_laws::live::each_message_is_given_once;
 use es_base::{Config, Memory};
@@ -50,7 +50,7 @@ pub fn run<R: Threads + Wait + Sync>(
     second_on_b: &[u8],
 ) -> Result<Ended, Memory>
     ensures ended { IfOk result (λ r. EndedAfter config.now on_a.now first_on_b.now second_on_b.now r.on_a r.first_on_b r.second_on_b r.settled) }
-    ensures given { IfOk result (λ r. AreOfTheExample config.now on_a.now first_on_b.now second_on_b.now → WasTakenBefore r.on_a r.second_on_b → WasGivenOnce (slice_get r.settled.links.items 0)) }
+    ensures given { IfOk result (λ r. AreOfTheExample config.now on_a.now first_on_b.now second_on_b.now → WasTakenBefore (without_index r.on_a) (without_index r.second_on_b) → WasGivenOnce (slice_get r.settled.links.items 0)) }
 {
     each_message_is_given_once();
     let Opened {

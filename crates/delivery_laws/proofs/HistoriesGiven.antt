@@ -4,8 +4,8 @@ use Rattle.std.proofs.lemmas.List.{map-append}
 use Rattle.es_base.specs.declared.event.Message.{Message}
 use Rattle.es_base.specs.declared.place.Net.{Net}
 use Rattle.es_base.specs.declared.place.PortNo.{PortNo}
-use Rattle.es_base.specs.Deliveries.{deliveries}
-use Rattle.es_base.specs.Outcome.{Payload}
+use Rattle.link_rules.specs.Deliveries.{deliveries}
+use Rattle.link_rules.specs.Outcome.{Payload}
 use Rattle.link_receiver.specs.Link.{Link, message_words, past_of}
 use Rattle.datagram_delivery.specs.Arriving.{Arrives, past_before}
 use Rattle.datagram_delivery.specs.Interleaved.{BringDatagrams, Carried, messages_ended}
@@ -14,7 +14,7 @@ use Rattle.datagram_delivery.proofs.Offered.{deliveries_by_offers}
 use Rattle.end_system.specs.declared.ends.LinkEnds.{LinkEnds}
 use Rattle.end_system.specs.Run.{HasEnded, Step}
 use Rattle.network_calls.specs.Counts.{KnownCounts}
-use Rattle.end_system.specs.System.{System}
+use Rattle.network_calls.specs.Passes.{System}
 use Rattle.delivery_laws.specs.Histories.{DeliversEach, GivesEach, WasGiven, WereGiven}
 
 were_given : (link : Link) (carried : List Carried) (port : PortNo) → BringDatagrams link.settings (past_of link) carried → WereGiven link carried port
@@ -27,8 +27,7 @@ were_given link carried port bring =
 
 was_given : (link : Link) (payload : Payload) (time : ℕ) → (one : Arrives link.settings (past_of link) payload time) → WasGiven link payload time one
 was_given link payload time one =
-    let message : Message = record { time = time; octets = payload.octets } in
-    let (later, given) = arriving_is_delivered link.settings (past_of link) payload time one in
+    let message : Message = record { time = time; octets = payload.octets } in let (later, given) = arriving_is_delivered link.settings (past_of link) payload time one in
     record {
       later = later;
       put = given;

@@ -18,7 +18,7 @@ use Rattle.datagram_delivery.specs.Interleaved.{BringDatagrams, Carried, message
 use Rattle.datagram_delivery.proofs.Arriving.{brought_by}
 use Rattle.end_system.specs.declared.ends.LinkEnds.{LinkEnds}
 use Rattle.end_system.specs.Run.{HasEnded, Step}
-use Rattle.end_system.specs.System.{System}
+use Rattle.network_calls.specs.Passes.{System}
 use Rattle.network_calls.specs.Counts.{KnownCounts}
 use Rattle.delivery_laws.specs.Holding.{AreOutletsOf, EachHolds, HoldsEach, KnowsEach, after_meeting}
 

@@ -9,7 +9,7 @@ use Rattle.network_calls.specs.Counts.{KnownCounts}
 use Rattle.delivery_laws.proofs.TaskGiven.{gives_each}
 use Rattle.live_system.specs.Calls.{LiveLink}
 use Rattle.live_system.specs.Run.{HasEnded, Step}
-use Rattle.live_system.specs.System.{System}
+use Rattle.network_calls.specs.Passes.{System}
 use Rattle.delivery_laws.specs.Live.{DeliversEach}
 
 pub delivers_each : (readers : Port → ℕ) (system : System) (steps : List (Net × Step)) (ends : List (LinkEnds PartitionEnd)) (links : List LiveLink) (a b : KnownCounts) → HasEnded readers system steps ends links a b

@@ -10,9 +10,9 @@ use Rattle.es_base.specs.declared.place.PortNo.{PortNo}
 use Rattle.es_base.specs.declared.port.PortKind.{PortKind}
 use Rattle.es_base.specs.declared.port.PortKind.TheVariants.{Queuing}
 use Rattle.es_base.specs.Config.{Configuration}
-use Rattle.es_base.specs.Deliveries.{deliveries}
+use Rattle.link_rules.specs.Deliveries.{deliveries}
 use Rattle.es_base.specs.FilterTally.{filtered_count}
-use Rattle.es_base.specs.Outcome.{Payload}
+use Rattle.link_rules.specs.Outcome.{Payload}
 use Rattle.es_base.specs.Port.{Port}
 use Rattle.es_base.specs.Settings.{Settings}
 use Rattle.hex_trace.specs.Frames.{TimedFrame}
@@ -39,11 +39,8 @@ lines_are_offered constant link frames at = ap (λ delivered. ports_lines at del
 -- ---- texts in texts
 
 stands_after : (piece front text : List ℕ) → StandsIn piece text → StandsIn piece (front ++ text)
-stands_after piece front text (before, after, is) = (
-  front ++ before,
-  after,
-  ap (λ (rest : List ℕ). front ++ rest) is ∙ sym (append_assoc front (before ++ piece) after) ∙ ap (λ (all : List ℕ). all ++ after) (sym (append_assoc front before piece)),
-)
+stands_after piece front text (before, after, is) =
+    (front ++ before, after, ap (λ (rest : List ℕ). front ++ rest) is ∙ sym (append_assoc front (before ++ piece) after) ∙ ap (λ (all : List ℕ). all ++ after) (sym (append_assoc front before piece)))
 
 stands_before : (piece text back : List ℕ) → StandsIn piece text → StandsIn piece (text ++ back)
 stands_before piece text back (before, after, is) = (before, after ++ back, ap (λ (all : List ℕ). all ++ back) is ∙ append_assoc (before ++ piece) after back)
@@ -66,13 +63,8 @@ port_stands : (at : ℕ) (delivered : PortNo → List Message) (place : ℕ) (po
     → StandsIn (port_lines at port (delivered (record { 0 = number }))) (ports_lines at delivered place ports)
 port_stands at delivered place [] further number port is there = cc
 port_stands at delivered place (first ∷ ports) zero number port is there =
-    let rest : List ℕ = ports_lines at delivered (place + 1) ports in
-    let same : place ≡ number = omega (arith, is) in (
-      [],
-      rest,
-      ap (λ (one : Port). port_lines at one (delivered (record { 0 = place })) ++ rest) (same_Some first port there)
-          ∙ ap (λ (n : ℕ). port_lines at port (delivered (record { 0 = n })) ++ rest) same,
-    )
+    let rest : List ℕ = ports_lines at delivered (place + 1) ports in let same : place ≡ number = omega (arith, is) in
+    ([], rest, ap (λ (one : Port). port_lines at one (delivered (record { 0 = place })) ++ rest) (same_Some first port there) ∙ ap (λ (n : ℕ). port_lines at port (delivered (record { 0 = n })) ++ rest) same)
 port_stands at delivered place (first ∷ ports) (suc further) number port is there =
     stands_after (port_lines at port (delivered (record { 0 = number }))) (port_lines at first (delivered (record { 0 = place }))) (ports_lines at delivered (place + 1) ports)
     (port_stands at delivered (place + 1) ports further number port (omega (arith, is)) there)
@@ -87,8 +79,7 @@ message_stands name (one ∷ earlier) message later =
 queue_stands : (at : ℕ) (port : Port) (depth : ℕ) (earlier : List Message) (message : Message) (later : List Message) → port.kind ≡ Queuing depth
     → StandsIn (line (message_text port.name message.time message.octets)) (port_lines at port (earlier ++ message ∷ later))
 queue_stands at port depth earlier message later is =
-    let piece : List ℕ = line (message_text port.name message.time message.octets) in
-    let all : List Message = earlier ++ message ∷ later in
+    let piece : List ℕ = line (message_text port.name message.time message.octets) in let all : List Message = earlier ++ message ∷ later in
     subst (λ (kind : PortKind). StandsIn piece (lines_by_kind at port.name kind all)) (sym is)
     (stands_after piece (line (queue_text port.name (length all))) (message_lines port.name all) (message_stands port.name earlier message later))
 
@@ -97,12 +88,9 @@ queue_stands at port depth earlier message later is =
 link_is_written : (c : Configuration) (a b : List TimedFrame) (asked : Option ℕ) (place : ℕ) (link : Settings) → slice_get c.links place ≡ Some link
     → StandsIn (link_lines (report_time_of asked (reverse (merged a b))) link (past_after c.constant link (reverse (merged a b)))) (output_of c a b asked)
 link_is_written c a b asked place link there =
-    let frames : List Arrival = reverse (merged a b) in
-    let at : ℕ = report_time_of asked frames in
-    let past_of : Settings → List Event = λ link. past_after c.constant link frames in
-    let piece : List ℕ = link_lines at link (past_of link) in
-    let lines : List ℕ = all_link_lines at past_of c.links in
-    let counts : List ℕ = all_count_lines past_of c.links in
+    let frames : List Arrival = reverse (merged a b) in let at : ℕ = report_time_of asked frames in
+    let past_of : Settings → List Event = λ link. past_after c.constant link frames in let piece : List ℕ = link_lines at link (past_of link) in
+    let lines : List ℕ = all_link_lines at past_of c.links in let counts : List ℕ = all_count_lines past_of c.links in
     let filtered : List ℕ = filtered_lines (filtered_count c frames) in
     let in_report : StandsIn piece (lines ++ counts ++ filtered) = stands_before piece (lines ++ counts) filtered (stands_before piece lines counts (link_stands at past_of c.links place link there)) in
     stands_after piece (lines_of c [] (merged a b)) (lines ++ counts ++ filtered) in_report
@@ -116,12 +104,9 @@ are_written c a b asked place link carried there bring =
 pub is_reported : (c : Configuration) (a b : List TimedFrame) (asked : Option ℕ) (place : ℕ) (link : Settings) (port : Port) (payload : Payload) (time : ℕ) → slice_get c.links place ≡ Some link
     → slice_get link.ports payload.port.0 ≡ Some port → (one : Arrives link (past_after c.constant link (reverse (merged a b))) payload time) → IsReported c a b asked link port payload time one
 is_reported c a b asked place link port payload time there at_port one =
-    let past : List Event = past_after c.constant link (reverse (merged a b)) in
-    let at : ℕ = report_time_of asked (reverse (merged a b)) in
-    let message : Message = record { time = time; octets = payload.octets } in
-    let earlier : List Message = deliveries link (past_before one) payload.port in
-    let (later, delivered) = arriving_is_delivered link past payload time one in
-    let lines : List ℕ = port_lines at port (earlier ++ message ∷ later) in
+    let past : List Event = past_after c.constant link (reverse (merged a b)) in let at : ℕ = report_time_of asked (reverse (merged a b)) in
+    let message : Message = record { time = time; octets = payload.octets } in let earlier : List Message = deliveries link (past_before one) payload.port in
+    let (later, delivered) = arriving_is_delivered link past payload time one in let lines : List ℕ = port_lines at port (earlier ++ message ∷ later) in
     let in_link : StandsIn lines (link_lines at link past) =
     subst (λ (messages : List Message). StandsIn (port_lines at port messages) (link_lines at link past)) delivered
     (port_stands at (λ port. deliveries link past port) 0 link.ports payload.port.0 payload.port.0 port (omega arith) at_port) in

@@ -3,7 +3,7 @@ use Rattle.std.proofs.Common.{◌≡◌, subst, ℕ, Bool, List, Some}
 use Rattle.std.specs.Prelude.{slice_get}
 use Rattle.es_base.specs.declared.event.Message.{Message}
 use Rattle.es_base.specs.declared.port.PortKind.{PortKind}
-use Rattle.es_base.specs.Outcome.{Payload}
+use Rattle.link_rules.specs.Outcome.{Payload}
 use Rattle.es_base.specs.Port.{Port}
 use Rattle.link_core.specs.Counted.{port_no}
 use Rattle.receiver.specs.Link.{IsPorted, Ported}

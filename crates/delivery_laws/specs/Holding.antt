@@ -16,7 +16,7 @@ use Rattle.link_receiver.specs.Link.{Link, all_deliveries_of, message_words, pas
 use Rattle.link_receiver.specs.Outlet.{ShowsDelivered, channel_of}
 use Rattle.datagram_delivery.specs.Interleaved.{BringDatagrams, Carried, messages_ended}
 use Rattle.end_system.specs.declared.ends.LinkEnds.{LinkEnds}
-use Rattle.end_system.specs.System.{System}
+use Rattle.network_calls.specs.Passes.{System}
 
 -- ---- the outlets of a link
 

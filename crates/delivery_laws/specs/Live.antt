@@ -11,7 +11,7 @@ use Rattle.receiver.specs.Port.{ShowsPort}
 use Rattle.delivery_laws.specs.Task.{GivesEach}
 use Rattle.live_system.specs.Calls.{LiveLink}
 use Rattle.live_system.specs.Run.{EndsInOneRun, Step}
-use Rattle.live_system.specs.System.{System}
+use Rattle.network_calls.specs.Passes.{System}
 
 -- each link of the configuration ends in one run of all its events, and gave each message of these to its port: a
 -- sampling port published it, a queuing port put it into its queue

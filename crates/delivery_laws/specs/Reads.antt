@@ -2,7 +2,7 @@
 use Rattle.std.specs.Prelude.{◌≡◌, ℕ, slice_get, Some}
 use Rattle.es_base.specs.Port.{Port}
 use Rattle.triple_buffer.specs.Moments.{ArePublished, BufferState}
-use Rattle.triple_buffer.specs.Rule.{KeptTable}
+use Rattle.triple_buffer.specs.Rule.{KeptBuffers}
 use Rattle.mailbox_port.specs.Port.{PortEnd}
 use Rattle.receiver.specs.declared.port.PortOutlet.{PortOutlet}
 use Rattle.receiver.specs.declared.port.PortOutlet.TheVariants as outlets
@@ -17,5 +17,5 @@ pub record IsMomentAt (link : Ported PortOutlet) (place longest : ℕ) (s : Buff
   pub there : slice_get link.core.settings.ports place ≡ Some port
   pub writer : PortEnd
   pub outlet : slice_get link.outlets place ≡ Some (outlets.Sampling writer)
-  pub kept : KeptTable longest s
+  pub kept : KeptBuffers longest s
   pub published : ArePublished s writer.published

@@ -4,8 +4,8 @@ use Rattle.es_base.specs.declared.event.Event.{Event}
 use Rattle.es_base.specs.declared.event.Message.{Message}
 use Rattle.es_base.specs.declared.port.PortKind.TheVariants.{Queuing}
 use Rattle.es_base.specs.Config.{Configuration}
-use Rattle.es_base.specs.Deliveries.{deliveries}
-use Rattle.es_base.specs.Outcome.{Payload}
+use Rattle.link_rules.specs.Deliveries.{deliveries}
+use Rattle.link_rules.specs.Outcome.{Payload}
 use Rattle.es_base.specs.Port.{Port}
 use Rattle.es_base.specs.Settings.{Settings}
 use Rattle.hex_trace.specs.Frames.{TimedFrame}

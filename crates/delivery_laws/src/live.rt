@@ -6,8 +6,12 @@ ghost use Rattle.receiver.specs.declared.ends.LinkEnds.{LinkEnds};
 ghost use Rattle.receiver.specs.declared.partition.PartitionEnd.{PartitionEnd};
 ghost use Rattle.network_calls.specs.Counts.{KnownCounts};
 ghost use Rattle.live_system.specs.Calls.{LiveLink};
-ghost use Rattle.live_system.specs.Run.{AreOpened, HasSettled, Passes, Ran, Step};
-ghost use Rattle.live_system.specs.System.{System};
+ghost use Rattle.network_calls.specs.Ended.{HasSettled};
+ghost use Rattle.network_calls.specs.Passes.{System};
+ghost use Rattle.network_calls.specs.Threads.{BothPasses};
+ghost use Rattle.live_system.specs.Pass.{KnownLink};
+ghost use Rattle.live_system.specs.Run.{AreOpened, Ran, Step};
+ghost use Rattle.live_system.specs.System.{keeping_no_frame};
 ghost use Rattle.delivery_laws.specs.Live.{DeliversEach};
 
 /// Each port of a link was given what the packets of the forwarded frames bring, each offered once, and no other
@@ -19,6 +23,6 @@ ghost use Rattle.delivery_laws.specs.Live.{DeliversEach};
 /// overtaken is the next of its datagram (`BringDatagrams`), exactly the messages of these datagrams were given, in the
 /// order of ending.
 pub fn each_message_is_given_once()
-    ensures { (readers : Port → ℕ) (system : System) (first last : Passes) (ends : List (LinkEnds PartitionEnd)) (steps : List (Net × Step)) (links : List LiveLink) (a b : KnownCounts) →
-        AreOpened readers system first ends → Ran system first steps last → HasSettled system last links a b → DeliversEach readers system steps ends links }
+    ensures { (readers : Port → ℕ) (system : System) (first last : BothPasses KnownLink) (ends : List (LinkEnds PartitionEnd)) (steps : List (Net × Step)) (links : List LiveLink) (a b : KnownCounts) →
+        AreOpened readers system first ends → Ran system first steps last → HasSettled keeping_no_frame system last links a b → DeliversEach readers system steps ends links }
 {}

@@ -2,7 +2,7 @@
 ghost use Rattle.std.specs.Prelude.{◌≡◌, ℕ, List, Option, Some, reverse, slice_get};
 ghost use Rattle.es_base.specs.declared.event.Arrival.{Arrival};
 ghost use Rattle.es_base.specs.Config.{Configuration};
-ghost use Rattle.es_base.specs.Outcome.{Payload};
+ghost use Rattle.link_rules.specs.Outcome.{Payload};
 ghost use Rattle.es_base.specs.Port.{Port};
 ghost use Rattle.es_base.specs.Settings.{Settings};
 ghost use Rattle.hex_trace.specs.Frames.{TimedFrame};

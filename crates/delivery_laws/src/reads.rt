@@ -1,8 +1,8 @@
 //! What a partition reads of a sampling port, by the run of the port's link.
 ghost use Rattle.std.specs.Prelude.{◌≡◌, ℕ, List};
 ghost use Rattle.link_core.specs.Counted.{port_no};
-ghost use Rattle.triple_buffer.specs.Moments.{BufferState, HasNoMark, LooksIn, SeatStep, TookIn, word_in};
-ghost use Rattle.triple_buffer.specs.Plays.{At, reader_of};
+ghost use Rattle.triple_buffer.specs.Moments.{BufferState, HasNoMark, LooksAtWord, BufferStep, TookIn, word_in};
+ghost use Rattle.triple_buffer.specs.Plays.{BufferSeat, reader_in};
 ghost use Rattle.mailbox_port.specs.declared.reading.Reading.{Reading};
 ghost use Rattle.mailbox_port.specs.Reads.{IsRead, PortReader, TellsNewest};
 ghost use Rattle.receiver.specs.declared.port.PortOutlet.{PortOutlet};
@@ -15,10 +15,10 @@ ghost use Rattle.delivery_laws.specs.Reads.{IsMomentAt};
 /// system of two threads that keeps no frame.
 // rule: EMB-8, CONC-17
 pub fn a_read_tells_the_newest_that_was_delivered()
-    ensures load { (link : Ported PortOutlet) (place longest : ℕ) (s : BufferState) (load : SeatStep) (seat after : At) (reader later : PortReader) (before out : List ℕ) (answer : Reading) →
-        IsMomentAt link place longest s → LooksIn s load seat after → HasNoMark (word_in s) →
-        later.mailbox.reader.seen ≡ (reader_of after.0).seen → IsRead reader later before out answer → TellsNewest (deliveries_of link (port_no place)) before out answer }
-    ensures exchange { (link : Ported PortOutlet) (place longest found : ℕ) (s : BufferState) (swap : SeatStep) (seat after : At) (reader later : PortReader) (before out : List ℕ) (answer : Reading) →
+    ensures load { (link : Ported PortOutlet) (place longest : ℕ) (s : BufferState) (load : BufferStep) (seat after : BufferSeat) (reader later : PortReader) (before out : List ℕ) (answer : Reading) →
+        IsMomentAt link place longest s → LooksAtWord s load seat after → HasNoMark (word_in s) →
+        later.mailbox.reader.seen ≡ (reader_in after.0).seen → IsRead reader later before out answer → TellsNewest (deliveries_of link (port_no place)) before out answer }
+    ensures exchange { (link : Ported PortOutlet) (place longest found : ℕ) (s : BufferState) (swap : BufferStep) (seat after : BufferSeat) (reader later : PortReader) (before out : List ℕ) (answer : Reading) →
         IsMomentAt link place longest s → TookIn s swap found seat after →
-        later.mailbox.reader.seen ≡ (reader_of after.0).seen → IsRead reader later before out answer → TellsNewest (deliveries_of link (port_no place)) before out answer }
+        later.mailbox.reader.seen ≡ (reader_in after.0).seen → IsRead reader later before out answer → TellsNewest (deliveries_of link (port_no place)) before out answer }
 {}

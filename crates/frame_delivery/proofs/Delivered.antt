@@ -8,12 +8,12 @@ use Rattle.es_base.specs.declared.port.PortKind.TheVariants.{Sampling, Queuing}
 use Rattle.es_base.specs.declared.event.Arrival.{Arrival}
 use Rattle.es_base.specs.declared.event.Event.{Event}
 use Rattle.es_base.specs.Limits.{most_samples}
-use Rattle.es_base.specs.Integrity.{passes}
-use Rattle.es_base.specs.Groups.{Group, fate}
-use Rattle.es_base.specs.Reassembly.{groups_in}
-use Rattle.es_base.specs.Redundancy.{forwarded, is_forwarded, is_redundant}
-use Rattle.es_base.specs.Outcome.{Payload, brings, brought, frame_payload, outcome}
-use Rattle.es_base.specs.Deliveries.{delivered, takes_one_more, deliveries, number_delivered, is_same_port}
+use Rattle.link_rules.specs.Integrity.{passes}
+use Rattle.link_rules.specs.Groups.{Group, fate}
+use Rattle.link_rules.specs.Reassembly.{groups_in}
+use Rattle.link_rules.specs.Redundancy.{forwarded, is_forwarded, is_redundant}
+use Rattle.link_rules.specs.Outcome.{Payload, brings, brought, frame_payload, outcome}
+use Rattle.link_rules.specs.Deliveries.{delivered, takes_one_more, deliveries, number_delivered, is_same_port}
 use Rattle.es_base.specs.Settings.{Settings}
 use Rattle.frame_delivery.specs.Messages.{CarriesWhole, has_room, CarryWhole, goes_to, messages_of, AllCame, HaveRoom, octets_of_messages, octets_sent}
 use Rattle.es_base.specs.declared.event.Message.{Message}

@@ -3,7 +3,7 @@ use Rattle.std.proofs.Common.{◌≡◌, ◌∙◌, ap, ℕ, ◌+◌, ◌≤◌,
 use Rattle.std.specs.Prelude.{◌⊎◌}
 use Rattle.std.proofs.lemmas.Bool.{false≢true}
 use Rattle.es_base.specs.declared.place.Net.TheVariants as nets
-use Rattle.es_base.specs.Redundancy.{forwarded}
+use Rattle.link_rules.specs.Redundancy.{forwarded}
 use Rattle.es_base.specs.Settings.{Settings}
 use Rattle.frame_delivery.specs.Sending.{Copy, HaveNumbers, Numbering, RunsOn, events_of_copies, events_since}
 use Rattle.frame_delivery.specs.Once.{as_forwarded, FirstsInOrder}

@@ -3,8 +3,8 @@ use Rattle.std.proofs.Common.{◌≡◌, ◌∙◌, sym, ap, subst, ℕ, Bool, t
 use Rattle.std.specs.Prelude.{◌==◌, ◌&&◌, ◌||◌}
 use Rattle.std.proofs.lemmas.Bool.{and_right, both_ways, cases_Bool, eq-eqb, eqb-true, false≢true, or_left, or_cases, or_right}
 use Rattle.es_base.specs.Past.{arrival_of}
-use Rattle.es_base.specs.Copies.{greatest_time}
-use Rattle.es_base.specs.Redundancy.{is_forwarded}
+use Rattle.link_rules.specs.Copies.{greatest_time}
+use Rattle.link_rules.specs.Redundancy.{is_forwarded}
 use Rattle.es_base.specs.Settings.{Settings}
 use Rattle.frame_delivery.specs.Sending.{Copy, EachCopy, HaveNumbers, Numbering, events_of_copies}
 use Rattle.frame_delivery.specs.Once.{AreInOrder, FirstsInOrder, as_forwarded, first_copies, greatest_index, has_come, is_new, new_copies, newest_time}
@@ -17,7 +17,8 @@ use Rattle.frame_delivery.proofs.Passing.{copy_passes, new_passes, itself, passe
 use Rattle.frame_delivery.proofs.Since.{new_by_news, same_greatest, all_pass_timely, by_counts, counts_alone, first_if, firsts_since, news_since, none_before}
 use Rattle.frame_delivery.proofs.Times.{near_the_newest}
 use Rattle.es_base.specs.declared.place.Net.{Net}
-use Rattle.es_base.specs.Integrity.{is_same_net, latest, passes}
+use Rattle.es_base.specs.Networks.{is_same_net}
+use Rattle.link_rules.specs.Integrity.{latest, passes}
 
 -- ---- some copies that leave out none that is the first of its frame
 

@@ -2,8 +2,8 @@
 use Rattle.std.proofs.Common.{◌≡◌, ◌∙◌, ap, ℕ, zero, suc, ◌+◌, ◌-◌, ◌%◌, ◌<◌, ◌≤◌, true, false, refl, ⊎_elim, arith}
 use Rattle.std.specs.Prelude.{◌&&◌, nat_le}
 use Rattle.std.proofs.lemmas.Bool.{cases_Bool, cases_lt, eq-eqb, ne_eqb, le-leb, lt-leb, and_right}
-use Rattle.es_base.specs.Integrity.{next_number}
-use Rattle.es_base.specs.Copies.{is_ahead}
+use Rattle.link_rules.specs.Integrity.{next_number}
+use Rattle.link_rules.specs.Copies.{is_ahead}
 use Rattle.frame_delivery.specs.Sending.{Numbering, RunsOn, number_of_frame}
 
 -- ---- the number j frames later

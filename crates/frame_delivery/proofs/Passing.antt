@@ -7,7 +7,8 @@ use Rattle.es_base.specs.declared.place.Net.TheVariants as nets
 use Rattle.es_base.specs.declared.event.Event.{Event}
 use Rattle.es_base.specs.Frame.{sequence_number_of}
 use Rattle.es_base.specs.Past.{arrival_of}
-use Rattle.es_base.specs.Integrity.{is_among_next, is_same_net, latest, may_follow, next_number, passes, sequence_numbers_on}
+use Rattle.es_base.specs.Networks.{is_same_net}
+use Rattle.link_rules.specs.Integrity.{is_among_next, latest, may_follow, next_number, passes, sequence_numbers_on}
 use Rattle.es_base.specs.Settings.{Settings}
 use Rattle.frame_delivery.specs.Sending.{Copy, HaveNumbers, Numbering, RunsOn, events_of_copies, events_since, number_of_frame}
 use Rattle.frame_delivery.specs.Once.{greatest_index, is_new}

@@ -6,9 +6,10 @@ use Rattle.es_base.specs.declared.event.Arrival.{Arrival}
 use Rattle.es_base.specs.declared.event.Event.{Event}
 use Rattle.es_base.specs.Frame.{sequence_number_of}
 use Rattle.es_base.specs.Past.{arrival_of}
-use Rattle.es_base.specs.Integrity.{passes}
-use Rattle.es_base.specs.Copies.{Forwarded, elapsed, greatest_time, is_ahead, is_first_copy}
-use Rattle.es_base.specs.Redundancy.{forwarded, is_forwarded}
+use Rattle.link_rules.specs.Integrity.{passes}
+use Rattle.es_base.specs.Age.{elapsed}
+use Rattle.link_rules.specs.Copies.{Forwarded, greatest_time, is_ahead, is_first_copy}
+use Rattle.link_rules.specs.Redundancy.{forwarded, is_forwarded}
 use Rattle.es_base.specs.Settings.{Settings}
 use Rattle.frame_delivery.specs.Running.{EachForwarded, SomeForwarded}
 

@@ -3,7 +3,8 @@ use Rattle.std.proofs.Common.{◌≡◌, ◌∙◌, sym, ap, ℕ, ◌+◌, ◌<�
 use Rattle.std.specs.Prelude.{◌||◌, nat_lt, max, ◌&&◌, ◌⊎◌}
 use Rattle.std.proofs.lemmas.Bool.{cases_Bool, cases_lt, lt-ltb, le-ltb, ltb-false, or_left, or_right, or_from, and_from, and_right}
 use Rattle.es_base.specs.Frame.{sequence_number_of}
-use Rattle.es_base.specs.Copies.{is_ahead, elapsed, greatest_time, is_first_copy, Forwarded}
+use Rattle.es_base.specs.Age.{elapsed}
+use Rattle.link_rules.specs.Copies.{is_ahead, greatest_time, is_first_copy, Forwarded}
 use Rattle.frame_delivery.specs.Sending.{Copy, HaveNumbers, Numbering, number_of_frame, EachCopy, events_of_copies, events_since}
 use Rattle.frame_delivery.specs.Once.{AreInOrder, ComesInTime, as_forwarded, greatest_index, is_new, new_copies, newest_time, FirstsInOrder, first_copies, has_come}
 use Rattle.frame_delivery.proofs.Cases.{by_if}
@@ -11,8 +12,8 @@ use Rattle.frame_delivery.proofs.Numbers.{ahead_of_earlier, not_ahead_of_later}
 use Rattle.es_base.specs.declared.event.Arrival.{Arrival}
 use Rattle.es_base.specs.declared.event.Event.{Event}
 use Rattle.es_base.specs.Past.{arrival_of}
-use Rattle.es_base.specs.Integrity.{passes}
-use Rattle.es_base.specs.Redundancy.{forwarded, is_forwarded, is_forwarded_after}
+use Rattle.link_rules.specs.Integrity.{passes}
+use Rattle.link_rules.specs.Redundancy.{forwarded, is_forwarded, is_forwarded_after}
 use Rattle.es_base.specs.Settings.{Settings}
 use Rattle.frame_delivery.specs.Network.{BeginNear, ComeTimely, HasNoOvertaking, IsNeverLate, IsOnItsWay, IsOverSoon, KeepsTimes, Timing, time_of_all}
 use Rattle.frame_delivery.specs.Running.{EachForwarded}

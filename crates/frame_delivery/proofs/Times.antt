@@ -2,7 +2,7 @@
 use Rattle.std.proofs.Common.{◌≡◌, ◌∙◌, ap, ℕ, zero, suc, ◌+◌, ◌-◌, ◌*◌, ◌<◌, ◌≤◌, true, false, List, [], ◌∷◌, Option, None, Some, ⊎_elim, arith}
 use Rattle.std.specs.Prelude.{max}
 use Rattle.std.proofs.lemmas.Bool.{cases_Bool, cases_lt, lt-ltb, le-ltb, ltb-false}
-use Rattle.es_base.specs.Integrity.{latest}
+use Rattle.link_rules.specs.Integrity.{latest}
 use Rattle.frame_delivery.specs.Sending.{Copy, EachCopy, Numbering, RunsOn}
 use Rattle.frame_delivery.specs.Once.{ComesInTime, IsInTime, FirstsInOrder, IsNotOvertaken, greatest_index, has_come, newest_time}
 use Rattle.frame_delivery.specs.Network.{BeginNear, BeginsNear, IsAfterCut, IsNeverLate, FitsSkew, HasNoOvertaking, IsOnItsWay, IsOverSoon, KeepsGap, KeepsPause, KeepsTimes, Timing, indices_on, time_of_all}

@@ -5,7 +5,8 @@ use Rattle.std.proofs.lemmas.Bool.{cases_Bool, cases_lt, eq-eqb, eqb-true, false
 use Rattle.es_base.specs.declared.place.Net.{Net}
 use Rattle.es_base.specs.declared.place.Net.TheVariants as nets
 use Rattle.es_base.specs.declared.event.Event.{Event}
-use Rattle.es_base.specs.Integrity.{is_same_net, latest}
+use Rattle.es_base.specs.Networks.{is_same_net}
+use Rattle.link_rules.specs.Integrity.{latest}
 use Rattle.es_base.specs.Settings.{Settings}
 use Rattle.frame_delivery.specs.Sending.{Copy, Numbering}
 use Rattle.frame_delivery.specs.Once.{FirstsInOrder, IsNotOvertaken, greatest_index, has_come}

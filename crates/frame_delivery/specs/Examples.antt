@@ -5,7 +5,7 @@ use Rattle.es_base.specs.declared.event.Event.{Event}
 use Rattle.es_base.specs.declared.place.Net.{Net}
 use Rattle.es_base.specs.declared.place.Net.TheVariants as nets
 use Rattle.es_base.specs.declared.verdict.Verdict.TheVariants as verdicts
-use Rattle.es_base.specs.Copies.{Forwarded}
+use Rattle.link_rules.specs.Copies.{Forwarded}
 use Rattle.es_base.specs.Settings.{Settings}
 use Rattle.frame_delivery.specs.Sending.{Copy, Numbering}
 use Rattle.frame_delivery.specs.Network.{Delays, Timing}

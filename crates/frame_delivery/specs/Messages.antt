@@ -6,10 +6,10 @@ use Rattle.es_base.specs.declared.port.PortKind.{PortKind}
 use Rattle.es_base.specs.declared.port.PortKind.TheVariants.{Sampling, Queuing}
 use Rattle.es_base.specs.declared.event.Message.{Message}
 use Rattle.es_base.specs.Packet.{PacketParts}
-use Rattle.es_base.specs.Fragments.{is_whole}
-use Rattle.es_base.specs.Reassembly.{packet_in}
-use Rattle.es_base.specs.Outcome.{Payload, datagram_payload}
-use Rattle.es_base.specs.Deliveries.{is_same_port}
+use Rattle.link_rules.specs.Fragments.{is_whole}
+use Rattle.link_rules.specs.Reassembly.{packet_in}
+use Rattle.link_rules.specs.Outcome.{Payload, datagram_payload}
+use Rattle.link_rules.specs.Deliveries.{is_same_port}
 use Rattle.es_base.specs.Settings.{Settings}
 use Rattle.frame_delivery.specs.Sending.{Copy, EachCopy}
 use Rattle.frame_delivery.specs.Once.{has_come}

@@ -2,8 +2,9 @@
 use Rattle.std.specs.Prelude.{◌≡◌, ◌⊎◌, true, ℕ, suc, ◌+◌, ◌*◌, ◌≤◌, ◌<◌, max, List, [], ◌∷◌, Option, None, Some, if◌then◌else◌}
 use Rattle.es_base.specs.declared.place.Net.{Net}
 use Rattle.es_base.specs.declared.place.Net.TheVariants as nets
-use Rattle.es_base.specs.Copies.{elapsed}
-use Rattle.es_base.specs.Integrity.{is_same_net, latest}
+use Rattle.es_base.specs.Age.{elapsed}
+use Rattle.es_base.specs.Networks.{is_same_net}
+use Rattle.link_rules.specs.Integrity.{latest}
 use Rattle.es_base.specs.Settings.{Settings}
 use Rattle.frame_delivery.specs.Sending.{Copy, EachCopy, HaveNumbers, Numbering, RunsOn}
 use Rattle.frame_delivery.specs.Once.{FirstsInOrder, greatest_index, has_come, newest_time}

@@ -1,7 +1,7 @@
 -- What of the copies is to be forwarded: one copy of each frame, in the order of sending.
 use Rattle.std.specs.Prelude.{◌≡◌, ℕ, ◌+◌, ◌<◌, ◌≤◌, ◌==◌, Bool, true, false, ◌||◌, nat_lt, max, List, [], ◌∷◌, if◌then◌else◌}
 use Rattle.es_base.specs.Frame.{sequence_number_of}
-use Rattle.es_base.specs.Copies.{Forwarded, greatest_time}
+use Rattle.link_rules.specs.Copies.{Forwarded, greatest_time}
 use Rattle.frame_delivery.specs.Sending.{Copy, EachCopy, Numbering, RunsOn}
 
 -- ---- copies of later and later frames

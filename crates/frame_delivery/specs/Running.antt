@@ -2,7 +2,7 @@
 use Rattle.std.specs.Prelude.{◌≡◌, ◌⊎◌, true, List, [], ◌∷◌}
 use Rattle.es_base.specs.declared.event.Event.{Event}
 use Rattle.es_base.specs.Past.{arrival_of}
-use Rattle.es_base.specs.Redundancy.{is_forwarded}
+use Rattle.link_rules.specs.Redundancy.{is_forwarded}
 use Rattle.es_base.specs.Settings.{Settings}
 
 -- this holds of each event whose frame was forwarded

@@ -3,8 +3,8 @@ use Rattle.std.specs.Prelude.{◌≤◌, Bool, List, [], ◌∷◌, if◌then◌
 use Rattle.es_base.specs.declared.event.Arrival.{Arrival}
 use Rattle.es_base.specs.declared.event.Event.{Event}
 use Rattle.es_base.specs.Past.{arrival_of}
-use Rattle.es_base.specs.Integrity.{passes}
-use Rattle.es_base.specs.Redundancy.{is_forwarded}
+use Rattle.link_rules.specs.Integrity.{passes}
+use Rattle.link_rules.specs.Redundancy.{is_forwarded}
 use Rattle.es_base.specs.Settings.{Settings}
 use Rattle.frame_delivery.specs.Sending.{Copy, EachCopy, Numbering, events_since}
 use Rattle.frame_delivery.specs.Once.{FirstsInOrder}

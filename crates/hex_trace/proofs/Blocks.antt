@@ -3,7 +3,7 @@ use Rattle.std.proofs.Common.{◌≡◌, ◌∙◌, ap, subst, sym, ℕ, suc, �
 use Rattle.std.specs.List.{slice_index_or}
 use Rattle.std.proofs.Math.Seq.{drop-append_seam}
 use Rattle.std.proofs.lemmas.List.{length-map}
-use Rattle.octet_block.specs.OctetBlock.{OctetBlock}
+use Rattle.block_list.specs.OctetBlock.{OctetBlock}
 use Rattle.hex_trace.specs.Frames.{TimedFrame, IsInFirst, NoneIsEmpty, frame_of_octets, frames_of_block, joined_blocks}
 
 pub joined_append : (blocks : List OctetBlock) (block : OctetBlock) → joined_blocks (blocks ++ block ∷ []) ≡ joined_blocks blocks ++ frames_of_block block

@@ -1,8 +1,8 @@
 -- The frames of a trace.
 use Rattle.std.specs.Prelude.{◌<◌, ℕ, List, [], ◌∷◌, ◌++◌, length, map}
 use Rattle.std.specs.List.{All}
-use Rattle.octet_block.specs.declared.LentOctets.{LentOctets}
-use Rattle.octet_block.specs.OctetBlock.{OctetBlock, TimedOctets}
+use Rattle.block_list.specs.declared.octet_block.LentOctets.{LentOctets}
+use Rattle.block_list.specs.OctetBlock.{OctetBlock, TimedOctets}
 
 -- a frame, and when it came, in microseconds
 pub record TimedFrame : Type 0 where

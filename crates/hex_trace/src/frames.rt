@@ -1,20 +1,20 @@
 //! The frames of a trace, in their order.
-ghost use Rattle.std.specs.Prelude.{◌≡◌, ◌<◌, ◌++◌, [], ◌∷◌, IfOk, OnOk, drop, length, slice_get, true};
+ghost use Rattle.std.specs.Prelude.{◌≡◌, ◌++◌, [], ◌∷◌, IfOk, OnOk, drop, slice_get};
 ghost use Rattle.std.specs.Option.{option_map};
 ghost use Rattle.hex_trace.specs.Frames.{frames_of_block, lent_as, timed_frame};
 
 use crate::line::MOST_OCTETS;
+use block_list::OctetBlock;
 use es_base::Memory;
-use octet_block::OctetBlock;
 use std::alloc::Global;
 use std::collections::VecDeque;
 use std::marker::Model;
 use std::mem;
 
 /// A frame of a trace.
-pub use octet_block::LentOctets as LentFrame;
+pub use block_list::LentOctets as LentFrame;
 
-/// Octets from which on a block is full.
+/// Octets from which on a block with frames is full.
 const FULL: usize = 256 * 1024;
 
 /// Frames for which a block has room at first; for more it grows.
@@ -64,7 +64,7 @@ impl ReadFrames {
     pub(crate) fn push(&mut self, alloc: Global, time: u64, octets: &[u8]) -> Result<(), Memory>
         ensures { OnOk result (self.new ≡ self.old ++ timed_frame time octets.now ∷ []) }
     {
-        if !is_full(&self.last) {
+        if self.last.len() == 0 || self.last.used() < FULL {
             return self.last.push(time, octets);
         }
         let full = mem::replace(&mut self.last, open_block(alloc)?);
@@ -140,13 +140,6 @@ fn open_block(alloc: Global) -> Result<OctetBlock, Memory>
     ensures { IfOk result (λ block. block.items ≡ []) }
 {
     OctetBlock::with_room(alloc, MANY, FULL + MOST_OCTETS)
-}
-
-/// Whether there are frames, and at least `FULL` octets.
-fn is_full(block: &OctetBlock) -> bool
-    ensures { result ≡ true → 0 < length block.now.items }
-{
-    0 < block.len() && FULL <= block.used()
 }
 
 /// The frame at this place of a block. None if there are fewer.

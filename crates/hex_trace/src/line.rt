@@ -6,7 +6,7 @@ ghost use Rattle.std.specs.List.{prefix_len};
 ghost use Rattle.std.specs.Str.{all_ascii_digits};
 ghost use Rattle.std.specs.Str.Parse.{digits_value};
 ghost use Rattle.hex_trace.specs.Frames.{lent_as};
-ghost use Rattle.hex_trace.specs.Line.{longest_line, time_digits, time_from, after_space, octets_of_digits, frame_from};
+ghost use Rattle.hex_trace.specs.Line.{longest_line, time_digits, time_from, octets_of_digits, frame_from};
 
 use crate::decode::decode_pairs;
 use crate::{LentFrame, TraceCause};
@@ -47,7 +47,9 @@ pub(crate) fn frame_from<'s>(
         return Ok(None);
     }
     let (time, count) = time_in(line)?;
-    let digits = after_space(&line[count..])?;
+    let Some((&SPACE, digits)) = line[count..].split_first() else {
+        return Err(TraceCause::Space);
+    };
     let octets = octets_from(digits, scratch)?;
     if time < before {
         return Err(TraceCause::Falls);
@@ -149,17 +151,6 @@ fn with_digit(number: u64, digit: u8) -> Option<u64>
 {
     let value = digit - b'0';
     number.checked_mul(10)?.checked_add(value as u64)
-}
-
-/// The rest of a line after the space that follows its time.
-fn after_space(rest: &[u8]) -> Result<&[u8], TraceCause>
-    ensures digits { IfOk result (λ digits. after_space rest.now ≡ Ok digits.now) }
-    ensures cause { IfErr result (λ cause. after_space rest.now ≡ Err cause) }
-{
-    match rest.split_first() {
-        Some((&SPACE, digits)) => Ok(digits),
-        _ => Err(TraceCause::Space),
-    }
 }
 
 /// The octets of hexadecimal digits, written to the front of `scratch`.

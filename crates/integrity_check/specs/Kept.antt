@@ -1,6 +1,6 @@
 -- What is kept of the frames of one link on one network.
 use Rattle.std.specs.Prelude.{◌≡◌, ℕ, List, Option}
-use Rattle.es_base.specs.Integrity.{latest}
+use Rattle.link_rules.specs.Integrity.{latest}
 
 pub record Kept : Type 0 where
   pub window : ℕ

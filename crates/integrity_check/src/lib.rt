@@ -5,7 +5,7 @@
 #![tactic(auto)]
 
 ghost use Rattle.std.specs.Prelude.{◌≡◌, ℕ, List, [], ◌∷◌};
-ghost use Rattle.es_base.specs.Integrity.{next_number, is_among_next, latest, may_follow};
+ghost use Rattle.link_rules.specs.Integrity.{next_number, is_among_next, latest, may_follow};
 ghost use Rattle.integrity_check.specs.Kept.{StandsFor};
 
 use std::marker::Model;

@@ -7,10 +7,10 @@ use Rattle.std.proofs.lemmas.Option.{same_Some}
 use Rattle.es_base.specs.declared.fragment.DatagramKey.{DatagramKey}
 use Rattle.es_base.specs.Limits.{most_partials}
 use Rattle.es_base.specs.Packet.{PacketParts}
-use Rattle.es_base.specs.Fragments.{Piece, is_whole, is_bad, key_of, piece_of}
-use Rattle.es_base.proofs.Keys.{other_way, same_key}
+use Rattle.link_rules.specs.Fragments.{Piece, is_whole, is_bad, key_of, piece_of}
+use Rattle.link_rules.proofs.Keys.{other_way, same_key}
 use Rattle.es_base.proofs.Firsts.{found_nowhere, passes_found, found_at as found_at_place}
-use Rattle.es_base.specs.Groups.{Group, is_same_key, has_key, place_of, is_over, Found, begins, joins, found_if, found_at, found_for, with_room, without_group, groups_with, group_with, groups_after, datagram_with}
+use Rattle.link_rules.specs.Groups.{Group, is_same_key, has_key, place_of, is_over, Found, begins, joins, found_if, found_at, found_for, with_room, without_group, groups_with, group_with, groups_after, datagram_with}
 use Rattle.ip_reassembly.specs.Apart.{HaveDistinctKeys, AreApart}
 
 -- ---- groups without one of them

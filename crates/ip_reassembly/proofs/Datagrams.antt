@@ -4,7 +4,7 @@ use Rattle.std.specs.Option.{option_map}
 use Rattle.std.proofs.lemmas.Bool.{cases_lt, lt-ltb, le-ltb}
 use Rattle.std.proofs.lemmas.Option.{same_Some, slice_get_past, slice_get-get_or}
 use Rattle.std.proofs.lemmas.Grind.{common_steps, same_number_lists}
-use Rattle.es_base.specs.Fragments.{Piece, end_of, octet_in, octet_at, octets_with, octets_below, octets_if, total_of, datagram_from}
+use Rattle.link_rules.specs.Fragments.{Piece, end_of, octet_in, octet_at, octets_with, octets_below, octets_if, total_of, datagram_from}
 
 -- ---- the octets of one piece
 

@@ -4,8 +4,8 @@ use Rattle.std.specs.Option.{option_map}
 use Rattle.std.proofs.lemmas.Bool.{eq-eqb, false≢true, cases_lt}
 use Rattle.std.proofs.lemmas.Option.{same_Some}
 use Rattle.es_base.specs.Packet.{PacketParts}
-use Rattle.es_base.specs.Fragments.{is_whole, is_bad, key_of, piece_of, octet_at, octets_if, total_of, datagram_from}
-use Rattle.es_base.specs.Groups.{Group, whole, bad, held, begins, joins, found_for, place_of, with_room, without_group, fate, fate_if, groups_after}
+use Rattle.link_rules.specs.Fragments.{is_whole, is_bad, key_of, piece_of, octet_at, octets_if, total_of, datagram_from}
+use Rattle.link_rules.specs.Groups.{Group, whole, bad, held, begins, joins, found_for, place_of, with_room, without_group, fate, fate_if, groups_after}
 use Rattle.ip_reassembly.specs.declared.answer.Preview.TheVariants as previews
 use Rattle.es_base.specs.Udp.{head_of}
 use Rattle.ip_reassembly.specs.Answers.{preview_of}

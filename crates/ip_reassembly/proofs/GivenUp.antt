@@ -3,7 +3,7 @@ use Rattle.std.proofs.Common.{◌≡◌, ◌∙◌, ap, sym, arith, ℕ, ◌+◌
 use Rattle.std.specs.Prelude.{min}
 use Rattle.std.proofs.Math.Nat.{add-zero, min-eq_left, min-eq_right}
 use Rattle.std.proofs.lemmas.Bool.{cases_lt}
-use Rattle.es_base.specs.Groups.{Group}
+use Rattle.link_rules.specs.Groups.{Group}
 use Rattle.es_base.specs.Limits.{most_partials}
 use Rattle.es_base.specs.Tally.{one_more}
 use Rattle.ip_reassembly.specs.declared.partial.Partial.{Partial}

@@ -3,7 +3,7 @@ use Rattle.std.proofs.Common.{◌≡◌, ◌∙◌, ap, sym, ℕ, ◌<◌, ◌�
 use Rattle.std.specs.List.{find}
 use Rattle.std.proofs.lemmas.Bool.{cases_Bool, cases_lt, lt-ltb, le-ltb, le-leb, lt-leb}
 use Rattle.std.proofs.lemmas.Option.{same_Some}
-use Rattle.es_base.specs.Fragments.{Piece, end_of, octet_at, total_of, is_last, has_octet, IsOctetAt, IsTotalOf}
+use Rattle.link_rules.specs.Fragments.{Piece, end_of, octet_at, total_of, is_last, has_octet, IsOctetAt, IsTotalOf}
 use Rattle.ip_reassembly.proofs.Datagrams.{octet_before, octet_inside, octet_past}
 
 -- ---- a place of one piece

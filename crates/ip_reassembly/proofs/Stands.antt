@@ -4,8 +4,8 @@ use Rattle.std.specs.Prelude.{position}
 use Rattle.std.specs.List.{position_or_len}
 use Rattle.std.proofs.lemmas.Option.{same_Some}
 use Rattle.es_base.specs.declared.fragment.DatagramKey.{DatagramKey}
-use Rattle.es_base.specs.Fragments.{Piece}
-use Rattle.es_base.specs.Groups.{Group, has_key, place_of, is_over, found_for, begins, joins, without_group, with_room, group_with}
+use Rattle.link_rules.specs.Fragments.{Piece}
+use Rattle.link_rules.specs.Groups.{Group, has_key, place_of, is_over, found_for, begins, joins, without_group, with_room, group_with}
 use Rattle.es_base.specs.Limits.{most_partials}
 use Rattle.ip_reassembly.specs.declared.partial.Partial.{Partial}
 use Rattle.ip_reassembly.specs.Held.{HoldsPieces}

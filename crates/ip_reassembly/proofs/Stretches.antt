@@ -3,7 +3,7 @@ use Rattle.std.proofs.Common.{◌≡◌, ◌∙◌, ap, sym, ℕ, zero, suc, ◌
 use Rattle.std.proofs.lemmas.Bool.{false≢true}
 use Rattle.std.proofs.lemmas.List.{drop-drop, take-append-drop, take_all}
 use Rattle.std.proofs.lemmas.Grind.{common_steps}
-use Rattle.es_base.specs.Fragments.{Piece}
+use Rattle.link_rules.specs.Fragments.{Piece}
 use Rattle.es_base.specs.Limits.{longest_joined}
 use Rattle.ip_reassembly.specs.Runs.{ReceivedWithin}
 use Rattle.ip_reassembly.specs.Held.{Held, HoldsPieces, held_at}

@@ -4,7 +4,7 @@ use Rattle.std.specs.Option.{option_map, option_or}
 use Rattle.std.proofs.lemmas.Bool.{cases_lt, lt-ltb, le-ltb, le-leb, lt-leb}
 use Rattle.std.proofs.lemmas.Option.{cond_some, same_Some}
 use Rattle.std.proofs.lemmas.Grind.{common_steps, elements}
-use Rattle.es_base.specs.Fragments.{Piece, end_of, octet_in, octet_at, total_of, datagram_from}
+use Rattle.link_rules.specs.Fragments.{Piece, end_of, octet_in, octet_at, total_of, datagram_from}
 use Rattle.ip_reassembly.specs.Held.{Held, HoldsPieces, held_at, written_at}
 use Rattle.ip_reassembly.specs.Covering.{AreCovered}
 use Rattle.ip_reassembly.proofs.Datagrams.{octet_before, octet_inside, octet_past, all_there, one_missing, datagram_each}

@@ -1,7 +1,7 @@
 -- What is answered, by what becomes of a packet.
 use Rattle.std.specs.Prelude.{length}
 use Rattle.es_base.specs.Udp.{head_of}
-use Rattle.es_base.specs.Groups.{Fate, bad, held, whole}
+use Rattle.link_rules.specs.Groups.{Fate, bad, held, whole}
 use Rattle.ip_reassembly.specs.declared.answer.Preview.{Preview}
 use Rattle.ip_reassembly.specs.declared.answer.Preview.TheVariants as previews
 use Rattle.ip_reassembly.specs.declared.answer.Offered.{Offered}

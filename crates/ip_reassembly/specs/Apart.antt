@@ -2,7 +2,7 @@
 use Rattle.std.specs.Prelude.{◌≡◌, ◌≤◌, false, List, [], ◌∷◌, length}
 use Rattle.std.specs.List.{list_any}
 use Rattle.es_base.specs.Limits.{most_partials}
-use Rattle.es_base.specs.Groups.{Group, has_key}
+use Rattle.link_rules.specs.Groups.{Group, has_key}
 
 -- no two have one key
 abbrev pub HaveDistinctKeys : List Group → Type 0

@@ -3,8 +3,8 @@ use Rattle.std.specs.Prelude.{◌≡◌, ℕ, ◌+◌, ◌-◌, ◌^◌, ◌==�
 use Rattle.es_base.specs.declared.fragment.DatagramKey.{DatagramKey}
 use Rattle.es_base.specs.Limits.{most_partials}
 use Rattle.es_base.specs.Packet.{PacketParts}
-use Rattle.es_base.specs.Fragments.{is_whole, is_bad, key_of}
-use Rattle.es_base.specs.Groups.{Group, Found, joins, begins, place_of, found_for, groups_after}
+use Rattle.link_rules.specs.Fragments.{is_whole, is_bad, key_of}
+use Rattle.link_rules.specs.Groups.{Group, Found, joins, begins, place_of, found_for, groups_after}
 use Rattle.ip_reassembly.specs.Kept.{Kept, StandsFor}
 
 -- the one at a place, if there is one

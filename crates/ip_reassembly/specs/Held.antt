@@ -1,6 +1,6 @@
 -- What a buffer holds of the pieces of one datagram.
 use Rattle.std.specs.Prelude.{◌≡◌, ℕ, ◌+◌, ◌-◌, Bool, false, ◌&&◌, List, length, slice_index, slice_index_or, nat_le, nat_lt, Option, None, Some, if◌then◌else◌}
-use Rattle.es_base.specs.Fragments.{Piece, octet_at, total_of}
+use Rattle.link_rules.specs.Fragments.{Piece, octet_at, total_of}
 
 -- the datagram's length, if known; its octets, each at its place; and which of them came
 pub record Held : Type 0 where

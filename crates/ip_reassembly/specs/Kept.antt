@@ -3,8 +3,8 @@ use Rattle.std.specs.Prelude.{◌≡◌, ℕ, Bool, List, ◌∷◌, Option, Non
 use Rattle.std.specs.List.{AllZip}
 use Rattle.es_base.specs.declared.fragment.DatagramKey.{DatagramKey}
 use Rattle.es_base.specs.Packet.{PacketParts}
-use Rattle.es_base.specs.Fragments.{key_of, piece_of, datagram_from}
-use Rattle.es_base.specs.Groups.{Group, Found, joins, begins, begin_or, is_same_key, place_of, without_group, groups_with}
+use Rattle.link_rules.specs.Fragments.{key_of, piece_of, datagram_from}
+use Rattle.link_rules.specs.Groups.{Group, Found, joins, begins, begin_or, is_same_key, place_of, without_group, groups_with}
 use Rattle.ip_reassembly.specs.declared.partial.Partial.{Partial}
 use Rattle.ip_reassembly.specs.Held.{HoldsPieces}
 

@@ -1,7 +1,7 @@
 //! The buffer of one partial datagram.
 ghost use Rattle.std.specs.Prelude.{◌≡◌, ℕ, ◌+◌, ◌<◌, ◌≤◌, List, [], ◌∷◌, length, slice_index, nat_lt, Some, IfSome, IfOk, option_map, if◌then◌else◌};
 ghost use Rattle.es_base.specs.Limits.{longest_joined};
-ghost use Rattle.es_base.specs.Fragments.{Piece, datagram_from};
+ghost use Rattle.link_rules.specs.Fragments.{Piece, datagram_from};
 ghost use Rattle.es_base.specs.Udp.{head_of};
 ghost use Rattle.ip_reassembly.specs.Held.{HoldsPieces, written_at};
 

@@ -1,6 +1,6 @@
 //! Whole datagrams and bad fragments, by their packet alone.
 ghost use Rattle.std.specs.Prelude.{◌≡◌};
-ghost use Rattle.es_base.specs.Fragments.{is_whole, is_bad, has_bad_length, key_of};
+ghost use Rattle.link_rules.specs.Fragments.{is_whole, is_bad, has_bad_length, key_of};
 ghost use Rattle.frame_reader.specs.Parts.{packet_parts};
 ghost use Rattle.es_base.specs.Udp.{head_of};
 

@@ -1,8 +1,8 @@
 //! The datagram of some pieces, and the groups of pieces that stand at one time.
 ghost use Rattle.std.specs.Prelude.{◌≡◌, ◌↔◌, ℕ, List, Some};
 ghost use Rattle.es_base.specs.Packet.{PacketParts};
-ghost use Rattle.es_base.specs.Fragments.{Piece, datagram_from, IsDatagram};
-ghost use Rattle.es_base.specs.Groups.{Group, groups_after};
+ghost use Rattle.link_rules.specs.Fragments.{Piece, datagram_from, IsDatagram};
+ghost use Rattle.link_rules.specs.Groups.{Group, groups_after};
 ghost use Rattle.ip_reassembly.specs.Apart.{AreApart};
 
 /// A joined datagram ends where the latest piece with no more to follow ends, and each of its octets is

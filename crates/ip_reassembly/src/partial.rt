@@ -1,8 +1,8 @@
 //! One partial datagram, and a list of them.
 ghost use Rattle.std.specs.Prelude.{◌≡◌, ℕ, ◌+◌, ◌-◌, ◌<◌, ◌≤◌, List, [], ◌∷◌, length, take, position, remove, slice_get, Some, IfSome, IfOk, option_map};
 ghost use Rattle.es_base.specs.Limits.{longest_joined};
-ghost use Rattle.es_base.specs.Fragments.{Piece, piece_of, datagram_from};
-ghost use Rattle.es_base.specs.Groups.{Group, is_over, fate_if};
+ghost use Rattle.link_rules.specs.Fragments.{Piece, piece_of, datagram_from};
+ghost use Rattle.link_rules.specs.Groups.{Group, is_over, fate_if};
 ghost use Rattle.frame_reader.specs.Parts.{packet_parts};
 ghost use Rattle.ip_reassembly.specs.Answers.{preview_of};
 ghost use Rattle.ip_reassembly.specs.Held.{HoldsPieces};

@@ -7,13 +7,13 @@ use Rattle.es_base.specs.declared.place.PortNo.{PortNo}
 use Rattle.es_base.specs.declared.verdict.Decision.TheVariants.{Final}
 use Rattle.es_base.specs.declared.verdict.Verdict.{Verdict}
 use Rattle.es_base.specs.declared.verdict.Verdict.TheVariants as verdicts
-use Rattle.es_base.specs.Integrity.{passes}
-use Rattle.es_base.specs.Redundancy.{forwarded, is_forwarded, is_redundant}
-use Rattle.es_base.specs.Reassembly.{groups_in}
-use Rattle.es_base.specs.Deliveries.{delivered}
-use Rattle.es_base.specs.Run.{decided}
+use Rattle.link_rules.specs.Integrity.{passes}
+use Rattle.link_rules.specs.Redundancy.{forwarded, is_forwarded, is_redundant}
+use Rattle.link_rules.specs.Reassembly.{groups_in}
+use Rattle.link_rules.specs.Deliveries.{delivered}
+use Rattle.link_rules.specs.Run.{decided}
 use Rattle.es_base.specs.Settings.{Settings}
-use Rattle.es_base.specs.Outcome as way
+use Rattle.link_rules.specs.Outcome as way
 use Rattle.link_core.specs.Seen.{kept_away}
 use Rattle.link_core.proofs.Forwarded.{away_counts, outcome_counts}
 

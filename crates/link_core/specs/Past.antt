@@ -5,10 +5,10 @@ use Rattle.es_base.specs.declared.event.Event.{Event}
 use Rattle.es_base.specs.Packet.{PacketParts}
 use Rattle.es_base.specs.Settings.{Settings}
 use Rattle.es_base.specs.Past.{arrival_of}
-use Rattle.es_base.specs.Integrity.{is_same_net}
-use Rattle.es_base.specs.Redundancy.{is_forwarded}
-use Rattle.es_base.specs.Groups.{Group}
-use Rattle.es_base.specs.Reassembly.{groups_in, offered}
+use Rattle.es_base.specs.Networks.{is_same_net}
+use Rattle.link_rules.specs.Redundancy.{is_forwarded}
+use Rattle.link_rules.specs.Groups.{Group}
+use Rattle.link_rules.specs.Reassembly.{groups_in, offered}
 use Rattle.ip_reassembly.specs.GivenUp.{given_up}
 
 -- when the latest frame came on a network, in microseconds, whatever became of it

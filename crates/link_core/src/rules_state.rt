@@ -52,7 +52,10 @@ impl RulesState {
         ensures delivered { (port : ℕ) → slice_index_or self.new.delivered port 0 ≡ one_more_if (tells_delivered verdict (port_no port)) (slice_index_or self.old.delivered port 0) }
     {
         self.tally.add(net, verdict.kind());
-        count(&mut self.delivered, verdict);
+        if let Some(port) = delivered_at(verdict) {
+            let place = port.0 as usize;
+            self.delivered[place] = self.delivered[place].saturating_add(1);
+        }
     }
 
     /// The partial datagrams.
@@ -81,16 +84,5 @@ impl RulesState {
         ensures { result.now ≡ self.now.tally }
     {
         &self.tally
-    }
-}
-
-/// Counts the message that an event with this verdict delivered to a port, if any.
-fn count(numbers: &mut [u64; MOST_PORTS], verdict: Verdict)
-    requires { (port : PortNo) → tells_delivered verdict port ≡ true → port.0 < most_ports }
-    ensures { (port : ℕ) → slice_index_or numbers.new port 0 ≡ one_more_if (tells_delivered verdict (port_no port)) (slice_index_or numbers.old port 0) }
-{
-    if let Some(port) = delivered_at(verdict) {
-        let place = port.0 as usize;
-        numbers[place] = numbers[place].saturating_add(1);
     }
 }

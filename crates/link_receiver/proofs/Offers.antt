@@ -2,7 +2,7 @@
 use Rattle.std.proofs.Common.{◌≡◌, ◌∙◌, ap, ℕ, Bool, true, false, List, None, Some, refl}
 use Rattle.std.proofs.lemmas.Option.{same_Some}
 use Rattle.es_base.specs.Packet.{PacketParts}
-use Rattle.es_base.specs.Groups.{Group, Fate, whole, fate}
+use Rattle.link_rules.specs.Groups.{Group, Fate, whole, fate}
 use Rattle.link_receiver.specs.Walk.{IsMessageOf}
 
 pub no_message : (delivers : Bool) (limit : ℕ) (groups : List Group) (packet : PacketParts) (time : ℕ) (becomes : Fate) → becomes ≡ fate limit groups packet time

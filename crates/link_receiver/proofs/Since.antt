@@ -5,8 +5,8 @@ use Rattle.es_base.specs.declared.event.Message.{Message}
 use Rattle.es_base.specs.declared.place.PortNo.{PortNo}
 use Rattle.es_base.specs.Settings.{Settings}
 use Rattle.es_base.specs.Past.{arrival_of}
-use Rattle.es_base.specs.Outcome.{outcome}
-use Rattle.es_base.specs.Deliveries.{delivered, deliveries, number_delivered}
+use Rattle.link_rules.specs.Outcome.{outcome}
+use Rattle.link_rules.specs.Deliveries.{delivered, deliveries, number_delivered}
 use Rattle.link_receiver.specs.Walk.{AreSince}
 
 pub since_more : (settings : Settings) (earlier past : List Event) (e : Event) (port : PortNo) (so_far last now : List Message) → AreSince settings earlier past port so_far

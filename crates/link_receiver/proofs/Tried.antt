@@ -7,10 +7,10 @@ use Rattle.es_base.specs.declared.port.PortKind.{PortKind}
 use Rattle.es_base.specs.declared.port.PortKind.TheVariants.{Sampling, Queuing}
 use Rattle.es_base.specs.declared.event.Message.{Message}
 use Rattle.es_base.specs.Port.{Port}
-use Rattle.es_base.specs.Outcome as way
-use Rattle.es_base.specs.Deliveries.{delivered, is_same_port, takes_one_more}
+use Rattle.link_rules.specs.Outcome as way
+use Rattle.link_rules.specs.Deliveries.{delivered, is_same_port, takes_one_more}
 use Rattle.es_base.proofs.Elements.{slice_get-set_other, slice_get-set_same, there}
-use Rattle.queuing_port.specs.Queue.{Known}
+use Rattle.queuing_port.specs.Queue.{KnownQueue}
 use Rattle.link_core.specs.Counted.{port_no}
 use Rattle.link_core.proofs.Brings.{IsForPort}
 use Rattle.link_receiver.specs.declared.ends.PortEnd.{PortEnd}
@@ -34,7 +34,7 @@ opened_untried first (port ∷ ports) [] ends are place = absurd are
 opened_untried first [] (outlet ∷ opened) ends are place = absurd are
 opened_untried first [] [] (end ∷ ends) are place = absurd are
 
-pub met_tried : (before : Outlet) (taker : Known) (after : Outlet) (met : Known) (held count : ℕ) → Meets before taker after met held → IsTried (Some before) count → IsTried (Some after) count
+pub met_tried : (before : Outlet) (taker : KnownQueue) (after : Outlet) (met : KnownQueue) (held count : ℕ) → Meets before taker after met held → IsTried (Some before) count → IsTried (Some after) count
 met_tried (outlets.Queuing queue) taker after met held count meets tried = rw meets.0 tried
 met_tried (outlets.Sampling writer) taker after met held count meets tried = absurd meets
 
@@ -132,7 +132,7 @@ is_given ports outcome time number delivery its delivers port queuing =
 
 -- ---- one more frame
 
-kind_tried : (kind : PortKind) (queue : Known) (n m : ℕ) → IsOfKind kind (outlets.Queuing queue) → (IsQueueKind kind → n ≡ m) → queue.tries ≡ n → queue.tries ≡ m
+kind_tried : (kind : PortKind) (queue : KnownQueue) (n m : ℕ) → IsOfKind kind (outlets.Queuing queue) → (IsQueueKind kind → n ≡ m) → queue.tries ≡ n → queue.tries ≡ m
 kind_tried (Queuing depth) queue n m of_kind same tried = tried ∙ same tt
 kind_tried (Sampling refresh) queue n m of_kind same tried = absurd of_kind
 

@@ -4,10 +4,10 @@ use Rattle.es_base.specs.declared.event.Arrival.{Arrival}
 use Rattle.es_base.specs.declared.event.Event.{Event}
 use Rattle.es_base.specs.declared.place.PortNo.{PortNo}
 use Rattle.es_base.specs.declared.verdict.Verdict.{Verdict}
-use Rattle.es_base.specs.Deliveries.{number_delivered}
-use Rattle.es_base.specs.Outcome as way
+use Rattle.link_rules.specs.Deliveries.{number_delivered}
+use Rattle.link_rules.specs.Outcome as way
 use Rattle.es_base.specs.Past.{event_of}
-use Rattle.es_base.specs.Run.{settled}
+use Rattle.link_rules.specs.Run.{settled}
 use Rattle.es_base.specs.Settings.{Settings}
 use Rattle.link_core.specs.declared.rules_state.RulesState.{RulesState as Kept}
 use Rattle.link_core.specs.Counted.{port_no}

@@ -9,11 +9,11 @@ use Rattle.es_base.specs.declared.event.Arrival.{Arrival}
 use Rattle.es_base.specs.declared.event.Event.{Event}
 use Rattle.es_base.specs.declared.event.Message.{Message}
 use Rattle.es_base.specs.Past.{arrival_of}
-use Rattle.es_base.specs.Redundancy.{is_forwarded}
-use Rattle.es_base.specs.Reassembly.{groups_in, offered}
-use Rattle.es_base.specs.Outcome as way
-use Rattle.es_base.specs.Deliveries.{delivered, deliveries, is_same_port, number_delivered, takes_one_more}
-use Rattle.es_base.specs.Run.{IsRun, decided, settled}
+use Rattle.link_rules.specs.Redundancy.{is_forwarded}
+use Rattle.link_rules.specs.Reassembly.{groups_in, offered}
+use Rattle.link_rules.specs.Outcome as way
+use Rattle.link_rules.specs.Deliveries.{delivered, deliveries, is_same_port, number_delivered, takes_one_more}
+use Rattle.link_rules.specs.Run.{IsRun, decided, settled}
 use Rattle.link_core.specs.Told.{IsLawfulAfter, tells_delivered}
 use Rattle.link_receiver.specs.Walk.{IsMessageOf}
 use Rattle.link_receiver.proofs.Walks.{all_reverse, parts_after}

@@ -8,7 +8,7 @@ use Rattle.es_base.specs.declared.event.Event.{Event}
 use Rattle.es_base.specs.Frame.{IsFrame}
 use Rattle.es_base.specs.Settings.{Settings}
 use Rattle.es_base.specs.Past.{AreFramesOf}
-use Rattle.es_base.specs.Run.{IsRun}
+use Rattle.link_rules.specs.Run.{IsRun}
 use Rattle.link_core.specs.Told.{IsLawfulAfter}
 
 take_more : {X : Type 0} (xs : List X) (i : ℕ) (x : X) → slice_get xs i ≡ Some x → take (suc i) xs ≡ take i xs ++ x ∷ []

@@ -4,8 +4,8 @@ use Rattle.std.specs.List.{All}
 use Rattle.es_base.specs.declared.event.Event.{Event}
 use Rattle.es_base.specs.declared.event.Message.{Message}
 use Rattle.es_base.specs.declared.place.PortNo.{PortNo}
-use Rattle.es_base.specs.Deliveries.{deliveries}
-use Rattle.es_base.specs.Groups.{Group, whole, fate}
+use Rattle.link_rules.specs.Deliveries.{deliveries}
+use Rattle.link_rules.specs.Groups.{Group, whole, fate}
 use Rattle.es_base.specs.Packet.{PacketParts}
 use Rattle.es_base.specs.Settings.{Settings}
 use Rattle.es_base.specs.Udp.{UdpParts, udp_of}

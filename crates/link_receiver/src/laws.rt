@@ -2,8 +2,8 @@
 ghost use Rattle.std.specs.Prelude.{◌≡◌, ◌++◌, List, reverse};
 ghost use Rattle.es_base.specs.declared.event.Event.{Event};
 ghost use Rattle.es_base.specs.Settings.{Settings};
-ghost use Rattle.es_base.specs.Left.{left_by};
-ghost use Rattle.es_base.specs.Run.{IsRun};
+ghost use Rattle.link_rules.specs.Left.{left_by};
+ghost use Rattle.link_rules.specs.Run.{IsRun};
 ghost use Rattle.link_receiver.specs.ByPlace.{EachByPlace};
 ghost use Rattle.link_receiver.specs.Epoch.{Handed, Hands};
 ghost use Rattle.link_receiver.specs.Link.{GoesOnAlike, Link, past_of};

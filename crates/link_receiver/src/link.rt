@@ -6,8 +6,8 @@ ghost use Rattle.es_base.specs.declared.event.Event.{Event};
 ghost use Rattle.es_base.specs.Limits.{most_events};
 ghost use Rattle.es_base.specs.Frame.{IsFrame, link_number_of};
 ghost use Rattle.es_base.specs.Past.{AreFramesOf, arrived};
-ghost use Rattle.es_base.specs.Reassembly.{groups_in};
-ghost use Rattle.es_base.specs.Run.{IsRun};
+ghost use Rattle.link_rules.specs.Reassembly.{groups_in};
+ghost use Rattle.link_rules.specs.Run.{IsRun};
 ghost use Rattle.es_base.specs.Tally.{HasCounts};
 ghost use Rattle.ip_reassembly.specs.Kept.{StandsFor};
 ghost use Rattle.link_core.specs.Offer.{IsPlaceAt};
@@ -15,7 +15,7 @@ ghost use Rattle.slot_core.specs.Octets.{AreOctets};
 ghost use Rattle.slot_core.specs.State.{StartsWithSeen};
 ghost use Rattle.sampling_port.specs.Ends.{is_told};
 ghost use Rattle.es_base.specs.Queue.{BeginsWith};
-ghost use Rattle.queuing_port.specs.Queue.{Holds};
+ghost use Rattle.queuing_port.specs.Queue.{HoldsMessages};
 ghost use Rattle.es_base.specs.Verdict.{verdict_kinds};
 ghost use Rattle.link_receiver.specs.Ends.{AreEndsOfPorts, IsNewLink, IsOfItsPort, IsWithinDepth};
 ghost use Rattle.link_receiver.specs.Link.{Takes, decision_after, all_deliveries_of, deliveries_since, past_of, published_at, queues, samples};
@@ -211,7 +211,7 @@ impl LinkState {
         ensures taker { taker.new ≡ record taker.old { put = taker.new.put } }
         ensures put { taker.new.put ≡ all_deliveries_of self.old port }
         ensures goes_on { BeginsWith taker.new.put taker.old.put }
-        ensures held { Holds taker.new result }
+        ensures held { HoldsMessages taker.new result }
         ensures depth { IsWithinDepth (slice_get self.old.settings.ports port.0) result }
     {
         self.outlets[port.0 as usize].meet_taker(rt, taker)

@@ -8,13 +8,14 @@ use Rattle.receiver.specs.declared.port.PortOutlet.{PortOutlet}
 use Rattle.receiver.specs.Meetings.{HasOutlet}
 use Rattle.receiver.specs.Receiver.{Links}
 use Rattle.network_calls.specs.declared.call.Call.{Call}
-use Rattle.network_calls.specs.declared.reply.Reply.{Reply}
-use Rattle.network_calls.specs.declared.reply.Reply.TheVariants as replies
+use Rattle.receiver.specs.declared.receiver.Reply.{Reply}
+use Rattle.receiver.specs.declared.receiver.Reply.TheVariants as replies
+use Rattle.network_calls.specs.Passes.{KnownNet}
 use Rattle.network_calls.proofs.Rows.{IsSame}
 use Rattle.live_system.specs.Calls.{LiveLink}
 use Rattle.live_system.specs.Meetings.{KnowsOutlet}
 use Rattle.live_system.specs.Pass.{Calls, KnownLink}
-use Rattle.live_system.specs.System.{KnowLinks, KnownNet, Replies, on_link, settings_in}
+use Rattle.live_system.specs.System.{KnowLinks, Replies, keeping_no_frame}
 
 knows_at : (passes : List KnownLink) (links : List LiveLink) (place : ℕ) (link : LiveLink) → KnowLinks passes links → slice_get links place ≡ Some link
     → (pass : KnownLink) × (slice_get passes place ≡ Some pass) × (pass.link ≡ Some link)
@@ -36,12 +37,12 @@ know_set (pass ∷ passes) (l ∷ links) zero before after know there same = (sa
 know_set (pass ∷ passes) (l ∷ links) (suc at) before after know there same = (know.0, know_set passes links at before after know.1 there same)
 
 -- a frame changes nothing of it
-pub knows_still : (config : Configuration) (old new : KnownNet) (now : ℕ) (octets : List ℕ) (reply : Reply) (links : List LiveLink) → Replies config old now octets reply new → KnowLinks old.links links → KnowLinks new.links links
+pub knows_still : (config : Configuration) (old new : KnownNet KnownLink) (now : ℕ) (octets : List ℕ) (reply : Reply) (links : List LiveLink) → Replies config old now octets reply new → KnowLinks old.links links → KnowLinks new.links links
 knows_still config old new now octets (replies.Filtered cause) links does know = rw does.1 know
-knows_still config old new now octets (replies.Link number shows verdict) links does know =
-    let calls = does.6 in
-    rw calls.only (know_set old.links links does.0 calls.before calls.after know calls.there calls.does.link)
+knows_still config old new now octets (replies.Link at number shows verdict) links does know =
+    let calls = does.5 in
+    rw calls.only (know_set old.links links at calls.before calls.after know calls.there calls.does.link)
 
 -- it leaves the pass on its link that of this link
-pub same_after : (old new : KnownLink) (c : Call) → Calls old c new → IsSame on_link settings_in old new
+pub same_after : (old new : KnownLink) (c : Call) → Calls old c new → IsSame keeping_no_frame old new
 same_after old new c is = (is.lock, is.net, is.link, is.vl)

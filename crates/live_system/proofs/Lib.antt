@@ -1,7 +1,6 @@
 pub mod Outlets
 pub mod Visits
 pub mod Counting
-pub mod Tallies
 pub mod Opens
 pub mod Running
 pub mod Meets
@@ -9,4 +8,5 @@ pub mod Knowing
 pub mod Turns
 pub mod InTurn
 pub mod Parts
+pub mod Reading
 pub mod Together

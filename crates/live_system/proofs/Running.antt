@@ -9,7 +9,7 @@ use Rattle.es_base.specs.declared.place.Net.TheVariants.{A, B}
 use Rattle.es_base.specs.declared.event.Arrival.{Arrival}
 use Rattle.es_base.specs.Config.{link_of}
 use Rattle.es_base.specs.FilterTally.{HasFiltered}
-use Rattle.es_base.specs.Integrity.{is_same_net}
+use Rattle.es_base.specs.Networks.{is_same_net}
 use Rattle.es_base.specs.Past.{arrived}
 use Rattle.es_base.specs.Port.{Port}
 use Rattle.es_base.specs.Settings.{Settings}
@@ -26,9 +26,12 @@ use Rattle.receiver.specs.Outlet.{reads_by}
 use Rattle.receiver.specs.Port.{ReadsPort, ShowsPort}
 use Rattle.receiver.specs.Receiver.{AreNewLinks}
 use Rattle.network_calls.specs.declared.call.Call.{Call}
-use Rattle.network_calls.specs.declared.reply.Reply.TheVariants as replies
+use Rattle.receiver.specs.declared.receiver.Reply.TheVariants as replies
 use Rattle.network_calls.specs.Calls.{call, calls_from, count_calls}
-use Rattle.network_calls.specs.Passes.{calls_of}
+use Rattle.network_calls.specs.Counts.{KnownCounts}
+use Rattle.network_calls.specs.Ended.{CountsCalls, CountsFiltered, HasSettled}
+use Rattle.network_calls.specs.Passes.{IsCounted, IsNewPassOf, KnownNet, System, calls_of, calls_with}
+use Rattle.network_calls.specs.Threads.{BothPasses}
 use Rattle.network_calls.proofs.Filtered.{not_filtered}
 use Rattle.network_calls.proofs.Named.{named_at, other_place, this_place}
 use Rattle.network_calls.proofs.Standing.{stand}
@@ -36,11 +39,9 @@ use Rattle.network_calls.proofs.Rows.{at_place, does_elsewhere, does_here, found
 use Rattle.network_calls.proofs.Settling.{SettledAt, settled_at}
 use Rattle.network_calls.proofs.Threads.{BothKnow, both_know as all_known, each_call}
 use Rattle.live_system.specs.Calls.{LiveLink, as_opened, events_of, new_outlet}
-use Rattle.live_system.specs.LookUps.{IsCounted, calls_on}
 use Rattle.live_system.specs.Pass.{Calls, KnownLink}
-use Rattle.network_calls.specs.Counts.{KnownCounts}
-use Rattle.live_system.specs.System.{AreLetGo, CallsAt, IsNewPassOf, IsPassOf, IsWithoutCalls, KnowLinks, KnownNet, System, on_link, settings_in}
-use Rattle.live_system.specs.Run.{AreOpened, CountsCalls, CountsFiltered, Does, EndsInOneRun, HasEnded, HasSettled, IsAnswered, Passes, Ran, Step, call_in, received, calls_in, frame_in, frames_in, met, net_in, shown_call}
+use Rattle.live_system.specs.System.{CallsAt, IsPassOf, KnowLinks, keeping_no_frame}
+use Rattle.live_system.specs.Run.{AreOpened, Does, EndsInOneRun, HasEnded, IsAnswered, Ran, Step, call_in, received, calls_in, frame_in, frames_in, met, shown_call}
 
 -- ---- calls as replies show them
 
@@ -54,7 +55,7 @@ count_shown kind (c ∷ calls) = ap (λ (n : ℕ). if kind_of c.verdict == kind 
 
 -- ---- what a pass says of a link after some calls
 
-record AtLink (first : KnownNet) (place : ℕ) (calls : List Call) (now : KnownNet) : Type 0 where
+record AtLink (first : KnownNet KnownLink) (place : ℕ) (calls : List Call) (now : KnownNet KnownLink) : Type 0 where
   pub pass : KnownLink
   pub there : slice_get now.links place ≡ Some pass
   pub has_calls : shown_calls pass.calls ≡ calls
@@ -62,7 +63,7 @@ record AtLink (first : KnownNet) (place : ℕ) (calls : List Call) (now : KnownN
   pub was_there : slice_get first.links place ≡ Some opened
   pub link : pass.link ≡ opened.link
 
-module _ (first : KnownNet) (place : ℕ) (calls : List Call) (old new : KnownNet) (was : AtLink first place calls old) where
+module _ (first : KnownNet KnownLink) (place : ℕ) (calls : List Call) (old new : KnownNet KnownLink) (was : AtLink first place calls old) where
   stays : slice_get new.links place ≡ slice_get old.links place → AtLink first place (calls ++ []) new
   stays same =
       let here : AtLink first place calls new = record {
@@ -101,36 +102,36 @@ module _ (first : KnownNet) (place : ℕ) (calls : List Call) (old new : KnownNe
   came_to links vl named number at c true first_at same does = calls_one at c does (this_place links vl place named number at first_at same)
   came_to links vl named number at c false first_at apart does = stays_other at c does (other_place links vl place named number at first_at apart)
 
-does_one : (system : System) (first : KnownNet) (vl : LinkNo) (place : ℕ) (calls : List Call) (step : Step) (old new : KnownNet) → link_of system.config.links vl ≡ Some place → Does system step old new
+does_one : (system : System) (first : KnownNet KnownLink) (vl : LinkNo) (place : ℕ) (calls : List Call) (step : Step) (old new : KnownNet KnownLink) → link_of system.config.links vl ≡ Some place → Does system step old new
     → AtLink first place calls old → AtLink first place (calls ++ call_in vl step) new
 does_one system first vl place calls (received time octets (replies.Filtered cause)) old new named does was = stays_all first place calls old new was does.1
-does_one system first vl place calls (received time octets (replies.Link number shows verdict)) old new named does was =
-    let at : link_of system.config.links number ≡ Some does.0 = ap (link_of system.config.links) does.2 ∙ does.1.first in
-    rw does.5 (came_to first place calls old new was system.config.links vl named number does.0 (call does.4 time octets verdict) (number.0 == vl.0) at refl does.6)
-does_one system first vl place calls met old new named does was = stays_all first place calls old new was (ap (λ (n : KnownNet). n.links) does)
+does_one system first vl place calls (received time octets (replies.Link at number shows verdict)) old new named does was =
+    let first_at : link_of system.config.links number ≡ Some at = ap (link_of system.config.links) does.1 ∙ does.0.first in
+    rw does.4 (came_to first place calls old new was system.config.links vl named number at (call does.3 time octets verdict) (number.0 == vl.0) first_at refl does.5)
+does_one system first vl place calls met old new named does was = stays_all first place calls old new was (ap (λ (n : KnownNet KnownLink). n.links) does)
 
 -- ---- filtered frames
 
-filters_one : (system : System) (net : Net) (earlier : List Arrival) (step : Step) (old new : KnownNet) → old.net ≡ net → Does system step old new → HasFiltered old.filtered system.config earlier
+filters_one : (system : System) (net : Net) (earlier : List Arrival) (step : Step) (old new : KnownNet KnownLink) → old.net ≡ net → Does system step old new → HasFiltered old.filtered system.config earlier
     → HasFiltered new.filtered system.config (frame_in net step ++ earlier)
 filters_one system net earlier (received time octets (replies.Filtered cause)) old new is does has =
     let adds = rw is at does.2 in
     one_frame_more old.filtered new.filtered system.config earlier (arrived net time octets) cause has does.0 adds
-filters_one system net earlier (received time octets (replies.Link number shows verdict)) old new is does has =
-    let link = link_at system.config octets does.0 does.1 in
-    let kept : HasFiltered new.filtered system.config earlier = rw does.3 has in
+filters_one system net earlier (received time octets (replies.Link at number shows verdict)) old new is does has =
+    let link = link_at system.config octets at does.0 in
+    let kept : HasFiltered new.filtered system.config earlier = rw does.2 has in
     not_filtered new.filtered system.config earlier (arrived net time octets) link.0 kept link.1.comes
 filters_one system net earlier met old new is does has = rw does has
 
 -- ---- all calls of one network
 
-record Knows (system : System) (first : KnownNet) (net : Net) (steps : List (Net × Step)) (now : KnownNet) : Type 0 where
+record Knows (system : System) (first : KnownNet KnownLink) (net : Net) (steps : List (Net × Step)) (now : KnownNet KnownLink) : Type 0 where
   pub own : IsPassOf system now
   pub of_net : now.net ≡ net
   pub filtered : HasFiltered now.filtered system.config (frames_in net steps)
   pub each : (vl : LinkNo) (place : ℕ) → link_of system.config.links vl ≡ Some place → AtLink first place (calls_in net vl steps) now
 
-knows_more : (system : System) (first : KnownNet) (net : Net) (one : Net × Step) (steps : List (Net × Step)) (old new : KnownNet) → is_same_net one.0 net ≡ true
+knows_more : (system : System) (first : KnownNet KnownLink) (net : Net) (one : Net × Step) (steps : List (Net × Step)) (old new : KnownNet KnownLink) → is_same_net one.0 net ≡ true
     → IsPassOf system new → new.net ≡ old.net → Does system one.1 old new → Knows system first net steps old
     → Knows system first net (one ∷ steps) new
 knows_more system first net one steps old new same own stays does knows = record {
@@ -140,7 +141,7 @@ knows_more system first net one steps old new same own stays does knows = record
   each = λ vl place named. rw same (does_one system first vl place (calls_in net vl steps) one.1 old new named does (knows.each vl place named));
 }
 
-knows_still : (system : System) (first : KnownNet) (net : Net) (one : Net × Step) (steps : List (Net × Step)) (now : KnownNet) → is_same_net one.0 net ≡ false → Knows system first net steps now
+knows_still : (system : System) (first : KnownNet KnownLink) (net : Net) (one : Net × Step) (steps : List (Net × Step)) (now : KnownNet KnownLink) → is_same_net one.0 net ≡ false → Knows system first net steps now
     → Knows system first net (one ∷ steps) now
 knows_still system first net one steps now apart knows = record {
   own = knows.own;
@@ -149,18 +150,18 @@ knows_still system first net one steps now apart knows = record {
   each = λ vl place named. rw apart (knows.each vl place named);
 }
 
-knows_none : (system : System) (first : KnownNet) (net : Net) → IsPassOf system first → IsNewPassOf net first → Knows system first net [] first
+knows_none : (system : System) (first : KnownNet KnownLink) (net : Net) → IsPassOf system first → IsNewPassOf keeping_no_frame net first → Knows system first net [] first
 knows_none system first net own new = record {
   own = own;
   of_net = new.of_net;
   filtered = new.none_filtered;
   each = λ vl place named.
       let link = named_at system.config.links vl place named in
-      let at = at_place on_link settings_in first.net system.locks system.config.links first.links place link.settings own link.there in
+      let at = at_place keeping_no_frame first.net system.locks system.config.links first.links place link.settings own link.there in
       record {
         pass = at.pass;
         there = at.pass_there;
-        has_calls = ap shown_calls (idle_at IsWithoutCalls first.links place at.pass new.no_calls at.pass_there);
+        has_calls = ap shown_calls (idle_at keeping_no_frame first.links place at.pass new.no_calls at.pass_there);
         opened = at.pass;
         was_there = at.pass_there;
         link = refl;
@@ -169,10 +170,10 @@ knows_none system first net own new = record {
 
 -- ---- of both
 
-both_know : (readers : Port → ℕ) (system : System) (first last : Passes) (ends : List (LinkEnds PartitionEnd)) (steps : List (Net × Step))
+both_know : (readers : Port → ℕ) (system : System) (first last : BothPasses KnownLink) (ends : List (LinkEnds PartitionEnd)) (steps : List (Net × Step))
     → AreOpened readers system first ends → Ran system first steps last → BothKnow (Knows system) first steps last
 both_know readers system first last ends steps opened ran =
-    all_known net_in (IsPassOf system) (Does system) (Knows system) (knows_more system) (knows_still system) first last steps
+    all_known (IsPassOf system) (Does system) (Knows system) (knows_more system) (knows_still system) first last steps
     (record { a = knows_none system first.a A opened.own_a opened.new_a; b = knows_none system first.b B opened.own_b opened.new_b }) ran
 
 -- ---- the end
@@ -196,9 +197,9 @@ ends_at readers (s ∷ settings) (l ∷ links) (k ∷ passes) (e ∷ ends) (suc 
     let later = ends_at readers settings links passes ends place one pass are.1 know.1 there in_passes in
     record { link = later.link; known = later.known; its_ends = later.its_ends; there = later.there; ports = later.ports }
 
-ends_in_one_run : (readers : Port → ℕ) (steps : List (Net × Step)) (settings : Settings) (ends : List (LinkEnds PartitionEnd)) (place : ℕ) (first : Passes) (last : Passes) (links : List LiveLink)
+ends_in_one_run : (readers : Port → ℕ) (steps : List (Net × Step)) (settings : Settings) (ends : List (LinkEnds PartitionEnd)) (place : ℕ) (first : BothPasses KnownLink) (last : BothPasses KnownLink) (links : List LiveLink)
     → (a : AtLink first.a place (calls_in A settings.vl steps) last.a) → (b : AtLink first.b place (calls_in B settings.vl steps) last.b)
-    → EndsAt readers settings place a.opened ends → (at : SettledAt settings_in AreLetGo settings place a.pass b.pass links) → EndsInOneRun readers steps settings ends place at.link
+    → EndsAt readers settings place a.opened ends → (at : SettledAt keeping_no_frame settings place a.pass b.pass links) → EndsInOneRun readers steps settings ends place at.link
 ends_in_one_run readers steps settings ends place first last links a b its at =
     let agrees = at.settled.agrees in
     let link = at.link in
@@ -225,31 +226,31 @@ ends_in_one_run readers steps settings ends place first last links a b its at =
 
 -- ---- what a pass counted
 
-counts_calls : (system : System) (first : KnownNet) (net : Net) (steps : List (Net × Step)) (last : KnownNet) (counts : KnownCounts) → Knows system first net steps last → IsCounted last counts → CountsCalls system steps net counts
+counts_calls : (system : System) (first : KnownNet KnownLink) (net : Net) (steps : List (Net × Step)) (last : KnownNet KnownLink) (counts : KnownCounts) → Knows system first net steps last → IsCounted keeping_no_frame last counts → CountsCalls shown system.config (λ vl. calls_in net vl steps) counts
 counts_calls system first net steps last counts knows counted vl place named =
     let at = knows.each vl place named in
-    let found = found_pass on_link settings_in last.net vl system.locks system.config.links last.links place at.pass knows.own named at.there in
-    let calls : shown_calls (calls_on vl last.links) ≡ calls_in net vl steps = ap (λ (pass : Option KnownLink). shown_calls (calls_of on_link pass)) found ∙ at.has_calls in
-    let many : length (calls_on vl last.links) ≡ length (calls_in net vl steps) = sym (length-map (calls_on vl last.links) shown_call) ∙ ap (λ (cs : List Call). length cs) calls in (
+    let found = found_pass keeping_no_frame last.net vl system.locks system.config.links last.links place at.pass knows.own named at.there in
+    let calls : shown_calls (calls_with keeping_no_frame vl last.links) ≡ calls_in net vl steps = ap (λ (pass : Option KnownLink). shown_calls (calls_of keeping_no_frame pass)) found ∙ at.has_calls in
+    let many : length (calls_with keeping_no_frame vl last.links) ≡ length (calls_in net vl steps) = sym (length-map (calls_with keeping_no_frame vl last.links) shown_call) ∙ ap (λ (cs : List Call). length cs) calls in (
       counted.calls vl ∙ ap shown many,
-      λ kind is. counted.kinds vl kind is ∙ ap shown (sym (count_shown kind (calls_on vl last.links)) ∙ ap (count_calls kind) calls),
+      λ kind is. counted.kinds vl kind is ∙ ap shown (sym (count_shown kind (calls_with keeping_no_frame vl last.links)) ∙ ap (count_calls kind) calls),
     )
 
-counts_filtered : (system : System) (first : KnownNet) (net : Net) (steps : List (Net × Step)) (last : KnownNet) (counts : KnownCounts) → Knows system first net steps last → IsCounted last counts
-    → CountsFiltered system steps net counts
+counts_filtered : (system : System) (first : KnownNet KnownLink) (net : Net) (steps : List (Net × Step)) (last : KnownNet KnownLink) (counts : KnownCounts) → Knows system first net steps last → IsCounted keeping_no_frame last counts
+    → CountsFiltered system.config (frames_in net steps) net counts
 counts_filtered system first net steps last counts knows counted kind is = rw (counted.filtered, counted.net, knows.of_net) (knows.filtered net kind is)
 
 -- ---- replies
 
-answered : (system : System) (step : Step) (old new : KnownNet) → Does system step old new → IsAnswered system step
+answered : (system : System) (step : Step) (old new : KnownNet KnownLink) → Does system step old new → IsAnswered system step
 answered system (received time octets (replies.Filtered cause)) old new does = does.0
-answered system (received time octets (replies.Link vl place verdict)) old new does = (does.0, does.1, does.2)
+answered system (received time octets (replies.Link at vl place verdict)) old new does = (does.0, does.1)
 answered system met old new does = tt
 
 -- ---- altogether
 
-pub ended : (readers : Port → ℕ) (system : System) (first last : Passes) (ends : List (LinkEnds PartitionEnd)) (steps : List (Net × Step)) (links : List LiveLink) (a b : KnownCounts) → AreOpened readers system first ends
-    → Ran system first steps last → HasSettled system last links a b → HasEnded readers system steps ends links a b
+pub ended : (readers : Port → ℕ) (system : System) (first last : BothPasses KnownLink) (ends : List (LinkEnds PartitionEnd)) (steps : List (Net × Step)) (links : List LiveLink) (a b : KnownCounts) → AreOpened readers system first ends
+    → Ran system first steps last → HasSettled keeping_no_frame system last links a b → HasEnded readers system steps ends links a b
 ended readers system first last ends steps links a b opened ran has_settled =
     let know = both_know readers system first last ends steps opened ran in
     record {
@@ -258,12 +259,12 @@ ended readers system first last ends steps links a b opened ran has_settled =
           let named_so : link_of system.config.links link.settings.vl ≡ Some place = ap (link_of system.config.links) link.numbered ∙ named in
           let of_a = know.a.each link.settings.vl place named_so in
           let of_b = know.b.each link.settings.vl place named_so in
-          let at = settled_at settings_in AreLetGo system.config.links last.a.links last.b.links links place link.settings of_a.pass of_b.pass has_settled.links link.there of_a.there of_b.there in
+          let at = settled_at keeping_no_frame system.config.links last.a.links last.b.links links place link.settings of_a.pass of_b.pass has_settled.links link.there of_a.there of_b.there in
           let new = opened.links.new in
           let in_config : AreNewLinks ShowsPort (reads_by ReadsPort readers) system.config.links opened.links.opened.links ends = new.links in
           let its = ends_at readers system.config.links opened.links.opened.links first.a.links ends place link.settings of_a.opened in_config opened.links.known_a link.there of_a.was_there in
           (link.settings, at.link, link.there, link.numbered, at.there, ends_in_one_run readers steps link.settings ends place first last links of_a of_b its at);
-      answered = each_call net_in (IsPassOf system) (Does system) (IsAnswered system) (answered system) first last steps ran;
+      answered = each_call (IsPassOf system) (Does system) (IsAnswered system) (answered system) first last steps ran;
       calls_a = counts_calls system first.a A steps last.a a know.a has_settled.counted_a;
       calls_b = counts_calls system first.b B steps last.b b know.b has_settled.counted_b;
       filtered_a = counts_filtered system first.a A steps last.a a know.a has_settled.counted_a;

@@ -17,13 +17,14 @@ use Rattle.link_lock.specs.declared.user.User.TheVariants.{First, Second}
 use Rattle.link_lock.specs.Lists.{with_list}
 use Rattle.link_lock.specs.Pass.{KnownPass, MayFind, MayLeave, with_list_of}
 use Rattle.network_calls.specs.declared.call.Call.{Call}
-use Rattle.network_calls.specs.declared.reply.Reply.TheVariants as replies
+use Rattle.receiver.specs.declared.receiver.Reply.TheVariants as replies
 use Rattle.network_calls.specs.Calls.{call, calls_from, net_of, user_of}
 use Rattle.network_calls.proofs.Events.{calls_append}
 use Rattle.network_calls.specs.declared.counts.LinkCounts.{LinkCounts}
+use Rattle.network_calls.specs.Counts.{AreCounts}
 use Rattle.live_system.specs.Burst.{AreFramesFor, CallsInTurn, CountsInTurn, CountsOne, Frames, TookInTurn, reply_of}
 use Rattle.live_system.specs.Calls.{Agrees, LiveLink, as_opened, events_of, goes_on}
-use Rattle.live_system.specs.Pass.{AreCountsOf, Did, known_link}
+use Rattle.live_system.specs.Pass.{Did, known_link}
 use Rattle.live_system.proofs.Counting.{counts_more}
 use Rattle.live_system.proofs.Meets.{leaves_reader, no_call_of_reader}
 use Rattle.live_system.proofs.Visits.{is_call, leaves, one_call}
@@ -156,12 +157,12 @@ leaves_all net pass lists found left (f ∷ fs) [] finds of_net took = absurd to
 
 -- the calls are counted
 pub counted_all : (net : Net) (pass : LinkUser) (lists : User → List Call) (found left : LiveLink) (fs : Frames) (rs : List Answer) (old new : LinkCounts) → MayFind as_opened Agrees pass lists found → net ≡ net_of pass.user
-    → TookInTurn net found fs rs left → AreCountsOf net pass.list old → CountsInTurn net old rs new → AreCountsOf net (goes_on pass.user found left pass.list) new
+    → TookInTurn net found fs rs left → AreCounts shown net pass.list old → CountsInTurn net old rs new → AreCounts shown net (goes_on pass.user found left pass.list) new
 counted_all net pass lists found left [] [] old new finds of_net took are counts = rw (counts, no_call_of_reader found left took pass lists finds) are
 counted_all net pass lists found left (f ∷ fs) (r ∷ rs) old new finds of_net took are counts =
     let mid = took.0 in
     let one = counts_more net pass.list (call (length found.core.past) f.0 f.1.now r.1) old counts.0 are counts.1.number counts.1.tally in
-    let first : AreCountsOf net (goes_on pass.user found mid pass.list) counts.0 = rw (one_call pass lists found finds (arrived net f.0 f.1.now) r mid took.1 of_net) one in
+    let first : AreCounts shown net (goes_on pass.user found mid pass.list) counts.0 = rw (one_call pass lists found finds (arrived net f.0 f.1.now) r mid took.1 of_net) one in
     let later = counted_all net (pass_then net pass lists found mid f r finds of_net took.1) (lists_then net pass lists found mid f r finds of_net took.1) mid left fs rs counts.0 new
     (finds_then net pass lists found mid f r finds of_net took.1) of_net took.2 first counts.2 in
     rw (list_at_last net pass lists found mid f r finds of_net took.1 left fs rs took.2) at later
@@ -173,28 +174,28 @@ pub none_of_some : (fs : Frames) (old new : LinkCounts) → 0 < length fs → le
 none_of_some fs old new some none = absurd (omega (arith, some, none))
 
 -- and they are those of the frames, one after another
-pub calls_all : (net : Net) (vl : LinkNo) (pass : LinkUser) (lists : User → List Call) (found left : LiveLink) (fs : Frames) (rs : List Answer) (old new : LinkCounts) → MayFind as_opened Agrees pass lists found
+pub calls_all : (net : Net) (at : ℕ) (vl : LinkNo) (pass : LinkUser) (lists : User → List Call) (found left : LiveLink) (fs : Frames) (rs : List Answer) (old new : LinkCounts) → MayFind as_opened Agrees pass lists found
     → net ≡ net_of pass.user → user_of net ≡ pass.user → TookInTurn net found fs rs left → AreFramesFor vl fs → new.vl ≡ old.vl → (length fs ≡ 0 → new ≡ old)
     → (last : LinkUser) → last ≡ with_list_of pass (goes_on pass.user found left pass.list)
-    → CallsInTurn (known_link net pass old) fs (map (reply_of vl) rs) (known_link net last new)
-calls_all net vl pass lists found left [] [] old new finds of_net user took frames same none last knows =
+    → CallsInTurn at (known_link net pass old) fs (map (reply_of at vl) rs) (known_link net last new)
+calls_all net at vl pass lists found left [] [] old new finds of_net user took frames same none last knows =
     let list = no_call_of_reader found left took pass lists finds in
     let still : last ≡ pass = knows ∙ ap (λ (l : List Call). with_list_of pass l) list in
     (λ i. known_link net (still i) (none refl i))
-calls_all net vl pass lists found left (f ∷ fs) (r ∷ rs) old new finds of_net user took frames same none last knows =
+calls_all net at vl pass lists found left (f ∷ fs) (r ∷ rs) old new finds of_net user took frames same none last knows =
     let mid = took.0 in
     let first = All-head (λ (g : Timed). IsFrame g.1.now × (addressee_of g.1.now ≡ vl)) f fs frames in
     let next = pass_then net pass lists found mid f r finds of_net took.1 in
-    let reply : reply_of vl r ≡ replies.Link (addressee_of f.1.now) (shown (length found.core.past)) r.1 =
-    ap (λ (number : LinkNo). replies.Link number r.0 r.1) (sym first.1) ∙ ap (λ (place : ℕ). replies.Link (addressee_of f.1.now) place r.1) took.1.0.placed in (
+    let reply : reply_of at vl r ≡ replies.Link at (addressee_of f.1.now) (shown (length found.core.past)) r.1 =
+    ap (λ (number : LinkNo). replies.Link at number r.0 r.1) (sym first.1) ∙ ap (λ (place : ℕ). replies.Link at (addressee_of f.1.now) place r.1) took.1.0.placed in (
       known_link net next new,
       length found.core.past,
       r.1,
       reply,
       is_call pass lists found finds (arrived net f.0 f.1.now) r mid took.1 net old (sym of_net) user next refl new same refl,
-      calls_all net vl next (lists_then net pass lists found mid f r finds of_net took.1) mid left fs rs new new (finds_then net pass lists found mid f r finds of_net took.1) of_net user took.2
+      calls_all net at vl next (lists_then net pass lists found mid f r finds of_net took.1) mid left fs rs new new (finds_then net pass lists found mid f r finds of_net took.1) of_net user took.2
           (All-tail (λ (g : Timed). IsFrame g.1.now × (addressee_of g.1.now ≡ vl)) f fs frames) refl (λ empty. refl) last
           (knows ∙ ap (λ (l : List Call). with_list_of pass l) (sym (list_at_last net pass lists found mid f r finds of_net took.1 left fs rs took.2))),
     )
-calls_all net vl pass lists found left [] (r ∷ rs) old new finds of_net user took frames same none last knows = absurd took
-calls_all net vl pass lists found left (f ∷ fs) [] old new finds of_net user took frames same none last knows = absurd took
+calls_all net at vl pass lists found left [] (r ∷ rs) old new finds of_net user took frames same none last knows = absurd took
+calls_all net at vl pass lists found left (f ∷ fs) [] old new finds of_net user took frames same none last knows = absurd took

@@ -16,9 +16,10 @@ use Rattle.network_calls.proofs.Events.{calls_append}
 use Rattle.network_calls.proofs.Networks.{back, same_net}
 use Rattle.network_calls.proofs.Visiting.{after_visit, of_one}
 use Rattle.network_calls.specs.declared.counts.LinkCounts.{LinkCounts}
+use Rattle.network_calls.specs.Counts.{AreCounts}
 use Rattle.live_system.specs.Burst.{CountsOne}
 use Rattle.live_system.specs.Calls.{Agrees, LiveLink, as_opened, events_of, goes_on, new_outlet}
-use Rattle.live_system.specs.Pass.{AreCountsOf, Calls, Did, known_link}
+use Rattle.live_system.specs.Pass.{Calls, Did, known_link}
 use Rattle.live_system.proofs.Counting.{counts_more}
 use Rattle.live_system.proofs.Outlets.{same_outlets}
 
@@ -128,7 +129,7 @@ module _ (net : Net) (pass last : LinkUser) (did : LiveLink → LiveLink → Typ
   last_is : last ≡ with_list_of pass (pass.list ++ call place_found now octets answer.1 ∷ [])
   last_is = visit.knows ∙ ap (λ (l : List Call). with_list_of pass l) (one_call pass visit.lists visit.found visit.finds (arrived net now octets) answer visit.left done (sym mine))
 
-  pub still_counted : AreCountsOf net pass.list old → (last.user ≡ user_of net) × AreCountsOf net last.list new
+  pub still_counted : AreCounts shown net pass.list old → (last.user ≡ user_of net) × AreCounts shown net last.list new
   still_counted are = rw last_is (user, counts_more net pass.list (call place_found now octets answer.1) old new are one.number one.tally)
 
   pub called : (place : ℕ) × (answer.0 ≡ shown place) × Calls (known_link net pass old) (call place now octets answer.1) (known_link net last new)

@@ -1,19 +1,21 @@
 -- Frames that are given at once.
-use Rattle.std.specs.Prelude.{◌≡◌, ◌<◌, ◌≤◌, ℕ, suc, ◌+◌, List, [], ◌∷◌, ◌++◌, drop, slice_get, take, Some}
+use Rattle.std.specs.Prelude.{◌≡◌, ◌<◌, ◌≤◌, ℕ, suc, ◌+◌, ◌==◌, Bool, false, Err, List, [], ◌∷◌, ◌++◌, Ok, Result, drop, slice_get, take, Some}
 use Rattle.std.specs.Borrow.{Bor}
 use Rattle.std.specs.List.{All}
+use Rattle.es_base.specs.declared.fault.FilterCause.{FilterCause}
 use Rattle.es_base.specs.declared.place.LinkNo.{LinkNo}
 use Rattle.es_base.specs.declared.place.Net.{Net}
 use Rattle.es_base.specs.declared.verdict.Verdict.{Verdict}
-use Rattle.es_base.specs.Addressing.{ComesToPlace, addressee_of}
+use Rattle.es_base.specs.Addressing.{ComesToPlace, addressed_link, addressee_of}
 use Rattle.es_base.specs.Config.{Configuration}
 use Rattle.es_base.specs.Frame.{IsFrame}
 use Rattle.es_base.specs.Past.{arrived}
 use Rattle.es_base.specs.Tally.{AddsOne, one_more}
 use Rattle.es_base.specs.Verdict.{kind_of, verdict_kinds}
+use Rattle.frame_reader.specs.declared.frame.Frame.{Frame}
 use Rattle.link_core.specs.Counted.{shown}
-use Rattle.network_calls.specs.declared.reply.Reply.{Reply}
-use Rattle.network_calls.specs.declared.reply.Reply.TheVariants as replies
+use Rattle.receiver.specs.declared.receiver.Reply.{Reply}
+use Rattle.receiver.specs.declared.receiver.Reply.TheVariants as replies
 use Rattle.network_calls.specs.declared.counts.LinkCounts.{LinkCounts}
 use Rattle.network_calls.specs.Calls.{call}
 use Rattle.live_system.specs.Calls.{LiveLink}
@@ -29,6 +31,25 @@ abbrev pub steps_in_turn : Frames → List Reply → List Step
 steps_in_turn [] answers = []
 steps_in_turn (f ∷ fs) [] = []
 steps_in_turn (f ∷ fs) (r ∷ rs) = steps_in_turn fs rs ++ received f.0 f.1.now r ∷ []
+
+-- ---- frames that are read
+
+-- the index of a frame's link, with the frame, or the cause for which it comes to none
+abbrev pub Addressed : Type 0
+Addressed = Result (ℕ × Frame) FilterCause
+
+-- reading these octets found that
+abbrev pub IsAddressed : Configuration → List ℕ → Addressed → Type 0
+IsAddressed config octets (Ok found) = ComesToPlace config octets found.0 × (found.1.whole.now ≡ octets)
+IsAddressed config octets (Err cause) = addressed_link config octets ≡ Err cause
+
+-- the frame at this place of these, if there is one, is read so
+abbrev pub IsAddressedAt : Configuration → Frames → ℕ → Addressed → Type 0
+IsAddressedAt config frames place found = (f : ℕ × Bor (List ℕ)) → slice_get frames place ≡ Some f → IsAddressed config f.1.now found
+
+abbrev pub is_of_link : Addressed → ℕ → Bool
+is_of_link (Ok found) at = found.0 == at
+is_of_link (Err cause) at = false
 
 -- ---- frames in a row of one link
 
@@ -63,19 +84,19 @@ abbrev pub CountsInTurn : Net → LinkCounts → List (ℕ × Verdict) → LinkC
 CountsInTurn net old [] new = new ≡ old
 CountsInTurn net old (r ∷ rs) new = (mid : LinkCounts) × CountsOne net old r.1 mid × CountsInTurn net mid rs new
 
--- an answer as it is replied
-abbrev pub reply_of : LinkNo → ℕ × Verdict → Reply
-reply_of vl answer = replies.Link vl answer.0 answer.1
+-- an answer as it is replied, of the link at this index with this number
+abbrev pub reply_of : ℕ → LinkNo → ℕ × Verdict → Reply
+reply_of at vl answer = replies.Link at vl answer.0 answer.1
 
--- A pass gave these frames to its link, one after another, and these are the replies.
+-- A pass gave these frames to its link, which has this index, one after another, and these are the replies.
 -- rule: CONC-6, EMB-32
-abbrev pub CallsInTurn : KnownLink → Frames → List Reply → KnownLink → Type 0
-CallsInTurn old [] [] new = new ≡ old
-CallsInTurn old (f ∷ fs) (r ∷ rs) new =
-    (mid : KnownLink) × (place : ℕ) × (verdict : Verdict) × (r ≡ replies.Link (addressee_of f.1.now) (shown place) verdict)
-    × Calls old (call place f.0 f.1.now verdict) mid × CallsInTurn mid fs rs new
-CallsInTurn old [] (r ∷ rs) new = ⊥
-CallsInTurn old (f ∷ fs) [] new = ⊥
+abbrev pub CallsInTurn : ℕ → KnownLink → Frames → List Reply → KnownLink → Type 0
+CallsInTurn at old [] [] new = new ≡ old
+CallsInTurn at old (f ∷ fs) (r ∷ rs) new =
+    (mid : KnownLink) × (place : ℕ) × (verdict : Verdict) × (r ≡ replies.Link at (addressee_of f.1.now) (shown place) verdict)
+    × Calls old (call place f.0 f.1.now verdict) mid × CallsInTurn at mid fs rs new
+CallsInTurn at old [] (r ∷ rs) new = ⊥
+CallsInTurn at old (f ∷ fs) [] new = ⊥
 
 -- ---- the rows of a burst
 
@@ -92,7 +113,7 @@ pub record IsRow (config : Configuration) (at : ℕ) (frames : Frames) (count : 
 -- rule: CONC-6, EMB-32
 abbrev pub StandTogether : ℕ → List Reply → Type 0
 StandTogether place [] = Unit {0}
-StandTogether place (replies.Link vl shows verdict ∷ later) = (shows ≡ shown place) × StandTogether (suc place) later
+StandTogether place (replies.Link at vl shows verdict ∷ later) = (shows ≡ shown place) × StandTogether (suc place) later
 StandTogether place (replies.Filtered cause ∷ later) = ⊥
 
 -- If the first of these frames comes to a link, it begins a row of so many, which the link took in one visit: no event

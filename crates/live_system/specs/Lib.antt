@@ -1,6 +1,5 @@
 pub mod Burst
 pub mod Calls
-pub mod LookUps
 pub mod Meetings
 pub mod Pass
 pub mod Run

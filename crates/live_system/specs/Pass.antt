@@ -17,7 +17,6 @@ use Rattle.receiver.specs.Port.{AnswersPort, GivesPort, HasSpacePort, RefusesPor
 use Rattle.network_calls.specs.declared.call.Call.{Call}
 use Rattle.network_calls.specs.declared.counts.LinkCounts.{LinkCounts}
 use Rattle.network_calls.specs.Calls.{count_calls, user_of}
-use Rattle.network_calls.specs.Counts.{AreCounts}
 use Rattle.live_system.specs.Calls.{Agrees, LiveLink, as_opened}
 
 -- the lock of its link, its network, the link as it was opened, its calls, and their counts
@@ -30,10 +29,6 @@ pub record KnownLink : Type 0 where
 
 abbrev pub known_link : Net → KnownPass LiveLink (List Call) → LinkCounts → KnownLink
 known_link net pass counts = record { lock = pass.lock; net = net; link = pass.fixed; calls = pass.list; counts = counts }
-
--- the counts are those of the calls; each stops at the greatest number of 64 bits
-abbrev pub AreCountsOf : Net → List Call → LinkCounts → Type 0
-AreCountsOf net calls counts = AreCounts shown net calls counts
 
 -- One visit of its link by a pass: the link that it found, which is the one that was opened, with what both networks
 -- had done by then, and what became of the link.

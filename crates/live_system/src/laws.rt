@@ -10,21 +10,23 @@ ghost use Rattle.message_ring.specs.Queue.{Known};
 ghost use Rattle.receiver.specs.declared.ends.LinkEnds.{LinkEnds};
 ghost use Rattle.receiver.specs.declared.partition.PartitionEnd.{PartitionEnd};
 ghost use Rattle.receiver.specs.declared.port.PortOutlet.{PortOutlet};
+ghost use Rattle.receiver.specs.declared.receiver.Reply.{Reply};
 ghost use Rattle.es_base.specs.Port.{Port};
 ghost use Rattle.receiver.specs.Meetings.{HasOutlet};
 ghost use Rattle.receiver.specs.Port.{IsPortOf, IsQueueOf};
 ghost use Rattle.receiver.specs.Receiver.{Links};
 ghost use Rattle.network_calls.specs.declared.call.Call.{Call};
-ghost use Rattle.network_calls.specs.declared.reply.Reply.{Reply};
 ghost use Rattle.network_calls.specs.Calls.{user_of};
 ghost use Rattle.network_calls.specs.Places.{StandInTheRun};
-ghost use Rattle.network_calls.specs.Threads.{steps_of};
+ghost use Rattle.network_calls.specs.Counts.{KnownCounts};
+ghost use Rattle.network_calls.specs.Ended.{HasSettled};
+ghost use Rattle.network_calls.specs.Passes.{KnownNet, System};
+ghost use Rattle.network_calls.specs.Threads.{BothPasses, steps_of};
 ghost use Rattle.live_system.specs.Calls.{LiveLink, events_of};
 ghost use Rattle.live_system.specs.Meetings.{KnowsOutlet};
 ghost use Rattle.live_system.specs.Pass.{IsSettled, KnownLink};
-ghost use Rattle.live_system.specs.Run.{AreOpened, HasEnded, HasSettled, Passes, Ran, RanAlone, Step};
-ghost use Rattle.network_calls.specs.Counts.{KnownCounts};
-ghost use Rattle.live_system.specs.System.{KnowLinks, KnownNet, Replies, System};
+ghost use Rattle.live_system.specs.Run.{AreOpened, HasEnded, Ran, RanAlone, Step};
+ghost use Rattle.live_system.specs.System.{KnowLinks, Replies, keeping_no_frame};
 
 /// Each call of either network that a settled link's passes know is the event at its place of the link: with its
 /// network, its time, its frame and its verdict, which is that of the frame after the events before it. A network's
@@ -44,13 +46,13 @@ pub fn an_end_of_the_opening_may_meet_its_port()
 
 /// A pass keeps its links, whatever frame it gives.
 pub fn a_pass_knows_its_links_after_each_frame()
-    ensures { (config : Configuration) (old new : KnownNet) (now : ℕ) (octets : List ℕ) (reply : Reply) (links : List LiveLink) → Replies config old now octets reply new →
+    ensures { (config : Configuration) (old new : KnownNet KnownLink) (now : ℕ) (octets : List ℕ) (reply : Reply) (links : List LiveLink) → Replies config old now octets reply new →
         KnowLinks old.links links → KnowLinks new.links links }
 {}
 
 /// The work of the two threads, each with its own pass, is that of both together, in whatever order their calls came.
 pub fn threads_run_together()
-    ensures { (system : System) (first last : Passes) (steps : List (Net × Step)) → RanAlone system first.a (steps_of A steps) last.a → RanAlone system first.b (steps_of B steps) last.b →
+    ensures { (system : System) (first last : BothPasses KnownLink) (steps : List (Net × Step)) → RanAlone system first.a (steps_of A steps) last.a → RanAlone system first.b (steps_of B steps) last.b →
         Ran system first steps last }
 {}
 
@@ -60,6 +62,6 @@ pub fn threads_run_together()
 /// counts are those of the calls. A frame that a try answered is one of these calls, as one that waited for its link
 /// is; a try that gave up is none.
 pub fn from_the_opening_to_the_end()
-    ensures { (readers : Port → ℕ) (system : System) (first last : Passes) (ends : List (LinkEnds PartitionEnd)) (steps : List (Net × Step)) (links : List LiveLink) (a b : KnownCounts) →
-        AreOpened readers system first ends → Ran system first steps last → HasSettled system last links a b → HasEnded readers system steps ends links a b }
+    ensures { (readers : Port → ℕ) (system : System) (first last : BothPasses KnownLink) (ends : List (LinkEnds PartitionEnd)) (steps : List (Net × Step)) (links : List LiveLink) (a b : KnownCounts) →
+        AreOpened readers system first ends → Ran system first steps last → HasSettled keeping_no_frame system last links a b → HasEnded readers system steps ends links a b }
 {}

@@ -22,18 +22,17 @@ pub mod laws;
 mod link_pass;
 mod locked;
 mod meetings;
-mod net_pass;
 mod opened;
 mod row;
 mod settled;
 mod system;
 
 pub use crossing::may_cross;
-pub use net_pass::NetPass;
-pub use network_calls::{Call, PassCounts, Reply};
+pub use link_pass::NetPass;
+pub use network_calls::{Call, PassCounts};
 pub use opened::Opened;
 pub use receiver::{
-    LinkEnds, LinkWithPorts, MailboxReader, PartitionEnd, PortOutlet, ReaderCount, RingTaker,
+    LinkEnds, LinkWithPorts, MailboxReader, PartitionEnd, PortOutlet, ReaderCount, Reply, RingTaker,
 };
 pub use settled::Settled;
 pub use system::LiveSystem;

@@ -1,20 +1,22 @@
 //! One network's pass on one link.
-ghost use Rattle.std.specs.Prelude.{◌≡◌, ◌<◌, ◌≤◌, ℕ, Some, IfNone, IfOk, IfSome, length, take};
+ghost use Rattle.std.specs.Prelude.{◌≡◌, ◌<◌, ◌≤◌, ℕ, Some, IfNone, IfOk, IfSome, length, refl, take};
+ghost use Rattle.std.proofs.Common.{ap, ◌∙◌};
+ghost use Rattle.std.proofs.lemmas.Option.{same_Some};
 ghost use Rattle.es_base.specs.Frame.{IsFrame, link_number_of};
 ghost use Rattle.es_base.specs.declared.place.Net.TheVariants.{A, B};
-ghost use Rattle.es_base.specs.Verdict.{verdict_kinds};
 ghost use Rattle.es_base.specs.Past.{arrived};
-ghost use Rattle.es_base.specs.Tally.{IsKind};
 ghost use Rattle.link_core.specs.Counted.{shown};
 ghost use Rattle.receiver.specs.Link.{IsNewLink};
 ghost use Rattle.receiver.specs.Meetings.{HasOutletAt};
 ghost use Rattle.receiver.specs.Outlet.{reads_by};
 ghost use Rattle.receiver.specs.Port.{IsPortOf, IsQueueOf, ReadsPort, ShowsPort};
-ghost use Rattle.network_calls.specs.Calls.{call, count_calls, user_of};
+ghost use Rattle.network_calls.specs.Calls.{call, user_of};
+ghost use Rattle.network_calls.specs.Counts.{AreCounts};
 ghost use Rattle.live_system.specs.Burst.{AreFramesFor, CallsInTurn, StandTogether, TookInTurn, most_in_row};
-ghost use Rattle.live_system.specs.Calls.{LiveLink, no_calls};
+ghost use Rattle.live_system.specs.Calls.{LiveLink, as_opened, no_calls};
 ghost use Rattle.live_system.specs.Meetings.{MeetsReader, MeetsTaker};
-ghost use Rattle.live_system.specs.Pass.{AreCountsOf, Calls, Did, IsNewPass, IsNoCall, IsSettled, Visits};
+ghost use Rattle.live_system.specs.Pass.{Calls, Did, IsNewPass, IsNoCall, IsSettled, Visits};
+ghost use Rattle.live_system.specs.System.{keeping_no_frame};
 
 use crate::locked::Locked;
 use crate::meetings::{meet_reader, meet_taker};
@@ -22,9 +24,9 @@ use crate::row::{Answers, take, take_row, tell};
 use es_base::{LinkNo, LinkSettings, Memory, Net, PortNo, Verdict};
 use frame_reader::Frame;
 use link_lock::{Lock, Opened, PassOf};
-use network_calls::{LinkCounts, Reply};
+use network_calls::{LinkCounts, PassOnLink, SettledLink};
 use receiver::{
-    LinkWithPorts, MailboxReader, PartitionEnd, PortEnd, PortOutlet, Readers, RingTaker,
+    LinkWithPorts, MailboxReader, PartitionEnd, PortEnd, PortOutlet, Readers, Reply, RingTaker,
 };
 use std::alloc::Global;
 use std::marker::Model;
@@ -33,7 +35,7 @@ use std::sync::Wait;
 /// One network's pass on one link, by which a thread gives the link its frames. To a contract it is the link's lock,
 /// the network, the link as it was opened, the calls made, and their counts.
 #[derive(Drop)]
-pub(crate) struct LinkPass {
+pub struct LinkPass {
     net: Net,
     pass: PassOf<Locked>,
     counts: LinkCounts,
@@ -42,13 +44,15 @@ pub(crate) struct LinkPass {
 impl Model for LinkPass {
     ghost use Rattle.std.specs.Prelude.{◌≡◌};
     ghost use Rattle.network_calls.specs.Calls.{user_of};
-    ghost use Rattle.live_system.specs.Pass.{AreCountsOf, KnownLink, known_link};
+    ghost use Rattle.link_core.specs.Counted.{shown};
+    ghost use Rattle.network_calls.specs.Counts.{AreCounts};
+    ghost use Rattle.live_system.specs.Pass.{KnownLink, known_link};
 
     ghost Value = { KnownLink };
 
     ghost view = { λ p. known_link p.net p.pass p.counts };
 
-    ghost invariant = { λ p. (p.pass.user ≡ user_of p.net) × AreCountsOf p.net p.pass.list p.counts };
+    ghost invariant = { λ p. (p.pass.user ≡ user_of p.net) × AreCounts shown p.net p.pass.list p.counts };
 }
 
 impl LinkPass {
@@ -122,12 +126,13 @@ impl LinkPass {
     }
 
     /// Gives the link frames that came on the pass's network, each at its time, in microseconds: waits until the link
-    /// is free, lets the link take them one after another, and then gives it back: one visit. Replies each event's
-    /// place, which saturates at 2^64 - 1, and its verdict. Takes no memory, and can't fail.
+    /// is free, lets the link take them one after another, and then gives it back: one visit. Replies the link's index,
+    /// `at`, each event's place, which saturates at 2^64 - 1, and its verdict. Takes no memory, and can't fail.
     pub(crate) fn receive_row<R: Wait>(
         &mut self,
         rt: &R,
         lock: &Lock<Locked>,
+        at: usize,
         row: &[(u64, &[u8])],
         replies: &mut [Reply],
     )
@@ -136,7 +141,7 @@ impl LinkPass {
         requires few { length row.now ≤ most_in_row }
         requires room { length replies.old ≡ length row.now }
         requires frames { (link : LiveLink) × (self.old.link ≡ Some link) × (self.old.counts.vl ≡ link.core.settings.vl) × AreFramesFor link.core.settings.vl row.now }
-        ensures calls { CallsInTurn self.old row.now replies.new self.new }
+        ensures calls { CallsInTurn at self.old row.now replies.new self.new }
         ensures together { (place : ℕ) × StandTogether place replies.new }
     {
         let net = self.net;
@@ -149,7 +154,7 @@ impl LinkPass {
                 ensures { TookInTurn net locked.old row.entry.now (take (length row.entry.now) result) locked.new }
             { take_row(locked, net, row) },
         );
-        tell(&mut self.counts, net, &answers, replies);
+        tell(&mut self.counts, net, at, &answers, replies);
     }
 
     /// Synchronizes a sampling port of the link with a reader of it. Waits for the link's lock.
@@ -197,29 +202,61 @@ impl LinkPass {
             { meet_taker(locked, port, taker) },
         )
     }
+}
 
-    /// The link's number.
-    pub(crate) fn vl(&self) -> LinkNo
-        ensures { result ≡ self.now.counts.vl }
-    {
+impl PassOnLink for LinkPass {
+    type Lock = Lock<Locked>;
+
+    type Link = LinkWithPorts<PortOutlet>;
+
+    ghost keeping = { keeping_no_frame };
+
+    ghost lock_id = { λ lock. lock };
+
+    ghost nothing = { refl };
+
+    ghost settles_known = { λ one other link left settled known. ap (λ (l : LiveLink). l.core.settings) (same_Some (as_opened left) link (settled.opened ∙ known)) };
+
+    fn vl(&self) -> LinkNo {
         self.counts.vl
     }
 
-    /// Number of calls. It saturates at 2^64 - 1.
-    pub(crate) fn calls(&self) -> u64
-        ensures { result ≡ shown (length self.now.calls) }
-    {
+    fn calls(&self) -> u64 {
         self.counts.number
     }
 
-    /// Number of calls with a verdict of this kind, 1 to 13. It saturates at 2^64 - 1.
-    pub(crate) fn count(&self, kind: usize) -> u64
-        requires { IsKind verdict_kinds kind }
-        ensures { result ≡ shown (count_calls kind self.now.calls) }
-    {
+    fn count(&self, kind: usize) -> u64 {
         self.counts.tally.count(self.net, kind)
     }
+
+    fn settle(
+        lock: Lock<Locked>,
+        a: LinkPass,
+        b: LinkPass,
+    ) -> SettledLink<LinkWithPorts<PortOutlet>>
+        requires lock { (a.lock ≡ lock) × (b.lock ≡ lock) }
+        requires nets { (a.net ≡ A) × (b.net ≡ B) }
+        ensures link { IsSettled a.link a.calls b.calls result.link }
+        ensures a { (result.a ≡ a.counts) × AreCounts shown A a.calls result.a }
+        ensures b { (result.b ≡ b.counts) × AreCounts shown B b.calls result.b }
+    {
+        let LinkPass {
+            net: _,
+            pass: first,
+            counts: a,
+        } = a;
+        let LinkPass {
+            net: _,
+            pass: second,
+            counts: b,
+        } = b;
+        let Locked { link } = lock.settle(first, second);
+        SettledLink { link, a, b }
+    }
 }
+
+/// One network's pass on all links, by which a thread gives them the frames of its network.
+pub type NetPass = network_calls::NetPass<LinkPass>;
 
 /// A link under its lock, the passes of both networks on it, and the ends of its ports.
 #[derive(Drop)]
@@ -251,34 +288,4 @@ pub(crate) fn open_link<R: Readers>(
         b: LinkPass::new(Net::B, settings.vl(), second),
         ends,
     })
-}
-
-/// A link whose lock has ended, and the counts of both passes.
-#[derive(Drop)]
-pub(crate) struct SettledLink {
-    pub link: LinkWithPorts<PortOutlet>,
-    pub a: LinkCounts,
-    pub b: LinkCounts,
-}
-
-/// Ends the lock of a link. The calls of its past are those of both passes. Takes no memory, and waits for nobody.
-pub(crate) fn settle_link(lock: Lock<Locked>, a: LinkPass, b: LinkPass) -> SettledLink
-    requires lock { (a.lock ≡ lock) × (b.lock ≡ lock) }
-    requires nets { (a.net ≡ A) × (b.net ≡ B) }
-    ensures link { IsSettled a.link a.calls b.calls result.link }
-    ensures a { (result.a ≡ a.counts) × AreCountsOf A a.calls result.a }
-    ensures b { (result.b ≡ b.counts) × AreCountsOf B b.calls result.b }
-{
-    let LinkPass {
-        net: _,
-        pass: first,
-        counts: a,
-    } = a;
-    let LinkPass {
-        net: _,
-        pass: second,
-        counts: b,
-    } = b;
-    let Locked { link } = lock.settle(first, second);
-    SettledLink { link, a, b }
 }

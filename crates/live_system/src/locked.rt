@@ -7,7 +7,7 @@ use std::marker::Model;
 
 /// A link under its lock. To a contract it is the link itself.
 #[derive(Drop)]
-pub(crate) struct Locked {
+pub struct Locked {
     pub(crate) link: LinkWithPorts<PortOutlet>,
 }
 

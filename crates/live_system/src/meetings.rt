@@ -5,8 +5,8 @@ ghost use Rattle.receiver.specs.Port.{IsPortOf, IsQueueOf};
 ghost use Rattle.live_system.specs.Meetings.{KnowsOutlet, MeetsReader, MeetsTaker, VisitsAt};
 ghost use Rattle.live_system.specs.System.{IsPassOf};
 
+use crate::link_pass::NetPass;
 use crate::locked::Locked;
-use crate::net_pass::NetPass;
 use crate::system::LiveSystem;
 use es_base::PortNo;
 use receiver::{MailboxReader, RingTaker};

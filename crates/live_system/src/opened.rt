@@ -1,19 +1,19 @@
 //! A newly opened system: its two passes, and the ends of all ports.
-ghost use Rattle.std.specs.Prelude.{◌≡◌, List, IfOk, length};
+ghost use Rattle.std.specs.Prelude.{◌≡◌, List, IfOk};
 ghost use Rattle.es_base.specs.declared.place.Net.TheVariants.{A, B};
 ghost use Rattle.receiver.specs.Named.{port_named};
 ghost use Rattle.receiver.specs.Outlet.{reads_by};
 ghost use Rattle.receiver.specs.Port.{ReadsPort, ShowsPort};
 ghost use Rattle.receiver.specs.Receiver.{AreNewLinks};
 ghost use Rattle.receiver.specs.Taking.{HandsNamed, HandsReader, HandsTaker};
+ghost use Rattle.network_calls.specs.Passes.{AreIdle, ArePasses, IsNewPassOf};
 ghost use Rattle.live_system.specs.Calls.{LiveLink};
-ghost use Rattle.live_system.specs.System.{AreOfNewLinks, ArePasses, AreWithoutCalls, IsNewPassOf, IsPassOf, KnowLinks};
+ghost use Rattle.live_system.specs.System.{AreOfNewLinks, IsPassOf, KnowLinks, keeping_no_frame};
 
-use crate::link_pass::{LinkPass, OpenedLink, open_link};
+use crate::link_pass::{LinkPass, NetPass, OpenedLink, open_link};
 use crate::locked::Locked;
-use crate::net_pass::NetPass;
 use crate::system::LiveSystem;
-use es_base::{Config, FilterTally, LinkSettings, Memory, Net, PortNo};
+use es_base::{Config, LinkSettings, Memory, Net, PortNo};
 use link_lock::Lock;
 use receiver::{
     LinkEnds, MailboxReader, PartitionEnd, ReaderCount, Readers, RingTaker, port_named,
@@ -48,11 +48,10 @@ fn open_links<R: Readers>(
     links: &[LinkSettings],
     readers: &R,
 ) -> Result<Links, Memory>
-    ensures a { IfOk result (λ o. ArePasses A o.locks.items links.now o.a.items × AreWithoutCalls o.a.items) }
-    ensures b { IfOk result (λ o. ArePasses B o.locks.items links.now o.b.items × AreWithoutCalls o.b.items) }
+    ensures a { IfOk result (λ o. ArePasses keeping_no_frame A o.locks.items links.now o.a.items × AreIdle keeping_no_frame o.a.items) }
+    ensures b { IfOk result (λ o. ArePasses keeping_no_frame B o.locks.items links.now o.b.items × AreIdle keeping_no_frame o.b.items) }
     ensures links { IfOk result (λ o. (opened : List LiveLink) × AreNewLinks ShowsPort (reads_by ReadsPort (R.count readers.now)) links.now opened o.ends.items
         × KnowLinks o.a.items opened × KnowLinks o.b.items opened) }
-    ensures many { IfOk result (λ o. (length o.a.items ≡ length links.now) × (length o.b.items ≡ length links.now)) }
 {
     let mut opened = Links {
         locks: Vec::new(alloc),
@@ -112,8 +111,8 @@ impl LiveSystem {
     /// any.
     pub fn open(alloc: Global, config: &Config, readers: ReaderCount) -> Result<Opened, Memory>
         ensures config { IfOk result (λ o. o.system.config ≡ config.now) }
-        ensures a { IfOk result (λ o. IsPassOf o.system o.a × IsNewPassOf A o.a) }
-        ensures b { IfOk result (λ o. IsPassOf o.system o.b × IsNewPassOf B o.b) }
+        ensures a { IfOk result (λ o. IsPassOf o.system o.a × IsNewPassOf keeping_no_frame A o.a) }
+        ensures b { IfOk result (λ o. IsPassOf o.system o.b × IsNewPassOf keeping_no_frame B o.b) }
         ensures links { IfOk result (λ o. AreOfNewLinks (λ _. readers) config.now o.a o.b o.ends.items) }
     {
         LiveSystem::open_with(alloc, config, &readers)
@@ -126,33 +125,18 @@ impl LiveSystem {
         readers: &R,
     ) -> Result<Opened, Memory>
         ensures config { IfOk result (λ o. o.system.config ≡ config.now) }
-        ensures a { IfOk result (λ o. IsPassOf o.system o.a × IsNewPassOf A o.a) }
-        ensures b { IfOk result (λ o. IsPassOf o.system o.b × IsNewPassOf B o.b) }
+        ensures a { IfOk result (λ o. IsPassOf o.system o.a × IsNewPassOf keeping_no_frame A o.a) }
+        ensures b { IfOk result (λ o. IsPassOf o.system o.b × IsNewPassOf keeping_no_frame B o.b) }
         ensures links { IfOk result (λ o. AreOfNewLinks (R.count readers.now) config.now o.a o.b o.ends.items) }
     {
-        let links = config.links();
-        let many = links.len();
+        let Links { locks, a, b, ends } = open_links(alloc, config.links(), readers)?;
         let config = config.copy(alloc)?;
-        let settled = Vec::with_capacity(alloc, many)?;
-        let counts_a = Vec::with_capacity(alloc, many)?;
-        let counts_b = Vec::with_capacity(alloc, many)?;
-        let Links { locks, a, b, ends } = open_links(alloc, links, readers)?;
+        let a = NetPass::open(alloc, Net::A, a)?;
+        let b = NetPass::open(alloc, Net::B, b)?;
         Ok(Opened {
             system: LiveSystem { config, locks },
-            a: NetPass {
-                net: Net::A,
-                links: a,
-                filtered: FilterTally::opening(),
-                settled,
-                counts: counts_a,
-            },
-            b: NetPass {
-                net: Net::B,
-                links: b,
-                filtered: FilterTally::opening(),
-                settled: Vec::new(alloc),
-                counts: counts_b,
-            },
+            a,
+            b,
             ends,
         })
     }

@@ -8,7 +8,8 @@ ghost use Rattle.live_system.specs.Pass.{Did};
 use crate::locked::Locked;
 use es_base::{Net, Verdict};
 use frame_reader::frame_in;
-use network_calls::{LinkCounts, Reply};
+use network_calls::LinkCounts;
+use receiver::Reply;
 
 /// Most frames of one visit.
 pub(crate) const MOST_IN_ROW: usize = 8;
@@ -22,7 +23,8 @@ pub(crate) fn take(locked: &mut Locked, net: Net, now: u64, octets: &[u8]) -> (u
     requires frame { IsFrame octets.now }
     ensures { Did (arrived net now octets.now) locked.old locked.new result }
 {
-    locked.link.receive(net, now, &frame_in(octets))
+    let place = locked.link.received();
+    (place, locked.link.receive(net, now, &frame_in(octets)))
 }
 
 /// Lets a locked link take frames, one after another. Returns their answers.
@@ -39,17 +41,28 @@ pub(crate) fn take_row(locked: &mut Locked, net: Net, row: &[(u64, &[u8])]) -> A
     answers
 }
 
-/// Counts the answers of as many frames as there are replies, and replies them.
-pub(crate) fn tell(counts: &mut LinkCounts, net: Net, answers: &Answers, replies: &mut [Reply])
+/// Counts the answers of as many frames as there are replies, and replies them, of the link at this index.
+pub(crate) fn tell(
+    counts: &mut LinkCounts,
+    net: Net,
+    at: usize,
+    answers: &Answers,
+    replies: &mut [Reply],
+)
     requires few { length replies.old ≤ most_in_row }
     ensures vl { counts.new.vl ≡ counts.old.vl }
     ensures counts { CountsInTurn net counts.old (take (length replies.old) answers.now) counts.new }
-    ensures replies { replies.new ≡ map (reply_of counts.old.vl) (take (length replies.old) answers.now) }
+    ensures replies { replies.new ≡ map (reply_of at counts.old.vl) (take (length replies.old) answers.now) }
 {
-    'answers: for at in 0..replies.len() {
-        let (place, verdict) = answers[at];
+    'answers: for index in 0..replies.len() {
+        let (place, verdict) = answers[index];
         counts.add(net, verdict);
         let vl = counts.vl;
-        replies[at] = Reply::Link { vl, place, verdict };
+        replies[index] = Reply::Link {
+            at,
+            vl,
+            place,
+            verdict,
+        };
     }
 }

@@ -4,12 +4,12 @@ ghost use Rattle.es_base.specs.Addressing.{ComesToPlace};
 ghost use Rattle.live_system.specs.Burst.{StandTogether};
 ghost use Rattle.live_system.specs.System.{IsPassOf, Replies};
 
+use crate::link_pass::NetPass;
 use crate::locked::Locked;
-use crate::net_pass::NetPass;
 use es_base::Config;
 use frame_reader::{Frame, read_addressed};
 use link_lock::Lock;
-use network_calls::Reply;
+use receiver::Reply;
 use std::marker::Model;
 use std::sync::Wait;
 
@@ -21,7 +21,7 @@ pub struct LiveSystem {
 }
 
 impl Model for LiveSystem {
-    ghost use Rattle.live_system.specs.System.{System};
+    ghost use Rattle.network_calls.specs.Passes.{System};
 
     ghost Value = { System };
 
@@ -46,7 +46,10 @@ impl LiveSystem {
     {
         match read_addressed(&self.config, bytes) {
             Ok((at, frame)) => self.receive_at(rt, pass, at, now, &frame),
-            Err(cause) => pass.filter(cause),
+            Err(cause) => {
+                pass.count_filtered(cause);
+                Reply::Filtered(cause)
+            }
         }
     }
 
@@ -66,7 +69,10 @@ impl LiveSystem {
     {
         match read_addressed(&self.config, bytes) {
             Ok((at, frame)) => self.try_receive_at(pass, at, now, &frame),
-            Err(cause) => Some(pass.filter(cause)),
+            Err(cause) => {
+                pass.count_filtered(cause);
+                Some(Reply::Filtered(cause))
+            }
         }
     }
 
@@ -89,6 +95,7 @@ impl LiveSystem {
         let lock = &self.locks[at];
         let (place, verdict) = pass.links[at].receive(rt, lock, now, frame);
         Reply::Link {
+            at,
             vl: frame.vl,
             place,
             verdict,
@@ -113,6 +120,7 @@ impl LiveSystem {
         let lock = &self.locks[at];
         let (place, verdict) = pass.links[at].try_receive(lock, now, frame)?;
         Some(Reply::Link {
+            at,
             vl: frame.vl,
             place,
             verdict,

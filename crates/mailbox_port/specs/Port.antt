@@ -2,7 +2,7 @@
 use Rattle.std.specs.Prelude.{◌≡◌, ℕ, ◌+◌, ◌<◌, ◌&&◌, Bool, List, [], ◌∷◌, ◌++◌, length, map, nat_le, slice_get, Some}
 use Rattle.atomic_table.specs.Seated.{TableId}
 use Rattle.es_base.specs.declared.event.Message.{Message}
-use Rattle.triple_buffer.specs.Ends.{WriterEnd, is_told, new_reader}
+use Rattle.triple_buffer.specs.Ends.{BufferWriter, reader_told, new_reader}
 use Rattle.mailbox_port.specs.declared.port.Mailbox.{Mailbox}
 
 -- ---- how many readers
@@ -25,27 +25,27 @@ pub record PortEnd : Type 0 where
   pub steps : ℕ
 
 -- what the first of these writers published, as each of them did
-abbrev pub published_of : List WriterEnd → List Message
+abbrev pub published_of : List BufferWriter → List Message
 published_of [] = []
 published_of (writer ∷ writers) = writer.published
 
 -- how many steps the first of these writers made, as each of them did
-abbrev pub steps_at_each : List WriterEnd → ℕ
+abbrev pub steps_at_each : List BufferWriter → ℕ
 steps_at_each [] = 0
 steps_at_each (writer ∷ writers) = writer.steps
 
 -- a writer that made one step for each message
-abbrev pub writer_at : ℕ → List Message → TableId → WriterEnd
+abbrev pub writer_at : ℕ → List Message → TableId → BufferWriter
 writer_at longest published buffer = record { buffer = buffer; longest = longest; published = published; steps = length published }
 
-abbrev pub buffers_of : List WriterEnd → List TableId
-buffers_of writers = map (λ (writer : WriterEnd). writer.buffer) writers
+abbrev pub buffers_of : List BufferWriter → List TableId
+buffers_of writers = map (λ (writer : BufferWriter). writer.buffer) writers
 
-abbrev pub port_end : List WriterEnd → ℕ → PortEnd
+abbrev pub port_end : List BufferWriter → ℕ → PortEnd
 port_end writers longest = record { buffers = buffers_of writers; longest = longest; published = published_of writers; steps = steps_at_each writers }
 
 -- there is a writer, and each published the same, in one step for each message
-pub record AreAlike (writers : List WriterEnd) (longest count : ℕ) : Type 0 where
+pub record AreAlike (writers : List BufferWriter) (longest count : ℕ) : Type 0 where
   pub some : 0 < length writers
   pub same : writers ≡ map (writer_at longest (published_of writers)) (buffers_of writers)
   pub count_is : count ≡ length (published_of writers)
@@ -75,4 +75,4 @@ new_mailboxes buffers longest = mailboxes_from longest 0 buffers
 -- its reader knows these to be published
 -- rule: PORT-18
 abbrev pub told_mailbox : Mailbox → List Message → Mailbox
-told_mailbox mailbox published = record { reader = is_told mailbox.reader published; place = mailbox.place }
+told_mailbox mailbox published = record { reader = reader_told mailbox.reader published; place = mailbox.place }

@@ -1,7 +1,7 @@
 //! The publishing end of a port, and its mailboxes.
 ghost use Rattle.std.specs.Prelude.{◌≡◌, ◌+◌, ◌<◌, ◌≤◌, length, slice_get, Some, IfOk};
 ghost use Rattle.triple_buffer.specs.Rule.{StartsWith, message};
-ghost use Rattle.triple_buffer.specs.Ends.{most_messages};
+ghost use Rattle.triple_buffer.specs.Ends.{most_published};
 ghost use Rattle.mailbox_port.specs.Port.{IsMailboxOf, new_mailboxes, new_port, port_with, told_mailbox};
 
 use crate::count::ReaderCount;
@@ -84,7 +84,7 @@ impl PortWriter {
     /// does can refuse or delay it.
     pub fn publish(&mut self, time: u64, octets: &[u8]) -> u64
         requires short { length octets.now ≤ self.old.longest }
-        requires few { length self.old.published < most_messages }
+        requires few { length self.old.published < most_published }
         ensures number { result ≡ length self.new.published }
         ensures published { self.new ≡ port_with self.old (message time octets.now) }
     {

@@ -11,7 +11,7 @@ use Rattle.byteorder.specs.Numbers.{big_from-append}
 use Rattle.message_ring.specs.Stream.{Message, len_of, time_of_octets, message_of_octets, Reading, reading, read_on, nothing_read, messages, begun}
 use Rattle.message_ring.specs.Ends.{IsHead, IsBegun, Seen, taker_of}
 use Rattle.es_base.specs.Queue.{BeginsWith}
-use Rattle.message_ring.specs.Queue.{after_look, message, with_taken}
+use Rattle.message_ring.specs.Queue.{after_look, message, ring_with_taken}
 use Rattle.message_ring.specs.declared.head.Head.{Head}
 use Rattle.message_ring.proofs.Reading.{read_more, read_whole, read_part, begins_more, begins_length, begins_all}
 
@@ -180,7 +180,7 @@ module _ {P : Type 0} where
   same_trans a b d x y = ((y.0.0 ∙ x.0.0, y.0.1 ∙ x.0.1, y.0.2 ∙ x.0.2, y.0.3 ∙ x.0.3), y.1 ∙ x.1)
 
   pub took_view : (max depth : ℕ) (a b : Consumer ℕ Global P) (m : Message) → SameConsumer a b → messages max (received b) ≡ messages max (received a) ++ m ∷ []
-      → (looks looks' : ℕ) → looks' ≡ looks → taker_of b max depth looks' ≡ with_taken (taker_of a max depth looks) m (taker_of b max depth looks').put
+      → (looks looks' : ℕ) → looks' ≡ looks → taker_of b max depth looks' ≡ ring_with_taken (taker_of a max depth looks) m (taker_of b max depth looks').put
   took_view max depth a b m same taken looks looks' none i = record {
     queue = record { words = same.0.0 i; slots = same.0.1 i; names = same.0.2 i; heap = same.0.3 i; max = max };
     depth = depth;

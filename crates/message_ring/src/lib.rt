@@ -23,7 +23,7 @@ ghost use Rattle.std.specs.Prelude.{◌≡◌, ◌+◌, ◌*◌, ◌<◌, ◌≤
 ghost use Rattle.message_ring.specs.Ends.{octets_of_last, width};
 ghost use Rattle.es_base.specs.Limits.{deepest_queue, longest_queued};
 ghost use Rattle.es_base.specs.Queue.{BeginsWith};
-ghost use Rattle.message_ring.specs.Queue.{IsFullByLook, LooksForRoom, SeemsEmpty, SeemsFull, after_look, message, opened, with_put, with_taken};
+ghost use Rattle.message_ring.specs.Queue.{IsFullByLook, LooksForRoom, SeemsEmpty, SeemsFull, after_look, message, opened_ring, ring_with_put, ring_with_taken};
 
 use crate::ends::{has_room, next_head, pop_octets, push_message};
 use crate::head::{Head, most_at_once};
@@ -100,7 +100,7 @@ pub fn open_ring(
     max: usize,
 ) -> Result<(RingPutter, RingTaker), AllocError>
     requires { (0 < depth) × (depth ≤ deepest_queue) × (max ≤ longest_queued) }
-    ensures putter { IfOk result (λ ends. (ends.0 ≡ opened ends.0.queue depth) × (ends.0.queue.max ≡ max)) }
+    ensures putter { IfOk result (λ ends. (ends.0 ≡ opened_ring ends.0.queue depth) × (ends.0.queue.max ≡ max)) }
     ensures taker { IfOk result (λ ends. ends.1 ≡ ends.0) }
 {
     let width = HEAD + max;
@@ -208,7 +208,7 @@ impl RingPutter {
     pub fn put(&mut self, time: u64, octets: &[u8])
         requires short { length octets.now ≤ self.old.queue.max }
         requires room { length self.old.put < length self.old.taken + self.old.depth }
-        ensures put { self.new ≡ with_put self.old (message time octets.now) self.new.taken self.new.looks }
+        ensures put { self.new ≡ ring_with_put self.old (message time octets.now) self.new.taken self.new.looks }
         ensures told { BeginsWith self.new.taken self.old.taken }
         ensures depth { length self.new.put ≤ length self.new.taken + self.old.depth }
         ensures looks { self.new.looks ≡ self.old.looks }
@@ -232,7 +232,7 @@ impl RingTaker {
     /// end took all messages that it knows to be put.
     pub fn take(&mut self, out: &mut [u8]) -> Option<Taken>
         requires { self.old.queue.max ≤ length out.old }
-        ensures some { IfSome result (λ got. (got.len ≤ self.old.queue.max) × (self.new ≡ with_taken self.old (message got.time (take got.len out.new)) self.new.put)) }
+        ensures some { IfSome result (λ got. (got.len ≤ self.old.queue.max) × (self.new ≡ ring_with_taken self.old (message got.time (take got.len out.new)) self.new.put)) }
         ensures rest { IfSome result (λ got. drop got.len out.new ≡ drop got.len out.old) }
         ensures told { BeginsWith self.new.put self.old.put }
         ensures begins { BeginsWith self.new.put self.new.taken }

@@ -3,14 +3,15 @@ use Rattle.std.proofs.Common.{◌≡◌, ◌∙◌, ap, refl, sym, ℕ, ◌+◌,
 use Rattle.std.proofs.lemmas.List.{reverse-append}
 use Rattle.es_base.specs.declared.place.Net.{Net}
 use Rattle.es_base.specs.declared.event.Event.{Event}
-use Rattle.es_base.specs.Integrity.{is_same_net}
+use Rattle.es_base.specs.Networks.{is_same_net}
 use Rattle.es_base.specs.Tally.{AddsOne, count_in, count_of, is_counted, one_more}
 use Rattle.es_base.specs.Verdict.{kind_of, verdict_kinds}
+use Rattle.link_lock.specs.declared.user.User.{User}
 use Rattle.network_calls.specs.declared.call.Call.{Call}
 use Rattle.network_calls.specs.declared.counts.LinkCounts.{LinkCounts}
-use Rattle.network_calls.specs.Calls.{call_of, calls_from, count_calls}
+use Rattle.network_calls.specs.Calls.{call_of, calls_from, count_calls, net_of, user_of}
 use Rattle.network_calls.specs.Counts.{AreCounts}
-use Rattle.network_calls.proofs.Networks.{same_net}
+use Rattle.network_calls.proofs.Networks.{back, same_net}
 
 count_if : (b : Bool) (n : ℕ) → (if b then n + 1 else n) ≤ n + 1
 count_if true n = omega arith
@@ -52,9 +53,12 @@ counted place net kind (e ∷ es) =
     ∙ (count_first (reverse es) e net kind
     ∙ call_if (is_same_net e.net net) kind (call_of place e) (calls_from (place + 1) net es) (count_of (reverse es) net kind) (counted (place + 1) net kind es))
 
--- so these are the calls of the events of a past
-pub counted_calls : (past events : List Event) (net : Net) (kind : ℕ) (calls : List Call) → reverse events ≡ past → calls ≡ calls_from 0 net events → count_of past net kind ≡ count_calls kind calls
-counted_calls past events net kind calls turned are = ap (λ (es : List Event). count_of es net kind) (sym turned) ∙ (counted 0 net kind events ∙ ap (count_calls kind) (sym are))
+-- so the events of a past are, whose calls these are of both users
+pub counted_of_both : (calls : User → List Call) (past events : List Event) (net : Net) (kind : ℕ) → reverse events ≡ past → ((user : User) → calls user ≡ calls_from 0 (net_of user) events)
+    → count_of past net kind ≡ count_calls kind (calls (user_of net))
+counted_of_both calls past events net kind turned are =
+    ap (λ (es : List Event). count_of es net kind) (sym turned)
+    ∙ (counted 0 net kind events ∙ ap (count_calls kind) (sym (are (user_of net) ∙ ap (λ (n : Net). calls_from 0 n events) (back net))))
 
 -- ---- one call more, counted
 

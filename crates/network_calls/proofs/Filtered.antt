@@ -4,7 +4,7 @@ use Rattle.es_base.specs.declared.event.Arrival.{Arrival}
 use Rattle.es_base.specs.Addressing.{addressed_link}
 use Rattle.es_base.specs.Config.{Configuration}
 use Rattle.es_base.specs.FilterTally.{HasFiltered}
-use Rattle.es_base.specs.Integrity.{is_same_net}
+use Rattle.es_base.specs.Networks.{is_same_net}
 use Rattle.es_base.specs.Settings.{Settings}
 use Rattle.es_base.specs.Tally.{Counts}
 

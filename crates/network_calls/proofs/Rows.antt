@@ -13,19 +13,19 @@ use Rattle.es_base.proofs.Elements.{slice_get-set_other, slice_get-set_same}
 use Rattle.es_base.proofs.Firsts.{found_at}
 use Rattle.link_lock.specs.Pass.{LockId}
 use Rattle.network_calls.specs.Counts.{has_number}
-use Rattle.network_calls.specs.Passes.{AreIdle, ArePassesOn, DoesAt, IsPassOn, OnLink, pass_with}
+use Rattle.network_calls.specs.Passes.{AreIdle, ArePasses, DoesAt, IsPassOn, Keeping, pass_with}
 
 -- `K` is what is known of a pass, and `L` of a link.
-module _ {K L : Type 0} (on : K → OnLink L) (settings_of : L → Settings) where
+module _ {K L : Type 0} (keeping : Keeping K L) where
   -- what stands at a link's place
   pub record AtPlace (net : Net) (locks : List LockId) (passes : List K) (place : ℕ) (settings : Settings) : Type 0 where
     pub lock : LockId
     pub pass : K
     pub lock_there : slice_get locks place ≡ Some lock
     pub pass_there : slice_get passes place ≡ Some pass
-    pub is_pass : IsPassOn on settings_of lock settings net pass
+    pub is_pass : IsPassOn keeping lock settings net pass
 
-  pub at_place : (net : Net) (locks : List LockId) (links : List Settings) (passes : List K) (place : ℕ) (settings : Settings) → ArePassesOn on settings_of net locks links passes
+  pub at_place : (net : Net) (locks : List LockId) (links : List Settings) (passes : List K) (place : ℕ) (settings : Settings) → ArePasses keeping net locks links passes
       → slice_get links place ≡ Some settings → AtPlace net locks passes place settings
   at_place net [] [] [] place settings are there = cc
   at_place net (lock ∷ locks) (link ∷ links) (pass ∷ passes) zero settings are there = record {
@@ -51,9 +51,9 @@ module _ {K L : Type 0} (on : K → OnLink L) (settings_of : L → Settings) whe
 
   -- a pass that is of the same lock, network and link stands in another's place
   abbrev pub IsSame : K → K → Type 0
-  IsSame old new = ((on new).lock ≡ (on old).lock) × ((on new).net ≡ (on old).net) × ((on new).link ≡ (on old).link) × ((on new).counts.vl ≡ (on old).counts.vl)
+  IsSame old new = ((keeping.on new).lock ≡ (keeping.on old).lock) × ((keeping.on new).net ≡ (keeping.on old).net) × ((keeping.on new).link ≡ (keeping.on old).link) × ((keeping.on new).counts.vl ≡ (keeping.on old).counts.vl)
 
-  pub still_pass : (lock : LockId) (settings : Settings) (net : Net) (old new : K) → IsSame old new → IsPassOn on settings_of lock settings net old → IsPassOn on settings_of lock settings net new
+  pub still_pass : (lock : LockId) (settings : Settings) (net : Net) (old new : K) → IsSame old new → IsPassOn keeping lock settings net old → IsPassOn keeping lock settings net new
   still_pass lock settings net old new same is = record {
     at_lock = rw same.0 is.at_lock;
     of_net = rw same.1 is.of_net;
@@ -63,8 +63,8 @@ module _ {K L : Type 0} (on : K → OnLink L) (settings_of : L → Settings) whe
     with_number = rw same.3 is.with_number;
   }
 
-  pub still_passes : (net : Net) (locks : List LockId) (links : List Settings) (passes : List K) (place : ℕ) (old new : K) → ArePassesOn on settings_of net locks links passes
-      → slice_get passes place ≡ Some old → IsSame old new → ArePassesOn on settings_of net locks links (set passes place new)
+  pub still_passes : (net : Net) (locks : List LockId) (links : List Settings) (passes : List K) (place : ℕ) (old new : K) → ArePasses keeping net locks links passes
+      → slice_get passes place ≡ Some old → IsSame old new → ArePasses keeping net locks links (set passes place new)
   still_passes net [] [] [] place old new are there same = cc
   still_passes net (lock ∷ locks) (link ∷ links) (pass ∷ passes) zero old new are there same =
       (still_pass lock link net old new same (rw (same_Some pass old there) at are.0), are.1)
@@ -79,9 +79,9 @@ module _ {K L : Type 0} (on : K → OnLink L) (settings_of : L → Settings) whe
   -- the lock and the pass at a place, as they were found there
   pub record Found (net : Net) (place : ℕ) (settings : Settings) (locks : List LockId) (passes : List K) (lock : LockId) (pass : K) : Type 0 where
     pub there : slice_get passes place ≡ Some pass
-    pub is_pass : IsPassOn on settings_of lock settings net pass
+    pub is_pass : IsPassOn keeping lock settings net pass
 
-  pub found : (net : Net) (locks : List LockId) (links : List Settings) (passes : List K) (place : ℕ) (settings : Settings) (lock : LockId) (pass : K) → ArePassesOn on settings_of net locks links passes
+  pub found : (net : Net) (locks : List LockId) (links : List Settings) (passes : List K) (place : ℕ) (settings : Settings) (lock : LockId) (pass : K) → ArePasses keeping net locks links passes
       → slice_get links place ≡ Some settings → lock ≡ slice_index_or locks place lock → pass ≡ slice_index_or passes place pass → Found net place settings locks passes lock pass
   found net locks links passes place settings lock pass are there lock_read pass_read =
       let at = at_place net locks links passes place settings are there in
@@ -91,20 +91,20 @@ module _ {K L : Type 0} (on : K → OnLink L) (settings_of : L → Settings) whe
       let same_pass : at.pass ≡ pass = same_Some at.pass pass (sym at.pass_there ∙ pass_there) in
       record { there = pass_there; is_pass = rw (same_lock, same_pass) at at.is_pass }
 
-  pub below : (net : Net) (locks : List LockId) (links : List Settings) (passes : List K) (place : ℕ) (settings : Settings) → ArePassesOn on settings_of net locks links passes
+  pub below : (net : Net) (locks : List LockId) (links : List Settings) (passes : List K) (place : ℕ) (settings : Settings) → ArePasses keeping net locks links passes
       → slice_get links place ≡ Some settings → (place < length locks) × (place < length passes)
   below net locks links passes place settings are there =
       let at = at_place net locks links passes place settings are there in
       (slice_get_within locks place at.lock at.lock_there, slice_get_within passes place at.pass at.pass_there)
 
   -- the link that a pass knows has the number of the frame
-  pub numbered : (lock : LockId) (settings : Settings) (net : Net) (pass : K) (octets : List ℕ) → IsPassOn on settings_of lock settings net pass → settings.vl ≡ addressee_of octets
-      → (link : L) × ((on pass).link ≡ Some link) × (link_number_of octets ≡ (settings_of link).vl.0)
+  pub numbered : (lock : LockId) (settings : Settings) (net : Net) (pass : K) (octets : List ℕ) → IsPassOn keeping lock settings net pass → settings.vl ≡ addressee_of octets
+      → (link : L) × ((keeping.on pass).link ≡ Some link) × (link_number_of octets ≡ (keeping.settings_of link).vl.0)
   numbered lock settings net pass octets is vl =
       (is.link, is.known, sym (ap (λ (n : LinkNo). n.0) vl) ∙ ap (λ (s : Settings). s.vl.0) (sym is.with_settings))
 
   -- there is a link where there is a pass
-  pub beside : (net : Net) (locks : List LockId) (links : List Settings) (passes : List K) (place : ℕ) (pass : K) → ArePassesOn on settings_of net locks links passes → slice_get passes place ≡ Some pass
+  pub beside : (net : Net) (locks : List LockId) (links : List Settings) (passes : List K) (place : ℕ) (pass : K) → ArePasses keeping net locks links passes → slice_get passes place ≡ Some pass
       → (settings : Settings) × (slice_get links place ≡ Some settings)
   beside net [] [] [] place pass are there = cc
   beside net (lock ∷ locks) (link ∷ links) (k ∷ passes) zero pass are there = (link, refl)
@@ -117,7 +117,7 @@ module _ {K L : Type 0} (on : K → OnLink L) (settings_of : L → Settings) whe
   -- ---- one link more, at the end of the row
 
   pub passes_push : (net : Net) (locks : List LockId) (links : List Settings) (passes : List K) (lock : LockId) (settings : Settings) (pass : K)
-      → ArePassesOn on settings_of net locks links passes → IsPassOn on settings_of lock settings net pass → ArePassesOn on settings_of net (locks ++ lock ∷ []) (links ++ settings ∷ []) (passes ++ pass ∷ [])
+      → ArePasses keeping net locks links passes → IsPassOn keeping lock settings net pass → ArePasses keeping net (locks ++ lock ∷ []) (links ++ settings ∷ []) (passes ++ pass ∷ [])
   passes_push net [] [] [] lock settings pass are is = (is, tt)
   passes_push net (l ∷ locks) (s ∷ links) (p ∷ passes) lock settings pass are is = (are.0, passes_push net locks links passes lock settings pass are.1 is)
   passes_push net (l ∷ locks) (s ∷ links) [] lock settings pass are is = absurd are
@@ -126,7 +126,7 @@ module _ {K L : Type 0} (on : K → OnLink L) (settings_of : L → Settings) whe
   passes_push net [] [] (p ∷ passes) lock settings pass are is = absurd are
 
   -- there are as many passes as links
-  pub as_many : (net : Net) (locks : List LockId) (links : List Settings) (passes : List K) → ArePassesOn on settings_of net locks links passes → length passes ≡ length links
+  pub as_many : (net : Net) (locks : List LockId) (links : List Settings) (passes : List K) → ArePasses keeping net locks links passes → length passes ≡ length links
   as_many net [] [] [] are = refl
   as_many net (l ∷ locks) (s ∷ links) (p ∷ passes) are = ap suc (as_many net locks links passes are.1)
   as_many net (l ∷ locks) (s ∷ links) [] are = absurd are
@@ -136,33 +136,33 @@ module _ {K L : Type 0} (on : K → OnLink L) (settings_of : L → Settings) whe
 
   -- ---- the pass on the link with a number
 
-  same_first : (net : Net) (vl : LinkNo) (locks : List LockId) (links : List Settings) (passes : List K) → ArePassesOn on settings_of net locks links passes
-      → position_or_len (λ (pass : K). has_number vl (on pass).counts) passes ≡ position_or_len (has_link_number vl.0) links
+  same_first : (net : Net) (vl : LinkNo) (locks : List LockId) (links : List Settings) (passes : List K) → ArePasses keeping net locks links passes
+      → position_or_len (λ (pass : K). has_number vl (keeping.on pass).counts) passes ≡ position_or_len (has_link_number vl.0) links
   same_first net vl [] [] [] are = refl
   same_first net vl (lock ∷ locks) (settings ∷ links) (pass ∷ passes) are =
-      let numbers : (on pass).counts.vl.0 ≡ settings.vl.0 = ap (λ (n : LinkNo). n.0) are.0.with_number in
+      let numbers : (keeping.on pass).counts.vl.0 ≡ settings.vl.0 = ap (λ (n : LinkNo). n.0) are.0.with_number in
       rw (numbers, same_first net vl locks links passes are.1) refl
   same_first net vl (lock ∷ locks) (settings ∷ links) [] are = absurd are
   same_first net vl (lock ∷ locks) [] passes are = absurd are
   same_first net vl [] (settings ∷ links) passes are = absurd are
   same_first net vl [] [] (pass ∷ passes) are = absurd are
 
-  pub found_pass : (net : Net) (vl : LinkNo) (locks : List LockId) (links : List Settings) (passes : List K) (place : ℕ) (pass : K) → ArePassesOn on settings_of net locks links passes
-      → link_of links vl ≡ Some place → slice_get passes place ≡ Some pass → pass_with on vl passes ≡ Some pass
+  pub found_pass : (net : Net) (vl : LinkNo) (locks : List LockId) (links : List Settings) (passes : List K) (place : ℕ) (pass : K) → ArePasses keeping net locks links passes
+      → link_of links vl ≡ Some place → slice_get passes place ≡ Some pass → pass_with keeping vl passes ≡ Some pass
   found_pass net vl locks links passes place pass are first at =
-      let here : position (λ (k : K). has_number vl (on k).counts) passes ≡ Some place = rw (same_first net vl locks links passes are, as_many net locks links passes are) first in
-      found_at (λ (k : K). has_number vl (on k).counts) passes place here ∙ at
+      let here : position (λ (k : K). has_number vl (keeping.on k).counts) passes ≡ Some place = rw (same_first net vl locks links passes are, as_many net locks links passes are) first in
+      found_at (λ (k : K). has_number vl (keeping.on k).counts) passes place here ∙ at
 
 -- ---- passes that did nothing
 
-module _ {K : Type 0} (DidNothing : K → Type 0) where
-  pub idle_push : (passes : List K) (pass : K) → AreIdle DidNothing passes → DidNothing pass → AreIdle DidNothing (passes ++ pass ∷ [])
+module _ {K L : Type 0} (keeping : Keeping K L) where
+  pub idle_push : (passes : List K) (pass : K) → AreIdle keeping passes → keeping.is_idle pass → AreIdle keeping (passes ++ pass ∷ [])
   idle_push [] pass are is = (is, tt)
   idle_push (p ∷ passes) pass are is = (are.0, idle_push passes pass are.1 is)
 
-  pub idle_at : (passes : List K) (place : ℕ) (pass : K) → AreIdle DidNothing passes → slice_get passes place ≡ Some pass → DidNothing pass
+  pub idle_at : (passes : List K) (place : ℕ) (pass : K) → AreIdle keeping passes → slice_get passes place ≡ Some pass → keeping.is_idle pass
   idle_at [] place pass are there = cc
-  idle_at (k ∷ passes) zero pass are there = subst DidNothing (same_Some k pass there) are.0
+  idle_at (k ∷ passes) zero pass are there = subst keeping.is_idle (same_Some k pass there) are.0
   idle_at (k ∷ passes) (suc place) pass are there = idle_at passes place pass are.1 there
 
 -- ---- a place of the row after a call

@@ -9,7 +9,7 @@ use Rattle.es_base.specs.Settings.{Settings}
 use Rattle.link_lock.specs.Pass.{LockId}
 use Rattle.network_calls.specs.declared.counts.LinkCounts.{LinkCounts}
 use Rattle.network_calls.specs.Counts.{AreCounts}
-use Rattle.network_calls.specs.Passes.{AreCountedBy, ArePassesOn, AreSettledBy, IsPassOn, OnLink}
+use Rattle.network_calls.specs.Passes.{AreCounted, ArePasses, AreSettled, IsPassOn, Keeping}
 
 -- lists with one more at their end that are equal
 same_push : {X : Type 0} (xs ys : List X) (x y : X) → xs ++ x ∷ [] ≡ ys ++ y ∷ [] → (xs ≡ ys) × (x ≡ y)
@@ -17,11 +17,10 @@ same_push {X} xs ys x y same =
     let turned : x ∷ reverse xs ≡ y ∷ reverse ys = sym (reverse-append xs (x ∷ [])) ∙ (ap reverse same ∙ reverse-append ys (y ∷ [])) in
     (sym (reverse-reverse xs) ∙ (ap (λ (zs : List X). reverse (drop 1 zs)) turned ∙ reverse-reverse ys), same_Some x y (ap (λ (zs : List X). slice_get zs 0) turned))
 
--- `K` is what is known of a pass, and `L` of a link; `shows` says what a count shows of a number.
-module _ {K L : Type 0} (on : K → OnLink L) (settings_of : L → Settings) (shows : ℕ → ℕ) (Settled : K → K → L → Type 0) where
+module _ {K L : Type 0} (keeping : Keeping K L) where
   -- what a settled link that both passes know has: the settings of that link
   abbrev SettlesKnown : Type 0
-  SettlesKnown = (one other : K) (link left : L) → Settled one other left → (on one).link ≡ Some link → settings_of left ≡ settings_of link
+  SettlesKnown = (one other : K) (link left : L) → keeping.is_let_go one other left → (keeping.on one).link ≡ Some link → keeping.settings_of left ≡ keeping.settings_of link
 
   -- those that are left, and those that are settled; the latter stand from the last to the first
   pub record Settling (links : List Settings) (a b : List K) (locks : List LockId) (ones others : List K) (states : List L) (counts_a counts_b : List LinkCounts) : Type 0 where
@@ -32,14 +31,14 @@ module _ {K L : Type 0} (on : K → OnLink L) (settings_of : L → Settings) (sh
     pub links_are : rest ++ done ≡ links
     pub a_are : ones ++ done_a ≡ a
     pub b_are : others ++ done_b ≡ b
-    pub left_a : ArePassesOn on settings_of A locks rest ones
-    pub left_b : ArePassesOn on settings_of B locks rest others
-    pub settled : AreSettledBy settings_of Settled done done_a done_b (reverse states)
-    pub counted_a : AreCountedBy on shows A done_a (reverse counts_a)
-    pub counted_b : AreCountedBy on shows B done_b (reverse counts_b)
+    pub left_a : ArePasses keeping A locks rest ones
+    pub left_b : ArePasses keeping B locks rest others
+    pub settled : AreSettled keeping done done_a done_b (reverse states)
+    pub counted_a : AreCounted keeping A done_a (reverse counts_a)
+    pub counted_b : AreCounted keeping B done_b (reverse counts_b)
 
   -- before the first
-  pub begins : (links : List Settings) (a b : List K) (locks : List LockId) (states : List L) (counts_a counts_b : List LinkCounts) → ArePassesOn on settings_of A locks links a → ArePassesOn on settings_of B locks links b
+  pub begins : (links : List Settings) (a b : List K) (locks : List LockId) (states : List L) (counts_a counts_b : List LinkCounts) → ArePasses keeping A locks links a → ArePasses keeping B locks links b
       → states ≡ [] → counts_a ≡ [] → counts_b ≡ [] → Settling links a b locks a b states counts_a counts_b
   begins links a b locks states counts_a counts_b passes_a passes_b no_states none_a none_b = rw (no_states, none_a, none_b) (record {
     rest = links;
@@ -68,12 +67,12 @@ module _ {K L : Type 0} (on : K → OnLink L) (settings_of : L → Settings) (sh
     pub rest_is : before ++ settings ∷ [] ≡ rest
     pub ones_are : before_a ++ one ∷ [] ≡ ones
     pub others_are : before_b ++ other ∷ [] ≡ others
-    pub left_a : ArePassesOn on settings_of A locks before before_a
-    pub left_b : ArePassesOn on settings_of B locks before before_b
-    pub is_a : IsPassOn on settings_of lock settings A one
-    pub is_b : IsPassOn on settings_of lock settings B other
+    pub left_a : ArePasses keeping A locks before before_a
+    pub left_b : ArePasses keeping B locks before before_b
+    pub is_a : IsPassOn keeping lock settings A one
+    pub is_b : IsPassOn keeping lock settings B other
 
-  pub last_of : (locks : List LockId) (rest : List Settings) (ones others : List K) (lock : LockId) → ArePassesOn on settings_of A (locks ++ lock ∷ []) rest ones → ArePassesOn on settings_of B (locks ++ lock ∷ []) rest others
+  pub last_of : (locks : List LockId) (rest : List Settings) (ones others : List K) (lock : LockId) → ArePasses keeping A (locks ++ lock ∷ []) rest ones → ArePasses keeping B (locks ++ lock ∷ []) rest others
       → Last locks rest ones others lock
   last_of [] (settings ∷ []) (one ∷ []) (other ∷ []) lock a b = record {
     settings = settings;
@@ -109,21 +108,21 @@ module _ {K L : Type 0} (on : K → OnLink L) (settings_of : L → Settings) (sh
       }
   last_of (first ∷ locks) [] ones others lock a b = absurd (no_links ones a)
     where
-      no_links : (ones : List K) → ArePassesOn on settings_of A ((first ∷ locks) ++ lock ∷ []) [] ones → ⊥
+      no_links : (ones : List K) → ArePasses keeping A ((first ∷ locks) ++ lock ∷ []) [] ones → ⊥
       no_links [] a = a
       no_links (k ∷ ones) a = a
   last_of (first ∷ locks) (s ∷ rest) [] others lock a b = absurd a
   last_of (first ∷ locks) (s ∷ rest) (k ∷ ones) [] lock a b = absurd b
   last_of [] [] ones others lock a b = absurd (no_links ones a)
     where
-      no_links : (ones : List K) → ArePassesOn on settings_of A (lock ∷ []) [] ones → ⊥
+      no_links : (ones : List K) → ArePasses keeping A (lock ∷ []) [] ones → ⊥
       no_links [] a = a
       no_links (k ∷ ones) a = a
   last_of [] (s ∷ rest) [] others lock a b = absurd a
   last_of [] (s ∷ rest) (k ∷ ones) [] lock a b = absurd b
   last_of [] (s ∷ t ∷ rest) (k ∷ ones) (l ∷ others) lock a b = absurd (no_locks ones a.1)
     where
-      no_locks : (ones : List K) → ArePassesOn on settings_of A [] (t ∷ rest) ones → ⊥
+      no_locks : (ones : List K) → ArePasses keeping A [] (t ∷ rest) ones → ⊥
       no_locks [] a = a
       no_locks (k ∷ ones) a = a
   last_of [] (s ∷ []) (k ∷ m ∷ ones) (l ∷ others) lock a b = absurd a.1
@@ -133,10 +132,10 @@ module _ {K L : Type 0} (on : K → OnLink L) (settings_of : L → Settings) (sh
 
   -- what is settled next is what stands last
   pub record Next (locks : List LockId) (ones others : List K) (lock : LockId) (one other : K) : Type 0 where
-    pub at_a : (on one).lock ≡ lock
-    pub at_b : (on other).lock ≡ lock
-    pub of_a : (on one).net ≡ A
-    pub of_b : (on other).net ≡ B
+    pub at_a : (keeping.on one).lock ≡ lock
+    pub at_b : (keeping.on other).lock ≡ lock
+    pub of_a : (keeping.on one).net ≡ A
+    pub of_b : (keeping.on other).net ≡ B
 
   module _ (links : List Settings) (a b : List K) (locks : List LockId) (ones others : List K) (states : List L) (counts_a counts_b : List LinkCounts) (lock : LockId) (one other : K)
       (so_far : Settling links a b (locks ++ lock ∷ []) (ones ++ one ∷ []) (others ++ other ∷ []) states counts_a counts_b) where
@@ -158,13 +157,13 @@ module _ {K L : Type 0} (on : K → OnLink L) (settings_of : L → Settings) (sh
     }
 
     -- a settled link has the settings of the link that its pass knows
-    settings_are : SettlesKnown → (state : L) → Settled one other state → settings_of state ≡ last.settings
+    settings_are : SettlesKnown → (state : L) → keeping.is_let_go one other state → keeping.settings_of state ≡ last.settings
     settings_are keeps state settled =
-        let known : (on one).link ≡ Some last.is_a.link = rw same_a.1 at last.is_a.known in
+        let known : (keeping.on one).link ≡ Some last.is_a.link = rw same_a.1 at last.is_a.known in
         keeps one other last.is_a.link state settled known ∙ last.is_a.with_settings
 
-    pub one_more : SettlesKnown → (state : L) (one_counts other_counts : LinkCounts) → Settled one other state → (one_counts ≡ (on one).counts) × AreCounts shows A (on one).calls one_counts
-        → (other_counts ≡ (on other).counts) × AreCounts shows B (on other).calls other_counts
+    pub one_more : SettlesKnown → (state : L) (one_counts other_counts : LinkCounts) → keeping.is_let_go one other state → (one_counts ≡ (keeping.on one).counts) × AreCounts keeping.shows A (keeping.on one).calls one_counts
+        → (other_counts ≡ (keeping.on other).counts) × AreCounts keeping.shows B (keeping.on other).calls other_counts
         → Settling links a b locks ones others (states ++ state ∷ []) (counts_a ++ one_counts ∷ []) (counts_b ++ other_counts ∷ [])
     one_more keeps state one_counts other_counts settled counted_a counted_b = record {
       rest = last.before;
@@ -194,7 +193,7 @@ module _ {K L : Type 0} (on : K → OnLink L) (settings_of : L → Settings) (sh
 
   pub ends : (links : List Settings) (a b : List K) (locks : List LockId) (ones others : List K) (states : List L) (counts_a counts_b : List LinkCounts) → locks ≡ []
       → Settling links a b locks ones others states counts_a counts_b
-      → AreSettledBy settings_of Settled links a b (reverse states) × AreCountedBy on shows A a (reverse counts_a) × AreCountedBy on shows B b (reverse counts_b)
+      → AreSettled keeping links a b (reverse states) × AreCounted keeping A a (reverse counts_a) × AreCounted keeping B b (reverse counts_b)
   ends links a b locks ones others states counts_a counts_b none so_far =
       let left_a = rw none at so_far.left_a in
       let left_b = rw none at so_far.left_b in
@@ -205,22 +204,21 @@ module _ {K L : Type 0} (on : K → OnLink L) (settings_of : L → Settings) (sh
       let b_are : so_far.done_b ≡ b = rw no_others.1 at so_far.b_are in
       rw (← links_are, ← a_are, ← b_are) (so_far.settled, so_far.counted_a, so_far.counted_b)
     where
-      nothing_left : (net : Net) (rest : List Settings) (passes : List K) → ArePassesOn on settings_of net [] rest passes → (rest ≡ []) × (passes ≡ [])
+      nothing_left : (net : Net) (rest : List Settings) (passes : List K) → ArePasses keeping net [] rest passes → (rest ≡ []) × (passes ≡ [])
       nothing_left net [] [] are = (refl, refl)
       nothing_left net (s ∷ rest) [] are = absurd are
       nothing_left net (s ∷ rest) (p ∷ passes) are = absurd are
       nothing_left net [] (p ∷ passes) are = absurd are
 
--- ---- one of those that are settled
+  -- ---- one of those that are settled
 
-module _ {K L : Type 0} (settings_of : L → Settings) (Settled : K → K → L → Type 0) where
   pub record SettledAt (settings : Settings) (place : ℕ) (one other : K) (links : List L) : Type 0 where
     pub link : L
     pub there : slice_get links place ≡ Some link
-    pub with_settings : settings_of link ≡ settings
-    pub settled : Settled one other link
+    pub with_settings : keeping.settings_of link ≡ settings
+    pub settled : keeping.is_let_go one other link
 
-  pub settled_at : (links : List Settings) (a b : List K) (settled : List L) (place : ℕ) (settings : Settings) (one other : K) → AreSettledBy settings_of Settled links a b settled
+  pub settled_at : (links : List Settings) (a b : List K) (settled : List L) (place : ℕ) (settings : Settings) (one other : K) → AreSettled keeping links a b settled
       → slice_get links place ≡ Some settings → slice_get a place ≡ Some one → slice_get b place ≡ Some other → SettledAt settings place one other settled
   settled_at [] a b settled place settings one other are there in_a in_b = cc
   settled_at (s ∷ links) [] b settled place settings one other are there in_a in_b = cc

@@ -3,7 +3,7 @@ use Rattle.std.proofs.Common.{◌≡◌, ℕ, false, List, [], ◌∷◌, ◌++�
 use Rattle.es_base.specs.declared.place.Net.{Net}
 use Rattle.es_base.specs.declared.place.Net.TheVariants.{A, B}
 use Rattle.es_base.specs.declared.event.Event.{Event}
-use Rattle.es_base.specs.Integrity.{is_same_net}
+use Rattle.es_base.specs.Networks.{is_same_net}
 use Rattle.link_lock.specs.declared.user.User.{User}
 use Rattle.link_lock.specs.declared.user.User.TheVariants.{First, Second}
 use Rattle.link_lock.specs.Lists.{with_list}

@@ -6,21 +6,22 @@ use Rattle.es_base.specs.declared.place.Net.{Net}
 use Rattle.es_base.specs.declared.place.Net.TheVariants.{A, B}
 use Rattle.es_base.specs.Addressing.{ComesToPlace, addressed_link, addressee_of}
 use Rattle.es_base.specs.Config.{Configuration}
-use Rattle.es_base.specs.Integrity.{is_same_net}
+use Rattle.es_base.specs.Networks.{is_same_net}
 use Rattle.network_calls.specs.declared.call.Call.{Call}
 use Rattle.network_calls.specs.declared.reply.Reply.{Reply}
 use Rattle.network_calls.specs.declared.reply.Reply.TheVariants as replies
 use Rattle.network_calls.specs.Calls.{call}
+use Rattle.network_calls.specs.Passes.{KnownNet}
 
-pub record BothPasses (P : Type 0) : Type 0 where
-  pub a : P
-  pub b : P
+pub record BothPasses (K : Type 0) : Type 0 where
+  pub a : KnownNet K
+  pub b : KnownNet K
 
-abbrev pub pass_of : {P : Type 0} → Net → BothPasses P → P
+abbrev pub pass_of : {K : Type 0} → Net → BothPasses K → KnownNet K
 pass_of A passes = passes.a
 pass_of B passes = passes.b
 
-abbrev pub other_of : {P : Type 0} → Net → BothPasses P → P
+abbrev pub other_of : {K : Type 0} → Net → BothPasses K → KnownNet K
 other_of A passes = passes.b
 other_of B passes = passes.a
 
@@ -34,24 +35,24 @@ abbrev pub HoldsOfEach : {S : Type 0} → (S → Type 0) → List (Net × S) →
 HoldsOfEach holds [] = Unit {0}
 HoldsOfEach holds (one ∷ earlier) = holds one.1 × HoldsOfEach holds earlier
 
--- `P` is what is known of a pass, and `S` what a call was; a pass has a network, may be of the system, and does its calls.
-module _ {P S : Type 0} (net_in : P → Net) (IsOwn : P → Type 0) (Does : S → P → P → Type 0) where
+-- `K` is what is known of a pass on a link, and `S` what a call was; a pass may be of the system, and does its calls.
+module _ {K S : Type 0} (IsOwn : KnownNet K → Type 0) (Does : S → KnownNet K → KnownNet K → Type 0) where
   -- this network made this call, and the other network's pass stayed as it was
-  pub record MakesBy (net : Net) (step : S) (old new : BothPasses P) : Type 0 where
+  pub record MakesBy (net : Net) (step : S) (old new : BothPasses K) : Type 0 where
     pub own : IsOwn (pass_of net new)
-    pub of_net : net_in (pass_of net new) ≡ net_in (pass_of net old)
+    pub of_net : (pass_of net new).net ≡ (pass_of net old).net
     pub does : Does step (pass_of net old) (pass_of net new)
     pub other : other_of net new ≡ other_of net old
 
   -- these calls of both networks, one after another, made the one passes of the other
-  abbrev pub RanBy : BothPasses P → List (Net × S) → BothPasses P → Type 0
+  abbrev pub RanBy : BothPasses K → List (Net × S) → BothPasses K → Type 0
   RanBy first [] last = last ≡ first
-  RanBy first (one ∷ earlier) last = (before : BothPasses P) × RanBy first earlier before × MakesBy one.0 one.1 before last
+  RanBy first (one ∷ earlier) last = (before : BothPasses K) × RanBy first earlier before × MakesBy one.0 one.1 before last
 
   -- these calls of one thread, one after another, made the one pass of the other, whatever the other thread did
-  abbrev pub RanAloneBy : P → List S → P → Type 0
+  abbrev pub RanAloneBy : KnownNet K → List S → KnownNet K → Type 0
   RanAloneBy first [] last = last ≡ first
-  RanAloneBy first (step ∷ earlier) last = (before : P) × RanAloneBy first earlier before × IsOwn last × (net_in last ≡ net_in before) × Does step before last
+  RanAloneBy first (step ∷ earlier) last = (before : KnownNet K) × RanAloneBy first earlier before × IsOwn last × (last.net ≡ before.net) × Does step before last
 
 -- ---- their replies
 

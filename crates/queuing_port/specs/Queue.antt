@@ -7,48 +7,48 @@ use Rattle.es_base.specs.Queue as base
 use Rattle.es_base.specs.Queue.{BeginsWith, KnownOf}
 
 -- tells one queue from all others
-abbrev pub QueueId : Type 0
-QueueId = TableId
+abbrev pub ArrayQueueId : Type 0
+ArrayQueueId = TableId
 
 -- What an end knows of its queue, and how often it tried: a putter's puts, refused or not, and a taker's takes, with a
 -- message or without. An answer that is given without a try leaves this number as it was.
-pub record Known : Type 0 where
-  pub queue : QueueId
+pub record KnownQueue : Type 0 where
+  pub queue : ArrayQueueId
   pub depth : ℕ
   pub put : List Message
   pub taken : List Message
   pub tries : ℕ
 
 -- without the number of its tries
-abbrev pub knowledge : Known → KnownOf QueueId
+abbrev pub knowledge : KnownQueue → KnownOf ArrayQueueId
 knowledge end = record { queue = end.queue; depth = end.depth; put = end.put; taken = end.taken }
 
 -- an end that knows this, after so many tries
-abbrev pub after_tries : ℕ → KnownOf QueueId → Known
+abbrev pub after_tries : ℕ → KnownOf ArrayQueueId → KnownQueue
 after_tries tries known = record { queue = known.queue; depth = known.depth; put = known.put; taken = known.taken; tries = tries }
 
 -- what both ends know of a new queue
-abbrev pub opened : QueueId → ℕ → Known
-opened queue depth = after_tries 0 (base.opened queue depth)
+abbrev pub opened_queue : ArrayQueueId → ℕ → KnownQueue
+opened_queue queue depth = after_tries 0 (base.opened queue depth)
 
 -- an end after one more try, by which it put or took nothing
 -- rule: PORT-17
-abbrev pub after_try : Known → Known
+abbrev pub after_try : KnownQueue → KnownQueue
 after_try end = record end { tries = end.tries + 1 }
 
 -- a putter that put one message more, by one try
-abbrev pub with_put : Known → Message → Known
-with_put putter message = after_tries (putter.tries + 1) (base.with_put (knowledge putter) message putter.taken)
+abbrev pub queue_with_put : KnownQueue → Message → KnownQueue
+queue_with_put putter message = after_tries (putter.tries + 1) (base.with_put (knowledge putter) message putter.taken)
 
 -- a taker that took one message more, by one try
 -- rule: PORT-11
-abbrev pub with_taken : Known → Message → Known
-with_taken taker message = after_tries (taker.tries + 1) (base.with_taken (knowledge taker) message taker.put)
+abbrev pub queue_with_taken : KnownQueue → Message → KnownQueue
+queue_with_taken taker message = after_tries (taker.tries + 1) (base.with_taken (knowledge taker) message taker.put)
 
 -- a queue whose lists are both known: it holds this many messages, put and not taken
 -- rule: PORT-18
-abbrev pub Holds : Known → ℕ → Type 0
-Holds both count = base.Holds (knowledge both) count
+abbrev pub HoldsMessages : KnownQueue → ℕ → Type 0
+HoldsMessages both count = base.Holds (knowledge both) count
 
 -- a putter that put these messages, and knows of these that they were taken, may find these held
 -- rule: PORT-10
@@ -62,15 +62,15 @@ TakerFinds taken known held = (put : List Message) × (put ≡ taken ++ held) ×
 -- As far as this putter knows, the queue may be full: as many messages as its depth were put that it
 -- doesn't know to be taken. Whether the queue is full, it can't know.
 -- rule: PORT-10, PORT-17
-abbrev pub MayBeFull : Known → Type 0
+abbrev pub MayBeFull : KnownQueue → Type 0
 MayBeFull putter = (held : List Message) × (length held ≡ putter.depth) × PutterFinds putter.put putter.taken held
 
 -- As far as this taker knows, the queue may be empty: it took all messages that it knows to be put.
 -- rule: PORT-11
-abbrev pub MayBeEmpty : Known → Type 0
+abbrev pub MayBeEmpty : KnownQueue → Type 0
 MayBeEmpty taker = TakerFinds taker.taken taker.put []
 
 -- As far as this taker knows, this message may be the oldest in the queue: it is the next of the put list
 -- after those that were taken, or that list isn't known so far.
-abbrev pub MayBeOldest : Known → Message → Type 0
+abbrev pub MayBeOldest : KnownQueue → Message → Type 0
 MayBeOldest taker message = (later : List Message) × TakerFinds taker.taken taker.put (message ∷ later)

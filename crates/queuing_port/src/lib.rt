@@ -25,7 +25,7 @@ ghost use Rattle.std.specs.Prelude.{◌≡◌, ◌+◌, ◌<◌, ◌≤◌, true
 ghost use Rattle.es_base.specs.Port.{is_kind_within_limits};
 ghost use Rattle.es_base.specs.declared.port.PortKind.TheVariants.{Queuing};
 ghost use Rattle.es_base.specs.Queue.{BeginsWith};
-ghost use Rattle.queuing_port.specs.Queue.{Holds, MayBeEmpty, MayBeFull, MayBeOldest, after_try, opened, with_put, with_taken};
+ghost use Rattle.queuing_port.specs.Queue.{HoldsMessages, MayBeEmpty, MayBeFull, MayBeOldest, after_try, opened_queue, queue_with_put, queue_with_taken};
 
 use crate::rule::{Ends, Queue};
 use crate::tries::{RightToPut, RightToTake};
@@ -46,9 +46,9 @@ impl Model for Putter {
     ghost use Rattle.std.specs.Prelude.{◌≡◌, true};
     ghost use Rattle.std.specs.Arc.{arc_value};
     ghost use Rattle.crossbeam_queue.specs.Passes.{view as pass_view, IsPassOf, ruled_capacity};
-    ghost use Rattle.queuing_port.specs.Queue.{Known};
+    ghost use Rattle.queuing_port.specs.Queue.{KnownQueue};
 
-    ghost Value = { Known };
+    ghost Value = { KnownQueue };
 
     ghost view = { λ p. record {
       queue = p.right.pass.table_id;
@@ -73,9 +73,9 @@ impl Model for Taker {
     ghost use Rattle.std.specs.Prelude.{◌≡◌, true};
     ghost use Rattle.std.specs.Arc.{arc_value};
     ghost use Rattle.crossbeam_queue.specs.Passes.{view as pass_view, IsPassOf, ruled_capacity};
-    ghost use Rattle.queuing_port.specs.Queue.{Known};
+    ghost use Rattle.queuing_port.specs.Queue.{KnownQueue};
 
-    ghost Value = { Known };
+    ghost Value = { KnownQueue };
 
     ghost view = { λ t. record {
       queue = t.right.pass.table_id;
@@ -92,7 +92,7 @@ impl Model for Taker {
 /// that of the messages is taken here.
 pub fn open_queue(alloc: Global, depth: u8) -> Result<(Putter, Taker), Memory>
     requires { is_kind_within_limits (Queuing depth) ≡ true }
-    ensures putter { IfOk result (λ ends. ends.0 ≡ opened ends.0.queue depth) }
+    ensures putter { IfOk result (λ ends. ends.0 ≡ opened_queue ends.0.queue depth) }
     ensures taker { IfOk result (λ ends. ends.1 ≡ ends.0) }
 {
     let (queue, mut right_to_put) = Queue::ruled(alloc, depth as usize)?;
@@ -118,7 +118,7 @@ pub fn meet<R: Wait>(rt: &R, putter: &mut Putter, taker: &mut Taker) -> usize
     ensures taker { taker.new ≡ record taker.old { put = putter.old.put } }
     ensures same { taker.new ≡ record putter.new { tries = taker.old.tries } }
     ensures before { BeginsWith taker.new.put taker.old.put × BeginsWith putter.new.taken putter.old.taken }
-    ensures held { Holds putter.new result }
+    ensures held { HoldsMessages putter.new result }
     ensures depth { result ≤ putter.old.depth }
 {
     putter.right.meet(rt, &putter.queue, &mut taker.right)
@@ -132,7 +132,7 @@ impl Putter {
     /// takes as the ends meet.
     // rule: PORT-17
     pub fn put<R: Wait>(&mut self, rt: &R, message: Message) -> Result<(), Message>
-        ensures ok { OnOk result (self.new ≡ with_put self.old message) }
+        ensures ok { OnOk result (self.new ≡ queue_with_put self.old message) }
         ensures err { IfErr result (λ back. (back ≡ message) × (self.new ≡ after_try self.old)) }
         ensures may_be_full { OnErr result (MayBeFull self.old) }
         ensures room_is_known { length self.old.put < length self.old.taken + self.old.depth → IsOk result }
@@ -148,7 +148,7 @@ impl Taker {
     /// this end can know: while it knows of messages that were put and that it hasn't taken, the take gives the next of
     /// those. It learns of puts as the ends meet.
     pub fn take<R: Wait>(&mut self, rt: &R) -> Option<Message>
-        ensures some { IfSome result (λ message. self.new ≡ with_taken self.old message) }
+        ensures some { IfSome result (λ message. self.new ≡ queue_with_taken self.old message) }
         ensures may_be_oldest { IfSome result (MayBeOldest self.old) }
         ensures none { IfNone result (self.new ≡ after_try self.old) }
         ensures may_be_empty { IfNone result (MayBeEmpty self.old) }

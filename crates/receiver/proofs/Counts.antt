@@ -6,7 +6,7 @@ use Rattle.es_base.specs.declared.event.Message.{Message}
 use Rattle.es_base.specs.Limits.{deepest_queue}
 use Rattle.es_base.specs.Queue.{BeginsWith}
 use Rattle.message_ring.specs.Ends.{AreShort, octets_of_last}
-use Rattle.message_ring.specs.Queue.{Known, with_put}
+use Rattle.message_ring.specs.Queue.{Known, ring_with_put}
 use Rattle.message_ring.specs.Stream.{size}
 use Rattle.message_ring.proofs.Reading.{begins_trans}
 use Rattle.message_ring.proofs.Latest.{last_few, last_with_one, short_drop, total_short}
@@ -121,7 +121,7 @@ greatest_same greatest taken put few = sym (max-eq_left (omega (arith, few)))
 
 -- ---- by a put and a look
 
-pub put_has : (old put : Known) (message : Message) → put ≡ with_put old message put.taken put.looks → BeginsWith put.taken old.taken → HasPut old put message
+pub put_has : (old put : Known) (message : Message) → put ≡ ring_with_put old message put.taken put.looks → BeginsWith put.taken old.taken → HasPut old put message
 put_has old put message is told = record {
   queue = ap (λ (k : Known). k.queue) is;
   depth = ap (λ (k : Known). k.depth) is;

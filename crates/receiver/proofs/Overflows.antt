@@ -6,7 +6,7 @@ use Rattle.es_base.specs.declared.event.Message.{Message}
 use Rattle.es_base.specs.declared.port.PortKind.{PortKind}
 use Rattle.es_base.specs.declared.port.PortKind.TheVariants.{Sampling, Queuing}
 use Rattle.es_base.specs.declared.verdict.Verdict.TheVariants.{Overflow}
-use Rattle.es_base.specs.Outcome.{Payload, brings}
+use Rattle.link_rules.specs.Outcome.{Payload, brings}
 use Rattle.es_base.specs.Port.{Port}
 use Rattle.link_core.specs.Counted.{port_no}
 use Rattle.link_core.specs.Link.{outcome_after}

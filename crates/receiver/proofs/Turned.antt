@@ -4,11 +4,11 @@ use Rattle.es_base.specs.declared.event.Arrival.{Arrival}
 use Rattle.es_base.specs.declared.event.Message.{Message}
 use Rattle.es_base.specs.declared.port.PortKind.{PortKind}
 use Rattle.es_base.specs.declared.verdict.Verdict.{Verdict}
-use Rattle.es_base.specs.Deliveries.{number_delivered}
+use Rattle.link_rules.specs.Deliveries.{number_delivered}
 use Rattle.es_base.specs.Frame.{IsFrame, link_number_of}
-use Rattle.es_base.specs.Outcome as way
+use Rattle.link_rules.specs.Outcome as way
 use Rattle.es_base.specs.Port.{Port}
-use Rattle.es_base.specs.Run.{settled}
+use Rattle.link_rules.specs.Run.{settled}
 use Rattle.link_core.specs.Link.{Link, outcome_after, with_event}
 use Rattle.link_core.specs.Seen.{kept_away}
 use Rattle.receiver.specs.Link.{OverflowsIfRefused, Ported}

@@ -2,7 +2,7 @@
 use Rattle.std.specs.Prelude.{◌≡◌, ◌≤◌, ◌<◌, ℕ, ◌+◌, ◌-◌, List, [], ◌∷◌, length, map, max}
 use Rattle.es_base.specs.Limits.{deepest_queue, longest_queued}
 use Rattle.message_ring.specs.Ends.{AreShort, octets_of_last, width}
-use Rattle.message_ring.specs.Queue.{Known, QueueId, opened}
+use Rattle.message_ring.specs.Queue.{Known, QueueId, opened_ring}
 use Rattle.message_ring.specs.Stream.{size}
 
 -- what the end that puts knows, and the greatest number of messages that waited
@@ -12,7 +12,7 @@ pub record CountedQueue : Type 0 where
 
 -- a new queue, which holds up to so many messages
 abbrev pub new_queue : QueueId → ℕ → CountedQueue
-new_queue queue depth = record { known = opened queue depth; greatest = 0 }
+new_queue queue depth = record { known = opened_ring queue depth; greatest = 0 }
 
 -- What always holds of the greatest number: no more wait, no more were put, and the queue holds as many.
 -- rule: EMB-7

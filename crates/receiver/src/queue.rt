@@ -2,7 +2,7 @@
 ghost use Rattle.std.specs.Prelude.{◌≡◌, ◌+◌, ◌-◌, ◌<◌, ◌≤◌, IfOk, IsFalse, IsTrue, length, max};
 ghost use Rattle.es_base.specs.Limits.{deepest_queue, longest_queued};
 ghost use Rattle.es_base.specs.Queue.{BeginsWith};
-ghost use Rattle.message_ring.specs.Queue.{IsFullByLook, LooksForRoom, SeemsFull, message, with_put};
+ghost use Rattle.message_ring.specs.Queue.{IsFullByLook, LooksForRoom, SeemsFull, message, ring_with_put};
 ghost use Rattle.receiver.specs.Queue.{IsGreatest, new_queue};
 
 use es_base::Memory;
@@ -84,7 +84,7 @@ impl CountingPutter {
     pub(crate) fn put(&mut self, time: u64, octets: &[u8])
         requires short { length octets.now ≤ self.old.known.queue.max }
         requires room { length self.old.known.put < length self.old.known.taken + self.old.known.depth }
-        ensures end { self.new.known ≡ with_put self.old.known (message time octets.now) self.new.known.taken self.new.known.looks }
+        ensures end { self.new.known ≡ ring_with_put self.old.known (message time octets.now) self.new.known.taken self.new.known.looks }
         ensures told { BeginsWith self.new.known.taken self.old.known.taken }
         ensures greatest { self.new.greatest ≡ max self.old.greatest (length self.new.known.put - length self.new.known.taken) }
         ensures looks { (self.old.known.looks ≤ self.new.known.looks) × (self.new.known.looks ≤ self.old.known.looks + 1) }

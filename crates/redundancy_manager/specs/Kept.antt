@@ -1,6 +1,6 @@
 -- What is kept of the frames of one link that were forwarded.
 use Rattle.std.specs.Prelude.{◌≡◌, ℕ, List, [], ◌∷◌, Option, None, Some}
-use Rattle.es_base.specs.Redundancy.{Forwarded, greatest_time}
+use Rattle.link_rules.specs.Redundancy.{Forwarded, greatest_time}
 
 -- the sequence number of the latest, and the greatest time of all, in microseconds
 pub record Summary : Type 0 where
@@ -12,12 +12,12 @@ pub record Kept : Type 0 where
   pub summary : Option Summary
 
 -- the summary of some frames, the latest first
-abbrev pub summary_of : List Forwarded → Option Summary
-summary_of [] = None
-summary_of (frame ∷ earlier) =
+abbrev pub kept_summary : List Forwarded → Option Summary
+kept_summary [] = None
+kept_summary (frame ∷ earlier) =
     Some (record { latest_number = frame.sequence_number; greatest_time = greatest_time (frame ∷ earlier) })
 
 -- what is kept is SkewMax, and the summary of these frames
 -- rule: RM-3, RM-4
 abbrev pub StandsFor : Kept → ℕ → List Forwarded → Type 0
-StandsFor kept skew_max frames = (kept.skew_max ≡ skew_max) × (kept.summary ≡ summary_of frames)
+StandsFor kept skew_max frames = (kept.skew_max ≡ skew_max) × (kept.summary ≡ kept_summary frames)

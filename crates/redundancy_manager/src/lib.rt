@@ -4,7 +4,7 @@
 #![tactic(auto)]
 
 ghost use Rattle.std.specs.Prelude.{◌≡◌, ℕ, List, [], ◌∷◌};
-ghost use Rattle.es_base.specs.Redundancy.{Forwarded, is_ahead, is_first_copy};
+ghost use Rattle.link_rules.specs.Redundancy.{Forwarded, is_ahead, is_first_copy};
 ghost use Rattle.redundancy_manager.specs.Kept.{StandsFor};
 
 use std::marker::Model;

@@ -22,7 +22,7 @@ use Rattle.sampling_port.specs.declared.rule.ReaderLog.{ReaderLog}
 use Rattle.sampling_port.specs.declared.rule.SeatView.{SeatView}
 use Rattle.sampling_port.specs.declared.rule.SeatView.TheVariants.{Opens, Writes, Reads, Meets, Spent}
 use Rattle.sampling_port.specs.Reads.{IsIdle}
-use Rattle.sampling_port.specs.Rule.{Knows, KeptTable, first_writer, first_reader}
+use Rattle.sampling_port.specs.Rule.{Knows, KeptTable, new_writer_log, first_reader}
 use Rattle.sampling_port.specs.Plays.{At, less_one, next_one, learns, met, parted, writer_again, tells_published}
 use Rattle.atomic_table.specs.Seated.{TableId}
 use Rattle.sampling_port.specs.Seats.{ReaderSeated}
@@ -134,12 +134,12 @@ module _ (n m : ℕ) (id : ℕ) where
   pub part_at : (p : ℕ) (v : SeatView) → v ≡ Opens p → p < n → Splits (KeptTable n m) id v (less_one v) (next_one v)
   part_at p v is most = subst (λ (z : SeatView). Splits (KeptTable n m) id z (less_one z) (next_one z)) (sym is) (part p most)
 
-  lead : (p : ℕ) → Splits (KeptTable n m) id (Opens p) Spent (Writes first_writer)
+  lead : (p : ℕ) → Splits (KeptTable n m) id (Opens p) Spent (Writes new_writer_log)
   lead p s k at = let me = k.seats id (Opens p) at in
-      parts n m s k id (length s.views) k.owner Spent (Writes first_writer) tt (sym me.0, refl) (apart n m s k id me.1 (length s.views))
+      parts n m s k id (length s.views) k.owner Spent (Writes new_writer_log) tt (sym me.0, refl) (apart n m s k id me.1 (length s.views))
 
-  pub lead_at : (p : ℕ) (v : SeatView) → v ≡ Opens p → Splits (KeptTable n m) id v Spent (Writes first_writer)
-  lead_at p v is = subst (λ (z : SeatView). Splits (KeptTable n m) id z Spent (Writes first_writer)) (sym is) (lead p)
+  pub lead_at : (p : ℕ) (v : SeatView) → v ≡ Opens p → Splits (KeptTable n m) id v Spent (Writes new_writer_log)
+  lead_at p v is = subst (λ (z : SeatView). Splits (KeptTable n m) id z Spent (Writes new_writer_log)) (sym is) (lead p)
 
   -- ---- the writer's view goes to a reader's seat, and comes back
 

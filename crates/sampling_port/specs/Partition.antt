@@ -11,25 +11,25 @@ use Rattle.sampling_port.specs.declared.partition.reading.Reading.TheVariants.{M
 
 -- a reader, or one that holds a message: the end of its port, the port's refresh period in microseconds, and its
 -- longest message in octets
-pub record PortReader : Type 0 where
+pub record PartitionView : Type 0 where
   pub end : ReaderEnd
   pub refresh : ℕ
   pub max : ℕ
 
 -- the same end of the same port
-pub record IsSamePort (v w : PortReader) : Type 0 where
+pub record IsSamePort (v w : PartitionView) : Type 0 where
   pub end : IsSameEnd v.end w.end
   pub refresh : w.refresh ≡ v.refresh
   pub max : w.max ≡ v.max
 
 -- it made this many more steps
-abbrev pub after_steps : PortReader → ℕ → PortReader
+abbrev pub after_steps : PartitionView → ℕ → PartitionView
 after_steps v more = record { end = record v.end { steps = v.end.steps + more }; refresh = v.refresh; max = v.max }
 
 -- the same reader, which knows that these were published
 -- rule: PORT-18
-abbrev pub told : PortReader → List (List ℕ) → PortReader
-told v published = record { end = is_told v.end published; refresh = v.refresh; max = v.max }
+abbrev pub partition_told : PartitionView → List (List ℕ) → PartitionView
+partition_told v published = record { end = is_told v.end published; refresh = v.refresh; max = v.max }
 
 -- how often a read or a hold looks again
 abbrev pub most_tries : ℕ
@@ -47,13 +47,13 @@ pub record IsCopyThatFits (words before out : List ℕ) (len : ℕ) : Type 0 whe
 
 -- ---- what a read tells, by cases
 
-abbrev pub IfMessage : Reading → (ℕ → ℕ → ℕ → Freshness → Type 0) → Type 0
-IfMessage (Message number time len validity) P = P number time len validity
-IfMessage _ P = Unit {0}
+abbrev pub IfReadMessage : Reading → (ℕ → ℕ → ℕ → Freshness → Type 0) → Type 0
+IfReadMessage (Message number time len validity) P = P number time len validity
+IfReadMessage _ P = Unit {0}
 
-abbrev pub IfEmpty : Reading → Type 0 → Type 0
-IfEmpty Empty P = P
-IfEmpty _ P = Unit {0}
+abbrev pub IfReadEmpty : Reading → Type 0 → Type 0
+IfReadEmpty Empty P = P
+IfReadEmpty _ P = Unit {0}
 
 abbrev pub IfBusy : Reading → (ℕ → Type 0) → Type 0
 IfBusy (Busy number) P = P number

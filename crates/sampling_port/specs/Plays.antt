@@ -9,7 +9,7 @@ use Rattle.slot_core.specs.Message.{IsMessage}
 use Rattle.slot_core.specs.State.{StartsWithSeen, last_of, word_of}
 use Rattle.slot_core.specs.Steps.{scans, stores, publishes, begins, announces, clears}
 use Rattle.slot_core.specs.Steps.{looks_again as again}
-use Rattle.sampling_port.specs.Rule.{first_writer, first_reader}
+use Rattle.sampling_port.specs.Rule.{new_writer_log, first_reader}
 use Rattle.sampling_port.specs.declared.rule.WriterLog.{WriterLog}
 use Rattle.sampling_port.specs.declared.rule.ReaderLog.{ReaderLog}
 use Rattle.sampling_port.specs.declared.rule.SeatView.{SeatView}
@@ -34,7 +34,7 @@ announcement_place reader = 1 + reader
 abbrev pub writer_of : SeatView → WriterLog
 writer_of (Writes writer) = writer
 writer_of (Meets writer place reader) = writer
-writer_of _ = first_writer
+writer_of _ = new_writer_log
 
 abbrev pub reader_of : SeatView → ReaderLog
 reader_of (Reads place reader) = reader

@@ -41,8 +41,8 @@ pub record KeptTable (readers_count slots : ℕ) (s : table.State (Unit {0}) Sea
 
 -- ---- before the first step
 
-abbrev pub first_writer : WriterLog
-first_writer = record { view = unwritten; steps = 0 }
+abbrev pub new_writer_log : WriterLog
+new_writer_log = record { view = unwritten; steps = 0 }
 
 abbrev pub first_reader : ReaderLog
 first_reader = record { view = newcomer; looks = []; steps = 0 }

@@ -1,6 +1,6 @@
 //! The opening of a port.
 ghost use Rattle.std.specs.Prelude.{◌≡◌, ℕ, ◌+◌, ◌<◌, ◌≤◌, [], ◌∷◌, IfOk};
-ghost use Rattle.sampling_port.specs.Rule.{first_writer, first_reader, slots_for};
+ghost use Rattle.sampling_port.specs.Rule.{new_writer_log, first_reader, slots_for};
 ghost use Rattle.sampling_port.specs.Plays.{less_one, next_one};
 ghost use Rattle.sampling_port.specs.Seats.{new_seats};
 ghost use Rattle.sampling_port.specs.Ends.{new_readers, new_writer};
@@ -32,7 +32,7 @@ struct LastWriter;
 impl Split<SeatView> for LastWriter {
     ghost left = { λ _. Spent };
 
-    ghost right = { λ _. Writes first_writer };
+    ghost right = { λ _. Writes new_writer_log };
 }
 
 /// Opens a port with this many readers, at most 14, and returns the seats of its writer and of its
@@ -42,7 +42,7 @@ pub fn open_seats<const READERS: usize>(
     alloc: Global,
 ) -> Result<(WriterSeat<READERS>, [ReaderSeat<READERS>; READERS]), Memory>
     requires { READERS ≤ 14 }
-    ensures writer { IfOk result (λ seats. seats.0.knows ≡ first_writer) }
+    ensures writer { IfOk result (λ seats. seats.0.knows ≡ new_writer_log) }
     ensures readers { IfOk result (λ seats. seats.1 ≡ new_seats seats.0.port READERS) }
 {
     let words = vec![in alloc; 0u64; 1 + READERS + WORDS * (READERS + 2)]?;

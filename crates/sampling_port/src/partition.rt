@@ -7,7 +7,7 @@ ghost use Rattle.slot_core.specs.Limits.{longest_message};
 ghost use Rattle.slot_core.specs.State.{StartsWithSeen, last_of};
 ghost use Rattle.es_base.specs.Age.{freshness as freshness_at};
 ghost use Rattle.sampling_port.specs.Ends.{IsCopy, IsHeadOf, IsHeldAfter, IsNotHeld, IsNothing, IsReadOvertaken};
-ghost use Rattle.sampling_port.specs.Partition.{IfBusy, IfEmpty, IfMessage, IsCopyThatFits, IsSamePort, most_tries, told};
+ghost use Rattle.sampling_port.specs.Partition.{IfBusy, IfReadEmpty, IfReadMessage, IsCopyThatFits, IsSamePort, most_tries, partition_told};
 
 mod copy;
 mod held;
@@ -44,9 +44,9 @@ pub struct PartitionReader {
 impl Model for PartitionReader {
     ghost use Rattle.std.specs.Prelude.{◌≤◌};
     ghost use Rattle.slot_core.specs.Limits.{longest_message};
-    ghost use Rattle.sampling_port.specs.Partition.{PortReader};
+    ghost use Rattle.sampling_port.specs.Partition.{PartitionView};
 
-    ghost Value = { PortReader };
+    ghost Value = { PartitionView };
 
     ghost view = { λ r. record { end = r.reader; refresh = r.refresh; max = r.max } };
 
@@ -93,7 +93,7 @@ impl PartitionReader {
     /// changes.
     pub fn meet(&mut self, writer: &mut Writer<READERS>)
         requires { self.old.end.port ≡ writer.old.port }
-        ensures reader { self.new ≡ told self.old writer.old.published }
+        ensures reader { self.new ≡ partition_told self.old writer.old.published }
         ensures writer { writer.new ≡ writer.old }
         ensures before { StartsWithSeen writer.old.published self.old.end.seen }
     {
@@ -107,13 +107,13 @@ impl PartitionReader {
     pub fn read(&mut self, now: u64, out: &mut [u8]) -> Reading
         ensures port { IsSamePort self.old self.new }
         ensures seen { StartsWithSeen self.new.end.seen self.old.end.seen }
-        ensures head { IfMessage result (λ number time len _. IsHeadOf self.new.end.seen number time len) }
-        ensures octets { IfMessage result (λ _ _ len _. IsCopyThatFits (last_of self.new.end.seen) out.old out.new len) }
-        ensures whole { IfMessage result (λ _ _ len _. len ≤ length out.new → IsCopy (last_of self.new.end.seen) out.old out.new len) }
-        ensures validity { IfMessage result (λ _ time _ validity. validity ≡ freshness_at now time self.old.refresh) }
-        ensures newest { IfMessage result (λ _ _ len _.
+        ensures head { IfReadMessage result (λ number time len _. IsHeadOf self.new.end.seen number time len) }
+        ensures octets { IfReadMessage result (λ _ _ len _. IsCopyThatFits (last_of self.new.end.seen) out.old out.new len) }
+        ensures whole { IfReadMessage result (λ _ _ len _. len ≤ length out.new → IsCopy (last_of self.new.end.seen) out.old out.new len) }
+        ensures validity { IfReadMessage result (λ _ time _ validity. validity ≡ freshness_at now time self.old.refresh) }
+        ensures newest { IfReadMessage result (λ _ _ len _.
             IsHeldAfter self.old.end self.new.end most_tries (3 + (min len (length out.old) + 7) / 8)) }
-        ensures empty { IfEmpty result (IsNothing self.old.end self.new.end × (out.new ≡ out.old)) }
+        ensures empty { IfReadEmpty result (IsNothing self.old.end self.new.end × (out.new ≡ out.old)) }
         ensures busy { IfBusy result (λ number. IsReadOvertaken self.old.end self.new.end most_tries number × (out.new ≡ out.old)) }
     {
         let (_, answer) = replace_with(&mut self.reader, out, read_moved);

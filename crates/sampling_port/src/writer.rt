@@ -2,7 +2,7 @@
 ghost use Rattle.std.specs.Prelude.{◌≡◌, ◌+◌, ◌≤◌, None, Some, length, IfErr, IfOk};
 ghost use Rattle.slot_core.specs.Limits.{most_messages};
 ghost use Rattle.sampling_port.specs.Ends.{IsPublished, new_writer, publish_fault};
-ghost use Rattle.sampling_port.specs.Rule.{first_writer, slots_for};
+ghost use Rattle.sampling_port.specs.Rule.{new_writer_log, slots_for};
 
 use crate::publish::publish_message;
 use crate::writer_seat::WriterSeat;
@@ -52,7 +52,7 @@ impl<const READERS: usize> Model for Writer<READERS> {
 impl<const READERS: usize> Writer<READERS> {
     /// A writer of a seat that has made no step.
     pub fn from_seat(seat: WriterSeat<READERS>) -> Writer<READERS>
-        requires new { seat.knows ≡ first_writer }
+        requires new { seat.knows ≡ new_writer_log }
         requires slots { READERS ≤ 14 }
         ensures { result ≡ new_writer seat.entry.port }
     {

@@ -3,7 +3,7 @@
 ghost use Rattle.std.specs.Prelude.{◌≡◌, ◌≤◌, IfOk, length, take};
 ghost use Rattle.es_base.specs.declared.place.Net.TheVariants.{A, B};
 ghost use Rattle.live_system.specs.System.{IsPassOf};
-ghost use Rattle.system_examples.specs.Live.{Gave, GaveAll, IsWhole, room};
+ghost use Rattle.system_examples.specs.Live.{Gave, GaveAll, IsWholeLive, room};
 
 use es_base::{Config, FilterCause, Memory};
 use live_system::{LiveSystem, NetPass, Opened, ReaderCount, Reply, Settled};
@@ -67,7 +67,7 @@ pub fn run<R: Threads + Wait + Sync>(
     on_b: &[(u64, &[u8])],
 ) -> Result<Ended, Memory>
     requires { length on_b.now ≤ room }
-    ensures { IfOk result (λ ended. IsWhole config.now on_a.now on_b.now ended.to_a (take (length on_b.now) ended.to_b) ended.settled) }
+    ensures { IfOk result (λ ended. IsWholeLive config.now on_a.now on_b.now ended.to_a (take (length on_b.now) ended.to_b) ended.settled) }
 {
     let Opened {
         system,

@@ -1,34 +1,26 @@
 -- A network's pass in a slot.
 use Rattle.std.specs.Prelude.{◌≡◌, ℕ, List, slice_get, length, nat_lt, Option, None, Some, if◌then◌else◌}
 use Rattle.es_base.specs.Addressing.{ComesToPlace}
-use Rattle.es_base.specs.Config.{Configuration, link_of}
 use Rattle.es_base.specs.Limits.{filter_causes}
 use Rattle.es_base.specs.Settings.{Settings}
 use Rattle.es_base.specs.Tally.{count_in, is_kind}
 use Rattle.es_base.specs.Verdict.{verdict_kinds}
 use Rattle.link_core.specs.Counted.{shown}
 use Rattle.network_calls.specs.Calls.{count_calls}
-use Rattle.network_calls.specs.declared.reply.Reply.{Reply}
-use Rattle.network_calls.specs.declared.reply.Reply.TheVariants as replies
-use Rattle.receiver.specs.declared.receiver.Reply.{Reply as ReceiverReply}
-use Rattle.receiver.specs.declared.receiver.Reply.TheVariants as answers
-use Rattle.live_system.specs.LookUps.{calls_on}
-use Rattle.live_system.specs.System.{IsPassOf, KnownNet, Replies, System}
+use Rattle.receiver.specs.declared.receiver.Reply.{Reply}
+use Rattle.network_calls.specs.Passes.{KnownNet, System, calls_with}
+use Rattle.live_system.specs.Pass.{KnownLink}
+use Rattle.live_system.specs.System.{IsPassOf, Replies, keeping_no_frame}
 use Rattle.receiver_slots.specs.Codes.{done, no_kind, no_place, not_open}
-use Rattle.receiver_slots.specs.Replies.{frame_reply_of, or_0}
+use Rattle.receiver_slots.specs.Replies.{frame_reply_of}
 use Rattle.receiver_slots.specs.declared.told.replies.FrameReply.{FrameReply}
 
 -- the pass of one network, and the system that it is of
 pub record Passing : Type 0 where
   pub system : System
-  pub pass : KnownNet
+  pub pass : KnownNet KnownLink
 
 -- ---- a frame
-
--- A reply with the place of the link in the configuration.
-abbrev pub with_place : Configuration → Reply → ReceiverReply
-with_place config (replies.Filtered cause) = answers.Filtered cause
-with_place config (replies.Link vl place verdict) = answers.Link (or_0 (link_of config.links vl)) vl place verdict
 
 -- the frame came at this time on the network of the pass; what the system replied is told, and the pass has one call
 -- more
@@ -38,7 +30,7 @@ pub record ReceivesBy (old new : Passing) (now : ℕ) (octets : List ℕ) (told 
   pub net : new.pass.net ≡ old.pass.net
   pub reply : Reply
   pub replies : Replies old.system.config old.pass now octets reply new.pass
-  pub tells : told ≡ frame_reply_of (with_place old.system.config reply)
+  pub tells : told ≡ frame_reply_of reply
 
 -- rule: EMB-26
 abbrev pub Receives : Option Passing → Option Passing → ℕ → List ℕ → FrameReply → Type 0
@@ -62,7 +54,7 @@ count_code (Some now) link kind = if is_kind verdict_kinds kind then (if nat_lt 
 abbrev pub CountsFrames : Option Passing → ℕ → ℕ → ℕ → Type 0
 CountsFrames None link kind count = ⊥
 CountsFrames (Some now) link kind count =
-    (settings : Settings) × (slice_get now.system.config.links link ≡ Some settings) × (count ≡ shown (count_calls kind (calls_on settings.vl now.pass.links)))
+    (settings : Settings) × (slice_get now.system.config.links link ≡ Some settings) × (count ≡ shown (count_calls kind (calls_with keeping_no_frame settings.vl now.pass.links)))
 
 abbrev pub filtered_code : Option Passing → ℕ → ℕ
 filtered_code None cause = not_open

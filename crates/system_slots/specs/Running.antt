@@ -6,8 +6,10 @@ use Rattle.es_base.specs.Config.{Configuration}
 use Rattle.es_base.specs.Port.{Port}
 use Rattle.receiver.specs.declared.ends.LinkEnds.{LinkEnds}
 use Rattle.receiver.specs.declared.partition.PartitionEnd.{PartitionEnd}
-use Rattle.live_system.specs.Run.{AreOpened, Passes}
-use Rattle.live_system.specs.System.{KnownNet, System}
+use Rattle.network_calls.specs.Passes.{KnownNet, System}
+use Rattle.network_calls.specs.Threads.{BothPasses}
+use Rattle.live_system.specs.Pass.{KnownLink}
+use Rattle.live_system.specs.Run.{AreOpened}
 use Rattle.receiver_slots.specs.Codes.{already_open, done, no_network, none_left, not_open}
 use Rattle.receiver_slots.specs.Numbers.{net_of_number}
 use Rattle.receiver_slots.specs.Slot.{InSlot}
@@ -21,7 +23,7 @@ pub record Running : Type 0 where
 
 -- ---- the opening
 
-abbrev pub passing : System → KnownNet → Passing
+abbrev pub passing : System → KnownNet KnownLink → Passing
 passing system pass = record { system = system; pass = pass }
 
 -- a new system of this configuration, with the passes of both networks, and the ends of all ports; each sampling port
@@ -29,7 +31,7 @@ passing system pass = record { system = system; pass = pass }
 -- rule: EMB-25
 pub record IsNewSystem (readers : Port → ℕ) (config : Configuration) (new : Running) (ends : List (LinkEnds PartitionEnd)) : Type 0 where
   pub of_config : new.system.config ≡ config
-  pub passes : Passes
+  pub passes : BothPasses KnownLink
   pub of_a : new.a ≡ Some (passing new.system passes.a)
   pub of_b : new.b ≡ Some (passing new.system passes.b)
   pub opened : AreOpened readers new.system passes ends

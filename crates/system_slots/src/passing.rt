@@ -1,11 +1,8 @@
 //! A network's pass, with its system.
 ghost use Rattle.std.specs.Prelude.{◌≡◌, IfNone, IfSome, Some};
-ghost use Rattle.es_base.specs.Config.{link_of};
-ghost use Rattle.receiver_slots.specs.Replies.{or_0};
-ghost use Rattle.system_slots.specs.Passing.{ComesToLink, ReceivesBy, with_place};
+ghost use Rattle.system_slots.specs.Passing.{ComesToLink, ReceivesBy};
 
-use es_base::{Config, LinkNo};
-use live_system::{LiveSystem, NetPass, Reply};
+use live_system::{LiveSystem, NetPass};
 use receiver_slots::{FrameReply, frame_reply_of};
 use std::alloc::Global;
 use std::marker::Model;
@@ -30,31 +27,6 @@ impl Model for Passing {
     ghost invariant = { λ p. IsPassOf (arc_value p.system) p.pass };
 }
 
-/// The place of the link with this number, 0 if there is none.
-fn place_of(config: &Config, vl: LinkNo) -> usize
-    ensures { result ≡ or_0 (link_of config.now.links vl) }
-{
-    match config.link_of(vl) {
-        Some(place) => place,
-        None => 0,
-    }
-}
-
-/// The reply of a receiver for one task: the same, with the place of the link.
-fn with_place(config: &Config, reply: Reply) -> receiver::Reply
-    ensures { result ≡ with_place config.now reply }
-{
-    match reply {
-        Reply::Filtered(cause) => receiver::Reply::Filtered(cause),
-        Reply::Link { vl, place, verdict } => receiver::Reply::Link {
-            at: place_of(config, vl),
-            vl,
-            place,
-            verdict,
-        },
-    }
-}
-
 impl Passing {
     /// Takes the octets of a frame at `now` microseconds, and tells its verdict. None while the other network's thread
     /// has its link.
@@ -63,7 +35,6 @@ impl Passing {
         ensures none { IfNone result ((self.new ≡ self.old) × ComesToLink (Some self.old) frame.now) }
     {
         let reply = self.system.try_receive(&mut self.pass, now, frame)?;
-        let told = with_place(self.system.config(), reply);
-        Some(frame_reply_of(told))
+        Some(frame_reply_of(reply))
     }
 }

@@ -20,7 +20,7 @@ use test_inputs_live_system::Live;
 const BURSTS: u64 = 40;
 
 /// Reply of an entry before a burst, which no frame of it gets.
-const NOTHING: Reply = Reply::Filtered(TooLong);
+const NOTHING: live_system::Reply = live_system::Reply::Filtered(TooLong);
 
 /// The ends of one system's ports.
 #[derive(Drop)]
@@ -85,6 +85,19 @@ fn lent<'a>(rt: &impl Abort, alloc: Global, burst: &'a Burst) -> Vec<(u64, &'a [
     frames
 }
 
+/// The reply that a system with histories gives where one that keeps no frame gives this.
+fn without_index(reply: live_system::Reply) -> Reply {
+    match reply {
+        live_system::Reply::Filtered(cause) => Reply::Filtered(cause),
+        live_system::Reply::Link {
+            at: _,
+            vl,
+            place,
+            verdict,
+        } => Reply::Link { vl, place, verdict },
+    }
+}
+
 /// The third system takes these frames at once, in parts for which there is so much room.
 fn replies_of(
     rt: &(impl Abort + Wait),
@@ -103,7 +116,7 @@ fn replies_of(
         let many = live.receive_all(rt, burst.net, rest, part);
         assert!(rt; many == rest.len().min(room));
         for reply in replies.iter().take(many) {
-            all.push(*reply).expect(rt, "memory");
+            all.push(without_index(*reply)).expect(rt, "memory");
         }
     }
     all
@@ -122,7 +135,7 @@ fn check_burst(
     let net = burst.net;
     for ((time, octets), reply) in burst.frames.iter().zip(&replies) {
         let kept = kept::receive(rt, alloc, &mut systems.kept, net, *time, octets);
-        let single = systems.single.receive(rt, net, *time, octets);
+        let single = without_index(systems.single.receive(rt, net, *time, octets));
         assert!(rt; kept == single, "{time}: {kept:?}, not {single:?}");
         assert!(rt; kept == *reply, "{time}: {kept:?}, not {reply:?}");
     }

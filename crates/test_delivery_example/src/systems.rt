@@ -8,6 +8,20 @@ use std::process::Abort;
 use std::sync::Wait;
 use std::thread::Threads;
 
+/// Whether a system that keeps no frame replied this.
+fn is_live_reply(reply: live_system::Reply, place: u64, verdict: Verdict) -> bool {
+    let at = 0;
+    let vl = LINK_17;
+    reply
+        == live_system::Reply::Link {
+            at,
+            vl,
+            place,
+            verdict,
+        }
+}
+
+/// Whether a system with histories replied this.
 fn is_reply(reply: Reply, wanted_place: u64, wanted: Verdict) -> bool {
     let vl = LINK_17;
     reply
@@ -29,10 +43,12 @@ fn check_threads<R: Abort + Threads + Wait + Sync>(rt: &R, alloc: Global) {
     let ran = two_threads::run(rt, alloc, &config, &on_a, &first_on_b, &second_on_b).expect(
         rt, "memory",
     );
-    let a_is_first = is_reply(ran.on_a, 0, FragmentHeld) && is_reply(ran.first_on_b, 1, Redundant);
-    let b_is_first = is_reply(ran.on_a, 1, Redundant) && is_reply(ran.first_on_b, 0, FragmentHeld);
+    let a_is_first = is_live_reply(ran.on_a, 0, FragmentHeld)
+        && is_live_reply(ran.first_on_b, 1, Redundant);
+    let b_is_first = is_live_reply(ran.on_a, 1, Redundant)
+        && is_live_reply(ran.first_on_b, 0, FragmentHeld);
     assert!(rt; a_is_first || b_is_first);
-    assert!(rt; is_reply(ran.second_on_b, 2, Queued(NAV)));
+    assert!(rt; is_live_reply(ran.second_on_b, 2, Queued(NAV)));
     assert!(rt; ran.settled.a.calls(LINK_17) == 1 && ran.settled.b.calls(LINK_17) == 2);
 }
 

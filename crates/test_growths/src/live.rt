@@ -23,12 +23,16 @@ fn open(rt: &(impl Abort + Eprint), alloc: Global, case: &Case) -> Live {
 /// Each frame has its place and its verdict.
 fn check_opened(rt: &(impl Abort + Eprint + Wait), alloc: Global, case: &Case) {
     let mut live = open(rt, alloc, case);
-    let vl = LinkNo(17);
     let mut place = 0u64;
     for row in &case.rows {
-        let verdict = row.verdict;
         let reply = live.receive(rt, A, row.time, &row.octets);
-        assert!(rt; reply == Reply::Link { vl, place, verdict }, "{reply:?}");
+        let wanted = Reply::Link {
+            at: 0,
+            vl: LinkNo(17),
+            place,
+            verdict: row.verdict,
+        };
+        assert!(rt; reply == wanted, "{reply:?}");
         place = place.wrapping_add(1);
     }
     for link in &live.settle().links {

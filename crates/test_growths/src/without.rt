@@ -335,7 +335,7 @@ fn give_both(
     rt: &impl Wait,
     live: &mut Live,
     frames: &[(u64, &[u8])],
-    replies: &mut [Reply],
+    replies: &mut [live_system::Reply],
 ) -> usize {
     for (time, octets) in frames {
         let _reply = live.receive(rt, A, *time, octets);
@@ -349,7 +349,7 @@ fn check_live(rt: &(impl Abort + Wait), alloc: Global, case: &Case) {
     let mut reader = live.take_reader("pos").expect(rt, "a reader");
     let mut taker = live.take_taker("nav").expect(rt, "a taker");
     let frames = lent(rt, alloc, case);
-    let mut replies = [Reply::Filtered(FilterCause::TooShort); 32];
+    let mut replies = [live_system::Reply::Filtered(FilterCause::TooShort); 32];
     let mut out = [0; 8192];
     mark(rt, alloc);
     for _ in 0..100 {

@@ -20,9 +20,11 @@ pub struct Live {
 impl Model for Live {
     ghost use Rattle.std.specs.Prelude.{◌≡◌};
     ghost use Rattle.es_base.specs.declared.place.Net.TheVariants.{A, B};
-    ghost use Rattle.live_system.specs.System.{IsPassOf, KnownNet};
+    ghost use Rattle.network_calls.specs.Passes.{KnownNet};
+    ghost use Rattle.live_system.specs.Pass.{KnownLink};
+    ghost use Rattle.live_system.specs.System.{IsPassOf};
 
-    ghost Value = { KnownNet × KnownNet };
+    ghost Value = { KnownNet KnownLink × KnownNet KnownLink };
 
     ghost view = { λ r. (r.opened.a, r.opened.b) };
 

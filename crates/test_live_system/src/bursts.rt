@@ -61,6 +61,7 @@ fn check_replies(rt: &impl Abort, replies: &[Reply]) {
             assert!(rt; *reply == Reply::Filtered(TooShort), "{number}: {reply:?}");
         } else {
             let wanted = Reply::Link {
+                at: 0,
                 vl: LINK_17,
                 place,
                 verdict: Sampled(POS, place.wrapping_add(1)),

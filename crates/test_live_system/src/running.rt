@@ -43,8 +43,12 @@ pub(crate) fn check_frame(
     let (net, time, _, _, _, _, verdict) = row;
     let frame = octets_of(rt, alloc, row);
     let reply = running.receive(rt, net, time, &frame);
-    let vl = LINK_17;
-    let wanted = Reply::Link { vl, place, verdict };
+    let wanted = Reply::Link {
+        at: 0,
+        vl: LINK_17,
+        place,
+        verdict,
+    };
     assert!(rt; reply == wanted, "{place}: {reply:?}");
 }
 

@@ -5,7 +5,7 @@ ghost use Rattle.slot_core.specs.Allowed.{MayScan};
 ghost use Rattle.slot_core.specs.Steps.{scans};
 ghost use Rattle.slot_core.specs.Words.{slot_of};
 ghost use Rattle.sampling_port.specs.Plays.{writes};
-ghost use Rattle.sampling_port.specs.Rule.{first_reader, first_writer};
+ghost use Rattle.sampling_port.specs.Rule.{first_reader, new_writer_log};
 ghost use Rattle.sampling_port.specs.Seats.{writer_with};
 ghost use Rattle.sampling_port.specs.Writes.{IsAtRest};
 
@@ -131,7 +131,7 @@ fn check_beside_core(
     mut writer: WriterSeat<8>,
     reader: &mut ReaderSeat<8>,
 )
-    requires writer { writer.knows ≡ first_writer }
+    requires writer { writer.knows ≡ new_writer_log }
     requires reader { reader.old.knows ≡ first_reader }
 {
     let mut core = Core::opening(alloc);

@@ -5,7 +5,7 @@ ghost use Rattle.slot_core.specs.Message.{IsMessage};
 ghost use Rattle.slot_core.specs.State.{last_of};
 ghost use Rattle.slot_core.specs.declared.view.Phase.TheVariants.{Holding, Loaded};
 ghost use Rattle.sampling_port.specs.Reads.{IsIdle};
-ghost use Rattle.sampling_port.specs.Rule.{first_reader, first_writer};
+ghost use Rattle.sampling_port.specs.Rule.{first_reader, new_writer_log};
 
 use crate::messages::{check_read, publish};
 use sampling_port::steps::{ReaderSeat, WriterSeat, open_seats};
@@ -59,7 +59,7 @@ fn check_late_look<const READERS: usize>(
     seat: &mut ReaderSeat<READERS>,
 )
     requires few { READERS ≤ 14 }
-    requires writer { writer.knows ≡ first_writer }
+    requires writer { writer.knows ≡ new_writer_log }
     requires reader { seat.old.knows ≡ first_reader }
 {
     let mut writer = Writer::from_seat(writer);
@@ -129,7 +129,7 @@ fn check_overtaken<const READERS: usize>(
     mut seat: ReaderSeat<READERS>,
 )
     requires few { READERS ≤ 14 }
-    requires writer { writer.knows ≡ first_writer }
+    requires writer { writer.knows ≡ new_writer_log }
     requires reader { seat.knows ≡ first_reader }
 {
     let mut writer = Writer::from_seat(writer);
@@ -212,7 +212,7 @@ fn check_seat_again<const READERS: usize>(
     seat: ReaderSeat<READERS>,
 )
     requires few { READERS ≤ 14 }
-    requires writer { writer.knows ≡ first_writer }
+    requires writer { writer.knows ≡ new_writer_log }
     requires reader { IsIdle seat.knows.view }
 {
     let mut writer = Writer::from_seat(writer);

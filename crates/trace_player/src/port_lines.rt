@@ -1,7 +1,7 @@
 //! The lines of a port, in the report of either player.
 ghost use Rattle.std.specs.Prelude.{◌≡◌, ◌++◌, OnOk};
 ghost use Rattle.std.specs.Option.{option_map};
-ghost use Rattle.es_base.specs.Deliveries.{read_as};
+ghost use Rattle.link_rules.specs.Deliveries.{read_as};
 ghost use Rattle.output_lines.specs.Line.{message_text, queue_text};
 ghost use Rattle.output_lines.specs.Report.{line, newest_lines};
 

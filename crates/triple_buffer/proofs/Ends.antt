@@ -9,18 +9,18 @@ use Rattle.triple_buffer.specs.declared.latest.Latest.{Latest}
 use Rattle.triple_buffer.specs.declared.rule.SeatView.{SeatView}
 use Rattle.triple_buffer.specs.declared.rule.ReaderView.{ReaderView}
 use Rattle.triple_buffer.specs.declared.rule.SeatView.TheVariants.{Writes, Reads}
-use Rattle.triple_buffer.specs.Rule.{HasRoom, IsLastOf, StartsWith, first_reader, first_writer, message_in, place_of_word}
-use Rattle.triple_buffer.specs.Plays.{At, IsFilledAt, learns, published, publishes, reader_enters, reader_of, sees_all, sees_newer, taken, takes, writer_enters, writer_of}
-use Rattle.triple_buffer.specs.Ends.{HasAll, IsLookMade, IsReadOf, IsReaderSeat, IsReceived, IsPublishedBy, IsWriter, LookSteps, MayReceive, MaySend, ReaderEnd, is_told, reader_end}
+use Rattle.triple_buffer.specs.Rule.{HasRoom, IsLastOf, StartsWith, reader_at_first, writer_at_first, message_in, place_of_word}
+use Rattle.triple_buffer.specs.Plays.{BufferSeat, IsFilledAt, with_known, published, writer_publishes, reader_enters, reader_in, sees_all, sees_newer, taken, takes, writer_enters, writer_in}
+use Rattle.triple_buffer.specs.Ends.{HasAll, IsLookMade, IsReadOf, IsReaderSeat, IsReceived, IsPublishedBy, IsWriter, LookSteps, MayReceive, MaySend, BufferReader, reader_told, reader_end}
 use Rattle.triple_buffer.proofs.Turns.{May, receive_at, send_at, starts_same, starts_trans}
 
 -- a seat with this view, and with the place as before
-at_view : (me me' : At) (v : SeatView) → me'.0 ≡ v → me'.1 ≡ me.1 → me' ≡ (v, me.1)
+at_view : (me me' : BufferSeat) (v : SeatView) → me'.0 ≡ v → me'.1 ≡ me.1 → me' ≡ (v, me.1)
 at_view me me' v a b = λ i. (a i, b i)
 
-pub told_reader : (me me' : At) (slot longest : ℕ) (has : Option Latest) (all : List Message) → IsReaderSeat me slot longest has → me' ≡ (Reads (learns (reader_of me.0) all), me.1)
-    → StartsWith all (reader_of me.0).known → IsReaderSeat me' slot longest has
-told_reader me me' slot longest has all i is before = subst (λ (y : At). IsReaderSeat y slot longest has) (sym is) (record {
+pub told_reader : (me me' : BufferSeat) (slot longest : ℕ) (has : Option Latest) (all : List Message) → IsReaderSeat me slot longest has → me' ≡ (Reads (with_known (reader_in me.0) all), me.1)
+    → StartsWith all (reader_in me.0).known → IsReaderSeat me' slot longest has
+told_reader me me' slot longest has all i is before = subst (λ (y : BufferSeat). IsReaderSeat y slot longest has) (sym is) (record {
   view = refl;
   place = i.place;
   below = i.below;
@@ -31,20 +31,20 @@ told_reader me me' slot longest has all i is before = subst (λ (y : At). IsRead
   has_own = i.has_own;
   room = i.room;
   last = i.last;
-  seen = starts_trans all (reader_of me.0).known (reader_of me.0).seen before i.seen;
+  seen = starts_trans all (reader_in me.0).known (reader_in me.0).seen before i.seen;
 })
 
-pub may_send : (me me1 : At) (slot longest count : ℕ) (own : Latest) → IsWriter me slot longest count → me1.0 ≡ me.0 → me1.1 ≡ (slot, Some own) ∷ [] → HasRoom longest own → own.number ≡ count + 1 → MaySend longest me1 slot
+pub may_send : (me me1 : BufferSeat) (slot longest count : ℕ) (own : Latest) → IsWriter me slot longest count → me1.0 ≡ me.0 → me1.1 ≡ (slot, Some own) ∷ [] → HasRoom longest own → own.number ≡ count + 1 → MaySend longest me1 slot
 may_send me me1 slot longest count own i same holds room number = record {
-  view = same ∙ i.view ∙ sym (ap (λ (z : SeatView). Writes (writer_of z)) same);
-  place = ap (λ (z : SeatView). (writer_of z).slot) same ∙ i.place;
+  view = same ∙ i.view ∙ sym (ap (λ (z : SeatView). Writes (writer_in z)) same);
+  place = ap (λ (z : SeatView). (writer_in z).slot) same ∙ i.place;
   below = i.below;
-  longest_is = ap (λ (z : SeatView). (writer_of z).longest) same ∙ i.longest_is;
-  entered = ap (λ (z : SeatView). (writer_of z).has) same ∙ i.entered;
+  longest_is = ap (λ (z : SeatView). (writer_in z).longest) same ∙ i.longest_is;
+  entered = ap (λ (z : SeatView). (writer_in z).has) same ∙ i.entered;
   own = own;
   holds = holds;
   room = room;
-  number = number ∙ ap (λ (n : ℕ). n + 1) i.count_is ∙ sym (ap (λ (z : SeatView). length (writer_of z).published + 1) same);
+  number = number ∙ ap (λ (n : ℕ). n + 1) i.count_is ∙ sym (ap (λ (z : SeatView). length (writer_in z).published + 1) same);
 }
 
 abbrev latest_or : Latest → Option Latest → Latest
@@ -55,29 +55,29 @@ latest_or other (Some latest) = latest
 one_place : (xs : List (ℕ × Option Latest)) (slot slot' : ℕ) (a b : Latest) → xs ≡ (slot, Some a) ∷ [] → xs ≡ (slot', Some b) ∷ [] → a ≡ b
 one_place xs slot slot' a b is is' = ap (λ (l : List (ℕ × Option Latest)). latest_or a (get_or l 0 (0, None)).1) (sym is ∙ is')
 
-pub filled_may_send : (me me1 : At) (slot longest count : ℕ) (message : Message) → IsWriter me slot longest count → me1.0 ≡ me.0 → IsFilledAt me.1 me1.1 slot (count + 1) message → MaySend longest me1 slot
+pub filled_may_send : (me me1 : BufferSeat) (slot longest count : ℕ) (message : Message) → IsWriter me slot longest count → me1.0 ≡ me.0 → IsFilledAt me.1 me1.1 slot (count + 1) message → MaySend longest me1 slot
 filled_may_send me me1 slot longest count message i same f =
     let was : f.4.0 ≡ i.own = one_place me.1 slot slot f.4.0 i.own (f.2 ∙ ap (λ (x : Option Latest). (slot, x) ∷ []) f.4.2) i.holds in
     may_send me me1 slot longest count f.4.1 i same (f.3 ∙ ap (λ (x : Option Latest). (slot, x) ∷ []) f.4.3) (f.4.6 ∙ ap (λ (b : Latest). length b.octets.items) was ∙ i.room) f.4.4
 
 -- what a publication made of the writer
-pub sent_writer : (me me1 me2 : At) (slot slot' longest count : ℕ) (sent : Latest) → IsWriter me slot longest count → me1.0 ≡ me.0 → IsPublishedBy longest me1 me2 sent slot' → IsWriter me2 slot' longest (count + 1)
+pub sent_writer : (me me1 me2 : BufferSeat) (slot slot' longest count : ℕ) (sent : Latest) → IsWriter me slot longest count → me1.0 ≡ me.0 → IsPublishedBy longest me1 me2 sent slot' → IsWriter me2 slot' longest (count + 1)
 sent_writer me me1 me2 slot slot' longest count sent i same t =
-    let view : me2.0 ≡ Writes (publishes (writer_of me.0) (message_in sent) slot') = t.view ∙ ap (λ (z : SeatView). Writes (publishes (writer_of z) (message_in sent) slot')) same in record {
-      view = view ∙ sym (ap (λ (z : SeatView). Writes (writer_of z)) view);
-      place = ap (λ (z : SeatView). (writer_of z).slot) view;
+    let view : me2.0 ≡ Writes (writer_publishes (writer_in me.0) (message_in sent) slot') = t.view ∙ ap (λ (z : SeatView). Writes (writer_publishes (writer_in z) (message_in sent) slot')) same in record {
+      view = view ∙ sym (ap (λ (z : SeatView). Writes (writer_in z)) view);
+      place = ap (λ (z : SeatView). (writer_in z).slot) view;
       below = t.below;
-      longest_is = ap (λ (z : SeatView). (writer_of z).longest) view ∙ i.longest_is;
-      entered = ap (λ (z : SeatView). (writer_of z).has) view ∙ i.entered;
+      longest_is = ap (λ (z : SeatView). (writer_in z).longest) view ∙ i.longest_is;
+      entered = ap (λ (z : SeatView). (writer_in z).has) view ∙ i.entered;
       own = t.own;
       holds = t.holds;
       room = t.room;
-      count_is = ap (λ (n : ℕ). n + 1) i.count_is ∙ sym (length-append (writer_of me.0).published (message_in sent ∷ [])) ∙ sym (ap (λ (z : SeatView). length (writer_of z).published) view);
+      count_is = ap (λ (n : ℕ). n + 1) i.count_is ∙ sym (length-append (writer_in me.0).published (message_in sent ∷ [])) ∙ sym (ap (λ (z : SeatView). length (writer_in z).published) view);
     }
 
 -- the reader looked, and has the last message that was published
-pub all_seen : (me me' : At) (slot longest : ℕ) (has : Option Latest) → IsReaderSeat me slot longest has → me'.1 ≡ me.1 → me'.0 ≡ Reads (sees_all (reader_of me.0)) → IsReaderSeat me' slot longest has
-all_seen me me' slot longest has i same is = subst (λ (y : At). IsReaderSeat y slot longest has) (sym (at_view me me' _ is same)) (record {
+pub all_seen : (me me' : BufferSeat) (slot longest : ℕ) (has : Option Latest) → IsReaderSeat me slot longest has → me'.1 ≡ me.1 → me'.0 ≡ Reads (sees_all (reader_in me.0)) → IsReaderSeat me' slot longest has
+all_seen me me' slot longest has i same is = subst (λ (y : BufferSeat). IsReaderSeat y slot longest has) (sym (at_view me me' _ is same)) (record {
   view = refl;
   place = i.place;
   below = i.below;
@@ -88,26 +88,26 @@ all_seen me me' slot longest has i same is = subst (λ (y : At). IsReaderSeat y 
   has_own = i.has_own;
   room = i.room;
   last = i.last;
-  seen = starts_same (reader_of me.0).seen;
+  seen = starts_same (reader_in me.0).seen;
 })
 
-pub all_seen_end : (table table' : TableId) (longest : ℕ) (me me' : At) → table' ≡ table → me'.0 ≡ Reads (sees_all (reader_of me.0)) → StartsWith (reader_of me.0).seen (reader_of me.0).known
+pub all_seen_end : (table table' : TableId) (longest : ℕ) (me me' : BufferSeat) → table' ≡ table → me'.0 ≡ Reads (sees_all (reader_in me.0)) → StartsWith (reader_in me.0).seen (reader_in me.0).known
     → IsReadOf (reader_end table longest me) (reader_end table' longest me')
 all_seen_end table table' longest me me' same is begins =
-    let r = reader_of me.0 in
-    let now : (reader_of me'.0).seen ≡ r.seen = ap (λ (z : SeatView). (reader_of z).seen) is in
+    let r = reader_in me.0 in
+    let now : (reader_in me'.0).seen ≡ r.seen = ap (λ (z : SeatView). (reader_in z).seen) is in
     record {
       buffer = same;
       longest = refl;
-      newest = ap (λ (z : SeatView). (reader_of z).known) is ∙ sym now;
+      newest = ap (λ (z : SeatView). (reader_in z).known) is ∙ sym now;
       seen = subst (λ (l : List Message). StartsWith l r.seen) (sym now) (starts_same r.seen);
       known = subst (λ (l : List Message). StartsWith l r.known) (sym now) begins;
-      look = record { newer = false; looks = ap (λ (z : SeatView). (reader_of z).looks) is; steps = (now, ap (λ (z : SeatView). (reader_of z).steps) is) };
+      look = record { newer = false; looks = ap (λ (z : SeatView). (reader_in z).looks) is; steps = (now, ap (λ (z : SeatView). (reader_in z).steps) is) };
     }
 
 -- it looked, and saw that there is a newer one
-pub may_receive : (me me' : At) (slot longest : ℕ) (has : Option Latest) → IsReaderSeat me slot longest has → me'.1 ≡ me.1 → me'.0 ≡ Reads (sees_newer (reader_of me.0)) → MayReceive longest me' slot has
-may_receive me me' slot longest has i same is = subst (λ (y : At). MayReceive longest y slot has) (sym (at_view me me' _ is same)) (record {
+pub may_receive : (me me' : BufferSeat) (slot longest : ℕ) (has : Option Latest) → IsReaderSeat me slot longest has → me'.1 ≡ me.1 → me'.0 ≡ Reads (sees_newer (reader_in me.0)) → MayReceive longest me' slot has
+may_receive me me' slot longest has i same is = subst (λ (y : BufferSeat). MayReceive longest y slot has) (sym (at_view me me' _ is same)) (record {
   view = refl;
   place = i.place;
   below = i.below;
@@ -121,39 +121,39 @@ may_receive me me' slot longest has i same is = subst (λ (y : At). MayReceive l
 })
 
 -- and took it
-pub received_reader : (before me me' : At) (slot slot' longest : ℕ) (has has' : Option Latest) → IsReaderSeat before slot longest has → me.0 ≡ Reads (sees_newer (reader_of before.0)) → IsReceived longest me me' slot' has' → IsReaderSeat me' slot' longest has'
+pub received_reader : (before me me' : BufferSeat) (slot slot' longest : ℕ) (has has' : Option Latest) → IsReaderSeat before slot longest has → me.0 ≡ Reads (sees_newer (reader_in before.0)) → IsReceived longest me me' slot' has' → IsReaderSeat me' slot' longest has'
 received_reader before me me' slot slot' longest has has' i looked t = record {
-  view = t.view ∙ sym (ap (λ (z : SeatView). Reads (reader_of z)) t.view);
-  place = ap (λ (z : SeatView). (reader_of z).slot) t.view;
+  view = t.view ∙ sym (ap (λ (z : SeatView). Reads (reader_in z)) t.view);
+  place = ap (λ (z : SeatView). (reader_in z).slot) t.view;
   below = t.below;
-  longest_is = ap (λ (z : SeatView). (reader_of z).longest) t.view ∙ ap (λ (z : SeatView). (reader_of z).longest) looked ∙ i.longest_is;
-  entered = ap (λ (z : SeatView). (reader_of z).has) t.view ∙ ap (λ (z : SeatView). (reader_of z).has) looked ∙ i.entered;
+  longest_is = ap (λ (z : SeatView). (reader_in z).longest) t.view ∙ ap (λ (z : SeatView). (reader_in z).longest) looked ∙ i.longest_is;
+  entered = ap (λ (z : SeatView). (reader_in z).has) t.view ∙ ap (λ (z : SeatView). (reader_in z).has) looked ∙ i.entered;
   vacant = t.vacant;
   own = t.own;
   has_own = t.has_own;
   room = t.room;
-  last = subst (λ (l : List Message). IsLastOf t.own l) (sym (ap (λ (z : SeatView). (reader_of z).seen) t.view)) t.last;
-  seen = subst (λ (r : ReaderView). StartsWith r.known r.seen) (sym (ap reader_of t.view)) (starts_same t.all);
+  last = subst (λ (l : List Message). IsLastOf t.own l) (sym (ap (λ (z : SeatView). (reader_in z).seen) t.view)) t.last;
+  seen = subst (λ (r : ReaderView). StartsWith r.known r.seen) (sym (ap reader_in t.view)) (starts_same t.all);
 }
 
-pub received_end : (table table' : TableId) (longest slot slot' : ℕ) (before me me' : At) (has has' : Option Latest) → table' ≡ table → IsReaderSeat before slot longest has → me.0 ≡ Reads (sees_newer (reader_of before.0)) → IsReceived longest me me' slot' has'
+pub received_end : (table table' : TableId) (longest slot slot' : ℕ) (before me me' : BufferSeat) (has has' : Option Latest) → table' ≡ table → IsReaderSeat before slot longest has → me.0 ≡ Reads (sees_newer (reader_in before.0)) → IsReceived longest me me' slot' has'
     → IsReadOf (reader_end table longest before) (reader_end table' longest me')
 received_end table table' longest slot slot' before me me' has has' same i looked t =
-    let r = reader_of before.0 in
-    let now : (reader_of me'.0).seen ≡ t.all = ap (λ (z : SeatView). (reader_of z).seen) t.view in
-    let known : StartsWith t.all r.known = subst (λ (l : List Message). StartsWith t.all l) (ap (λ (z : SeatView). (reader_of z).known) looked) t.known in
-    let more : length r.seen < length t.all = subst (λ (l : List Message). length l < length t.all) (ap (λ (z : SeatView). (reader_of z).seen) looked) t.more in
-    let exchanged : (reader_of me'.0).steps ≡ (reader_of me.0).steps + 1 = ap (λ (z : SeatView). (reader_of z).steps) t.view in
-    let loaded : (reader_of me.0).steps ≡ r.steps + 1 = ap (λ (z : SeatView). (reader_of z).steps) looked in
+    let r = reader_in before.0 in
+    let now : (reader_in me'.0).seen ≡ t.all = ap (λ (z : SeatView). (reader_in z).seen) t.view in
+    let known : StartsWith t.all r.known = subst (λ (l : List Message). StartsWith t.all l) (ap (λ (z : SeatView). (reader_in z).known) looked) t.known in
+    let more : length r.seen < length t.all = subst (λ (l : List Message). length l < length t.all) (ap (λ (z : SeatView). (reader_in z).seen) looked) t.more in
+    let exchanged : (reader_in me'.0).steps ≡ (reader_in me.0).steps + 1 = ap (λ (z : SeatView). (reader_in z).steps) t.view in
+    let loaded : (reader_in me.0).steps ≡ r.steps + 1 = ap (λ (z : SeatView). (reader_in z).steps) looked in
     record {
       buffer = same;
       longest = refl;
-      newest = ap (λ (z : SeatView). (reader_of z).known) t.view ∙ sym now;
+      newest = ap (λ (z : SeatView). (reader_in z).known) t.view ∙ sym now;
       seen = subst (λ (l : List Message). StartsWith l r.seen) (sym now) (starts_trans t.all r.known r.seen known i.seen);
       known = subst (λ (l : List Message). StartsWith l r.known) (sym now) known;
       look = record {
         newer = true;
-        looks = ap (λ (z : SeatView). (reader_of z).looks) t.view ∙ ap (λ (z : SeatView). (reader_of z).looks) looked;
+        looks = ap (λ (z : SeatView). (reader_in z).looks) t.view ∙ ap (λ (z : SeatView). (reader_in z).looks) looked;
         steps = (subst (λ (l : List Message). length r.seen < length l) (sym now) more, omega (arith, exchanged, loaded));
       };
     }
@@ -169,26 +169,26 @@ alike xs ys a b =
     sym (a.1 ∙ ap (λ (l : List Message). ys ++ l) nothing ∙ append-nil ys)
 
 -- it was told these, looked, and was told them again
-pub has_last : (v t w u : ReaderEnd) (all : List Message) → t ≡ is_told v all → IsReadOf t w → u ≡ is_told w all → StartsWith all w.known → HasAll v u all
+pub has_last : (v t w u : BufferReader) (all : List Message) → t ≡ reader_told v all → IsReadOf t w → u ≡ reader_told w all → StartsWith all w.known → HasAll v u all
 has_last v t w u all told read again before =
-    let later : StartsWith w.seen all = subst (λ (l : List Message). StartsWith w.seen l) (ap (λ (z : ReaderEnd). z.known) told) read.known in
+    let later : StartsWith w.seen all = subst (λ (l : List Message). StartsWith w.seen l) (ap (λ (z : BufferReader). z.known) told) read.known in
     let same : w.seen ≡ all = alike all w.seen (subst (λ (l : List Message). StartsWith all l) read.newest before) later in
     record {
-      buffer = ap (λ (z : ReaderEnd). z.buffer) again ∙ read.buffer ∙ ap (λ (z : ReaderEnd). z.buffer) told;
-      longest = ap (λ (z : ReaderEnd). z.longest) again ∙ read.longest ∙ ap (λ (z : ReaderEnd). z.longest) told;
-      seen = ap (λ (z : ReaderEnd). z.seen) again ∙ same;
-      known = ap (λ (z : ReaderEnd). z.known) again;
+      buffer = ap (λ (z : BufferReader). z.buffer) again ∙ read.buffer ∙ ap (λ (z : BufferReader). z.buffer) told;
+      longest = ap (λ (z : BufferReader). z.longest) again ∙ read.longest ∙ ap (λ (z : BufferReader). z.longest) told;
+      seen = ap (λ (z : BufferReader). z.seen) again ∙ same;
+      known = ap (λ (z : BufferReader). z.known) again;
     }
 
-told_steps : (v w : ReaderEnd) (all : List Message) (newer : Bool) → LookSteps (is_told v all) w newer → LookSteps v (is_told w all) newer
+told_steps : (v w : BufferReader) (all : List Message) (newer : Bool) → LookSteps (reader_told v all) w newer → LookSteps v (reader_told w all) newer
 told_steps v w all false steps = steps
 told_steps v w all true steps = steps
 
 -- and it made the one look
-pub looked_once : (v t w u : ReaderEnd) (all : List Message) → t ≡ is_told v all → IsReadOf t w → u ≡ is_told w all → IsLookMade v u
+pub looked_once : (v t w u : BufferReader) (all : List Message) → t ≡ reader_told v all → IsReadOf t w → u ≡ reader_told w all → IsLookMade v u
 looked_once v t w u all told read again =
-    let look : IsLookMade (is_told v all) w = subst (λ (z : ReaderEnd). IsLookMade z w) told read.look in
-    subst (λ (z : ReaderEnd). IsLookMade v z) (sym again) (record { newer = look.newer; looks = look.looks; steps = told_steps v w all look.newer look.steps })
+    let look : IsLookMade (reader_told v all) w = subst (λ (z : BufferReader). IsLookMade z w) told read.look in
+    subst (λ (z : BufferReader). IsLookMade v z) (sym again) (record { newer = look.newer; looks = look.looks; steps = told_steps v w all look.newer look.steps })
 
 -- ---- the steps of a publication and of a read
 
@@ -197,7 +197,7 @@ abbrev any_step : Step (Option Latest)
 any_step = step 0 0 0 0 none
 
 -- it put the buffer in its place
-pub placed : (me me1 : At) (v : SeatView) (slot : ℕ) (own : Latest) → me.0 ≡ v → me.1 ≡ (slot, None) ∷ [] → me1 ≡ (me.0, (slot, Some own) ∷ rest me.1) → me1 ≡ (v, (slot, Some own) ∷ [])
+pub placed : (me me1 : BufferSeat) (v : SeatView) (slot : ℕ) (own : Latest) → me.0 ≡ v → me.1 ≡ (slot, None) ∷ [] → me1 ≡ (me.0, (slot, Some own) ∷ rest me.1) → me1 ≡ (v, (slot, Some own) ∷ [])
 placed me me1 v slot own view vacant put = put ∙ (λ i. (view i, (slot, Some own) ∷ ap rest vacant i))
 
 -- what it took out of its place
@@ -205,17 +205,17 @@ took : (back : Option Latest) (xs : List (ℕ × Option Latest)) (slot : ℕ) (o
 took back xs slot own a b = ap (λ (l : List (ℕ × Option Latest)). (get_or l 0 (0, back)).1) (sym a ∙ b)
 
 -- and its place is vacant again
-vacant_again : (me2 me3 : At) (slot : ℕ) (own : Latest) → me2.1 ≡ (slot, Some own) ∷ [] → me3 ≡ (me2.0, (slot, None) ∷ rest me2.1) → me3.1 ≡ (slot, None) ∷ []
-vacant_again me2 me3 slot own has left = ap (λ (m : At). m.1) left ∙ ap (λ (l : List (ℕ × Option Latest)). (slot, None) ∷ rest l) has
+vacant_again : (me2 me3 : BufferSeat) (slot : ℕ) (own : Latest) → me2.1 ≡ (slot, Some own) ∷ [] → me3 ≡ (me2.0, (slot, None) ∷ rest me2.1) → me3.1 ≡ (slot, None) ∷ []
+vacant_again me2 me3 slot own has left = ap (λ (m : BufferSeat). m.1) left ∙ ap (λ (l : List (ℕ × Option Latest)). (slot, None) ∷ rest l) has
 
 -- the place is there to be taken out of
 pub there : (xs : List (ℕ × Option Latest)) (slot : ℕ) (own : Latest) → xs ≡ (slot, Some own) ∷ [] → xs ≡ (slot, Some own) ∷ rest xs
 there xs slot own is = is ∙ ap (λ (l : List (ℕ × Option Latest)). (slot, Some own) ∷ rest l) (sym is)
 
-pub may_publish : (longest slots id slot : ℕ) (me : At) → MaySend longest me slot → May longest slots id me (λ _. slot + 4) (published (step slots 0 (slot + 4) 0 none) me)
-may_publish longest slots id slot me i = send_at longest slots id me (writer_of me.0) slot i.own (λ j. (i.view j, i.holds j)) i.place i.room i.number i.entered
+pub may_publish : (longest slots id slot : ℕ) (me : BufferSeat) → MaySend longest me slot → May longest slots id me (λ _. slot + 4) (published (step slots 0 (slot + 4) 0 none) me)
+may_publish longest slots id slot me i = send_at longest slots id me (writer_in me.0) slot i.own (λ j. (i.view j, i.holds j)) i.place i.room i.number i.entered
 
-pub sent : (longest slot found : ℕ) (me me1 : At) (i : MaySend longest me slot) → published any_step me found me1 → IsPublishedBy longest me me1 i.own (place_of_word found)
+pub sent : (longest slot found : ℕ) (me me1 : BufferSeat) (i : MaySend longest me slot) → published any_step me found me1 → IsPublishedBy longest me me1 i.own (place_of_word found)
 sent longest slot found me me1 i told = let t = told slot i.own i.holds in record {
   view = t.1;
   below = t.3;
@@ -224,18 +224,18 @@ sent longest slot found me me1 i told = let t = told slot i.own i.holds in recor
   room = t.4 ∙ i.longest_is;
 }
 
-pub may_take : (longest slots id slot : ℕ) (has : Option Latest) (me me1 : At) → MayReceive longest me slot has → me1 ≡ (me.0, (slot, has) ∷ rest me.1)
+pub may_take : (longest slots id slot : ℕ) (has : Option Latest) (me me1 : BufferSeat) → MayReceive longest me slot has → me1 ≡ (me.0, (slot, has) ∷ rest me.1)
     → May longest slots id me1 (λ _. slot) (taken (step slots 0 slot 0 none) me1)
 may_take longest slots id slot has me me1 i put =
     let put' : me1 ≡ (me.0, (slot, Some i.own) ∷ rest me.1) = put ∙ ap (λ (x : Option Latest). (me.0, (slot, x) ∷ rest me.1)) i.has_own in
-    receive_at longest slots id me1 (reader_of me.0) slot i.own (placed me me1 _ slot i.own i.view i.vacant put') i.place i.room i.newer i.entered
+    receive_at longest slots id me1 (reader_in me.0) slot i.own (placed me me1 _ slot i.own i.view i.vacant put') i.place i.room i.newer i.entered
 
-pub received : (longest slot found : ℕ) (has back : Option Latest) (me me1 me2 me3 : At) → MayReceive longest me slot has → me1 ≡ (me.0, (slot, has) ∷ rest me.1)
+pub received : (longest slot found : ℕ) (has back : Option Latest) (me me1 me2 me3 : BufferSeat) → MayReceive longest me slot has → me1 ≡ (me.0, (slot, has) ∷ rest me.1)
     → taken any_step me1 found me2 → me2.1 ≡ (place_of_word found, back) ∷ rest me2.1 → me3 ≡ (me2.0, (place_of_word found, None) ∷ rest me2.1) → IsReceived longest me me3 (place_of_word found) back
 received longest slot found has back me me1 me2 me3 i put told out left =
-    let same : reader_of me1.0 ≡ reader_of me.0 = ap (λ (m : At). reader_of m.0) put in record {
+    let same : reader_in me1.0 ≡ reader_in me.0 = ap (λ (m : BufferSeat). reader_in m.0) put in record {
       all = told.0;
-      view = ap (λ (m : At). m.0) left ∙ told.2 ∙ ap (λ (r : ReaderView). Reads (takes r told.0 (place_of_word found))) same;
+      view = ap (λ (m : BufferSeat). m.0) left ∙ told.2 ∙ ap (λ (r : ReaderView). Reads (takes r told.0 (place_of_word found))) same;
       below = told.4;
       vacant = vacant_again me2 me3 _ told.1 told.3 left;
       own = told.1;
@@ -248,42 +248,42 @@ received longest slot found has back me me1 me2 me3 i put told out left =
 
 -- ---- the opening
 
-pub writer_entering : (longest : ℕ) (me me1 : At) → me ≡ (Writes (first_writer longest), []) → writer_enters any_step me 0 me1
-    → (own : Latest) × (me1.0 ≡ Writes (record (first_writer longest) { has = true })) × (me1.1 ≡ (0, Some own) ∷ []) × HasRoom longest own
-writer_entering longest me me1 is told = subst (λ (y : At). writer_enters any_step y 0 me1) is told
+pub writer_entering : (longest : ℕ) (me me1 : BufferSeat) → me ≡ (Writes (writer_at_first longest), []) → writer_enters any_step me 0 me1
+    → (own : Latest) × (me1.0 ≡ Writes (record (writer_at_first longest) { has = true })) × (me1.1 ≡ (0, Some own) ∷ []) × HasRoom longest own
+writer_entering longest me me1 is told = subst (λ (y : BufferSeat). writer_enters any_step y 0 me1) is told
 
-pub entered_writer : (longest : ℕ) (me me1 : At) → me ≡ (Writes (first_writer longest), []) → writer_enters any_step me 0 me1 → IsWriter me1 0 longest 0
+pub entered_writer : (longest : ℕ) (me me1 : BufferSeat) → me ≡ (Writes (writer_at_first longest), []) → writer_enters any_step me 0 me1 → IsWriter me1 0 longest 0
 entered_writer longest me me1 is told =
     let t = writer_entering longest me me1 is told in record {
-      view = t.1 ∙ sym (ap (λ (z : SeatView). Writes (writer_of z)) t.1);
-      place = ap (λ (z : SeatView). (writer_of z).slot) t.1;
+      view = t.1 ∙ sym (ap (λ (z : SeatView). Writes (writer_in z)) t.1);
+      place = ap (λ (z : SeatView). (writer_in z).slot) t.1;
       below = omega arith;
-      longest_is = ap (λ (z : SeatView). (writer_of z).longest) t.1;
-      entered = ap (λ (z : SeatView). (writer_of z).has) t.1;
+      longest_is = ap (λ (z : SeatView). (writer_in z).longest) t.1;
+      entered = ap (λ (z : SeatView). (writer_in z).has) t.1;
       own = t.0;
       holds = t.2;
       room = t.3;
-      count_is = sym (ap (λ (z : SeatView). length (writer_of z).published) t.1);
+      count_is = sym (ap (λ (z : SeatView). length (writer_in z).published) t.1);
     }
 
-pub reader_entering : (longest : ℕ) (me me1 : At) → me ≡ (Reads (first_reader longest), []) → reader_enters any_step me 0 me1
-    → (own : Latest) × (me1.0 ≡ Reads (record (first_reader longest) { has = true })) × (me1.1 ≡ (2, Some own) ∷ []) × HasRoom longest own × IsLastOf own []
-reader_entering longest me me1 is told = subst (λ (y : At). reader_enters any_step y 0 me1) is told
+pub reader_entering : (longest : ℕ) (me me1 : BufferSeat) → me ≡ (Reads (reader_at_first longest), []) → reader_enters any_step me 0 me1
+    → (own : Latest) × (me1.0 ≡ Reads (record (reader_at_first longest) { has = true })) × (me1.1 ≡ (2, Some own) ∷ []) × HasRoom longest own × IsLastOf own []
+reader_entering longest me me1 is told = subst (λ (y : BufferSeat). reader_enters any_step y 0 me1) is told
 
-pub entered_reader : (longest : ℕ) (back : Option Latest) (me me1 me2 : At) → me ≡ (Reads (first_reader longest), []) → reader_enters any_step me 0 me1
+pub entered_reader : (longest : ℕ) (back : Option Latest) (me me1 me2 : BufferSeat) → me ≡ (Reads (reader_at_first longest), []) → reader_enters any_step me 0 me1
     → me1.1 ≡ (2, back) ∷ rest me1.1 → me2 ≡ (me1.0, (2, None) ∷ rest me1.1) → IsReaderSeat me2 2 longest back
 entered_reader longest back me me1 me2 is told out left =
     let t = reader_entering longest me me1 is told in
-    let view : me2.0 ≡ Reads (record (first_reader longest) { has = true }) = ap (λ (m : At). m.0) left ∙ t.1 in record {
-      view = view ∙ sym (ap (λ (z : SeatView). Reads (reader_of z)) view);
-      place = ap (λ (z : SeatView). (reader_of z).slot) view;
+    let view : me2.0 ≡ Reads (record (reader_at_first longest) { has = true }) = ap (λ (m : BufferSeat). m.0) left ∙ t.1 in record {
+      view = view ∙ sym (ap (λ (z : SeatView). Reads (reader_in z)) view);
+      place = ap (λ (z : SeatView). (reader_in z).slot) view;
       below = omega arith;
-      longest_is = ap (λ (z : SeatView). (reader_of z).longest) view;
-      entered = ap (λ (z : SeatView). (reader_of z).has) view;
+      longest_is = ap (λ (z : SeatView). (reader_in z).longest) view;
+      entered = ap (λ (z : SeatView). (reader_in z).has) view;
       vacant = vacant_again me1 me2 2 t.0 t.2 left;
       own = t.0;
       has_own = took back me1.1 2 t.0 out t.2;
       room = t.3;
-      last = subst (λ (l : List Message). IsLastOf t.0 l) (sym (ap (λ (z : SeatView). (reader_of z).seen) view)) t.4;
-      seen = subst (λ (r : ReaderView). StartsWith r.known r.seen) (sym (ap reader_of view)) (starts_same []);
+      last = subst (λ (l : List Message). IsLastOf t.0 l) (sym (ap (λ (z : SeatView). (reader_in z).seen) view)) t.4;
+      seen = subst (λ (r : ReaderView). StartsWith r.known r.seen) (sym (ap reader_in view)) (starts_same []);
     }

@@ -14,8 +14,8 @@ use Rattle.triple_buffer.specs.declared.rule.WriterView.{WriterView}
 use Rattle.triple_buffer.specs.declared.rule.ReaderView.{ReaderView}
 use Rattle.triple_buffer.specs.declared.rule.SeatView.{SeatView}
 use Rattle.triple_buffer.specs.declared.rule.SeatView.TheVariants.{Writes, Reads, Meets, Spent}
-use Rattle.triple_buffer.specs.Rule.{HasRoom, Knows, KeptTable, LawfulBuffers, StartsWith, message_in, place_of_word}
-use Rattle.triple_buffer.specs.Plays.{At, learns, looked, published, publishes, reader_enters, sees_all, sees_newer, taken, tells_published, writer_enters}
+use Rattle.triple_buffer.specs.Rule.{HasRoom, KnowsItsEnd, KeptBuffers, LawfulBuffers, StartsWith, message_in, place_of_word}
+use Rattle.triple_buffer.specs.Plays.{BufferSeat, with_known, looked, published, writer_publishes, reader_enters, sees_all, sees_newer, taken, reader_learns, writer_enters}
 use Rattle.triple_buffer.specs.Plays.{takes as takes_all}
 
 abbrev pub T : Type 0
@@ -56,7 +56,7 @@ module _ (longest n : ℕ) (hs : Homes) (w : WriterView) (r : ReaderView) (l : L
   swapped_count slot own = length-set (set hs slot (some (Some own))) (place_of_word n) none ∙ length-set hs slot (some (Some own)) ∙ l.count
 
   pub publish_keeps : (own : Latest) → HasRoom longest own → own.number ≡ length w.published + 1 → w.has ≡ true
-      → LawfulBuffers longest (w.slot + 4) (swapped w.slot own) (publishes w (message_in own) (place_of_word n)) r
+      → LawfulBuffers longest (w.slot + 4) (swapped w.slot own) (writer_publishes w (message_in own) (place_of_word n)) r
   publish_keeps own room number entered =
       let low = l.places.1 in
       let is : place_of_word (w.slot + 4) ≡ w.slot = omega (arith, low) in
@@ -125,7 +125,7 @@ module _ (longest n : ℕ) (hs : Homes) (w : WriterView) (r : ReaderView) (l : L
 
   -- the reader knows these messages to be published, after these looks and so many steps
   pub known_keeps : (all : List Message) (looks : List Bool) (steps : ℕ) → StartsWith w.published all → StartsWith all r.seen
-      → LawfulBuffers longest n hs w (record (learns r all) { looks = looks; steps = steps })
+      → LawfulBuffers longest n hs w (record (with_known r all) { looks = looks; steps = steps })
   known_keeps all looks steps begins seen = record {
     count = l.count;
     places = l.places;
@@ -184,16 +184,16 @@ module _ (longest n : ℕ) (hs : Homes) (w : WriterView) (r : ReaderView) (l : L
 
 -- ---- the rule over seats
 
-module _ (longest : ℕ) (s : T) (k : KeptTable longest s) (id : ℕ) where
+module _ (longest : ℕ) (s : T) (k : KeptBuffers longest s) (id : ℕ) where
   -- what the seat knows becomes x; the writer's view changes only if it is the writer's seat, and the reader's too
   pub turns : (w : WriterView) (r : ReaderView) (ws : List ℕ) (hs : Homes) (x : SeatView)
       → (w ≡ k.writer) ⊎ (id ≡ k.writer_seat) → (r ≡ k.reader) ⊎ (id ≡ k.reader_seat)
-      → Knows w r k.writer_seat k.reader_seat id x → length ws ≡ 1 → LawfulBuffers longest (get_or ws 0 0) hs w r
-      → KeptTable longest (record { words = ws; homes = hs; views = set s.views id x })
+      → KnowsItsEnd w r k.writer_seat k.reader_seat id x → length ws ≡ 1 → LawfulBuffers longest (get_or ws 0 0) hs w r
+      → KeptBuffers longest (record { words = ws; homes = hs; views = set s.views id x })
   turns w r ws hs x ws_is rs_is me one ok =
       let to_w : (j : ℕ) → j ≢ id → (v : WriterView) → v ≡ k.writer → j ≡ k.writer_seat → v ≡ w = λ j ne v h at. ⊎_elim (λ (e : w ≡ k.writer). h ∙ sym e) (λ (mine : id ≡ k.writer_seat). absurd (ne (at ∙ sym mine))) ws_is in
       let to_r : (j : ℕ) → j ≢ id → (u : ReaderView) → u ≡ k.reader → j ≡ k.reader_seat → u ≡ r = λ j ne u h at. ⊎_elim (λ (e : r ≡ k.reader). h ∙ sym e) (λ (mine : id ≡ k.reader_seat). absurd (ne (at ∙ sym mine))) rs_is in
-      let others : (j : ℕ) → j ≢ id → (u : SeatView) → Knows k.writer k.reader k.writer_seat k.reader_seat j u → Knows w r k.writer_seat k.reader_seat j u = λ j ne. elim [
+      let others : (j : ℕ) → j ≢ id → (u : SeatView) → KnowsItsEnd k.writer k.reader k.writer_seat k.reader_seat j u → KnowsItsEnd w r k.writer_seat k.reader_seat j u = λ j ne. elim [
         | Writes v ↦ λ h. (to_w j ne v h.0 h.1, h.1)
         | Reads u ↦ λ h. (to_r j ne u h.0 h.1, h.1)
         | Meets v u ↦ λ h. ((to_w j ne v h.0.0 h.0.1, h.0.1), (to_r j ne u h.1.0 h.1.1, h.1.1))
@@ -206,14 +206,14 @@ module _ (longest : ℕ) (s : T) (k : KeptTable longest s) (id : ℕ) where
         one = one;
         lawful = ok;
         seats = λ j u e. ⊎_elim
-            (λ (t : (j ≡ id) × (x ≡ u)). subst (λ (z : SeatView). Knows w r k.writer_seat k.reader_seat j z) t.1 (subst (λ (i : ℕ). Knows w r k.writer_seat k.reader_seat i x) (sym t.0) me))
+            (λ (t : (j ≡ id) × (x ≡ u)). subst (λ (z : SeatView). KnowsItsEnd w r k.writer_seat k.reader_seat j z) t.1 (subst (λ (i : ℕ). KnowsItsEnd w r k.writer_seat k.reader_seat i x) (sym t.0) me))
             (λ (t : (j ≢ id) × (get_elem? s.views j ≡ some u)). others j t.0 u (k.seats j u t.1))
             (at_set s.views id j x u e);
       }
 
   -- the word is set to m
   abbrev pub Sets : ℕ → Homes → SeatView → Type 0
-  Sets m hs x = KeptTable longest (record { words = set s.words 0 m; homes = hs; views = set s.views id x })
+  Sets m hs x = KeptBuffers longest (record { words = set s.words 0 m; homes = hs; views = set s.views id x })
 
   now_is : (m : ℕ) → get_or (set s.words 0 m) 0 0 ≡ m
   now_is m = get_or-set_same s.words 0 m 0 (let o = k.one in omega (arith, o))
@@ -246,25 +246,25 @@ first_of other [] = message_in other
 first_of other (c ∷ cs) = message_or other c.1
 
 module _ (longest slots id : ℕ) where
-  abbrev pub May : At → (ℕ → ℕ) → (ℕ → At → Type 0) → Type 0
-  May me f then = Allows (KeptTable longest) slots id me 0 f then
+  abbrev pub May : BufferSeat → (ℕ → ℕ) → (ℕ → BufferSeat → Type 0) → Type 0
+  May me f then = Allows (KeptBuffers longest) slots id me 0 f then
 
   send_allowed : (w : WriterView) (own : Latest) → HasRoom longest own → own.number ≡ length w.published + 1 → w.has ≡ true
       → May (Writes w, (w.slot, Some own) ∷ []) (λ _. w.slot + 4) (published (step slots 0 (w.slot + 4) 0 none) (Writes w, (w.slot, Some own) ∷ []))
   send_allowed w own room number entered s k _ mine _ =
       let n = get_or s.words 0 0 in
       let l = writer_lawful longest s k id w mine in (
-        Writes (publishes w (message_in own) (place_of_word n)),
+        Writes (writer_publishes w (message_in own) (place_of_word n)),
         chain gives (takes (place_of_word n) (Some l.latest)),
         (tt, still longest n s.homes w k.reader l w.slot own l.apart.0),
         writer_turns longest s k id w mine (w.slot + 4) _ _ (publish_keeps longest n s.homes w k.reader l own room number entered),
-        λ slot o is. (l.latest, ap (λ (c : List (ℕ × Option Latest)). Writes (publishes w (first_of own c) (place_of_word n))) is, refl, l.places.0, l.room ∙ sym l.longest_is.0),
+        λ slot o is. (l.latest, ap (λ (c : List (ℕ × Option Latest)). Writes (writer_publishes w (first_of own c) (place_of_word n))) is, refl, l.places.0, l.room ∙ sym l.longest_is.0),
       )
 
-  pub send_at : (me : At) (w : WriterView) (slot : ℕ) (own : Latest) → me ≡ (Writes w, (slot, Some own) ∷ []) → w.slot ≡ slot → HasRoom longest own → own.number ≡ length w.published + 1 → w.has ≡ true
+  pub send_at : (me : BufferSeat) (w : WriterView) (slot : ℕ) (own : Latest) → me ≡ (Writes w, (slot, Some own) ∷ []) → w.slot ≡ slot → HasRoom longest own → own.number ≡ length w.published + 1 → w.has ≡ true
       → May me (λ _. slot + 4) (published (step slots 0 (slot + 4) 0 none) me)
   send_at me w slot own is place room number entered =
-      subst (λ (y : At). May y (λ _. slot + 4) (published (step slots 0 (slot + 4) 0 none) y)) (sym is)
+      subst (λ (y : BufferSeat). May y (λ _. slot + 4) (published (step slots 0 (slot + 4) 0 none) y)) (sym is)
       (subst (λ (z : ℕ). May (Writes w, (z, Some own) ∷ []) (λ _. z + 4) (published (step slots 0 (z + 4) 0 none) (Writes w, (z, Some own) ∷ []))) place (send_allowed w own room number entered))
 
   receive_allowed : (r : ReaderView) (own : Latest) → HasRoom longest own → r.newer ≡ true → r.has ≡ true
@@ -279,17 +279,17 @@ module _ (longest slots id : ℕ) where
         (k.writer.published, l.latest, refl, refl, l.places.0, l.room ∙ sym l.longest_is.1, l.newest (l.newer newer), l.known, l.fresh (l.newer newer)),
       )
 
-  pub receive_at : (me : At) (r : ReaderView) (slot : ℕ) (own : Latest) → me ≡ (Reads r, (slot, Some own) ∷ []) → r.slot ≡ slot → HasRoom longest own → r.newer ≡ true → r.has ≡ true
+  pub receive_at : (me : BufferSeat) (r : ReaderView) (slot : ℕ) (own : Latest) → me ≡ (Reads r, (slot, Some own) ∷ []) → r.slot ≡ slot → HasRoom longest own → r.newer ≡ true → r.has ≡ true
       → May me (λ _. slot) (taken (step slots 0 slot 0 none) me)
   receive_at me r slot own is place room newer entered =
-      subst (λ (y : At). May y (λ _. slot) (taken (step slots 0 slot 0 none) y)) (sym is)
+      subst (λ (y : BufferSeat). May y (λ _. slot) (taken (step slots 0 slot 0 none) y)) (sym is)
       (subst (λ (z : ℕ). May (Reads r, (z, Some own) ∷ []) (λ _. z) (taken (step slots 0 z 0 none) (Reads r, (z, Some own) ∷ []))) place (receive_allowed r own room newer entered))
 
   look_allowed : (r : ReaderView) (c : List (ℕ × Option Latest)) → May (Reads r, c) (λ x. x) (looked (step slots 0 0 0 none) (Reads r, c))
   look_allowed r c s k _ mine _ =
       let n = get_or s.words 0 0 in
       let l = reader_lawful longest s k id r mine in
-      let Z : Type 0 = (x : SeatView) × (a : table.Act (Option Latest)) × Valid s.homes c a × KeptTable longest (table.stepped s 0 n id c x a) × looked (step slots 0 0 0 none) (Reads r, c) n (x, table.carried_after c a) in
+      let Z : Type 0 = (x : SeatView) × (a : table.Act (Option Latest)) × Valid s.homes c a × KeptBuffers longest (table.stepped s 0 n id c x a) × looked (step slots 0 0 0 none) (Reads r, c) n (x, table.carried_after c a) in
       let all : n < 4 → Z = λ less. let same = l.all_seen less in let begins : StartsWith r.seen r.known = subst (λ (z : List Message). StartsWith z r.known) (sym same) l.known in (
         Reads (sees_all r),
         keeps,
@@ -305,7 +305,7 @@ module _ (longest slots id : ℕ) where
         (refl, (λ _. refl), λ less. absurd (omega (arith, less, more))),
       ) in ⊎_elim all more (cases_lt n 4)
 
-  pub look_at : (me : At) (r : ReaderView) → me.0 ≡ Reads r → May me (λ x. x) (looked (step slots 0 0 0 none) me)
+  pub look_at : (me : BufferSeat) (r : ReaderView) → me.0 ≡ Reads r → May me (λ x. x) (looked (step slots 0 0 0 none) me)
   look_at me r is = subst (λ (y : SeatView). May (y, me.1) (λ x. x) (looked (step slots 0 0 0 none) (y, me.1))) (sym is) (look_allowed r me.1)
 
   writer_enters_allowed : (w : WriterView) → w.has ≡ false → May (Writes w, []) (λ x. x) (writer_enters (step slots 0 0 0 none) (Writes w, []))
@@ -320,8 +320,8 @@ module _ (longest slots id : ℕ) where
         (o.0, refl, refl, o.2 ∙ sym l.longest_is.0),
       )
 
-  pub writer_enters_at : (me : At) (w : WriterView) → me ≡ (Writes w, []) → w.has ≡ false → May me (λ x. x) (writer_enters (step slots 0 0 0 none) me)
-  writer_enters_at me w is outside = subst (λ (y : At). May y (λ x. x) (writer_enters (step slots 0 0 0 none) y)) (sym is) (writer_enters_allowed w outside)
+  pub writer_enters_at : (me : BufferSeat) (w : WriterView) → me ≡ (Writes w, []) → w.has ≡ false → May me (λ x. x) (writer_enters (step slots 0 0 0 none) me)
+  writer_enters_at me w is outside = subst (λ (y : BufferSeat). May y (λ x. x) (writer_enters (step slots 0 0 0 none) y)) (sym is) (writer_enters_allowed w outside)
 
   reader_enters_allowed : (r : ReaderView) → r.has ≡ false → May (Reads r, []) (λ x. x) (reader_enters (step slots 0 0 0 none) (Reads r, []))
   reader_enters_allowed r outside s k _ mine _ =
@@ -335,22 +335,22 @@ module _ (longest slots id : ℕ) where
         (o.0, refl, refl, o.2 ∙ sym l.longest_is.1, o.3),
       )
 
-  pub reader_enters_at : (me : At) (r : ReaderView) → me ≡ (Reads r, []) → r.has ≡ false → May me (λ x. x) (reader_enters (step slots 0 0 0 none) me)
-  reader_enters_at me r is outside = subst (λ (y : At). May y (λ x. x) (reader_enters (step slots 0 0 0 none) y)) (sym is) (reader_enters_allowed r outside)
+  pub reader_enters_at : (me : BufferSeat) (r : ReaderView) → me ≡ (Reads r, []) → r.has ≡ false → May me (λ x. x) (reader_enters (step slots 0 0 0 none) me)
+  reader_enters_at me r is outside = subst (λ (y : BufferSeat). May y (λ x. x) (reader_enters (step slots 0 0 0 none) y)) (sym is) (reader_enters_allowed r outside)
 
-  tell_allowed : (w : WriterView) (r : ReaderView) (c : List (ℕ × Option Latest)) → May (Meets w r, c) (λ x. x) (tells_published (step slots 0 0 0 none) (Meets w r, c))
+  tell_allowed : (w : WriterView) (r : ReaderView) (c : List (ℕ × Option Latest)) → May (Meets w r, c) (λ x. x) (reader_learns (step slots 0 0 0 none) (Meets w r, c))
   tell_allowed w r c s k _ mine _ =
       let n = get_or s.words 0 0 in
       let me = k.seats id (Meets w r) mine in
       let l : LawfulBuffers longest n s.homes w r = subst (λ (z : WriterView). LawfulBuffers longest n s.homes z r) (sym me.0.0) (subst (λ (z : ReaderView). LawfulBuffers longest n s.homes k.writer z) (sym me.1.0) k.lawful) in
       let ok = known_keeps longest n s.homes w r l w.published r.looks r.steps (starts_same w.published) (starts_trans w.published r.known r.seen l.known l.seen) in (
-        Meets w (learns r w.published),
+        Meets w (with_known r w.published),
         keeps,
         tt,
-        turns longest s k id w (learns r w.published) _ _ (Meets w (learns r w.published)) (inl me.0.0) (inr me.1.1) ((refl, me.0.1), (refl, me.1.1)) (length-set s.words 0 n ∙ k.one)
-            (subst (λ (z : List ℕ). LawfulBuffers longest (get_or z 0 0) s.homes w (learns r w.published)) (sym (set-get_or s.words 0 0)) ok),
+        turns longest s k id w (with_known r w.published) _ _ (Meets w (with_known r w.published)) (inl me.0.0) (inr me.1.1) ((refl, me.0.1), (refl, me.1.1)) (length-set s.words 0 n ∙ k.one)
+            (subst (λ (z : List ℕ). LawfulBuffers longest (get_or z 0 0) s.homes w (with_known r w.published)) (sym (set-get_or s.words 0 0)) ok),
         (refl, refl, l.known),
       )
 
-  pub tell_at : (me : At) (w : WriterView) (r : ReaderView) → me.0 ≡ Meets w r → May me (λ x. x) (tells_published (step slots 0 0 0 none) me)
-  tell_at me w r is = subst (λ (y : SeatView). May (y, me.1) (λ x. x) (tells_published (step slots 0 0 0 none) (y, me.1))) (sym is) (tell_allowed w r me.1)
+  pub tell_at : (me : BufferSeat) (w : WriterView) (r : ReaderView) → me.0 ≡ Meets w r → May me (λ x. x) (reader_learns (step slots 0 0 0 none) me)
+  tell_at me w r is = subst (λ (y : SeatView). May (y, me.1) (λ x. x) (reader_learns (step slots 0 0 0 none) (y, me.1))) (sym is) (tell_allowed w r me.1)

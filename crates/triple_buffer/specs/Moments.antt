@@ -8,7 +8,7 @@ use Rattle.triple_buffer.specs.declared.latest.Latest.{Latest}
 use Rattle.triple_buffer.specs.declared.rule.SeatView.{SeatView}
 use Rattle.triple_buffer.specs.declared.rule.SeatView.TheVariants.{Reads, Writes}
 use Rattle.triple_buffer.specs.declared.rule.WriterView.{WriterView}
-use Rattle.triple_buffer.specs.Plays.{At, looked, reader_of, taken}
+use Rattle.triple_buffer.specs.Plays.{BufferSeat, looked, reader_in, taken}
 use Rattle.triple_buffer.specs.Rule.{place_of_word}
 
 -- the word, the buffers that no end has, and what each seat knows
@@ -17,12 +17,12 @@ abbrev pub BufferState : Type 0
 BufferState = table.State (Option Latest) SeatView
 
 -- the seat of this number knows this
-abbrev pub SeatKnows : BufferState → ℕ → SeatView → Type 0
-SeatKnows s seat view = get_elem? s.views seat ≡ some view
+abbrev pub SeatSees : BufferState → ℕ → SeatView → Type 0
+SeatSees s seat view = get_elem? s.views seat ≡ some view
 
 -- a step that a seat makes
-abbrev pub SeatStep : Type 0
-SeatStep = table.Step (Option Latest)
+abbrev pub BufferStep : Type 0
+BufferStep = table.Step (Option Latest)
 
 -- the word between the ends
 abbrev pub word_in : BufferState → ℕ
@@ -40,7 +40,7 @@ HasNoMark word = word < 4
 pub record ArePublished (s : BufferState) (messages : List Message) : Type 0 where
   pub seat : ℕ
   pub writer : WriterView
-  pub knows : SeatKnows s seat (Writes writer)
+  pub knows : SeatSees s seat (Writes writer)
   pub all : messages ≡ writer.published
 
 -- the buffer that lies between the ends
@@ -49,18 +49,18 @@ LiesBetween s latest = get_elem? s.homes (place_of_word (word_in s)) ≡ some (s
 
 -- In this state a reader's seat looks: the load finds the word as it is. After it the seat is this.
 -- rule: CONC-16, CONC-17
-pub record LooksIn (s : BufferState) (load : SeatStep) (before after : At) : Type 0 where
+pub record LooksAtWord (s : BufferState) (load : BufferStep) (before after : BufferSeat) : Type 0 where
   pub seat : ℕ
-  pub knows : SeatKnows s seat before.0
-  pub reader : before.0 ≡ Reads (reader_of before.0)
+  pub knows : SeatSees s seat before.0
+  pub reader : before.0 ≡ Reads (reader_in before.0)
   pub told : looked load before (word_in s) after
 
 -- By this exchange a reader's seat took the buffer between the ends, and left its own there, without the mark. This is
 -- the state right after it, and the seat.
 -- rule: CONC-16, CONC-17
-pub record TookIn (s : BufferState) (swap : SeatStep) (found : ℕ) (before after : At) : Type 0 where
+pub record TookIn (s : BufferState) (swap : BufferStep) (found : ℕ) (before after : BufferSeat) : Type 0 where
   pub seat : ℕ
-  pub knows : SeatKnows s seat after.0
+  pub knows : SeatSees s seat after.0
   pub stored : word_in s ≡ swap.first
   pub unmarked : HasNoMark swap.first
   pub told : taken swap before found after

@@ -2,7 +2,7 @@
 use Rattle.std.specs.Prelude.{◌≡◌, ℕ, ◌+◌, ◌<◌, ◌≤◌, true, false, List, [], ◌∷◌, ◌++◌, length, Option, Some}
 use Rattle.atomic_table.specs.Table.{Me, Step}
 use Rattle.es_base.specs.declared.event.Message.{Message}
-use Rattle.triple_buffer.specs.Rule.{HasRoom, IsLastOf, StartsWith, message_in, place_of_word, first_writer, first_reader}
+use Rattle.triple_buffer.specs.Rule.{HasRoom, IsLastOf, StartsWith, message_in, place_of_word, writer_at_first, reader_at_first}
 use Rattle.triple_buffer.specs.declared.latest.Latest.{Latest}
 use Rattle.triple_buffer.specs.declared.rule.WriterView.{WriterView}
 use Rattle.triple_buffer.specs.declared.rule.ReaderView.{ReaderView}
@@ -10,18 +10,18 @@ use Rattle.triple_buffer.specs.declared.rule.SeatView.{SeatView}
 use Rattle.triple_buffer.specs.declared.rule.SeatView.TheVariants.{Writes, Reads, Meets, Spent}
 
 -- a seat, before or after a step
-abbrev pub At : Type 0
-At = Me (Option Latest) SeatView
+abbrev pub BufferSeat : Type 0
+BufferSeat = Me (Option Latest) SeatView
 
-abbrev pub writer_of : SeatView → WriterView
-writer_of (Writes writer) = writer
-writer_of (Meets writer reader) = writer
-writer_of _ = first_writer 0
+abbrev pub writer_in : SeatView → WriterView
+writer_in (Writes writer) = writer
+writer_in (Meets writer reader) = writer
+writer_in _ = writer_at_first 0
 
-abbrev pub reader_of : SeatView → ReaderView
-reader_of (Reads reader) = reader
-reader_of (Meets writer reader) = reader
-reader_of _ = first_reader 0
+abbrev pub reader_in : SeatView → ReaderView
+reader_in (Reads reader) = reader
+reader_in (Meets writer reader) = reader
+reader_in _ = reader_at_first 0
 
 -- ---- the writer
 
@@ -36,15 +36,15 @@ IsFilledAt before after slot number message = (old : Option Latest) × (new : Op
     × IsFilled old new number message
 
 -- one step more
-abbrev pub publishes : WriterView → Message → ℕ → WriterView
-publishes writer message slot = record writer { published = writer.published ++ message ∷ []; slot = slot; steps = writer.steps + 1 }
+abbrev pub writer_publishes : WriterView → Message → ℕ → WriterView
+writer_publishes writer message slot = record writer { published = writer.published ++ message ∷ []; slot = slot; steps = writer.steps + 1 }
 
 -- it swapped its buffer, which has this message, with the one between the ends
 -- rule: CONC-16
-abbrev pub published : Step (Option Latest) → At → ℕ → At → Type 0
+abbrev pub published : Step (Option Latest) → BufferSeat → ℕ → BufferSeat → Type 0
 published step me found me' = (slot : ℕ) (own : Latest) → me.1 ≡ (slot, Some own) ∷ [] → (other : Latest)
-    × (me'.0 ≡ Writes (publishes (writer_of me.0) (message_in own) (place_of_word found))) × (me'.1 ≡ (place_of_word found, Some other) ∷ [])
-    × (place_of_word found < 3) × HasRoom (writer_of me.0).longest other
+    × (me'.0 ≡ Writes (writer_publishes (writer_in me.0) (message_in own) (place_of_word found))) × (me'.1 ≡ (place_of_word found, Some other) ∷ [])
+    × (place_of_word found < 3) × HasRoom (writer_in me.0).longest other
 
 -- ---- the reader
 
@@ -71,46 +71,46 @@ takes reader all slot = record {
 
 -- it loaded the word: there is a newer message between the ends, or it has the last that was published
 -- rule: CONC-16
-abbrev pub looked : Step (Option Latest) → At → ℕ → At → Type 0
-looked step me found me' = (me'.1 ≡ me.1) × (4 ≤ found → me'.0 ≡ Reads (sees_newer (reader_of me.0)))
-    × (found < 4 → (me'.0 ≡ Reads (sees_all (reader_of me.0))) × StartsWith (reader_of me.0).seen (reader_of me.0).known)
+abbrev pub looked : Step (Option Latest) → BufferSeat → ℕ → BufferSeat → Type 0
+looked step me found me' = (me'.1 ≡ me.1) × (4 ≤ found → me'.0 ≡ Reads (sees_newer (reader_in me.0)))
+    × (found < 4 → (me'.0 ≡ Reads (sees_all (reader_in me.0))) × StartsWith (reader_in me.0).seen (reader_in me.0).known)
 
 -- it swapped its buffer with the one between the ends, which has the last message that was published, a newer one than
 -- its own
 -- rule: CONC-16
-abbrev pub taken : Step (Option Latest) → At → ℕ → At → Type 0
-taken step me found me' = (all : List Message) × (latest : Latest) × (me'.0 ≡ Reads (takes (reader_of me.0) all (place_of_word found)))
-    × (me'.1 ≡ (place_of_word found, Some latest) ∷ []) × (place_of_word found < 3) × HasRoom (reader_of me.0).longest latest × IsLastOf latest all
-    × StartsWith all (reader_of me.0).known × (length (reader_of me.0).seen < length all)
+abbrev pub taken : Step (Option Latest) → BufferSeat → ℕ → BufferSeat → Type 0
+taken step me found me' = (all : List Message) × (latest : Latest) × (me'.0 ≡ Reads (takes (reader_in me.0) all (place_of_word found)))
+    × (me'.1 ≡ (place_of_word found, Some latest) ∷ []) × (place_of_word found < 3) × HasRoom (reader_in me.0).longest latest × IsLastOf latest all
+    × StartsWith all (reader_in me.0).known × (length (reader_in me.0).seen < length all)
 
 -- ---- the opening: the two are parted, and each takes its buffer. It counts no step
 
-abbrev pub parted : SeatView → SeatView
-parted (Meets writer reader) = Reads reader
-parted view = view
+abbrev pub seat_parted : SeatView → SeatView
+seat_parted (Meets writer reader) = Reads reader
+seat_parted view = view
 
-abbrev pub writer_again : SeatView → SeatView
-writer_again (Meets writer reader) = Writes writer
-writer_again view = Spent
+abbrev pub writer_left : SeatView → SeatView
+writer_left (Meets writer reader) = Writes writer
+writer_left view = Spent
 
-abbrev pub writer_enters : Step (Option Latest) → At → ℕ → At → Type 0
-writer_enters step me found me' = (own : Latest) × (me'.0 ≡ Writes (record (writer_of me.0) { has = true }))
-    × (me'.1 ≡ ((writer_of me.0).slot, Some own) ∷ []) × HasRoom (writer_of me.0).longest own
+abbrev pub writer_enters : Step (Option Latest) → BufferSeat → ℕ → BufferSeat → Type 0
+writer_enters step me found me' = (own : Latest) × (me'.0 ≡ Writes (record (writer_in me.0) { has = true }))
+    × (me'.1 ≡ ((writer_in me.0).slot, Some own) ∷ []) × HasRoom (writer_in me.0).longest own
 
-abbrev pub reader_enters : Step (Option Latest) → At → ℕ → At → Type 0
-reader_enters step me found me' = (own : Latest) × (me'.0 ≡ Reads (record (reader_of me.0) { has = true }))
-    × (me'.1 ≡ ((reader_of me.0).slot, Some own) ∷ []) × HasRoom (reader_of me.0).longest own × IsLastOf own (reader_of me.0).seen
+abbrev pub reader_enters : Step (Option Latest) → BufferSeat → ℕ → BufferSeat → Type 0
+reader_enters step me found me' = (own : Latest) × (me'.0 ≡ Reads (record (reader_in me.0) { has = true }))
+    × (me'.1 ≡ ((reader_in me.0).slot, Some own) ∷ []) × HasRoom (reader_in me.0).longest own × IsLastOf own (reader_in me.0).seen
 
 -- ---- a meeting: the writer's seat joins the reader's, which learns what is published, and is parted from it again. It
 -- counts no step
 
-abbrev pub learns : ReaderView → List Message → ReaderView
-learns reader all = record reader { known = all }
+abbrev pub with_known : ReaderView → List Message → ReaderView
+with_known reader all = record reader { known = all }
 
-abbrev pub met : SeatView → SeatView → SeatView
-met (Reads reader) (Writes writer) = Meets writer reader
-met view other = view
+abbrev pub seats_met : SeatView → SeatView → SeatView
+seats_met (Reads reader) (Writes writer) = Meets writer reader
+seats_met view other = view
 
-abbrev pub tells_published : Step (Option Latest) → At → ℕ → At → Type 0
-tells_published step me found me' = (me'.1 ≡ me.1) × (me'.0 ≡ Meets (writer_of me.0) (learns (reader_of me.0) (writer_of me.0).published))
-    × StartsWith (writer_of me.0).published (reader_of me.0).known
+abbrev pub reader_learns : Step (Option Latest) → BufferSeat → ℕ → BufferSeat → Type 0
+reader_learns step me found me' = (me'.1 ≡ me.1) × (me'.0 ≡ Meets (writer_in me.0) (with_known (reader_in me.0) (writer_in me.0).published))
+    × StartsWith (writer_in me.0).published (reader_in me.0).known

@@ -61,26 +61,26 @@ pub record LawfulBuffers (longest word : ℕ) (homes : List (maybe.Option (Optio
 
 -- what a seat knows, given which seats are the writer's and the reader's
 module _ (w : WriterView) (r : ReaderView) (writer reader seat : ℕ) where
-  abbrev pub Knows : SeatView → Type 0
-  Knows (Writes v) = (v ≡ w) × (seat ≡ writer)
-  Knows (Reads u) = (u ≡ r) × (seat ≡ reader)
-  Knows (Meets v u) = ((v ≡ w) × (seat ≡ writer)) × ((u ≡ r) × (seat ≡ reader))
-  Knows Spent = Unit {0}
+  abbrev pub KnowsItsEnd : SeatView → Type 0
+  KnowsItsEnd (Writes v) = (v ≡ w) × (seat ≡ writer)
+  KnowsItsEnd (Reads u) = (u ≡ r) × (seat ≡ reader)
+  KnowsItsEnd (Meets v u) = ((v ≡ w) × (seat ≡ writer)) × ((u ≡ r) × (seat ≡ reader))
+  KnowsItsEnd Spent = Unit {0}
 
 -- rule: CONC-15
-pub record KeptTable (longest : ℕ) (s : table.State (Option Latest) SeatView) : Type 0 where
+pub record KeptBuffers (longest : ℕ) (s : table.State (Option Latest) SeatView) : Type 0 where
   pub writer : WriterView
   pub reader : ReaderView
   pub writer_seat : ℕ
   pub reader_seat : ℕ
   pub one : length s.words ≡ 1
   pub lawful : LawfulBuffers longest (slice_index s.words 0) s.homes writer reader
-  pub seats : (seat : ℕ) (view : SeatView) → get_elem? s.views seat ≡ some view → Knows writer reader writer_seat reader_seat seat view
+  pub seats : (seat : ℕ) (view : SeatView) → get_elem? s.views seat ≡ some view → KnowsItsEnd writer reader writer_seat reader_seat seat view
 
 -- ---- before the first step: the word is 1
 
-abbrev pub first_writer : ℕ → WriterView
-first_writer longest = record { published = []; slot = 0; has = false; longest = longest; steps = 0 }
+abbrev pub writer_at_first : ℕ → WriterView
+writer_at_first longest = record { published = []; slot = 0; has = false; longest = longest; steps = 0 }
 
-abbrev pub first_reader : ℕ → ReaderView
-first_reader longest = record { seen = []; known = []; newer = false; slot = 2; has = false; longest = longest; looks = []; steps = 0 }
+abbrev pub reader_at_first : ℕ → ReaderView
+reader_at_first longest = record { seen = []; known = []; newer = false; slot = 2; has = false; longest = longest; looks = []; steps = 0 }

@@ -1,8 +1,8 @@
 //! The steps of both ends at their table, each in one call. The ends reach the table by no other: so a publication and a
 //! look make no step, and no load, but those of the calls here.
 ghost use Rattle.std.specs.Prelude.{◌≡◌, ◌≤◌, [], ◌∷◌, true, length, IfOk, IsTrue, IsFalse, Some};
-ghost use Rattle.triple_buffer.specs.Rule.{StartsWith, first_reader, first_writer, message};
-ghost use Rattle.triple_buffer.specs.Plays.{IsFilled, IsFilledAt, learns, looked, met, parted, published, reader_enters, reader_of, sees_all, sees_newer, taken, tells_published, writer_again, writer_enters, writer_of};
+ghost use Rattle.triple_buffer.specs.Rule.{StartsWith, reader_at_first, writer_at_first, message};
+ghost use Rattle.triple_buffer.specs.Plays.{IsFilled, IsFilledAt, with_known, looked, seats_met, seat_parted, published, reader_enters, reader_in, sees_all, sees_newer, taken, reader_learns, writer_left, writer_enters, writer_in};
 ghost use Rattle.triple_buffer.specs.Ends.{AreThree, IsPublishedBy, IsReaderSeat, IsReceived, IsWriter, MayReceive, MaySend};
 ghost use Rattle.triple_buffer.specs.declared.rule.SeatView.TheVariants.{Reads, Spent, Writes};
 
@@ -26,9 +26,9 @@ pub(crate) struct Buffers {
 struct Part;
 
 impl Split<SeatView> for Part {
-    ghost left = { parted };
+    ghost left = { seat_parted };
 
-    ghost right = { writer_again };
+    ghost right = { writer_left };
 }
 
 struct WriterEnters;
@@ -72,7 +72,7 @@ impl Split<SeatView> for Lend {
 struct Both;
 
 impl Join<SeatView> for Both {
-    ghost both = { met };
+    ghost both = { seats_met };
 
     ghost spent = { Spent };
 }
@@ -80,7 +80,7 @@ impl Join<SeatView> for Both {
 struct Told;
 
 impl Play<Option<Latest>, SeatView> for Told {
-    ghost then = { tells_published };
+    ghost then = { reader_learns };
 }
 
 struct Regain;
@@ -100,8 +100,8 @@ pub(crate) fn open(
 ) -> Result<(Buffers, Right, Right, Option<Latest>), Memory>
     requires { AreThree longest three.items }
     ensures table { IfOk result (λ t. (t.0.table.shared.key ≡ longest) × (t.1.table_id ≡ t.0.table.shared.table_id) × (t.2.table_id ≡ t.0.table.shared.table_id)) }
-    ensures writer { IfOk result (λ t. IsWriter t.1.me 0 longest 0 × (t.1.me.0 ≡ Writes (record (first_writer longest) { has = true }))) }
-    ensures reader { IfOk result (λ t. IsReaderSeat t.2.me 2 longest t.3 × (t.2.me.0 ≡ Reads (record (first_reader longest) { has = true }))) }
+    ensures writer { IfOk result (λ t. IsWriter t.1.me 0 longest 0 × (t.1.me.0 ≡ Writes (record (writer_at_first longest) { has = true }))) }
+    ensures reader { IfOk result (λ t. IsReaderSeat t.2.me 2 longest t.3 × (t.2.me.0 ≡ Reads (record (reader_at_first longest) { has = true }))) }
 {
     let key = longest as u64;
     let (table, mut reader) = match Table::new(alloc, &[1u64], three, &key) {
@@ -159,10 +159,10 @@ impl Buffers {
     /// Whether the buffer between the ends is newer than the reader's own: one load.
     pub(crate) fn look(&self, right: &mut Right) -> bool
         requires table { right.old.table_id ≡ self.now.table.shared.table_id }
-        requires reader { right.old.me.0 ≡ Reads (reader_of right.old.me.0) }
+        requires reader { right.old.me.0 ≡ Reads (reader_in right.old.me.0) }
         ensures table { (right.new.table_id ≡ right.old.table_id) × (right.new.me.1 ≡ right.old.me.1) }
-        ensures newer { IsTrue result → right.new.me.0 ≡ Reads (sees_newer (reader_of right.old.me.0)) }
-        ensures all { IsFalse result → (right.new.me.0 ≡ Reads (sees_all (reader_of right.old.me.0))) × StartsWith (reader_of right.old.me.0).seen (reader_of right.old.me.0).known }
+        ensures newer { IsTrue result → right.new.me.0 ≡ Reads (sees_newer (reader_in right.old.me.0)) }
+        ensures all { IsFalse result → (right.new.me.0 ≡ Reads (sees_all (reader_in right.old.me.0))) × StartsWith (reader_in right.old.me.0).seen (reader_in right.old.me.0).known }
     {
         self.table.shared.load::<Looked>(right, 0) >= FRESH
     }
@@ -188,12 +188,12 @@ impl Buffers {
     /// Joins the writer's right with the reader's, which then knows all that was published, and parts them again.
     pub(crate) fn meet(&self, writer: &mut Right, reader: &mut Right)
         requires table { (writer.old.table_id ≡ self.now.table.shared.table_id) × (reader.old.table_id ≡ self.now.table.shared.table_id) }
-        requires writer { writer.old.me.0 ≡ Writes (writer_of writer.old.me.0) }
-        requires reader { reader.old.me.0 ≡ Reads (reader_of reader.old.me.0) }
+        requires writer { writer.old.me.0 ≡ Writes (writer_in writer.old.me.0) }
+        requires reader { reader.old.me.0 ≡ Reads (reader_in reader.old.me.0) }
         ensures table { (writer.new.table_id ≡ writer.old.table_id) × (reader.new.table_id ≡ reader.old.table_id) }
         ensures writer { writer.new.me ≡ writer.old.me }
-        ensures reader { reader.new.me ≡ (Reads (learns (reader_of reader.old.me.0) (writer_of writer.old.me.0).published), reader.old.me.1) }
-        ensures before { StartsWith (writer_of writer.old.me.0).published (reader_of reader.old.me.0).known }
+        ensures reader { reader.new.me ≡ (Reads (with_known (reader_in reader.old.me.0) (writer_in writer.old.me.0).published), reader.old.me.1) }
+        ensures before { StartsWith (writer_in writer.old.me.0).published (reader_in reader.old.me.0).known }
     {
         let shared = &self.table.shared;
         let lent = shared.split_seat::<Lend>(writer);

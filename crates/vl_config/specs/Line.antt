@@ -9,11 +9,11 @@ use Rattle.vl_config.specs.declared.fault.ConfigFault.{ConfigFault}
 use Rattle.vl_config.specs.declared.fault.ConfigFault.TheVariants as faults
 use Rattle.vl_config.specs.declared.fault.Key.{Key}
 use Rattle.vl_config.specs.declared.fault.Key.TheVariants as keys
-use Rattle.vl_config.specs.declared.line.Heading.{Heading}
-use Rattle.vl_config.specs.declared.line.Heading.TheVariants.{Link, Port, Other, Not}
-use Rattle.vl_config.specs.declared.line.Seen.{Seen}
-use Rattle.vl_config.specs.declared.line.Sought.{Sought}
-use Rattle.vl_config.specs.declared.place.FaultPlace.{FaultPlace}
+use Rattle.vl_config.specs.declared.document.line.Heading.{Heading}
+use Rattle.vl_config.specs.declared.document.line.Heading.TheVariants.{Link, Port, Other, Not}
+use Rattle.vl_config.specs.declared.document.line.Seen.{Seen}
+use Rattle.vl_config.specs.declared.document.line.Sought.{Sought}
+use Rattle.vl_config.specs.declared.document.place.FaultPlace.{FaultPlace}
 
 -- one more; a count stops at the greatest number of 64 bits
 abbrev pub next : ℕ → ℕ

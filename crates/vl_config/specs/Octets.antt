@@ -7,7 +7,7 @@ use Rattle.vl_config.specs.Line.{line_in, line_of_octet}
 use Rattle.vl_config.specs.Place.{nowhere, fault_place_of}
 use Rattle.vl_config.specs.declared.fault.ConfigFault.{ConfigFault}
 use Rattle.vl_config.specs.declared.fault.ConfigFault.TheVariants.{Text}
-use Rattle.vl_config.specs.declared.place.FaultPlace.{FaultPlace}
+use Rattle.vl_config.specs.declared.document.place.FaultPlace.{FaultPlace}
 
 -- the text that these octets are, if they are one
 -- rule: CONF-21

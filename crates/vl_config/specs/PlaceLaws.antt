@@ -8,7 +8,7 @@ use Rattle.es_base.specs.Settings.{Settings}
 use Rattle.vl_config.specs.declared.fault.ConfigFault.{ConfigFault}
 use Rattle.vl_config.specs.declared.fault.ConfigFault.TheVariants.{Text}
 use Rattle.vl_config.specs.declared.fault.Key.TheVariants as keys
-use Rattle.vl_config.specs.declared.place.FaultPlace.{FaultPlace}
+use Rattle.vl_config.specs.declared.document.place.FaultPlace.{FaultPlace}
 use Rattle.vl_config.specs.Collected.{collected}
 use Rattle.vl_config.specs.Document.{constant_if, link_tables}
 use Rattle.vl_config.specs.Link.{Head, head_from, link_from}

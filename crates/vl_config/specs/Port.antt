@@ -16,8 +16,8 @@ use Rattle.es_base.specs.Config.{has_name}
 use Rattle.vl_config.specs.declared.fault.ConfigFault.{ConfigFault}
 use Rattle.vl_config.specs.declared.fault.ConfigFault.TheVariants.{Range, DoubleName, DoublePort}
 use Rattle.vl_config.specs.declared.fault.Key.TheVariants as keys
-use Rattle.vl_config.specs.declared.port.Service.{Service}
-use Rattle.vl_config.specs.declared.port.Service.TheVariants.{Sampling, Queuing}
+use Rattle.vl_config.specs.declared.document.port.Service.{Service}
+use Rattle.vl_config.specs.declared.document.port.Service.TheVariants.{Sampling, Queuing}
 use Rattle.vl_config.specs.Table.{text_at, integer_at, integer_or, u16_value_at}
 
 abbrev pub name_from : List ℕ → Result (List ℕ) ConfigFault

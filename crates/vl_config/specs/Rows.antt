@@ -14,8 +14,8 @@ use Rattle.vl_config.specs.declared.fault.ConfigFault.{ConfigFault}
 use Rattle.vl_config.specs.declared.fault.ConfigFault.TheVariants.{DoubleLink, Memory, Missing, Range, TooMany}
 use Rattle.vl_config.specs.declared.fault.Key.{Key}
 use Rattle.vl_config.specs.declared.fault.Key.TheVariants as keys
-use Rattle.vl_config.specs.declared.port.Service.{Service}
-use Rattle.vl_config.specs.declared.port.Service.TheVariants.{Sampling, Queuing}
+use Rattle.vl_config.specs.declared.document.port.Service.{Service}
+use Rattle.vl_config.specs.declared.document.port.Service.TheVariants.{Sampling, Queuing}
 use Rattle.vl_config.specs.declared.rows.LinkRow.{LinkRow}
 use Rattle.vl_config.specs.declared.rows.PortRow.{PortRow}
 use Rattle.vl_config.specs.declared.rows.TableFault.{TableFault}

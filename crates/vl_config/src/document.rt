@@ -9,9 +9,16 @@ ghost use Rattle.vl_config.specs.Fault.{GivesOrMemory};
 ghost use Rattle.vl_config.specs.Document.{config_in, config_from, constant_if, constant_from, link_tables};
 ghost use Rattle.vl_config.specs.Link.{links_from};
 
-use crate::link::link_from;
+pub(crate) mod line;
+pub(crate) mod link;
+pub(crate) mod octets;
+pub(crate) mod place;
+pub(crate) mod port;
+pub(crate) mod table;
+
+use crate::document::link::link_from;
+use crate::document::table::{required, tables_from, text_from, value_at};
 use crate::names::Names;
-use crate::table::{required, tables_from, text_from, value_at};
 use crate::{Config, ConfigFault, Key, MOST_LINKS};
 use es_base::Links;
 use hex::FromHex;

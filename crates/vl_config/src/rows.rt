@@ -10,11 +10,11 @@ ghost use Rattle.vl_config.specs.Names.{AreNamesOf, is_among_names};
 ghost use Rattle.vl_config.specs.Port.{largest_message};
 ghost use Rattle.vl_config.specs.Rows.{GivesLink, GivesRow, GivesTable, bounded, has_row_name, head_of_row, if_none_left, kind_of_row, link_number_of_row, link_of_row, links_of_rows, name_of_row, port_of_row, ports_of_rows, redundancy_of_row, rows_of_link, service_of_row, table_of};
 
-use crate::link::has_link_number;
+use crate::document::link::has_link_number;
+use crate::document::octets::text_of;
+use crate::document::place::NOWHERE;
+use crate::document::port::{Service, largest_message};
 use crate::names::Names;
-use crate::octets::text_of;
-use crate::place::NOWHERE;
-use crate::port::{Service, largest_message};
 use crate::{Config, ConfigFault, FaultPlace, Key, MOST_LINKS};
 use es_base::{
     DEEPEST_QUEUE, LONGEST_REASSEMBLY, LONGEST_REFRESH, LONGEST_SKEW, LinkNo, LinkSettings, Links,

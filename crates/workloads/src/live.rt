@@ -185,7 +185,7 @@ fn give_each<R: Wait>(
         let sent = traffic.send();
         let time = sent.time.wrapping_add(late);
         let reply = system.receive(rt, pass, time, traffic.octets(sent));
-        replies.add(sent.number, reply);
+        replies.add_live(sent.number, reply);
     }
 }
 
@@ -230,7 +230,7 @@ fn give_burst<R: Wait>(
     let mut answers = [NOTHING; BURST];
     system.receive_all(rt, pass, &frames, &mut answers);
     for place in 0..BURST {
-        replies.add(burst[place].number, answers[place]);
+        replies.add_live(burst[place].number, answers[place]);
     }
 }
 

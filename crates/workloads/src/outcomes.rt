@@ -103,14 +103,32 @@ impl Replies {
 
     /// Adds the reply to a copy of the frame with this number.
     pub(crate) fn add(&mut self, frame: u64, reply: Reply) {
-        let number = match reply {
-            Reply::Filtered(cause) => cause_number(cause),
-            Reply::Link { vl, place, verdict } => {
-                let place = mixed(mixed(u64::from(vl.0)) ^ place);
-                self.places = self.places.wrapping_add(place);
-                verdict_number(verdict)
-            }
-        };
+        match reply {
+            Reply::Filtered(cause) => self.add_number(frame, cause_number(cause)),
+            Reply::Link { vl, place, verdict } => self.add_event(frame, vl, place, verdict),
+        }
+    }
+
+    /// Adds a reply of a system that keeps no frame.
+    pub(crate) fn add_live(&mut self, frame: u64, reply: live_system::Reply) {
+        match reply {
+            live_system::Reply::Filtered(cause) => self.add_number(frame, cause_number(cause)),
+            live_system::Reply::Link {
+                at: _,
+                vl,
+                place,
+                verdict,
+            } => self.add_event(frame, vl, place, verdict),
+        }
+    }
+
+    fn add_event(&mut self, frame: u64, vl: LinkNo, place: u64, verdict: Verdict) {
+        let place = mixed(mixed(u64::from(vl.0)) ^ place);
+        self.places = self.places.wrapping_add(place);
+        self.add_number(frame, verdict_number(verdict));
+    }
+
+    fn add_number(&mut self, frame: u64, number: u64) {
         let verdict = mixed(mixed(frame) ^ number);
         self.verdicts = self.verdicts.wrapping_add(verdict);
     }

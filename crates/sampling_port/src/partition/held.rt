@@ -24,9 +24,9 @@ pub struct HeldMessage {
 impl Model for HeldMessage {
     ghost use Rattle.std.specs.Prelude.{◌≤◌};
     ghost use Rattle.slot_core.specs.Limits.{longest_message};
-    ghost use Rattle.sampling_port.specs.Partition.{PortReader};
+    ghost use Rattle.sampling_port.specs.Partition.{PartitionView};
 
-    ghost Value = { PortReader };
+    ghost Value = { PartitionView };
 
     ghost view = { λ h. record { end = h.held; refresh = h.refresh; max = h.max } };
 

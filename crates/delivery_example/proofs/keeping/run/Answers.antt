@@ -2,8 +2,12 @@ use Rattle.std.proofs.Common.{refl, subst, sym, List}
 use Rattle.es_base.specs.declared.place.Net.{Net}
 use Rattle.es_base.specs.Config.{Configuration}
 use Rattle.end_system.specs.declared.ends.LinkEnds.{LinkEnds}
-use Rattle.end_system.specs.Run.{AreOpened, HasSettled, Passes, Ran, Step}
-use Rattle.end_system.specs.System.{System}
+use Rattle.network_calls.specs.Ended.{HasSettled}
+use Rattle.network_calls.specs.Passes.{System}
+use Rattle.network_calls.specs.Threads.{BothPasses}
+use Rattle.end_system.specs.Pass.{KnownLink}
+use Rattle.end_system.specs.Run.{AreOpened, Ran, Step}
+use Rattle.end_system.specs.System.{keeping_history}
 use Rattle.delivery_example.specs.Example.{AreOfTheExample}
 use Rattle.delivery_example.specs.Keeping.{steps_of_keeping}
 use Rattle.delivery_example.proofs.KeepingCalls.{given_once}
@@ -13,11 +17,11 @@ pub returns-clause-ended : goal.returns-clause-ended
 returns-clause-ended g c =
     let opening = c.in_ok-system.field-0 in
     let system : System = opening.system in
-    let first : Passes = record { a = opening.a; b = opening.b } in
-    let second : Passes = record { a = c.receive.new.pass; b = opening.b } in
-    let third : Passes = record { a = c.receive.new.pass; b = c.receive-2.new.pass } in
-    let fourth : Passes = record { a = c.take_epoch.new.pass; b = c.receive-2.new.pass } in
-    let last : Passes = record { a = c.take_epoch.new.pass; b = c.receive-3.new.pass } in
+    let first : BothPasses KnownLink = record { a = opening.a; b = opening.b } in
+    let second : BothPasses KnownLink = record { a = c.receive.new.pass; b = opening.b } in
+    let third : BothPasses KnownLink = record { a = c.receive.new.pass; b = c.receive-2.new.pass } in
+    let fourth : BothPasses KnownLink = record { a = c.take_epoch.new.pass; b = c.receive-2.new.pass } in
+    let last : BothPasses KnownLink = record { a = c.take_epoch.new.pass; b = c.receive-3.new.pass } in
     let ends : List LinkEnds = opening.ends.items in
     let epoch = c.in-Ok.epoch in
     let steps : List (Net × Step) = steps_of_keeping c.args.on_a.now c.args.first_on_b.now c.args.second_on_b.now c.in_ok-to_a.to_a c.in_ok-to_b.to_b c.in_ok-to_b_again.to_b_again epoch in
@@ -41,7 +45,7 @@ returns-clause-ended g c =
       ),
       record { own = c.in_ok-to_b_again.ensures.own; of_net = c.in_ok-to_b_again.ensures.net; does = c.in_ok-to_b_again.ensures.ok; other = refl },
     ) in
-    let settles : HasSettled system last c.settle.result.links.items c.settle.result.a c.settle.result.b = record {
+    let settles : HasSettled keeping_history system last c.settle.result.links.items c.settle.result.a c.settle.result.b = record {
       links = c.settle.ensures.links;
       counted_a = c.settle.ensures.a;
       counted_b = c.settle.ensures.b;

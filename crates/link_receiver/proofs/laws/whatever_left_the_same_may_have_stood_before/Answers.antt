@@ -1,5 +1,5 @@
 use Rattle.std.proofs.Common.{◌++◌, reverse, sym}
-use Rattle.es_base.proofs.Same.{alike, left_joins, runs_alike, same_verdict}
+use Rattle.link_rules.proofs.Same.{alike, left_joins, runs_alike, same_verdict}
 use Rattle.link_receiver.proofs.laws.whatever_left_the_same_may_have_stood_before.Goals as goal
 
 pub returns : goal.returns

@@ -1,5 +1,5 @@
 use Rattle.std.proofs.Common.{⊎_elim}
-use Rattle.es_base.specs.Groups.{bad, held}
+use Rattle.link_rules.specs.Groups.{bad, held}
 use Rattle.frame_reader.specs.Parts.{packet_parts}
 use Rattle.link_receiver.proofs.Offers.{no_message}
 use Rattle.link_receiver.proofs.offer.offer.Goals as goal

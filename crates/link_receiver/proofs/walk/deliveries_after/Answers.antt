@@ -1,9 +1,9 @@
 use Rattle.std.proofs.Common.{◌∙◌, ◌++◌, List, append-nil, sym, reverse, take}
 use Rattle.std.proofs.lemmas.Result.{IfOk-weaker}
 use Rattle.es_base.specs.declared.event.Event.{Event}
-use Rattle.es_base.specs.Deliveries.{deliveries}
-use Rattle.es_base.specs.Reassembly.{groups_in}
-use Rattle.es_base.specs.Run.{IsRun}
+use Rattle.link_rules.specs.Deliveries.{deliveries}
+use Rattle.link_rules.specs.Reassembly.{groups_in}
+use Rattle.link_rules.specs.Run.{IsRun}
 use Rattle.ip_reassembly.specs.Kept.{StandsFor}
 use Rattle.link_receiver.specs.Walk.{AreSince}
 use Rattle.link_receiver.proofs.Verdicts.{same_up_to}

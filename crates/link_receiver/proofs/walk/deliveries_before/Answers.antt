@@ -1,5 +1,5 @@
 use Rattle.std.proofs.Common.{◌≡◌, ◌<◌, ◌+◌, ◌∷◌, ◌++◌, sym, reverse, take, length, Some, add-one, append-nil, arith, rules}
-use Rattle.es_base.specs.Deliveries.{deliveries}
+use Rattle.link_rules.specs.Deliveries.{deliveries}
 use Rattle.link_receiver.proofs.Since.{since_more}
 use Rattle.std.specs.List.{slice_get}
 use Rattle.link_receiver.proofs.Walks.{frame_at, lawful_at, never_both, past_more, there_is}

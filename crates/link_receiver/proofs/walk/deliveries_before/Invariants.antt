@@ -1,7 +1,7 @@
 use Rattle.std.proofs.Common.{◌++◌, List, take, reverse}
 use Rattle.es_base.specs.declared.event.Event.{Event}
-use Rattle.es_base.specs.Reassembly.{groups_in}
-use Rattle.es_base.specs.Run.{IsRun}
+use Rattle.link_rules.specs.Reassembly.{groups_in}
+use Rattle.link_rules.specs.Run.{IsRun}
 use Rattle.ip_reassembly.specs.Kept.{StandsFor}
 use Rattle.link_receiver.specs.Walk.{AreSince}
 use Rattle.link_receiver.proofs.walk.deliveries_before.Given as goal

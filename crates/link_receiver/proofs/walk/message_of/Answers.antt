@@ -4,10 +4,10 @@ use Rattle.std.proofs.lemmas.Result.{IfOk-weaker}
 use Rattle.es_base.specs.declared.event.Event.{Event}
 use Rattle.es_base.specs.declared.event.Message.{Message}
 use Rattle.es_base.specs.Past.{arrival_of}
-use Rattle.es_base.specs.Groups.{Group}
-use Rattle.es_base.specs.Reassembly.{groups_in, offered}
-use Rattle.es_base.specs.Outcome.{outcome}
-use Rattle.es_base.specs.Deliveries.{delivered, number_delivered}
+use Rattle.link_rules.specs.Groups.{Group}
+use Rattle.link_rules.specs.Reassembly.{groups_in, offered}
+use Rattle.link_rules.specs.Outcome.{outcome}
+use Rattle.link_rules.specs.Deliveries.{delivered, number_delivered}
 use Rattle.frame_reader.specs.Parts.{packet_parts}
 use Rattle.ip_reassembly.specs.Kept.{StandsFor}
 use Rattle.link_core.specs.Told.{IsLawfulAfter}

@@ -1,7 +1,7 @@
 use Rattle.network_calls.proofs.Threads.{together}
-use Rattle.live_system.specs.Run.{Does, net_in}
+use Rattle.live_system.specs.Run.{Does}
 use Rattle.live_system.specs.System.{IsPassOf}
 use Rattle.live_system.proofs.laws.threads_run_together.Goals as goal
 
 pub returns : goal.returns
-returns g = λ system first last steps a b. together net_in (IsPassOf system) (Does system) first last steps a b
+returns g = λ system first last steps a b. together (IsPassOf system) (Does system) first last steps a b

@@ -5,5 +5,5 @@ use Rattle.live_system.proofs.row.tell.Given as goal
 -- the answers so far are counted, and replied
 abbrev pub invariant-answers : goal.invariant-answers
 invariant-answers l =
-    (l.counts.vl ≡ l.fn.counts.vl) × CountsInTurn l.net l.fn.counts (take l.at l.answers) l.counts
-    × (length l.replies ≡ length l.fn.replies) × (take l.at l.replies ≡ map (reply_of l.fn.counts.vl) (take l.at l.answers))
+    (l.counts.vl ≡ l.fn.counts.vl) × CountsInTurn l.net l.fn.counts (take l.index l.answers) l.counts
+    × (length l.replies ≡ length l.fn.replies) × (take l.index l.replies ≡ map (reply_of l.at l.fn.counts.vl) (take l.index l.answers))

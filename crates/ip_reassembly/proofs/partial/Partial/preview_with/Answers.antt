@@ -1,5 +1,5 @@
 use Rattle.std.proofs.Common.{refl}
-use Rattle.es_base.specs.Fragments.{piece_of}
+use Rattle.link_rules.specs.Fragments.{piece_of}
 use Rattle.frame_reader.specs.Parts.{packet_parts}
 use Rattle.ip_reassembly.proofs.Fates.{previewed}
 use Rattle.ip_reassembly.proofs.partial.Partial.preview_with.Goals as goal

@@ -1,5 +1,5 @@
 use Rattle.std.proofs.Common.{◌≡◌, ◌+◌, arith}
-use Rattle.es_base.specs.Groups.{place_of, without_group}
+use Rattle.link_rules.specs.Groups.{place_of, without_group}
 use Rattle.ip_reassembly.specs.GivenUp.{one_at, one_for_room}
 use Rattle.ip_reassembly.proofs.reassembly.Reassembly.begin_anew.Goals as goal
 

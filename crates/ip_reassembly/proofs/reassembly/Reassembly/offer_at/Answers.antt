@@ -1,6 +1,6 @@
 use Rattle.std.proofs.Common.{◌∙◌, refl}
-use Rattle.es_base.specs.Fragments.{piece_of}
-use Rattle.es_base.specs.Groups.{group_with}
+use Rattle.link_rules.specs.Fragments.{piece_of}
+use Rattle.link_rules.specs.Groups.{group_with}
 use Rattle.frame_reader.specs.Parts.{packet_parts}
 use Rattle.ip_reassembly.proofs.Lists.{remove_set, get_set}
 use Rattle.ip_reassembly.proofs.Stands.{stand_is}

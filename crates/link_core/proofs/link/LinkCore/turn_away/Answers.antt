@@ -1,7 +1,7 @@
 use Rattle.std.proofs.Common.{◌≡◌, ◌∙◌, ap, Some, true, sym}
 use Rattle.es_base.specs.Past.{arrived}
-use Rattle.es_base.specs.Deliveries.{number_delivered}
-use Rattle.es_base.specs.Run.{settled}
+use Rattle.link_rules.specs.Deliveries.{number_delivered}
+use Rattle.link_rules.specs.Run.{settled}
 use Rattle.link_core.specs.Link.{outcome_after, verdict_after}
 use Rattle.link_core.specs.Seen.{kept_away}
 use Rattle.link_core.proofs.Away.{away_decided}

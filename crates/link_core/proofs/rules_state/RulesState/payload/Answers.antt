@@ -1,10 +1,11 @@
 use Rattle.std.proofs.Common.{◌≡◌, ◌∙◌, ap, sym, Ok, Err}
 use Rattle.es_base.specs.Packet.{packet_of}
 use Rattle.es_base.specs.Past.{arrived}
-use Rattle.es_base.specs.Reassembly.{groups_in, packet_in}
+use Rattle.link_rules.specs.Reassembly.{groups_in, packet_in}
 use Rattle.frame_reader.specs.Parts.{packet_parts}
-use Rattle.link_core.proofs.Ways.{fault_of_packet, payload_of_packet}
+use Rattle.link_core.proofs.Ways.{bad_payload, fault_of_packet, held_payload, payload_of_packet, whole_payload}
 use Rattle.link_core.proofs.rules_state.RulesState.payload.Goals as goal
+use Rattle.link_core.proofs.rules_state.RulesState.payload.Goals.{in-Bad, in-Held, in-Whole}
 
 pub returns-in-Err-clause-value : goal.returns-in-Err-clause-value
 returns-in-Err-clause-value c = λ past net keeps.
@@ -21,4 +22,9 @@ returns-clause-value c = λ past net keeps.
     let groups = groups_in settings past in
     let packet = packet_parts c.in-Ok.packet in
     let is : packet_in frame.whole.now ≡ Ok packet = sym (ap packet_of frame.inner_is) ∙ c.in-Ok.ensures in
-    rw (payload_of_packet settings groups a packet is) (c.packet_payload-payload.ensures.value settings.reassembly groups keeps.waiting)
+    let answer = c.preview.ensures settings.reassembly groups keeps.waiting in
+    rw (payload_of_packet settings groups a packet is) (elim c.match-preview.branch [
+      | in-Bad w ↦ rw w.payload-is (bad_payload settings.ports settings.reassembly groups packet c.args.now (sym w.in-Bad.is ∙ answer))
+      | in-Held w ↦ rw w.payload-is (held_payload settings.ports settings.reassembly groups packet c.args.now (sym w.in-Held.is ∙ answer))
+      | in-Whole w ↦ rw w.payload-is (whole_payload settings.ports settings.reassembly groups packet c.args.now _ _ _ _ (sym w.in-Whole.is ∙ answer) w.datagram_payload-payload.ensures.value)
+    ])

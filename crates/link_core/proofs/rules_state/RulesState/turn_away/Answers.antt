@@ -1,9 +1,9 @@
 use Rattle.std.proofs.Common.{◌≡◌, ◌∙◌, ap, Some, false, true, refl, sym, ◌∷◌}
 use Rattle.es_base.specs.declared.event.Event.{Event}
 use Rattle.es_base.specs.Past.{arrived, event_of}
-use Rattle.es_base.specs.Deliveries.{number_delivered}
-use Rattle.es_base.specs.Redundancy.{is_forwarded}
-use Rattle.es_base.specs.Run.{settled}
+use Rattle.link_rules.specs.Deliveries.{number_delivered}
+use Rattle.link_rules.specs.Redundancy.{is_forwarded}
+use Rattle.link_rules.specs.Run.{settled}
 use Rattle.link_core.specs.Checks.{HasTimes, HavePast}
 use Rattle.link_core.specs.Link.{outcome_after, verdict_after}
 use Rattle.link_core.specs.Seen.{kept_away}

@@ -1,5 +1,5 @@
 use Rattle.std.proofs.Common.{◌≡◌, ◌∙◌, ◌++◌, ap, None, Some, reverse, sym}
-use Rattle.es_base.specs.Deliveries.{number_delivered}
+use Rattle.link_rules.specs.Deliveries.{number_delivered}
 use Rattle.es_base.specs.Past.{arrived}
 use Rattle.link_core.specs.Link.{decision_after, outcome_after}
 use Rattle.link_core.specs.Seen.{kept_away}

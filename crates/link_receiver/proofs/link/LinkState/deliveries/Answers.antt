@@ -3,9 +3,9 @@ use Rattle.std.specs.Prelude.{drop}
 use Rattle.std.proofs.Math.Seq.{drop-append_seam}
 use Rattle.std.proofs.lemmas.Result.{IfOk-weaker}
 use Rattle.es_base.specs.declared.event.Event.{Event}
-use Rattle.es_base.specs.Deliveries.{deliveries, number_delivered}
-use Rattle.es_base.specs.Reassembly.{groups_in}
-use Rattle.es_base.specs.Run.{IsRun}
+use Rattle.link_rules.specs.Deliveries.{deliveries, number_delivered}
+use Rattle.link_rules.specs.Reassembly.{groups_in}
+use Rattle.link_rules.specs.Run.{IsRun}
 use Rattle.ip_reassembly.specs.Kept.{StandsFor}
 use Rattle.link_receiver.specs.Walk.{AreSince}
 use Rattle.link_receiver.specs.Link.{deliveries_since}

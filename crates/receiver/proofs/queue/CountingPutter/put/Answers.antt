@@ -1,6 +1,6 @@
 use Rattle.std.proofs.Common.{rules, ◌≡◌, ◌∙◌, ap, sym, ◌+◌, ◌-◌, ◌≤◌, max, length, arith}
 use Rattle.message_ring.specs.Ends.{octets_of_last}
-use Rattle.message_ring.specs.Queue.{Known, message, with_put}
+use Rattle.message_ring.specs.Queue.{Known, message, ring_with_put}
 use Rattle.message_ring.specs.Stream.{size}
 use Rattle.receiver.specs.Queue.{CountedQueue, most_octets}
 use Rattle.receiver.proofs.Counts.{greatest_more, greatest_same, kept_full, kept_more, kept_same, looked_has, octets_few, put_has, with_one_more}
@@ -39,7 +39,7 @@ overflow_sub-self c =
     let old = c.self.inside.putter in
     let put = c.put.new.self in
     let m = message c.args.time c.args.octets.now in
-    let is_put : put ≡ with_put old m put.taken put.looks = search rules in
+    let is_put : put ≡ ring_with_put old m put.taken put.looks = search rules in
     let has = put_has old put m is_put c.put.ensures.told in
     let k = c.self.invariant in
     let longest = ap (λ (v : CountedQueue). v.known.queue.max) c.self.view_is in
@@ -56,7 +56,7 @@ invariant_of-self c =
     let old = c.self.inside.putter in
     let put = c.put.new.self in
     let m = message c.args.time c.args.octets.now in
-    let is_put : put ≡ with_put old m put.taken put.looks = search rules in
+    let is_put : put ≡ ring_with_put old m put.taken put.looks = search rules in
     let has = put_has old put m is_put c.put.ensures.told in
     let k = c.self.invariant in
     let longest = ap (λ (v : CountedQueue). v.known.queue.max) c.self.view_is in
@@ -78,7 +78,7 @@ invariant_of-self-else-has_more_waiting c =
     let old = c.self.inside.putter in
     let put = c.put.new.self in
     let m = message c.args.time c.args.octets.now in
-    let is_put : put ≡ with_put old m put.taken put.looks = search rules in
+    let is_put : put ≡ ring_with_put old m put.taken put.looks = search rules in
     let has = put_has old put m is_put c.put.ensures.told in
     let k = c.self.invariant in
     let longest = ap (λ (v : CountedQueue). v.known.queue.max) c.self.view_is in
@@ -100,7 +100,7 @@ invariant_of-self-then-not-has_room c =
     let old = c.self.inside.putter in
     let put = c.put.new.self in
     let m = message c.args.time c.args.octets.now in
-    let is_put : put ≡ with_put old m put.taken put.looks = search rules in
+    let is_put : put ≡ ring_with_put old m put.taken put.looks = search rules in
     let has = put_has old put m is_put c.put.ensures.told in
     let k = c.self.invariant in
     let longest = ap (λ (v : CountedQueue). v.known.queue.max) c.self.view_is in
@@ -117,7 +117,7 @@ invariant_of-self-else-not-has_room c =
     let old = c.self.inside.putter in
     let put = c.put.new.self in
     let m = message c.args.time c.args.octets.now in
-    let is_put : put ≡ with_put old m put.taken put.looks = search rules in
+    let is_put : put ≡ ring_with_put old m put.taken put.looks = search rules in
     let has = put_has old put m is_put c.put.ensures.told in
     let k = c.self.invariant in
     let longest = ap (λ (v : CountedQueue). v.known.queue.max) c.self.view_is in
@@ -137,7 +137,7 @@ invariant_of-self-else-self-2 c =
     let old = c.self.inside.putter in
     let put = c.put.new.self in
     let m = message c.args.time c.args.octets.now in
-    let is_put : put ≡ with_put old m put.taken put.looks = search rules in
+    let is_put : put ≡ ring_with_put old m put.taken put.looks = search rules in
     let has = put_has old put m is_put c.put.ensures.told in
     let k = c.self.invariant in
     let longest = ap (λ (v : CountedQueue). v.known.queue.max) c.self.view_is in
@@ -156,7 +156,7 @@ returns-then-has_more_waiting-clause-greatest c =
     let old = c.self.inside.putter in
     let put = c.put.new.self in
     let m = message c.args.time c.args.octets.now in
-    let is_put : put ≡ with_put old m put.taken put.looks = search rules in
+    let is_put : put ≡ ring_with_put old m put.taken put.looks = search rules in
     let has = put_has old put m is_put c.put.ensures.told in
     let k = c.self.invariant in
     let longest = ap (λ (v : CountedQueue). v.known.queue.max) c.self.view_is in
@@ -180,7 +180,7 @@ returns-else-has_more_waiting-clause-greatest c =
     let old = c.self.inside.putter in
     let put = c.put.new.self in
     let m = message c.args.time c.args.octets.now in
-    let is_put : put ≡ with_put old m put.taken put.looks = search rules in
+    let is_put : put ≡ ring_with_put old m put.taken put.looks = search rules in
     let has = put_has old put m is_put c.put.ensures.told in
     let k = c.self.invariant in
     let longest = ap (λ (v : CountedQueue). v.known.queue.max) c.self.view_is in

@@ -1,8 +1,11 @@
 use Rattle.std.proofs.Common.{◌≡◌, ◌∙◌, ap, Some, ℕ}
 use Rattle.std.specs.Arc.{arc_value}
 use Rattle.es_base.specs.Port.{Port}
-use Rattle.live_system.specs.Run.{AreOpened, Passes}
-use Rattle.live_system.specs.System.{AreOfNewLinks, System}
+use Rattle.network_calls.specs.Passes.{System}
+use Rattle.network_calls.specs.Threads.{BothPasses}
+use Rattle.live_system.specs.Pass.{KnownLink}
+use Rattle.live_system.specs.Run.{AreOpened}
+use Rattle.live_system.specs.System.{AreOfNewLinks}
 use Rattle.receiver_slots.specs.Readers.{readers_in}
 use Rattle.system_slots.specs.Running.{passing}
 use Rattle.system_slots.proofs.running.RunningConfigured.open.Goals as goal
@@ -13,7 +16,7 @@ returns c =
     let shared = arc_value c.in_ok-system-2.system in
     let same : shared ≡ o.system = c.in_ok-system-2.ensures.ok in
     let readers : Port → ℕ = readers_in c.args.wanted.now.readers.others c.args.wanted.now.readers.rows.now in
-    let passes : Passes = record { a = o.a; b = o.b } in
+    let passes : BothPasses KnownLink = record { a = o.a; b = o.b } in
     let of_config : o.system.config ≡ c.args.wanted.now.config = c.in_ok-system.ensures.config in
     let links : AreOfNewLinks readers o.system.config o.a o.b o.ends.items = rw of_config c.in_ok-system.ensures.links in
     let opened : AreOpened readers o.system passes o.ends.items = record {

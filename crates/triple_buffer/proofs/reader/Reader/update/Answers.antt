@@ -1,6 +1,6 @@
 use Rattle.std.proofs.Common.{rules, ◌≡◌, ◌∙◌, ℕ, sym, subst, Option}
 use Rattle.triple_buffer.specs.declared.latest.Latest.{Latest}
-use Rattle.triple_buffer.specs.Ends.{IsReadOf, IsReceived, MayReceive, ReaderEnd, reader_end}
+use Rattle.triple_buffer.specs.Ends.{IsReadOf, IsReceived, MayReceive, BufferReader, reader_end}
 use Rattle.triple_buffer.proofs.Ends.{all_seen, may_receive, received_end, received_reader}
 use Rattle.triple_buffer.proofs.reader.Reader.update.Goals as goal
 use Rattle.triple_buffer.proofs.reader.Reader.update.Goals.{in-Some-1, in-None-1}
@@ -37,8 +37,8 @@ returns-then-look c =
     let key : c.deref-then-look.result.now.table.shared.key ≡ c.self.inside.longest = search rules in
     let got = subst (λ (n : ℕ). IsReceived n c.look.new.right.me c.receive-slot.new.right.me c.receive-slot.result.0 c.receive-slot.result.1) key c.receive-slot.ensures.received in
     let read = received_end c.self.inside.right.table_id c.receive-slot.new.right.table_id _ _ _ _ _ _ _ _ (c.receive-slot.ensures.table ∙ c.look.ensures.table.0) c.self.invariant.2 (c.look.ensures.newer c.if-look.true) got in
-    subst (λ (v : ReaderEnd). IsReadOf v c.match-self-own.self) c.self.view_is
+    subst (λ (v : BufferReader). IsReadOf v c.match-self-own.self) c.self.view_is
     (elim c.match-self-own.branch [
-      | in-Some-1 w ↦ subst (λ (v : ReaderEnd). IsReadOf (reader_end c.self.inside.right.table_id c.self.inside.longest c.self.inside.right.me) v) (sym w.self-is) read
-      | in-None-1 w ↦ subst (λ (v : ReaderEnd). IsReadOf (reader_end c.self.inside.right.table_id c.self.inside.longest c.self.inside.right.me) v) (sym w.self-is) read
+      | in-Some-1 w ↦ subst (λ (v : BufferReader). IsReadOf (reader_end c.self.inside.right.table_id c.self.inside.longest c.self.inside.right.me) v) (sym w.self-is) read
+      | in-None-1 w ↦ subst (λ (v : BufferReader). IsReadOf (reader_end c.self.inside.right.table_id c.self.inside.longest c.self.inside.right.me) v) (sym w.self-is) read
     ])

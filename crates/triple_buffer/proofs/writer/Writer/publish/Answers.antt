@@ -1,12 +1,12 @@
 use Rattle.std.proofs.Common.{rules, arith, ◌≡◌, ◌∙◌, ℕ, sym, ap, subst}
-use Rattle.triple_buffer.specs.Ends.{IsPublishedBy, MaySend, WriterEnd}
+use Rattle.triple_buffer.specs.Ends.{IsPublishedBy, MaySend, BufferWriter}
 use Rattle.triple_buffer.proofs.Ends.{filled_may_send, sent_writer}
 use Rattle.triple_buffer.proofs.writer.Writer.publish.Goals as goal
 
 pub fill-requires-clause-has : goal.fill-requires-clause-has
 fill-requires-clause-has c =
     let i = c.self.invariant.2 in
-    let same : c.self.inside.longest ≡ c.args.self.now.longest = ap (λ (w : WriterEnd). w.longest) c.self.view_is in
+    let same : c.self.inside.longest ≡ c.args.self.now.longest = ap (λ (w : BufferWriter). w.longest) c.self.view_is in
     let short = c.requires.short in let room = i.room in
     (i.own, i.holds, omega (arith, same, short, room))
 

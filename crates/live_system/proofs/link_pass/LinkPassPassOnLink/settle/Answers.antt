@@ -1,0 +1,16 @@
+use Rattle.std.proofs.lemmas.List.{reverse-reverse}
+use Rattle.link_lock.specs.Lists.{both_lists}
+use Rattle.network_calls.proofs.Counting.{counted_of_both}
+use Rattle.live_system.specs.Calls.{events_of}
+use Rattle.live_system.proofs.link_pass.LinkPassPassOnLink.settle.Goals as goal
+
+pub returns-clause-link : goal.returns-clause-link
+returns-clause-link c =
+    let a = c.a.inside.pass in
+    let b = c.b.inside.pass in
+    let link = c.settle.result in
+    rw (c.link.view_is, ← c.a.view_is, ← c.b.view_is) (record {
+      opened = c.settle.ensures.fixed;
+      agrees = c.settle.ensures.agrees;
+      counted = λ net kind is. counted_of_both (both_lists a.list b.list) link.core.past (events_of link) net kind (reverse-reverse link.core.past) c.settle.ensures.agrees.calls;
+    })
