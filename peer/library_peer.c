@@ -8,8 +8,8 @@
  *     what longest.h says, of all frames so many times
  *
  * A SIDE is `library`, or the peer's receiver: `plain`, whose sampling ports are for its own thread alone; `seqlock` or
- * `triple`, whose ports a reader on another thread may read at any time (shared_ports.h). `library:8` and `triple:8` have
- * eight readers a port, else it is one. POOL is `touched` or `untouched` (pass_pool.h). QUEUES are `taken`, all of them
+ * `triple`, whose ports a reader on another thread may read at any time (shared_ports.h); `equal`, which is `triple` with the
+ * library's promises (promises.h). `library:8`, `triple:8` and `equal:8` have eight readers a port, else it is one. POOL is `touched` or `untouched` (pass_pool.h). QUEUES are `taken`, all of them
  * after each 1,024 frames, or `left`, so that they fill up. BESIDE is `alone`, or `beside`: then readers read and a taker
  * takes meanwhile, on threads of their own.
  *
@@ -89,7 +89,7 @@ static u64 run_through(const Side *side, bool taken, bool is_first)
     u64 sum = 0;
     open_side(side, true);
     for (size_t i = 0; i < frames_n; i++) {
-        u8 kind = side->is_library ? by_library(&frames[i], 0) : by_peer(&frames[i], 0);
+        u8 kind = by_side(side, &frames[i], 0);
         if (!is_first && kind != frames[i].kind)
             stop("two verdicts of a frame");
         frames[i].kind = kind;
@@ -131,6 +131,9 @@ static double time_of(const Side *side, size_t from, size_t to)
     if (side->is_library)
         for (size_t i = from; i < to; i++)
             kinds += by_library(&frames[i], 0);
+    else if (side->is_equal)
+        for (size_t i = from; i < to; i++)
+            kinds += by_equal(&frames[i], 0);
     else
         for (size_t i = from; i < to; i++)
             kinds += by_peer(&frames[i], 0);
@@ -168,7 +171,7 @@ static void print_times(const Side *sides, size_t count, bool touched, bool take
 /* What callgrind counts. */
 __attribute__((noinline)) static u8 counted(const Side *side, const Arrived *arrived)
 {
-    return side->is_library ? by_library(arrived, 0) : by_peer(arrived, 0);
+    return by_side(side, arrived, 0);
 }
 
 static void print_counted(const Side *side, bool taken, u8 kind)
@@ -178,10 +181,8 @@ static void print_counted(const Side *side, bool taken, u8 kind)
     for (size_t i = 0; i < frames_n; i++) {
         if (frames[i].kind == kind)
             many += counted(side, &frames[i]) == kind;
-        else if (side->is_library)
-            by_library(&frames[i], 0);
         else
-            by_peer(&frames[i], 0);
+            by_side(side, &frames[i], 0);
         if (taken && i % BETWEEN_TAKES == BETWEEN_TAKES - 1)
             (void)take_all(side);
     }

@@ -73,10 +73,7 @@ static u64 now(void)
 static u32 time_of(const Side *side, const Arrived *arrived, u64 later)
 {
     u64 begun = now();
-    if (side->is_library)
-        by_library(arrived, later);
-    else
-        by_peer(arrived, later);
+    by_side(side, arrived, later);
     u64 took = now() - begun;
     return took > UINT32_MAX ? UINT32_MAX : (u32)took;
 }

@@ -2,9 +2,16 @@
  * The receiver: see receiver.h.
  */
 #include "receiver.h"
+#include "promises.h"
 #include "shared_ports.h"
 
 #include <string.h>
+
+static inline void count_up(u64 *count)
+{
+    u64 next = *count + 1;
+    *count = (PROMISES & COUNTS_STOP) && next == 0 ? *count : next;
+}
 
 static inline unsigned be16(const u8 *octets)
 {
@@ -109,13 +116,21 @@ static inline int read_header(const u8 *frame, u32 len, Packet *packet)
 
 /* ---- reassembly */
 
-/* Lets a datagram go. It comes behind those that are held; its octets stay until it is used again. */
+/* Lets a datagram go. It comes after those that are held; its octets stay until it is used again. */
 static void partial_drop(Link *link, int at)
 {
     Partial *dropped = link->partial[at];
     for (int i = at; i + 1 < link->partials; i++)
         link->partial[i] = link->partial[i + 1];
     link->partial[--link->partials] = dropped;
+}
+
+/* Lets a datagram go that isn't whole. */
+static void partial_give_up(Link *link, int at)
+{
+    if (PROMISES & HEALTH)
+        count_up(&link->given_up);
+    partial_drop(link, at);
 }
 
 /* The place of the datagram that a packet is of, or -1. */
@@ -133,7 +148,7 @@ static int partial_find(const Link *link, const Packet *packet)
 static int partial_begin(Link *link, u64 now, const Packet *packet)
 {
     if (link->partials == MOST_PARTIALS)
-        partial_drop(link, 0);
+        partial_give_up(link, 0);
     int at = link->partials++;
     if (!link->partial[at])
         link->partial[at] = arena_zero(sizeof(Partial));
@@ -181,7 +196,7 @@ static unsigned join(Link *link, u64 now, Packet *packet)
         u64 begin = link->partial[at]->begin;
         u64 elapsed = now < begin ? 0 : now - begin;
         if (elapsed > link->reassembly) {
-            partial_drop(link, at);
+            partial_give_up(link, at);
             at = -1;
         }
     }
@@ -265,6 +280,10 @@ static inline Verdict deliver(Link *link, u64 now, const Packet *packet, bool jo
 static inline Verdict take(Link *link, unsigned net, u64 now, const u8 *frame, u32 len)
 {
     unsigned number = frame[len - 1];
+    if (PROMISES & HEALTH) {
+        link->came[net] = true;
+        link->latest[net] = now;
+    }
     if (!passes(link, net, number))
         return (Verdict){.kind = OUT_OF_SEQUENCE};
     if (!is_forwarded(link, now, number))
@@ -281,7 +300,7 @@ static inline Verdict take(Link *link, unsigned net, u64 now, const u8 *frame, u
     } else if (link->partials) {
         int at = partial_find(link, &packet);
         if (at >= 0)
-            partial_drop(link, at);
+            partial_give_up(link, at);
     }
     return deliver(link, now, &packet, is_fragment);
 }
@@ -300,17 +319,24 @@ static inline unsigned filter_of(const Receiver *receiver, const u8 *frame, u32 
     return receiver->link_of[be16(frame + 4)] ? 0 : UNKNOWN_LINK;
 }
 
-Verdict receive(Receiver *receiver, unsigned net, u64 time, const u8 *frame, u32 len)
+static inline Verdict receive_one(Receiver *receiver, unsigned net, u64 time, const u8 *frame, u32 len)
 {
     unsigned cause = filter_of(receiver, frame, len);
     if (UNLIKELY(cause)) {
-        receiver->filtered[net][cause]++;
+        count_up(&receiver->filtered[net][cause]);
         return (Verdict){.kind = FILTERED, .cause = (u8)cause};
     }
     Link *link = receiver->link_of[be16(frame + 4)];
     Verdict verdict = take(link, net, time, frame, len);
     verdict.link = (u8)(link - receiver->links);
-    link->taken++;
-    link->count[net][verdict.kind]++;
+    count_up(&link->taken);
+    count_up(&link->count[net][verdict.kind]);
+    if (PROMISES & HEALTH && (verdict.kind == SAMPLED || verdict.kind == QUEUED))
+        count_up(&link->delivered[verdict.port]);
     return verdict;
+}
+
+Verdict receive(Receiver *receiver, unsigned net, u64 time, const u8 *frame, u32 len)
+{
+    return receive_one(receiver, net, time, frame, len);
 }

@@ -99,12 +99,17 @@ typedef struct {
     bool forwarded;
     u8 forwarded_number;
     u64 forwarded_time;
-    /* reassembly, in the order in which the datagrams began; behind them those that are free */
+    /* reassembly, in the order in which the datagrams began; after them those that are free */
     Partial *partial[MOST_PARTIALS];
     int partials;
     /* how many frames it took, and of which kinds, by network */
     u64 taken;
     u64 count[2][KINDS];
+    /* with the library's promises (promises.h): the latest frame on each network, and what was given up and delivered */
+    bool came[2];
+    u64 latest[2];
+    u64 given_up;
+    u64 delivered[MOST_PORTS];
 } Link;
 
 typedef struct {
@@ -126,5 +131,30 @@ typedef struct {
 
 /* Takes a frame, without its FCS, that came at this time on network 0 or 1. */
 Verdict receive(Receiver *receiver, unsigned net, u64 time, const u8 *frame, u32 len);
+
+/* ---- the same with the library's promises (promises.h) */
+
+enum { SLOT_MARK = 0x534C4F54 };
+
+typedef struct {
+    u64 mark; /* SLOT_MARK */
+    Receiver *receiver;
+} Slot;
+
+typedef struct {
+    Slot *slot;
+} Handle;
+
+/* The reply to a frame. Which fields there are depends on the kind. */
+typedef struct {
+    u32 kind, cause;
+    size_t link; /* its place */
+    u32 vl, port;
+    u64 place; /* of the frame, among all of its link */
+    u64 number;
+} Reply;
+
+/* As `receive`. Returns 0, or why no frame was taken. */
+unsigned receive_by_handle(const Handle *handle, unsigned net, u64 time, const u8 *frame, size_t len, Reply *reply);
 
 #endif

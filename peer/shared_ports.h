@@ -12,6 +12,7 @@
  */
 #ifndef SHARED_PORTS_H
 #define SHARED_PORTS_H
+#include "promises.h"
 #include "receiver.h"
 
 #include <stdatomic.h>
@@ -106,6 +107,7 @@ struct Ring {
     u32 put_at, known_taken;
     u32 depth, last; /* where a message may begin at the latest, so that the longest one ends with the ring */
     u8 *octets;      /* of each message its time, its length, and its octets */
+    u32 greatest;    /* number that waited, where that is promised */
     /* the taker's */
     _Alignas(64) _Atomic u32 taken;
     u32 take_at, known_put;
@@ -113,12 +115,24 @@ struct Ring {
 
 enum { RING_HEAD = 16 };
 
+#define PUT_ORDER (PROMISES & ONE_ORDER ? memory_order_seq_cst : memory_order_release)
+
 /* Where the message comes that follows one of this length. The ring has room for one more than it is deep: so there is
    room for it, wherever that is. */
 static inline u32 after(const struct Ring *ring, u32 at, u32 len)
 {
     u32 next = at + RING_HEAD + (u32)arena_rounded(len);
     return next > ring->last ? 0 : next;
+}
+
+/* Notes the greatest number that waited, of so many messages that were put. */
+static inline void note_fill(struct Ring *ring, u32 many)
+{
+    if (many - ring->known_taken <= ring->greatest)
+        return;
+    ring->known_taken = atomic_load_explicit(&ring->taken, memory_order_acquire);
+    if (many - ring->known_taken > ring->greatest)
+        ring->greatest = many - ring->known_taken;
 }
 
 /* Puts a message. False if the queue is full. */
@@ -134,7 +148,9 @@ static inline bool put(struct Ring *ring, u64 time, const u8 *octets, u32 len)
     memcpy(place + 8, &len, sizeof len);
     memcpy(place + RING_HEAD, octets, len);
     ring->put_at = after(ring, ring->put_at, len);
-    atomic_store_explicit(&ring->put, many + 1, memory_order_release);
+    atomic_store_explicit(&ring->put, many + 1, PUT_ORDER);
+    if (PROMISES & FILL)
+        note_fill(ring, many + 1);
     return true;
 }
 

@@ -26,6 +26,8 @@ static size_t ports_n;
 static u64 room[64];
 struct yelunnavi_receiver library;
 Receiver peer;
+static Slot slot = {.mark = SLOT_MARK, .receiver = &peer};
+Handle equal = {&slot};
 
 _Noreturn void stop(const char *why)
 {
@@ -41,15 +43,26 @@ static void check(bool is_so, const char *why)
 
 Side side_of(const char *word)
 {
-    static const char *const words[] = {"plain", "seqlock", "triple", "library"};
+    static const struct {
+        const char *word;
+        Side side;
+    } sides[] = {{"plain", {.form = PLAIN}},
+                 {"seqlock", {.form = SEQLOCK}},
+                 {"triple", {.form = TRIPLE}},
+                 {"equal", {.form = TRIPLE, .is_equal = true}},
+                 {"library", {.form = PLAIN, .is_library = true}}};
     const char *colon = strchr(word, ':');
     size_t len = colon ? (size_t)(colon - word) : strlen(word);
     unsigned readers = colon ? (unsigned)strtoul(colon + 1, NULL, 10) : 1;
     check(readers >= 1 && readers <= MOST_READERS, "1 to 8 readers");
-    for (unsigned i = 0; i < 4; i++)
-        if (strlen(words[i]) == len && strncmp(word, words[i], len) == 0)
-            return (Side){.word = word, .is_library = i == 3, .form = i == 3 ? PLAIN : (Form)i, .readers = readers};
-    stop("a side is library, plain, seqlock or triple, and perhaps :READERS");
+    for (size_t i = 0; i < sizeof sides / sizeof *sides; i++)
+        if (strlen(sides[i].word) == len && strncmp(word, sides[i].word, len) == 0) {
+            Side side = sides[i].side;
+            side.word = word;
+            side.readers = readers;
+            return side;
+        }
+    stop("a side is library, plain, seqlock, triple or equal, and perhaps :READERS");
 }
 
 /* ---- opening */
