@@ -14,6 +14,9 @@ HERE = "x86_64-unknown-linux-gnu"
 TARGETS = {HERE: "cc", "aarch64-unknown-linux-gnu": "aarch64-linux-gnu-gcc"}
 HEADERS = [ROOT / "examples" / "c" / name for name in ("yelunnavi.h", "yelunnavi_words.h")]
 HEAP = ROOT / "tools" / "heap.c"
+SUPPRESSIONS = sorted((ROOT / "tools" / "suppressions").iterdir())
+# The shared object's name for linkers. That for loaders has the number of the interface after it.
+SHARED = "libyelunnavi-with-malloc.so"
 PARTS = ("src", "specs", "proofs")
 MARK = "mark"
 
@@ -48,7 +51,7 @@ class Product:
         """A sum of all that it depends on, with the crates of a tree: this one, or a copy."""
         lines, found = lines_of_crates(), hashlib.sha256()
         found.update("".join(f"{lines[name][0]}\n" for name in self.names).encode())
-        beside = [ROOT / "HANDLES", *([*HEADERS, HEAP] if self.is_library else [])]
+        beside = [ROOT / "HANDLES", *([*HEADERS, HEAP, *SUPPRESSIONS] if self.is_library else [])]
         for path in [*beside, *self.sources_below(top)]:
             shown = path.relative_to(top) if path.is_relative_to(top / "crates") else path.relative_to(ROOT)
             content = path.read_bytes()

@@ -286,7 +286,7 @@ def words_of_c(tree):
         if name not in WORDS_OF_C:
             raise Unread(f"{WORDS}: yelunnavi_{name}_{part}")
         group = WORDS_OF_C[name]
-        for case, word in re.findall(r'case YELUNNAVI_(\w+): return "(.*?)";', body):
+        for case, word in re.findall(r'case YELUNNAVI_(\w+): word = "(.*?)"; break;', body):
             number = f"{group}::{case.removeprefix(PREFIXES[group][0])}"
             needs_key = part == "before" and case.endswith(("MISSING", "KIND", "RANGE"))
             made[number] = made.get(number, "") + word + "{}" * needs_key
@@ -302,7 +302,7 @@ def allowed_of_c(tree):
     """What the header of words says that each key may have, by the key."""
     text = (tree / WORDS).read_text(encoding="utf-8")
     body = found(r"yelunnavi_key_allowed\(uint32_t key\) \{(.*?)^\}", text, f"{WORDS}: yelunnavi_key_allowed")[1]
-    return texts(r"case YELUNNAVI_KEY_(\w+): return", body)
+    return texts(r"case YELUNNAVI_KEY_(\w+): word =", body)
 
 
 def allowed_of_rust(tree):

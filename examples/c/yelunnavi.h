@@ -33,7 +33,8 @@
 
    MEMORY. yelunnavi_receiver_open and .._open_table, and those of a system, ask for memory, by rattle_alloc, rattle_realloc and rattle_dealloc below; .._close
    give some back. No other call asks for any or gives any back. For each sampling port they keep 400 octets, and for each
-   of its readers 376 and three times the longest message of the port. Beside these three the library needs memcpy,
+   of its readers 376 and three times the longest message of the port. A program that has no such functions compiles heap.c,
+   which lies beside the library: it has them by malloc. Beside these three the library needs memcpy,
    memmove and memset, and nothing else: no operating system, no C library's start-up. It never prints, never ends the
    process, and has no state of its own outside of the rooms and of what it asked for.
 
@@ -78,6 +79,12 @@
    - Arrival times and the `now` of reads and holds are of one clock.
    - The three functions for memory do what is said there.
 
+   MISRA C:2012, by cppcheck's addon. Of this header and yelunnavi_words.h it finds, in a program that uses no more:
+   - Rule 2.3: the type that a compiler of another machine refuses is used by nobody.
+   - Rule 2.4: an enum's tag is used by nobody, since calls pass and tell its numbers as uint32_t.
+   - Rule 2.5: a macro that the program doesn't use.
+   - Rule 11.6: a room's address is looked at as a number, for whether it is aligned.
+
    TIMES are in microseconds, lengths in octets, places from 0. A count stops at 2^64 - 1. Targets: x86-64 and aarch64, both
    little-endian. */
 #ifndef YELUNNAVI_H
@@ -94,11 +101,23 @@
 extern "C" {
 #endif
 
+/* Casts as both languages want them. */
+#ifdef __cplusplus
+#define YELUNNAVI_CODE(code) static_cast<uint32_t>(code)
+#define YELUNNAVI_ADDRESS(pointer) reinterpret_cast<uintptr_t>(pointer)
+#else
+#define YELUNNAVI_CODE(code) ((uint32_t)(code))
+#define YELUNNAVI_ADDRESS(pointer) ((uintptr_t)(pointer))
+#endif
+
 /* Refused by the compiler of a machine that isn't of 64 bits. */
-typedef char yelunnavi_is_of_64_bits[sizeof(size_t) == 8 && sizeof(void *) == 8 ? 1 : -1];
+typedef char yelunnavi_is_of_64_bits[((sizeof(size_t) == 8U) && (sizeof(void *) == 8U)) ? 1 : -1];
 
 /* The number of this interface: raised with each change of a struct, a call or a number. */
 #define YELUNNAVI_ABI 6
+
+/* The release of this header; one between two releases has that of the first. */
+#define YELUNNAVI_VERSION "0.4.0"
 
 /* The number of the library's interface. A program compares both before its first opening: if they differ, the header that
    it was compiled with is of another library. */
@@ -246,44 +265,71 @@ static inline void *yelunnavi_nowhere(void) {
 
 /* Why a room of so many octets can't hold a slot that needs as many, if it can't. */
 static inline uint32_t yelunnavi_room_code(const void *room, size_t octets, size_t needed) {
-    if (room == NULL || (uintptr_t)room % 8 != 0) return YELUNNAVI_NO_ROOM;
-    return octets < needed ? YELUNNAVI_TOO_SHORT : YELUNNAVI_DONE;
+    uint32_t code = YELUNNAVI_CODE(YELUNNAVI_DONE);
+    if ((room == NULL) || ((YELUNNAVI_ADDRESS(room) % 8U) != 0U)) {
+        code = YELUNNAVI_CODE(YELUNNAVI_NO_ROOM);
+    } else if (octets < needed) {
+        code = YELUNNAVI_CODE(YELUNNAVI_TOO_SHORT);
+    } else {
+        /* it can */
+    }
+    return code;
 }
 
 /* Makes a slot in which nothing is open in a room of so many octets, and the handle to it. NO_ROOM if the room is null or
    isn't aligned to 8; TOO_SHORT if a slot needs more octets. Then each further call on the handle answers NOT_MADE. */
 static inline uint32_t yelunnavi_receiver_init(struct yelunnavi_receiver *h, void *room, size_t octets) {
     uint32_t code = yelunnavi_room_code(room, octets, yelunnavi_receiver_room());
-    h->room = code == YELUNNAVI_DONE ? room : yelunnavi_nowhere();
-    if (code == YELUNNAVI_DONE) yelunnavi_receiver_make(room);
+    if (code == YELUNNAVI_CODE(YELUNNAVI_DONE)) {
+        h->room = room;
+        yelunnavi_receiver_make(room);
+    } else {
+        h->room = yelunnavi_nowhere();
+    }
     return code;
 }
 
 static inline uint32_t yelunnavi_system_init(struct yelunnavi_system *h, void *room, size_t octets) {
     uint32_t code = yelunnavi_room_code(room, octets, yelunnavi_system_room());
-    h->room = code == YELUNNAVI_DONE ? room : yelunnavi_nowhere();
-    if (code == YELUNNAVI_DONE) yelunnavi_system_make(room);
+    if (code == YELUNNAVI_CODE(YELUNNAVI_DONE)) {
+        h->room = room;
+        yelunnavi_system_make(room);
+    } else {
+        h->room = yelunnavi_nowhere();
+    }
     return code;
 }
 
 static inline uint32_t yelunnavi_pass_init(struct yelunnavi_pass *h, void *room, size_t octets) {
     uint32_t code = yelunnavi_room_code(room, octets, yelunnavi_pass_room());
-    h->room = code == YELUNNAVI_DONE ? room : yelunnavi_nowhere();
-    if (code == YELUNNAVI_DONE) yelunnavi_pass_make(room);
+    if (code == YELUNNAVI_CODE(YELUNNAVI_DONE)) {
+        h->room = room;
+        yelunnavi_pass_make(room);
+    } else {
+        h->room = yelunnavi_nowhere();
+    }
     return code;
 }
 
 static inline uint32_t yelunnavi_reader_init(struct yelunnavi_reader *h, void *room, size_t octets) {
     uint32_t code = yelunnavi_room_code(room, octets, yelunnavi_reader_room());
-    h->room = code == YELUNNAVI_DONE ? room : yelunnavi_nowhere();
-    if (code == YELUNNAVI_DONE) yelunnavi_reader_make(room);
+    if (code == YELUNNAVI_CODE(YELUNNAVI_DONE)) {
+        h->room = room;
+        yelunnavi_reader_make(room);
+    } else {
+        h->room = yelunnavi_nowhere();
+    }
     return code;
 }
 
 static inline uint32_t yelunnavi_queue_init(struct yelunnavi_queue *h, void *room, size_t octets) {
     uint32_t code = yelunnavi_room_code(room, octets, yelunnavi_queue_room());
-    h->room = code == YELUNNAVI_DONE ? room : yelunnavi_nowhere();
-    if (code == YELUNNAVI_DONE) yelunnavi_queue_make(room);
+    if (code == YELUNNAVI_CODE(YELUNNAVI_DONE)) {
+        h->room = room;
+        yelunnavi_queue_make(room);
+    } else {
+        h->room = yelunnavi_nowhere();
+    }
     return code;
 }
 

@@ -8,7 +8,7 @@ from pathlib import Path
 
 ROOT = Path(__file__).resolve().parents[2]
 HEADER, WORDS = (ROOT / "examples" / "c" / name for name in ("yelunnavi.h", "yelunnavi_words.h"))
-BUILT = ROOT / "out" / "library" / f"{platform.machine()}-unknown-linux-gnu" / "libyelunnavi.so"
+BUILT = ROOT / "out" / "library" / f"{platform.machine()}-unknown-linux-gnu" / "libyelunnavi-with-malloc.so"
 HOW = "./build library proves and builds it; YELUNNAVI_LIBRARY names another"
 
 
@@ -67,4 +67,4 @@ def words(function):
     numbers = {name: number for line in re.findall(r"^enum (\w+)", HEADER.read_text(encoding="ascii"), re.MULTILINE)
                for number, name in ffi.typeof(f"enum {line}").elements.items()}
     body = re.search(rf"\*yelunnavi_{function}\(.*?^}}", WORDS.read_text(encoding="ascii"), re.DOTALL | re.MULTILINE)[0]
-    return {numbers[name]: word.replace('\\"', '"') for name, word in re.findall(r'case (\w+): return "(.*)";', body)}
+    return {numbers[name]: word.replace('\\"', '"') for name, word in re.findall(r'case (\w+): word = "(.*)"; break;', body)}
