@@ -1,7 +1,8 @@
-/* drive < SCRIPT: what the library for C answers to the calls of a script, a line each: the code, and what was told with DONE.
-   Octets are in hexadecimal, `-` if there are none. Each buffer has just the room that the call is told, and was filled with
-   0xa5. Ends stand in slots by number. At the end a line says how many blocks of memory weren't given back. With SYSTEM the calls
-   are those of a system and of both its passes. */
+/* drive < SCRIPT: what the library for C answers to the calls of a script, a line each: the code, and what was told with
+   DONE. Octets are in hexadecimal, `-` if there are none. Each buffer has just the room that the call is told, and was
+   filled with 0xa5. Ends stand in slots by number. At the end a line says how many blocks of memory weren't given back.
+   With SYSTEM the calls are those of a system and of both its passes. With COUNTED callgrind writes what each call took,
+   by the call's word. */
 #include "yelunnavi.h"
 #include <inttypes.h>
 #include <stdio.h>
@@ -9,6 +10,16 @@
 #include <string.h>
 #ifdef SYSTEM
 #include "as_receiver.h"
+#endif
+#ifdef COUNTED
+#include <valgrind/callgrind.h>
+#define COUNT(call) __extension__({ \
+    CALLGRIND_ZERO_STATS; \
+    uint32_t answer = (call); \
+    CALLGRIND_DUMP_STATS_AT(called); \
+    answer; })
+#else
+#define COUNT(call) (call)
 #endif
 
 enum { SLOTS = 64, FILL = 0xa5 };
@@ -48,10 +59,29 @@ void rattle_dealloc(void *at) {
 
 /* ---- the script */
 
-static char word[1 << 21];
+/* The script, and where its next word begins. */
+static char *script;
+
+static void read_script(void) {
+    size_t len = 0, room = 1 << 20;
+    script = malloc(room);
+    for (size_t more; (more = fread(script + len, 1, room - len - 1, stdin)) > 0;)
+        if ((len += more) + 1 == room) script = realloc(script, room *= 2);
+    script[len] = 0;
+}
+
+/* The next word, which ends where the next space was; null at the end. */
+static const char *word_or_end(void) {
+    while (*script && *script <= ' ') script++;
+    const char *word = script;
+    while (*script > ' ') script++;
+    if (*script) *script++ = 0;
+    return *word ? word : NULL;
+}
 
 static const char *next_word(void) {
-    if (scanf("%2097151s", word) != 1) exit(3);
+    const char *word = word_or_end();
+    if (!word) exit(3);
     return word;
 }
 
@@ -71,15 +101,22 @@ static uint8_t *octets(size_t *len) {
 static uint8_t *buffer(size_t len) { return memset(malloc(len ? len : 1), FILL, len ? len : 1); }
 
 static void show(const uint8_t *out, size_t len) {
+#ifdef COUNTED
+    len = 0;
+#endif
     printf(len ? " " : " -");
-    for (size_t k = 0; k < len; k++) printf("%02x", out[k]);
+    for (size_t k = 0; k < len; k++) putchar("0123456789abcdef"[out[k] >> 4]), putchar("0123456789abcdef"[out[k] & 15]);
 }
 
+/* The word of the call. */
+static const char *called;
+
 /* The code, and whether there is more to tell. */
-static bool code(uint32_t answer) {
+static bool show_code(uint32_t answer) {
     printf("%" PRIu32, answer);
     return answer == YELUNNAVI_DONE;
 }
+#define code(call) show_code(COUNT(call))
 
 /* ---- the calls */
 
@@ -225,6 +262,23 @@ static void fill(void) {
 }
 #endif
 
+static void links(void) {
+    size_t told;
+    if (code(yelunnavi_receiver_links(&receiver, &told))) printf(" %zu", told);
+}
+
+static void tell_link(void) {
+    struct yelunnavi_link told;
+    if (code(yelunnavi_receiver_link(&receiver, number(), &told))) printf(" %" PRIu32 " %zu", told.vl, told.ports);
+}
+
+static void tell_port(void) {
+    struct yelunnavi_port told;
+    uint8_t name[YELUNNAVI_LONGEST_NAME];
+    size_t link = number();
+    if (code(yelunnavi_receiver_port(&receiver, link, number(), &told, &name))) show(name, told.name_len);
+}
+
 static void place(void) {
     struct yelunnavi_place told;
     size_t len;
@@ -253,6 +307,9 @@ static void call(const char *name) {
     else if (!strcmp(name, "health")) health();
     else if (!strcmp(name, "fill")) fill();
 #endif
+    else if (!strcmp(name, "links")) links();
+    else if (!strcmp(name, "link")) tell_link();
+    else if (!strcmp(name, "port")) tell_port();
     else if (!strcmp(name, "place")) place();
     else if (!strcmp(name, "close")) yelunnavi_receiver_close(&receiver);
     else if (!strcmp(name, "close_reader")) yelunnavi_reader_close(&readers[number()]);
@@ -267,7 +324,8 @@ int main(void) {
         are_made = yelunnavi_reader_init(&readers[k], reader_rooms[k], sizeof reader_rooms[k]) == YELUNNAVI_DONE
             && yelunnavi_queue_init(&queues[k], queue_rooms[k], sizeof queue_rooms[k]) == YELUNNAVI_DONE;
     if (!are_made || yelunnavi_abi() != YELUNNAVI_ABI) return 2;
-    while (scanf("%31s", word) == 1) call(word);
+    read_script();
+    while ((called = word_or_end())) call(called);
     for (int k = 0; k < SLOTS; k++) yelunnavi_reader_close(&readers[k]), yelunnavi_queue_close(&queues[k]);
     yelunnavi_receiver_close(&receiver);
     printf("%ld blocks kept\n", blocks);

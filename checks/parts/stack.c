@@ -202,14 +202,14 @@ static void of_a_reader(void) {
     if (yelunnavi_reader_init(&reader, end_rooms[at_port], sizeof end_rooms[0]) != YELUNNAVI_DONE) exit(9);
     call("hand_reader", hand_reader), call("limits", tell_limits), call("read", read_it), call("hold", hold);
     if (found.found) call("octets", tell_octets), call("copy", copy), call("release", release);
-    call("hold", hold), call("close", close_reader);
+    call("hold", hold), call("close_reader", close_reader);
 }
 
 static void of_a_queue(void) {
     if (yelunnavi_queue_init(&queue, end_rooms[at_port], sizeof end_rooms[0]) != YELUNNAVI_DONE) exit(9);
     call("hand_queue", hand_queue), call("longest", tell_longest);
     do call("take", take); while (taken.found);
-    call("close", close_queue);
+    call("close_queue", close_queue);
 }
 
 /* How a link is, and how full each of its queues: before the messages in it are taken. */
@@ -222,12 +222,12 @@ static void of_health(void) {
 }
 
 static void of_ends(void) {
-    call("links, link, port, place", tell_links), call("count", tell_count), call("count", tell_filtered);
+    call("links", tell_links), call("count", tell_count), call("count of filtered", tell_filtered);
     for (at_link = 0; at_link < links; at_link++) {
-        call("links, link, port, place", tell_link);
+        call("link", tell_link);
         of_health();
         for (at_port = 0; at_port < link_reply.ports; at_port++) {
-            call("links, link, port, place", tell_port), call("links, link, port, place", tell_place);
+            call("port", tell_port), call("place", tell_place);
             if (port_reply.service == YELUNNAVI_SERVICE_SAMPLING) of_a_reader(); else of_a_queue();
         }
     }

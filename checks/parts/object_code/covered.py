@@ -1,0 +1,41 @@
+"""What of each function was executed, and which ways of its branches were gone."""
+from typing import NamedTuple
+
+# What a branch does.
+FOLLOWED, PASSED = "followed", "passed"
+
+
+class Holes(NamedTuple):
+    """What no run did in a function: instructions, and ways of branches that were executed, by offsets in its
+    section; and how many instructions and branches it has, and how many branches of which both ways were gone."""
+    instructions: tuple
+    ways: tuple
+    of_instructions: int
+    of_branches: int
+    whole_branches: int
+
+    @property
+    def executed(self):
+        return self.of_instructions - len(self.instructions)
+
+    def text(self, function):
+        """The holes by their offsets in the function, instructions as ranges."""
+        places = ", ".join(f"+{at - function.first:x}" for at in self.instructions)
+        ways = ", ".join(f"+{at - function.first:x} never {way}" for at, way in self.ways)
+        missed = f"{len(self.instructions)} of {self.of_instructions} instructions"
+        return f"{missed}: {places}; {len(self.ways)} ways: {ways}"
+
+
+def holes_of(flow, counts):
+    """What no run did in a function. Of a branch that no run came to the ways aren't told again."""
+    function = flow.function
+    place = {at: (function.member, function.section, at) for at in flow.reached}
+    missed = tuple(at for at in sorted(flow.reached) if not counts.executed[place[at]])
+    ways, branches = [], [at for at in sorted(flow.reached) if flow.at[at].is_branch]
+    for at in branches:
+        done, taken = counts.executed[place[at]], counts.taken[place[at]]
+        ways += [(at, FOLLOWED)] if done and not taken else []
+        ways += [(at, PASSED)] if done and taken == done else []
+    part = {at for at, _ in ways}
+    whole = sum(1 for at in branches if counts.executed[place[at]] and at not in part)
+    return Holes(missed, tuple(ways), len(flow.reached), len(branches), whole)

@@ -1,0 +1,58 @@
+"""The runs by which checks/coverage exercises the library: its tests in C, and calls by chance."""
+import random
+
+from parts import fuzz_cases
+from parts.c_programs import POOL, ROOFS, compiled_part, of_examples, of_profiles, scripts_of, under
+from parts.driven import ENOUGH, hexed
+from parts.fuzz_cases import Case
+from parts.object_code.counted import FIXED
+from parts.object_code.walks import CLOSED
+from parts.options import EXAMPLES
+
+ENDS = 12
+
+
+def calls_of_case(r):
+    """A configuration, often with a fault, and frames with calls at its ports between them, in the words of
+    drive.c."""
+    case = Case(r)
+    calls = [f"open {r.choice([1, 2, 8])} {hexed(case.config)}"]
+    names = [port["name"] for link in fuzz_cases.worked_links() for port in link["port"]]
+    names += [f"p{link}-{place}" for link in range(3) for place in range(3)]
+    for slot, name in enumerate(r.sample(names, min(len(names), ENDS))):
+        calls += [f"hand_{kind} {slot} {hexed(name.encode())}" for kind in ("reader", "queue")]
+    for moment, net, octets in case.frames():
+        calls.append(f"receive {net} {moment} {hexed(octets)}")
+        if r.random() < 0.3:
+            slot = r.randrange(ENDS)
+            held = [f"hold {slot} {moment}", f"octets {slot}", f"release {slot}"]
+            calls += r.choice([[f"read {slot} {moment} {ENOUGH}"], held, [f"take {slot} {ENOUGH}"] * r.choice([1, 3])])
+    return calls + CLOSED
+
+
+def by_chance(given):
+    """What drive.c reads: under each roof the scripts of checks/c_interface, and the cases of checks/fuzz."""
+    scripts = list(scripts_of(given, given.scripts))
+    cases = [calls_of_case(random.Random(f"{given.seed} case {number}")) for number in range(given.cases)]
+    for roof in ROOFS:
+        calls = [call for _, script in under(roof, scripts) for call in (*script.calls, *CLOSED)]
+        yield roof, "\n".join(calls + [call for case in cases for call in case]).encode()
+
+
+def exercises(library, room, given):
+    """Each program, its map, and what it is run with: words, and what it reads."""
+    cases = [files for _, files, _ in (*of_examples(), *of_profiles(room, given.frames))]
+    pool = (EXAMPLES / "c" / "pool.c", POOL)
+
+    def part(name, *words, called=None):
+        linker_map = room / f"{called or name}.map"
+        return compiled_part(name, room, *FIXED, f"-Wl,-Map={linker_map}", *words, library, called=called), linker_map
+
+    yield *part("codes"), [([], b"")]
+    yield *part("systems", "-pthread"), [([], b"")]
+    yield *part("apex", *pool), [([], b"")]
+    yield *part("closing", "-pthread"), [([], b"")]
+    yield *part("schedules", "-pthread", f"-DFRAMES={given.frames}"), [(["1", str(given.seed)], b"")]
+    for number, (roof, text) in enumerate(by_chance(given)):
+        yield *part("drive", *ROOFS[roof], called=f"drive{number}"), [([], text)]
+        yield *part("stack", *pool, *ROOFS[roof], called=f"stack{number}"), [(files, b"") for files in cases[:2]]

@@ -1,0 +1,134 @@
+"""The way of control through a function: what follows each instruction, and its loops."""
+from typing import NamedTuple
+
+from parts.object_code.archive import ENDS, STOPS
+
+
+class Unfollowed(Exception):
+    """Why a function's way of control can't be told."""
+
+
+class Loop(NamedTuple):
+    """A loop: where it is entered, all its instructions, and the loops inside of it."""
+    heads: tuple
+    places: frozenset
+    inner: tuple
+
+
+class Flow:
+    """What follows each instruction of a function within it; where it calls, leaves and ends."""
+
+    def __init__(self, archive, function):
+        self.function = function
+        self.at = {it.at: it for it in function.instructions}
+        self.order = sorted(self.at)
+        self.after = dict(zip(self.order, [*self.order[1:], None]))
+        has_table = any(it.is_jump and it.is_indirect for it in self.at.values())
+        self.table = places_of_tables(archive, function) if has_table else []
+        self.follows = {at: tuple(self.next_of(it)) for at, it in self.at.items()}
+        self.reached = self.from_here(function.first)
+
+    def next_of(self, it):
+        """The offsets of what comes after an instruction; a jump out of the function leads nowhere here."""
+        if it.word in ENDS or it.word in STOPS:
+            return
+        if (it.is_jump or it.is_branch) and not it.is_indirect:
+            if self.function.has(it.target) and it.target[2] != self.function.first:
+                if it.target[2] not in self.at:
+                    raise Unfollowed(f"{self.function.name}: a jump into an instruction")
+                yield it.target[2]
+            elif self.function.has(it.target):
+                yield it.target[2]
+        if it.is_jump and it.is_indirect:
+            yield from self.table
+        if not it.is_jump and self.after[it.at] is not None:
+            yield self.after[it.at]
+
+    def from_here(self, first):
+        seen, waiting = set(), [first] if first in self.at else []
+        while waiting:
+            at = waiting.pop()
+            if at not in seen:
+                seen.add(at)
+                waiting += self.follows[at]
+        return seen
+
+    def leaving(self):
+        """The calls, and the jumps to other functions, that can be reached."""
+        for at in sorted(self.reached):
+            it = self.at[at]
+            is_out = it.target is not None and not self.function.has(it.target)
+            if it.is_call or (it.is_jump or it.is_branch) and is_out:
+                yield it
+            elif it.is_indirect and not self.table:
+                yield it
+
+    def loops(self):
+        """The loops, the outermost ones, with those inside of them."""
+        return loops_among(self.reached, self.follows)
+
+
+def places_of_tables(archive, function):
+    """Where jumps by tables may lead: each place in the function that constant data points to from a table that it
+    looks up."""
+    bases = sorted({it.about for it in function.instructions if isinstance(it.about, tuple)})
+    found = set()
+    for (member, section, at), (kind, place) in archive.pointed.items():
+        if not isinstance(place, tuple):
+            continue
+        base = max((it for it in bases if it[:2] == (member, section) and it[2] <= at), default=None)
+        if base is not None:
+            place = (*place[:2], place[2] - (at - base[2])) if "PC32" in kind else place
+            found |= {place[2]} if function.has(place) else set()
+    return sorted(found)
+
+
+# ---- loops
+
+def loops_among(places, follows):
+    """The outermost loops among some places: each set of places that lead to each other; within one, what is left of
+    them if no way leads back to where it is entered."""
+    found = []
+    for circle in circles(places, follows):
+        heads = {at for at in circle if any(at in follows[before] for before in places - circle)} or {min(circle)}
+        inner = {at: tuple(to for to in follows[at] if to in circle and to not in heads) for at in circle}
+        found.append(Loop(tuple(sorted(heads)), frozenset(circle), tuple(loops_among(circle, inner))))
+    return sorted(found)
+
+
+def circles(places, follows):
+    """The largest sets of places that lead to each other, by Tarjan's algorithm, written without recursion."""
+    index, low, stack, on_stack = {}, {}, [], set()
+    for start in sorted(places):
+        if start in index:
+            continue
+        work = [(start, iter(follows[start]))]
+        index[start] = low[start] = len(index)
+        stack.append(start), on_stack.add(start)
+        while work:
+            at, rest = work[-1]
+            to = next((to for to in rest if to in places), None)
+            if to is None:
+                work.pop()
+                if work:
+                    low[work[-1][0]] = min(low[work[-1][0]], low[at])
+                if low[at] == index[at]:
+                    circle = {at}
+                    while stack[-1] != at:
+                        circle.add(stack[-1]), on_stack.discard(stack.pop())
+                    stack.pop(), on_stack.discard(at)
+                    if len(circle) > 1 or at in follows[at]:
+                        yield circle
+            elif to not in index:
+                index[to] = low[to] = len(index)
+                stack.append(to), on_stack.add(to)
+                work.append((to, iter(follows[to])))
+            elif to in on_stack:
+                low[at] = min(low[at], index[to])
+
+
+def each_loop(loops, depth=0):
+    """All loops, those inside of others too, each with how many are around it."""
+    for loop in loops:
+        yield loop, depth
+        yield from each_loop(loop.inner, depth + 1)

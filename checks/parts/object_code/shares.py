@@ -1,0 +1,41 @@
+"""How much of each part of an archive was exercised, and what is left out with no reason."""
+
+# In 100, of all branches of the archive.
+LEAST = 95
+# The calls of which each hole has a reason, by the ends of their names.
+OF_FRAMES = ("_receive",)
+OF_ENDS = ("_read", "_hold", "_octets", "_copy", "_release", "_take", "_limits", "_longest")
+
+
+def parts_of(calls):
+    """The functions below the calls for frames, below those at the ends, and all, each under what it is called."""
+    def below(ends):
+        found = [calls.below(it) for it in calls.exports if it.name.endswith(ends)]
+        return {it for functions in found for it in functions if it in calls.flows}
+    return {"receives": below(OF_FRAMES), "reads and takes": below(OF_ENDS), "the whole archive": set(calls.flows)}
+
+
+def problems_of(calls, parts, holes, reasons):
+    yield from calls.problems
+    reached = {it for export in calls.exports for it in calls.below(export)}
+    yield from (f"{it.name}: no call reaches it" for it in sorted(calls.flows.keys() - reached))
+    yield from (f"{it.name}: no run executes it" for it in sorted(calls.flows.keys() & reached)
+                if not holes[it].executed and not reasons.has(it))
+    yield from reasons.compare(holes, parts["receives"] | parts["reads and takes"])
+    branches, whole = total(parts["the whole archive"], holes)[2:]
+    if 100 * whole < LEAST * branches:
+        yield f"of {branches} branches {whole} were followed and passed, {LEAST} in 100 is the least"
+
+
+def total(functions, holes):
+    """How many instructions some functions have, how many were executed, and the same of branches."""
+    found = [holes[it] for it in functions]
+    instructions, executed = sum(it.of_instructions for it in found), sum(it.executed for it in found)
+    return instructions, executed, sum(it.of_branches for it in found), sum(it.whole_branches for it in found)
+
+
+def print_table(parts, holes):
+    print("| part | functions | instructions | executed | branches | both ways |\n|---|---|---|---|---|---|")
+    for name, functions in parts.items():
+        instructions, done, branches, whole = total(functions, holes)
+        print(f"| {name} | {len(functions)} | {instructions:,} | {done:,} | {branches:,} | {whole:,} |")

@@ -1,0 +1,123 @@
+"""checks/bounds tells what is deeper, longer or otherwise than is said, planted one at a time in a small archive."""
+import subprocess
+import sys
+
+import pytest
+from conftest import ROOT
+
+# A call with a loop of three instructions, which calls another function; one that calls itself; and one that asks for
+# memory.
+CODE = """\
+    .macro function name
+    .section .text.\\name,"ax",@progbits
+    .globl \\name
+    .type \\name,@function
+\\name:
+    .endm
+    .macro over name
+    .size \\name, .-\\name
+    .endm
+
+    function stand_receive
+    pushq %rbx
+    subq $32,%rsp
+    movq %rsi,%rcx
+0:  addq $4,%rdi
+    decq %rcx
+    jne 0b
+    call stand_place
+    addq $32,%rsp
+    popq %rbx
+    ret
+    over stand_receive
+
+    function stand_place
+    pushq %rbp
+    xorl %eax,%eax
+    popq %rbp
+    ret
+    over stand_place
+
+    function stand_open
+    pushq %rbx
+    testl %edi,%edi
+    je 0f
+    decl %edi
+    call stand_open
+    call rattle_alloc
+0:  popq %rbx
+    ret
+    over stand_open
+"""
+RULES = """\
+asks: _open
+memory: rattle_alloc
+outside 0: memset
+levels 80: stand_open (as deep as it may be)
+loop 5: stand_receive 1 of 3: words of four octets
+"""
+# Return addresses are 8 octets each: 8 + 8 + 32, with 8 + 8 of what is called; 80 times 8 + 8, with 8 + 8 of the last
+# call.
+PAGE = """\
+| in a `receive` | at most |
+|---|---|
+| words of four octets of the header | 5 |
+
+| call | stack at most | measured | instructions at most | the most found |
+|---|---|---|---|---|
+| `stand_receive` | 64 | 60 | 26 | 20 |
+| `stand_place` | 16 | | 4 | |
+| `stand_open` | 1,288 | | | |
+"""
+
+
+@pytest.fixture
+def checked(tmp_path):
+    """Runs the check over an archive of this code, with these rules and this page, and measures nothing."""
+    def check(code=CODE, rules=RULES, page=PAGE):
+        for name, text in ("code.s", code), ("rules.txt", rules), ("page.md", page):
+            (tmp_path / name).write_text(text, encoding="utf-8")
+        subprocess.run(["cc", "-c", "code.s", "-o", "code.o"], cwd=tmp_path, check=True)
+        subprocess.run(["ar", "rc", "code.a", "code.o"], cwd=tmp_path, check=True)
+        words = ["--library", "code.a", "--rules", "rules.txt", "--page", "page.md", "--seconds", "0"]
+        command = [sys.executable, ROOT / "checks" / "bounds", *words]
+        return subprocess.run(command, cwd=tmp_path, capture_output=True, text=True)
+    return check
+
+
+def test_bounds_that_hold(checked):
+    done = checked()
+    assert done.returncode == 0, done.stdout + done.stderr
+    assert "| `stand_receive` | 64 |  | 26 |  |" in done.stdout and "0 problems" in done.stdout
+
+
+# What stands in the code, the rules or the page; what is put in its place; and what is told.
+SLIPS = [
+    ("rules", "loop 5: stand_receive 1 of 3: words of four octets\n", "", "stand_receive: loop 1 of 3: no row"),
+    ("rules", "loop 5", "loop 6", "6 turns, and its row says 5"),
+    ("rules", "four octets", "six octets", "the page has 0 rows"),
+    ("rules", "1 of 3", "1 of 4", "stand_receive has no loop 1 of 4"),
+    ("code", "    jne 0b\n", "    jne 0b\n1:  decq %rdx\n    jne 1b\n", "stand_receive: loop 2 of 2: no row"),
+    ("code", "subq $32", "subq $48", "stand_receive: stack: 80 at most, and docs/MEASURED.md says 64"),
+    ("code", "    xorl %eax,%eax\n", "    subq $16,%rsp\n    addq $16,%rsp\n", "stand_receive: stack: 80 at most"),
+    ("code", "    xorl %eax,%eax\n", "    xorl %eax,%eax\n    nop\n    nop\n",
+     "instructions: 28 at most, and docs/MEASURED.md says 26"),
+    ("code", "    xorl %eax,%eax\n", "    call rattle_alloc\n", "stand_receive: reaches rattle_alloc"),
+    ("code", "    xorl %eax,%eax\n", "    call malloc\n", "reaches malloc, which checks/bounds.txt doesn't have"),
+    ("code", "    xorl %eax,%eax\n", "    addsd %xmm0,%xmm1\n", "stand_place computes with floating-point numbers"),
+    ("code", "    xorl %eax,%eax\n", "    call *%rax\n", "call *%rax leads to nothing known"),
+    ("code", "    xorl %eax,%eax\n", "    call stand_receive\n", "nothing bounds how deep: stand_receive, stand_place"),
+    ("code", "    xorl %eax,%eax\n", "    subq %rax,%rsp\n", "the stack after +1: sub %rax,%rsp"),
+    ("rules", "levels 80: stand_open (as deep as it may be)\n", "", "nothing bounds how deep: stand_open"),
+    ("rules", "levels 80", "levels 81", "stand_open: stack: 1,304 at most, and docs/MEASURED.md says 1,288"),
+    ("page", "| `stand_place` | 16 | | 4 | |\n", "", "docs/MEASURED.md: no row of stand_place"),
+    ("page", "stand_place", "stand_gone", "docs/MEASURED.md: no call stand_gone"),
+]
+
+
+@pytest.mark.parametrize("file, old, new, told", SLIPS, ids=[slip[3] for slip in SLIPS])
+def test_a_slip_is_told(checked, file, old, new, told):
+    texts = {"code": CODE, "rules": RULES, "page": PAGE}
+    assert old in texts[file]
+    done = checked(**{file: texts[file].replace(old, new, 1)})
+    assert done.returncode == 1 and told in done.stdout, done.stdout + done.stderr

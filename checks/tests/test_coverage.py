@@ -1,0 +1,95 @@
+"""What checks/coverage tells of code that no run executes, and of branches that go one way alone, in a small
+archive."""
+import shutil
+import subprocess
+
+import pytest
+import conftest  # noqa: F401
+
+from parts.object_code.archive import Archive
+from parts.object_code.calls import Calls
+from parts.object_code.counted import FIXED, Counts, Failed, count, sections_of
+from parts.object_code.covered import holes_of
+from parts.object_code.reasons import Reasons
+from parts.object_code.shares import parts_of, problems_of, total
+
+pytestmark = pytest.mark.skipif(not shutil.which("valgrind"), reason="needs valgrind")
+
+# A branch that is followed where there is no frame, and passed else.
+CODE = """\
+    .section .text.stand_receive,"ax",@progbits
+    .globl stand_receive
+    .type stand_receive,@function
+stand_receive:
+    testl %edi,%edi
+    je 0f
+    movl $3,%eax
+    ret
+0:  xorl %eax,%eax
+    ret
+    .size stand_receive, .-stand_receive
+"""
+PLANTED = CODE.replace("stand_receive", "stand_planted").replace("    .globl stand_planted\n", "")
+EXPORTED = CODE.replace("stand_receive", "stand_place")
+PROGRAM = """\
+#include <stdlib.h>
+int stand_receive(int frame);
+int main(int n, char **words) { return n != 2 || stand_receive(atoi(words[1])) < 0; }
+"""
+BOTH = (["1"], ["0"])
+
+
+@pytest.fixture
+def told(tmp_path):
+    """What is told of an archive of this code, after runs with these words, with these reasons."""
+    def tell(code=CODE, runs=BOTH, reasons="", program=PROGRAM):
+        for name, text in ("code.s", code), ("main.c", program), ("reasons.txt", reasons):
+            (tmp_path / name).write_text(text, encoding="utf-8")
+        for words in (["cc", "-c", "code.s"], ["ar", "rc", "code.a", "code.o"],
+                      ["cc", *FIXED, "-Wl,-Map=main.map", "main.c", "code.a", "-o", "main"]):
+            subprocess.run(words, cwd=tmp_path, check=True)
+        archive, counts = Archive(tmp_path / "code.a"), Counts()
+        sections = sections_of((tmp_path / "main.map").read_text(encoding="utf-8"), tmp_path / "code.a")
+        for words in runs:
+            count(counts, tmp_path / "main", words, sections, tmp_path)
+        calls = Calls(archive)
+        holes = {function: holes_of(flow, counts) for function, flow in calls.flows.items()}
+        parts = parts_of(calls)
+        problems = problems_of(calls, parts, holes, Reasons(tmp_path / "reasons.txt"))
+        return list(problems), total(parts["the whole archive"], holes)
+    return tell
+
+
+def test_all_is_exercised(told):
+    assert told() == ([], (6, 6, 1, 1))
+
+
+LEFT = "stand_receive of code.o: 2 instructions and 1 ways weren't gone, and reasons.txt has reasons for "
+FEW = "of {} branches {} were followed and passed, 95 in 100 is the least"
+
+
+@pytest.mark.parametrize("word", ["0", "1"])
+def test_a_way_that_is_never_gone_is_told(told, word):
+    assert told(runs=[[word]]) == ([f"{LEFT}0 and 0", FEW.format(1, 0)], (6, 4, 1, 0))
+
+
+def test_a_reason_is_for_so_much_and_no_more(told):
+    reason = "2 1: stand_receive: no empty frame\n"
+    assert told(runs=[["1"]], reasons=reason)[0] == [FEW.format(1, 0)]
+    assert told(runs=[["1"]], reasons=reason.replace("2", "1"))[0][0] == f"{LEFT}1 and 1"
+    assert told(reasons=reason)[0] == ["reasons.txt: a reason for stand_receive, of which all was gone"]
+    assert "no line of this file" in told(reasons="stand_receive: no number\n")[0][0]
+
+
+def test_a_function_that_no_test_calls_is_told(told):
+    problems, _ = told(code=CODE + EXPORTED)
+    assert problems == ["stand_place: no run executes it", FEW.format(2, 1)]
+
+
+def test_a_function_that_nothing_reaches_is_told(told):
+    assert "stand_planted: no call reaches it" in told(code=CODE + PLANTED)[0]
+
+
+def test_a_run_that_fails_is_no_run(told):
+    with pytest.raises(Failed):
+        told(program=PROGRAM.replace("< 0", "== 3"))
