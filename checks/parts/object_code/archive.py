@@ -42,6 +42,10 @@ class Instruction(NamedTuple):
         return self.word.startswith("j") and not self.is_jump
 
     @property
+    def repeats(self):
+        return self.prefix.startswith("rep") and self.word.startswith(("movs", "stos", "cmps", "scas", "lods"))
+
+    @property
     def is_indirect(self):
         return (self.is_call or self.is_jump) and self.operands.startswith("*")
 

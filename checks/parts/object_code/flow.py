@@ -23,8 +23,8 @@ class Flow:
         self.at = {it.at: it for it in function.instructions}
         self.order = sorted(self.at)
         self.after = dict(zip(self.order, [*self.order[1:], None]))
-        has_table = any(it.is_jump and it.is_indirect for it in self.at.values())
-        self.table = places_of_tables(archive, function) if has_table else []
+        self.by_table = {it.at for it in self.at.values() if it.is_jump and it.is_indirect and not named(archive, it)}
+        self.table = places_of_tables(archive, function) if self.by_table else []
         self.follows = {at: tuple(self.next_of(it)) for at, it in self.at.items()}
         self.reached = self.from_here(function.first)
 
@@ -39,7 +39,7 @@ class Flow:
                 yield it.target[2]
             elif self.function.has(it.target):
                 yield it.target[2]
-        if it.is_jump and it.is_indirect:
+        if it.at in self.by_table:
             yield from self.table
         if not it.is_jump and self.after[it.at] is not None:
             yield self.after[it.at]
@@ -57,15 +57,19 @@ class Flow:
         """The calls, and the jumps to other functions, that can be reached."""
         for at in sorted(self.reached):
             it = self.at[at]
-            is_out = it.target is not None and not self.function.has(it.target)
-            if it.is_call or (it.is_jump or it.is_branch) and is_out:
-                yield it
-            elif it.is_indirect and not self.table:
+            is_out = (it.is_jump or it.is_branch) and not it.is_indirect and not self.function.has(it.target)
+            by_pointer = it.is_jump and it.is_indirect and not (at in self.by_table and self.table)
+            if it.is_call or is_out or by_pointer:
                 yield it
 
     def loops(self):
         """The loops, the outermost ones, with those inside of them."""
         return loops_among(self.reached, self.follows)
+
+
+def named(archive, it):
+    """Whether a jump by a pointer names the function that the pointer is of."""
+    return isinstance(it.about, str) or archive.function_at(it.about) is not None
 
 
 def places_of_tables(archive, function):
