@@ -1,9 +1,14 @@
 """checks/bounds tells what is deeper, longer or otherwise than is said, planted one at a time in a small archive."""
+import shutil
 import subprocess
 import sys
 
 import pytest
 from conftest import ROOT
+
+from parts.object_code.archive import Archive
+from parts.object_code.calls import Calls
+from parts.object_code.stack import WORD
 
 # A call with a loop of three instructions, which calls another function; one that calls itself; and one that asks for
 # memory.
@@ -121,3 +126,38 @@ def test_a_slip_is_told(checked, file, old, new, told):
     assert old in texts[file]
     done = checked(**{file: texts[file].replace(old, new, 1)})
     assert done.returncode == 1 and told in done.stdout, done.stdout + done.stderr
+
+
+@pytest.mark.skipif(not shutil.which("gcc"), reason="needs gcc")
+def test_the_stack_of_each_function_is_what_its_compiler_says(tmp_path):
+    """Of the player in C: gcc tells what each function takes, the return address included."""
+    names = ("receiver", "settings", "toml", "base")
+    for name in names:
+        words = ["gcc", "-O2", "-fstack-usage", "-ffunction-sections", "-o", f"{name}.o", "-c"]
+        subprocess.run([*words, ROOT / "peer" / f"{name}.c"], cwd=tmp_path, check=True)
+    subprocess.run(["ar", "rc", "peer.a", *(f"{name}.o" for name in names)], cwd=tmp_path, check=True)
+    calls, said = Calls(Archive(tmp_path / "peer.a")), {}
+    for name in names:
+        for line in (tmp_path / f"{name}.su").read_text().splitlines():
+            place, octets, kind = line.split("\t")
+            said[place.rpartition(":")[2]] = int(octets)
+    found = {function.name: WORD + depths.most for function, depths in calls.depths.items() if function.name in said}
+    assert not calls.problems and len(found) > 20
+    assert found == {name: octets for name, octets in said.items() if name in found}
+
+
+ANSWERS = ["y * 3", "y / 7", "y - 100", "y ^ 77", "y << 5", "y % 9", "~y", "y & 12"]
+CASES = " ".join(f"case {case}: return {answer};" for case, answer in enumerate(ANSWERS))
+
+
+@pytest.mark.parametrize("compiler", ["gcc", "clang"])
+def test_a_jump_by_a_table_leads_to_each_of_its_places(tmp_path, compiler):
+    if not shutil.which(compiler):
+        pytest.skip(f"needs {compiler}")
+    (tmp_path / "cases.c").write_text(f"int kind(int x, int y) {{ switch (x) {{ {CASES} default: return y; }} }}\n")
+    subprocess.run([compiler, "-O2", "-fPIC", "-ffunction-sections", "-c", "cases.c"], cwd=tmp_path, check=True)
+    subprocess.run(["ar", "rc", "cases.a", "cases.o"], cwd=tmp_path, check=True)
+    calls = Calls(Archive(tmp_path / "cases.a"))
+    function, flow = next(pair for pair in calls.flows.items() if pair[0].name == "kind")
+    of_code = {it.at for it in function.instructions if not it.word.startswith(("nop", "data16", "xchg"))}
+    assert not calls.problems and flow.by_table and flow.reached == of_code

@@ -13,7 +13,7 @@ from parts.object_code.walks import CLOSED, walk_of
 CALLGRIND = ["valgrind", "--tool=callgrind", "--compress-strings=no", "--compress-pos=no"]
 TRIGGER, CALLED = re.compile(r"^desc: Trigger: Client Request: (\w+)$", re.M), re.compile(r"^calls=.*\n.*\n", re.M)
 COST = re.compile(r"^\S+ (\d+)$", re.M)
-AT_A_TIME, KEPT = 12, 6
+AT_A_TIME, KEPT = 6, 6
 
 
 def own_instructions(text, functions):

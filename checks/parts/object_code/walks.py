@@ -17,7 +17,7 @@ def port_of(r, link, place, kind):
 
 def links_of(r):
     """A few links, or as many as may be, of one port or of as many as may be."""
-    links, ports = r.choice([(1, 32), (1, 2), (3, 5), (2, 32), (64, 1), (64, 32)])
+    links, ports = r.choice([(1, 32), (1, 32), (1, 2), (3, 5), (2, 32), (64, 1)]) if r.random() < 0.97 else (64, 32)
     kinds = r.choice([["sampling"], ["queuing"], ["sampling", "queuing"]])
     return [{"vl": number, "skew_max_us": 10**6, "reassembly_us": 10**7, "redundancy": r.random() < 0.5,
              "port": [port_of(r, number, place, kinds[(place + 1) % len(kinds)]) for place in range(ports)]}
