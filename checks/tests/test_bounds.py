@@ -57,8 +57,8 @@ CODE = """\
 RULES = """\
 asks: _open
 memory: rattle_alloc
-outside 0: memset
-levels 80: stand_open (as deep as it may be)
+outside: memset
+levels 80: stand_open: as deep as it may be
 loop 5: stand_receive 1 of 3: words of four octets
 """
 # Return addresses are 8 octets each: 8 + 8 + 32, with 8 + 8 of what is called; 80 times 8 + 8, with 8 + 8 of the last
@@ -113,7 +113,7 @@ SLIPS = [
     ("code", "    xorl %eax,%eax\n", "    call *%rax\n", "call *%rax leads to nothing known"),
     ("code", "    xorl %eax,%eax\n", "    call stand_receive\n", "nothing bounds how deep: stand_receive, stand_place"),
     ("code", "    xorl %eax,%eax\n", "    subq %rax,%rsp\n", "the stack after +1: sub %rax,%rsp"),
-    ("rules", "levels 80: stand_open (as deep as it may be)\n", "", "nothing bounds how deep: stand_open"),
+    ("rules", "levels 80: stand_open: as deep as it may be\n", "", "nothing bounds how deep: stand_open"),
     ("rules", "levels 80", "levels 81", "stand_open: stack: 1,304 at most, and docs/MEASURED.md says 1,288"),
     ("page", "| `stand_place` | 16 | | 4 | |\n", "", "docs/MEASURED.md: no row of stand_place"),
     ("page", "stand_place", "stand_gone", "docs/MEASURED.md: no call stand_gone"),

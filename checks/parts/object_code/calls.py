@@ -57,31 +57,29 @@ class Calls:
 
 
 class Recursion(NamedTuple):
-    """What bounds a recursion: the functions of which at most so many calls are open at a time."""
+    """What bounds a recursion: functions of which at most so many calls are open at a time."""
     functions: frozenset
     levels: int
 
 
 class Deepest:
-    """The octets of stack that each function takes at most, with all that it calls, below its return address.
+    """The octets of stack that each function takes at most, with all that it calls in the archive, below its return
+    address."""
 
-    `outside` gives those of functions of other libraries.
-    """
-
-    def __init__(self, calls, recursions, outside):
-        self.calls, self.outside, self.known, self.problems = calls, outside, {}, []
+    def __init__(self, calls, recursions):
+        self.calls, self.known, self.problems = calls, {}, []
         self.ring_of = {}
         for ring in calls.rings():
             bounds = [it for it in recursions if it.functions & {one.name for one in ring}]
-            if len(bounds) != 1:
+            if not bounds:
                 self.problems.append(f"calls itself, and nothing bounds how deep: {', '.join(it.name for it in ring)}")
-            bound = bounds[0] if len(bounds) == 1 else Recursion(frozenset(), 0)
+            bound = Recursion(frozenset().union(*(it.functions for it in bounds)), sum(it.levels for it in bounds))
             self.ring_of |= {it: (frozenset(ring), bound) for it in ring}
 
     def of(self, function):
         """The octets of a function, or of a name outside."""
         if not hasattr(function, "name"):
-            return self.outside.get(function, 0)
+            return 0
         if function not in self.known:
             ring, bound = self.ring_of.get(function, (frozenset(), None))
             found = self.of_ring(function, ring, bound) if ring else self.of_calls(function, frozenset(), {})

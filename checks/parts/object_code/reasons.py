@@ -1,7 +1,8 @@
 """Why some code isn't exercised: checks/coverage.txt, by functions and by how much of each.
 
-    INSTRUCTIONS WAYS: FUNCTION ..: why       at most so many instructions of each function, and ways of branches that
-    are executed
+    INSTRUCTIONS WAYS: FUNCTION: why    so many of its instructions at most, and ways of branches that are executed
+
+Lines of one function add up.
 """
 import re
 from collections import defaultdict
@@ -17,10 +18,10 @@ class Reasons:
         self.allowed = defaultdict(lambda: [0, 0])
         for number, line in enumerate(path.read_text(encoding="utf-8").splitlines(), 1):
             found = LINE.match(line)
-            for function in found[3].split() if found else ():
-                self.allowed[function][0] += int(found[1])
-                self.allowed[function][1] += int(found[2])
-            if line and not line.startswith("#") and not found:
+            if found:
+                self.allowed[found[3]][0] += int(found[1])
+                self.allowed[found[3]][1] += int(found[2])
+            elif line and not line.startswith("#"):
                 self.bad.append(f"{path.name}:{number}: no line of this file: {line}")
 
     def has(self, function):

@@ -1,11 +1,10 @@
 """What object code doesn't say of itself, as checks/bounds.txt and the page of measured costs say it.
 
-    asks: NAME ..                       exports that may reach the functions for memory
-    memory: NAME ..                     those functions
-    outside OCTETS: NAME .. (why)       functions outside of the archive, and what they take of the stack
-    levels NUMBER: NAME .. (why)        functions that call themselves through others, and how many of such calls are
-    open at most loop COUNT: FUNCTION SHAPE: ROW     a loop of a function, how often it takes a turn at most, and its
-    row in the page
+    asks: END ..                    the ends of the names of calls that may reach the functions for memory
+    memory: NAME ..                 those functions
+    outside: NAME ..                the other functions outside of the archive
+    levels NUMBER: FUNCTION: why    a function that calls itself, and of how many levels such calls are at most
+    loop TURNS: FUNCTION SHAPE: ROW a loop of a function, how often it takes a turn at most, and its row in the page
 """
 import re
 from math import prod
@@ -13,8 +12,9 @@ from typing import NamedTuple
 
 from parts.object_code.calls import Recursion
 
-LINE = re.compile(r"^(asks|memory|outside|levels|loop|indirect)(?: ([\d,]+))?: (.*)$")
-REASON = re.compile(r"^(.*?) \((.*)\)$")
+OF_NAMES = re.compile(r"^(asks|memory|outside): (.*)$")
+OF_LEVELS = re.compile(r"^levels ([\d,]+): (.*?): (.*)$")
+OF_LOOP = re.compile(r"^loop ([\d,]+): (.*) ([\d.]+ of \d+): (.*)$")
 NUMBERS = {"twice": 2, "three": 3, "four": 4}
 
 
@@ -30,29 +30,21 @@ class Rules:
     """The lines of the file."""
 
     def __init__(self, path):
-        self.asks, self.memory, self.indirect = set(), set(), set()
-        self.outside, self.levels, self.loops, self.bad = {}, [], [], []
+        self.asks, self.memory, self.outside, self.levels, self.loops, self.bad = set(), set(), set(), [], [], []
         for number, line in enumerate(path.read_text(encoding="utf-8").splitlines(), 1):
-            found = LINE.match(line)
-            if found:
-                self.add(found[1], int((found[2] or "0").replace(",", "")), found[3])
-            elif line.strip() and not line.startswith("#"):
+            if line.strip() and not line.startswith("#") and not self.takes(line):
                 self.bad.append(f"{path.name}:{number}: no line of this file: {line}")
 
-    def add(self, word, number, rest):
-        if word == "loop":
-            place, _, row = rest.partition(": ")
-            function, _, shape = place.partition(" ")
-            self.loops.append(LoopRow(function, shape, number, row))
-            return
-        reason = REASON.match(rest)
-        names = (reason[1] if reason else rest).split()
-        if word == "levels":
-            self.levels.append(Recursion(frozenset(names), number))
-        elif word == "outside":
-            self.outside |= dict.fromkeys(names, number)
-        else:
-            getattr(self, word).update(names)
+    def takes(self, line):
+        """Whether a line is one of these."""
+        names, levels, loop = OF_NAMES.match(line), OF_LEVELS.match(line), OF_LOOP.match(line)
+        if names:
+            getattr(self, names[1]).update(names[2].split())
+        elif levels:
+            self.levels.append(Recursion(frozenset([levels[2]]), number_of(levels[1])))
+        elif loop:
+            self.loops.append(LoopRow(loop[2], loop[3], number_of(loop[1]), loop[4]))
+        return bool(names or levels or loop)
 
 
 # ---- the page
