@@ -42,6 +42,9 @@ class Product:
         self.folder = OUT / "library" / target if self.is_library else OUT / "program"
         self.names = with_those_below(self.crates)
 
+    def __str__(self):
+        return "the library" if self.is_library else "the program"
+
     def sources_below(self, top):
         """The files of its crates in a tree: this one, or a copy."""
         folders = [top / "crates" / name / part for name in self.names for part in PARTS]

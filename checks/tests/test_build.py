@@ -1,11 +1,13 @@
 """What ./build keeps, and the words of ./afdx_play that are refused before anything is built."""
 import csv
+import importlib.util
 import io
 import os
 import re
 import shutil
 import subprocess
 import tarfile
+from importlib.machinery import SourceFileLoader
 from pathlib import Path
 
 import evidence
@@ -50,6 +52,35 @@ def test_a_mark_of_other_sources_does_not_fit(tmp_path):
 def test_the_library_depends_on_its_header_and_its_target_has_a_folder():
     library, other = Product("library"), Product("library", "aarch64-unknown-linux-gnu")
     assert library.folder != other.folder and library.sum() == other.sum() != Product("program").sum()
+
+
+@pytest.fixture
+def build(tmp_path, monkeypatch):
+    """./build with a folder for what it makes, that proves nothing and keeps what it was asked to prove."""
+    spec = importlib.util.spec_from_loader("build", SourceFileLoader("build", str(ROOT / "build")))
+    found = importlib.util.module_from_spec(spec)
+    spec.loader.exec_module(found)
+    found.asked = []
+    for name, instead in {
+        "ROOT": tmp_path, "OUT": tmp_path, "build_folder": lambda name: tmp_path / "proofs" / name,
+        "take_from_gate": lambda product: None, "prove_crates": lambda *_: None,
+        "lay_crates": lambda folder, names: found.asked.append(names) or names,
+        "put_together": lambda product, crates, made: (made / product.crates[0]).write_text("made") and None,
+    }.items():
+        monkeypatch.setattr(found, name, instead)
+    return found
+
+
+def test_what_is_missing_is_proved_in_one_run(build, tmp_path):
+    products = [Product("program"), Product("library")]
+    for product in products:
+        product.folder, product.sum = tmp_path / product.crates[0], lambda *_: "the same sources"
+    build.build(products)
+    build.build(products)
+    assert build.asked == [["afdx_play", "receiver_c", "system_c"]] and all(product.is_built() for product in products)
+    (products[1].folder / "stray").write_text("")
+    build.build(products)
+    assert build.asked[1:] == [["receiver_c", "system_c"]]
 
 
 @pytest.mark.parametrize("compiler, told", [("false", "false fails, as it says above"), ("nowhere-cc", "no nowhere-cc here")])

@@ -70,9 +70,10 @@
    NULL. A pointer may be null where the length after it is 0.
 
    WHAT NOTHING CHECKS, and what is undefined where it is not kept:
-   - A handle went through .._init, once, before any other call; its room has as many octets as .._init was told, and is of
+   - A handle went through .._init, once, before any other call, .._close too: one of zeros has no room to look at; its room has as many octets as .._init was told, and is of
      no other handle. The program neither reads, writes nor moves it, nor changes the handle.
-   - One call at a time is made on a handle: no interrupt handler makes another one in its midst.
+   - One call at a time is made on a handle: no interrupt handler makes another one in its midst. Two threads in one reader may
+     write where the receiver's task writes, and into memory that was given back: then no other handle is safe either.
    - No other pointer is null; each reaches as many octets as the length after it says, or its type.
    - No two things that a call is passed overlap, nor does one reach into a room; no handle is passed twice.
    - What a frame or a text has doesn't change during a call.
@@ -374,7 +375,8 @@ struct yelunnavi_port_row {
     uint64_t limit;    /* the refresh period, up to 1,000,000,000; or the depth of the queue, 1 to 64 messages */
     size_t name_len;   /* how many octets its name has, 1 to 16 */
     uint8_t name[16];  /* of a-z 0-9 _ -, at the beginning */
-    uint32_t readers;    /* of a sampling port: how many readers it gets, 1 to 8; 0: as many as the opening is told */
+    uint32_t readers;    /* of a sampling port: how many readers it gets, 1 to 8; 0: as many as the opening is told. Above 8 in any
+                            row, of a queue too, is OUT_OF_RANGE before any other fault, and its row isn't told */
 };
 
 /* Opens the receiver of a table, whose constant field has the 4 octets at `constant`, as the call above opens that of a text:
@@ -532,7 +534,8 @@ void yelunnavi_pass_close(struct yelunnavi_pass *h);
 
 struct yelunnavi_read {
     uint32_t found;  /* 0: nothing was published yet. 1: a message. The number 2 stays free */
-    uint32_t valid;  /* 1: its age at `now` is at most the refresh period of its port (ARINC 653, READ_SAMPLING_MESSAGE) */
+    uint32_t valid;  /* 1: its age at `now` is at most the refresh period of its port (ARINC 653, READ_SAMPLING_MESSAGE). A message
+                        from the future, whose `time` is after `now`, is valid: a clock of arrivals that runs ahead hides age */
     uint64_t number; /* of the message, from 1 */
     uint64_t time;   /* when it came */
     size_t len;      /* how many octets the whole message has */
