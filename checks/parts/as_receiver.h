@@ -51,15 +51,15 @@ static uint32_t of_no_network(struct both *h) {
     return yelunnavi_system_links(&h->system, &links) == YELUNNAVI_DONE ? YELUNNAVI_NO_NETWORK : YELUNNAVI_NOT_OPEN;
 }
 
-static uint32_t both_receive(struct both *h, uint32_t net, uint64_t now, const uint8_t *frame, size_t len, struct yelunnavi_verdict *told) {
+static inline uint32_t both_receive(struct both *h, uint32_t net, uint64_t now, const uint8_t *frame, size_t len, struct yelunnavi_verdict *told) {
     return net < 2 ? yelunnavi_pass_receive(&h->passes[net], now, frame, len, told) : of_no_network(h);
 }
 
-static uint32_t both_count(struct both *h, size_t link, uint32_t net, uint32_t kind, uint64_t *count) {
+static inline uint32_t both_count(struct both *h, size_t link, uint32_t net, uint32_t kind, uint64_t *count) {
     return net < 2 ? yelunnavi_pass_count(&h->passes[net], link, kind, count) : of_no_network(h);
 }
 
-static uint32_t both_filtered(struct both *h, uint32_t net, uint32_t cause, uint64_t *count) {
+static inline uint32_t both_filtered(struct both *h, uint32_t net, uint32_t cause, uint64_t *count) {
     return net < 2 ? yelunnavi_pass_filtered(&h->passes[net], cause, count) : of_no_network(h);
 }
 

@@ -10,7 +10,8 @@ from parts.random_traces import write_case
 
 PROFILES = ("sampling", "queuing", "fragments", "mixed")
 POOL = "-DPOOL_OCTETS=268435456u"
-# What checks/parts/drive.c and stack.c call.
+# What checks/parts/drive.c and stack.c call, and what a receiver alone has of it.
+OF_RECEIVERS = ("health", "fill")
 ROOFS = {"receiver": [], "system, by one thread": ["-DSYSTEM"]}
 
 
@@ -87,4 +88,4 @@ def scripts_of(given, cases):
 
 def under(roof, scripts):
     """A system tells no health."""
-    return scripts if roof == "receiver" else [(name, script.without("health", "fill")) for name, script in scripts]
+    return scripts if roof == "receiver" else [(name, script.without(*OF_RECEIVERS)) for name, script in scripts]

@@ -1,7 +1,7 @@
 /* drive < SCRIPT: what the library for C answers to the calls of a script, a line each: the code, and what was told with
    DONE. Octets are in hexadecimal, `-` if there are none. Each buffer has just the room that the call is told, and was
    filled with 0xa5. Ends stand in slots by number. At the end a line says how many blocks of memory weren't given back.
-   With SYSTEM the calls are those of a system and of both its passes. With COUNTED callgrind writes what each call took,
+   After `refuse N` the Nth request for memory is refused. With SYSTEM the calls are those of a system and of both its passes. With COUNTED callgrind writes what each call took,
    by the call's word. */
 #include "yelunnavi.h"
 #include <inttypes.h>
@@ -29,30 +29,33 @@ static struct yelunnavi_receiver receiver;
 static struct yelunnavi_reader readers[SLOTS];
 static struct yelunnavi_queue queues[SLOTS];
 static long blocks;
-static bool may_ask;
+static bool may_ask, may_give_back;
+static uint64_t refused; /* the number of a request for memory, from now on, that is refused; 0 for none */
 
-/* ---- memory: blocks that weren't given back are counted, and none is asked for but by an opening */
+/* ---- memory: blocks that weren't given back are counted; none is asked for but by an opening, nor given back but by an
+   opening or a close */
 
-static void asked(void) {
-    if (may_ask) return;
-    puts("memory was asked for");
-    exit(4);
+/* Whether a request is granted. */
+static bool asked(void) {
+    if (!may_ask) puts("memory was asked for"), exit(4);
+    return !refused || --refused;
 }
 
 struct rattle_tried rattle_alloc(size_t octets, size_t align) {
     (void)align;
-    asked();
+    if (!asked()) return (struct rattle_tried){false, &blocks};
     blocks++;
     return (struct rattle_tried){true, malloc(octets ? octets : 1)};
 }
 
 struct rattle_tried rattle_realloc(void *at, size_t kept, size_t octets, size_t align) {
     (void)kept, (void)align;
-    asked();
+    if (!asked()) return (struct rattle_tried){false, at};
     return (struct rattle_tried){true, realloc(at, octets ? octets : 1)};
 }
 
 void rattle_dealloc(void *at) {
+    if (!may_ask && !may_give_back) puts("memory was given back"), exit(4);
     blocks--;
     free(at);
 }
@@ -287,9 +290,19 @@ static void place(void) {
     free(name);
 }
 
+static void close_it(const char *name) {
+    may_give_back = true;
+    if (!strcmp(name, "close")) yelunnavi_receiver_close(&receiver);
+    else if (!strcmp(name, "close_reader")) yelunnavi_reader_close(&readers[number()]);
+    else if (!strcmp(name, "close_queue")) yelunnavi_queue_close(&queues[number()]);
+    else exit(3);
+    may_give_back = false;
+}
+
 static void call(const char *name) {
     if (!strcmp(name, "open")) open_it();
     else if (!strcmp(name, "open_table")) open_table();
+    else if (!strcmp(name, "refuse")) refused = number();
     else if (!strcmp(name, "receive")) receive();
     else if (!strcmp(name, "hand_reader")) hand(true);
     else if (!strcmp(name, "hand_queue")) hand(false);
@@ -311,9 +324,7 @@ static void call(const char *name) {
     else if (!strcmp(name, "link")) tell_link();
     else if (!strcmp(name, "port")) tell_port();
     else if (!strcmp(name, "place")) place();
-    else if (!strcmp(name, "close")) yelunnavi_receiver_close(&receiver);
-    else if (!strcmp(name, "close_reader")) yelunnavi_reader_close(&readers[number()]);
-    else if (!strcmp(name, "close_queue")) yelunnavi_queue_close(&queues[number()]);
+    else if (!strncmp(name, "close", 5)) close_it(name);
     else exit(3);
     putchar('\n');
 }
@@ -326,6 +337,7 @@ int main(void) {
     if (!are_made || yelunnavi_abi() != YELUNNAVI_ABI) return 2;
     read_script();
     while ((called = word_or_end())) call(called);
+    may_give_back = true;
     for (int k = 0; k < SLOTS; k++) yelunnavi_reader_close(&readers[k]), yelunnavi_queue_close(&queues[k]);
     yelunnavi_receiver_close(&receiver);
     printf("%ld blocks kept\n", blocks);

@@ -11,6 +11,13 @@
 #include <ucontext.h>
 #ifdef SYSTEM
 #include "as_receiver.h"
+/* The calls of a pass as they are: there are both networks. */
+#undef yelunnavi_receiver_receive
+#undef yelunnavi_receiver_count
+#undef yelunnavi_receiver_filtered
+#define yelunnavi_receiver_receive(h, net, ...) yelunnavi_pass_receive(&(h)->passes[net], __VA_ARGS__)
+#define yelunnavi_receiver_count(h, link, net, ...) yelunnavi_pass_count(&(h)->passes[net], link, __VA_ARGS__)
+#define yelunnavi_receiver_filtered(h, net, ...) yelunnavi_pass_filtered(&(h)->passes[net], __VA_ARGS__)
 #endif
 
 enum { PAINT = 0xa5, SHORT = 1 << 16, LONG = 1 << 22, TEXT = 1 << 20, NAMES = 64 };
@@ -184,6 +191,9 @@ static void of_texts(void) {
     try_text("open, a long key in a long header", YELUNNAVI_FAULTY);
     add("["), add_key(LEVELS), add("]\n"), add_key(LEVELS), add(" = "), add_tables(LEVELS, LEVELS);
     try_text("open, nested tables by long keys", YELUNNAVI_FAULTY);
+    add("["), add_key(LEVELS), add("]\n"), add_key(LEVELS), add(" = "), add_tables(LEVELS, LEVELS);
+    add("\n["), add_key(LEVELS), add("]\n");
+    try_text("open, nested tables by long keys, no TOML", YELUNNAVI_FAULTY);
 }
 
 static void of_frames(char **files) {

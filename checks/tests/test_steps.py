@@ -10,7 +10,7 @@ from parts.object_code.steps import Steps
 
 
 def graph_of(r):
-    """What follows each place: mostly the next one, and now and then any; and the places that are come to from the first."""
+    """The places that are come to from the first, and what follows each: mostly the next, and now and then any."""
     count = r.randint(2, 9)
     follows = {}
     for at in range(count):

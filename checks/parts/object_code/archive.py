@@ -14,6 +14,8 @@ RELOCATION = re.compile(r"\t([0-9a-f]+): (R_X86_64_\w+)\t(.+)$")
 RELATIVE = re.compile("PC32|PLT32|GOTPC")
 OF_DATA = re.compile(r"^([0-9a-f]+) (R_X86_64_\w+)\s+(.+)$")
 ADDEND = re.compile(r"^(.*?)([+-]0x[0-9a-f]+)?$")
+# What a compiler adds to the name of a function for some types, a sum that another build may have otherwise.
+OF_TYPES = re.compile(r"<#[0-9a-f]+>")
 PREFIXES = {"lock", "rep", "repz", "repnz", "notrack", "bnd", "data16", "cs", "ds", "es", "fs"}
 # What ends a function besides a jump: a return, and what stops the processor.
 ENDS, STOPS = {"ret", "retq"}, {"ud2", "hlt", "int3"}
@@ -51,9 +53,10 @@ class Instruction(NamedTuple):
 
 
 class Function(NamedTuple):
-    """A function: where it stands, its octets, whether other objects see it, and its instructions without what pads
-    it."""
+    """A function: its name without a sum of types, and with it; where it stands, its octets, whether other objects see it,
+    and its instructions without what pads it."""
     name: str
+    symbol: str
     member: str
     section: str
     first: int
@@ -137,7 +140,8 @@ class Archive:
             first = place[2]
             within = [line for line in lines if first <= line[0] < first + size]
             code = tuple(self.instruction(member, section, at, text) for at, text in within)
-            yield Function(name, member, section, first, size, place in exported, code)
+            plain = OF_TYPES.sub("<>", name)
+            yield Function(plain, name, member, section, first, size, place in exported, code)
 
     def instruction(self, member, section, at, text):
         named = RELOCATION.search(text)

@@ -57,9 +57,10 @@ class Calls:
 
 
 class Recursion(NamedTuple):
-    """What bounds a recursion: functions of which at most so many calls are open at a time."""
+    """What bounds functions that call each other: those of which at most so many calls are open at a time, and all."""
     functions: frozenset
     levels: int
+    ring: frozenset = frozenset()
 
 
 class Deepest:
@@ -70,7 +71,7 @@ class Deepest:
         self.calls, self.known, self.problems = calls, {}, []
         self.ring_of = {}
         for ring in calls.rings():
-            bounds = [it for it in recursions if it.functions & {one.name for one in ring}]
+            bounds = [it for it in recursions if it.ring == {one.name for one in ring}]
             if not bounds:
                 self.problems.append(f"calls itself, and nothing bounds how deep: {', '.join(it.name for it in ring)}")
             bound = Recursion(frozenset().union(*(it.functions for it in bounds)), sum(it.levels for it in bounds))

@@ -6,6 +6,7 @@ from parts.c_programs import POOL, ROOFS, compiled_part, of_examples, of_profile
 from parts.driven import ENOUGH, hexed
 from parts.fuzz_cases import Case
 from parts.object_code.counted import FIXED
+from parts.object_code.toml_texts import toml_text
 from parts.object_code.walks import CLOSED
 from parts.options import EXAMPLES
 
@@ -30,13 +31,29 @@ def calls_of_case(r):
     return calls + CLOSED
 
 
+def openings(given):
+    """Openings of TOML texts and configurations by chance, also with one request for memory after the other refused."""
+    r = random.Random(f"{given.seed} openings")
+    for number in range(given.texts):
+        text = toml_text(r) if number % 4 else Case(r).config
+        yield from (f"open 1 {hexed(text)}", "close")
+        if number % 20 == 0:
+            for request in range(1, given.refused):
+                yield from (f"refuse {request}", f"open 2 {hexed(text)}", "close")
+            yield "refuse 0"
+    whole = (EXAMPLES / "two_links.toml").read_bytes()
+    for request in range(1, 4 * given.refused):
+        yield from (f"refuse {request}", f"open 2 {hexed(whole)}", "close")
+    yield from ("refuse 0", *CLOSED)
+
+
 def by_chance(given):
     """What drive.c reads: under each roof the scripts of checks/c_interface, and the cases of checks/fuzz."""
     scripts = list(scripts_of(given, given.scripts))
     cases = [calls_of_case(random.Random(f"{given.seed} case {number}")) for number in range(given.cases)]
     for roof in ROOFS:
         calls = [call for _, script in under(roof, scripts) for call in (*script.calls, *CLOSED)]
-        yield roof, "\n".join(calls + [call for case in cases for call in case]).encode()
+        yield roof, "\n".join(calls + [call for case in cases for call in case] + [*openings(given)]).encode()
 
 
 def exercises(library, room, given):

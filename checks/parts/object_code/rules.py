@@ -3,8 +3,11 @@
     asks: END ..                    the ends of the names of calls that may reach the functions for memory
     memory: NAME ..                 those functions
     outside: NAME ..                the other functions outside of the archive
-    levels NUMBER: FUNCTION: why    a function that calls itself, and of how many levels such calls are at most
-    loop TURNS: FUNCTION SHAPE: ROW a loop of a function, how often it takes a turn at most, and its row in the page
+    frees: NAME: why                another call that reaches the one that gives memory back, and never comes to it
+    levels NUMBER: FUNCTION: why    a function that calls itself, and how many of its calls are open at most; one
+                                    that calls itself through others as FUNCTION with FUNCTION ..
+    loop TURNS: FUNCTION SHAPE: ROW a loop of a function, how often it takes a turn at most each time that it is come
+                                    to, and its row in the page; of 0 turns if it never is come to
 """
 import re
 from math import prod
@@ -13,6 +16,7 @@ from typing import NamedTuple
 from parts.object_code.calls import Recursion
 
 OF_NAMES = re.compile(r"^(asks|memory|outside): (.*)$")
+OF_FREES = re.compile(r"^frees: (\w+): (.*)$")
 OF_LEVELS = re.compile(r"^levels ([\d,]+): (.*?): (.*)$")
 OF_LOOP = re.compile(r"^loop ([\d,]+): (.*) ([\d.]+ of \d+): (.*)$")
 NUMBERS = {"twice": 2, "three": 3, "four": 4}
@@ -30,21 +34,27 @@ class Rules:
     """The lines of the file."""
 
     def __init__(self, path):
-        self.asks, self.memory, self.outside, self.levels, self.loops, self.bad = set(), set(), set(), [], [], []
+        self.asks, self.memory, self.outside, self.frees = set(), set(), set(), set()
+        self.levels, self.loops, self.bad = [], [], []
         for number, line in enumerate(path.read_text(encoding="utf-8").splitlines(), 1):
             if line.strip() and not line.startswith("#") and not self.takes(line):
                 self.bad.append(f"{path.name}:{number}: no line of this file: {line}")
 
     def takes(self, line):
         """Whether a line is one of these."""
-        names, levels, loop = OF_NAMES.match(line), OF_LEVELS.match(line), OF_LOOP.match(line)
-        if names:
+        names, frees = OF_NAMES.match(line), OF_FREES.match(line)
+        levels, loop = OF_LEVELS.match(line), OF_LOOP.match(line)
+        if frees:
+            self.frees.add(frees[1])
+        elif names:
             getattr(self, names[1]).update(names[2].split())
         elif levels:
-            self.levels.append(Recursion(frozenset([levels[2]]), number_of(levels[1])))
+            counted, _, others = levels[2].partition(" with ")
+            ring = frozenset([counted, *others.split()])
+            self.levels.append(Recursion(frozenset([counted]), number_of(levels[1]), ring))
         elif loop:
             self.loops.append(LoopRow(loop[2], loop[3], number_of(loop[1]), loop[4]))
-        return bool(names or levels or loop)
+        return bool(names or frees or levels or loop)
 
 
 # ---- the page

@@ -12,7 +12,7 @@ from parts.object_code.walks import CLOSED, walk_of
 
 CALLGRIND = ["valgrind", "--tool=callgrind", "--compress-strings=no", "--compress-pos=no"]
 TRIGGER, CALLED = re.compile(r"^desc: Trigger: Client Request: (\w+)$", re.M), re.compile(r"^calls=.*\n.*\n", re.M)
-COST = re.compile(r"^\S+ (\d+)$", re.M)
+COST = re.compile(r"^[-+*\d]\S* (\d+)$", re.M)
 AT_A_TIME, KEPT = 6, 6
 
 
@@ -26,13 +26,13 @@ def own_instructions(text, functions):
 class Search:
     """The longest calls so far: of each call the instructions, and the walks that had the most."""
 
-    def __init__(self, program, functions, seed):
-        self.program, self.functions, self.r = program, functions, random.Random(seed)
+    def __init__(self, program, functions, seed, left_out=()):
+        self.program, self.functions, self.left_out, self.r = program, functions, left_out, random.Random(seed)
         self.most, self.kept, self.runs = Counter(), {}, 0
 
     def measured(self, walks):
         """Runs walks one after another in one process. Yields for each dump the call and its instructions."""
-        lines = [line for walk in walks for line in (*walk.calls, *CLOSED)]
+        lines = [line for walk in walks for line in (*walk.calls, *CLOSED) if not line.startswith(self.left_out)]
         with tempfile.TemporaryDirectory() as room:
             out = Path(room) / "out"
             command = [*CALLGRIND, f"--callgrind-out-file={out}", self.program]
@@ -64,10 +64,10 @@ class Search:
         return [walk.changed(self.r, walks) for walk in walks]
 
 
-def longest(program, functions, seconds, seed):
-    """The most instructions of these functions that a search of so many seconds came to in a call, by the call's
-    word."""
-    search, until = Search(program, functions, seed), time.monotonic() + seconds
+def longest(program, functions, seconds, seed, left_out=()):
+    """The most instructions of these functions that a search of so many seconds came to in a call, by the call's word.
+    Some words are left out."""
+    search, until = Search(program, functions, seed, left_out), time.monotonic() + seconds
     while time.monotonic() < until or not search.runs:
         search.look_at(search.next_walks())
     return search.most

@@ -34,38 +34,42 @@ class Steps:
         return max(ways.values())
 
     def ways(self, function, places, follows, loops, weights, heads):
-        """The most steps from the heads of a part of a function to each of its places, that place's own included.
+        """The most steps from the heads of a part of a function to each of its places that is come to, that place's own
+        included.
 
         The part has no circle but the loops. In one of these each turn takes the longest way back to its head, but
         the last.
         """
         loop_of = {at: loop for loop in loops for at in loop.places}
-        turns = {loop: self.turn(function, loop, follows, weights) for loop in loops}
-        found, before = {at: 0 for at in heads}, {}
-        for at in in_order(places, follows, loop_of):
-            if isinstance(at, int):
-                self.pass_on(at, found, before, weights, follows)
-                continue
-            start = max(before.get(head, found.get(head, 0)) for head in at.heads)
-            for place, steps in turns[at].items():
-                found[place] = start + steps
-                for to in follows[place]:
-                    if to not in at.places:
-                        before[to] = max(before.get(to, 0), found[place])
+        found, before = {}, dict.fromkeys(heads, 0)
+        for node in in_order(places, follows, loop_of):
+            within = (node,) if isinstance(node, int) else node.places
+            found |= self.of_node(function, node, before, weights, follows)
+            for at in within:
+                for to in follows[at] if at in found else ():
+                    if to not in within:
+                        before[to] = max(before.get(to, 0), found[at])
         return found
 
-    def pass_on(self, at, found, before, weights, follows):
-        found[at] = before.get(at, found.get(at, 0)) + weights[at]
-        for to in follows[at]:
-            before[to] = max(before.get(to, 0), found[at])
+    def of_node(self, function, node, before, weights, follows):
+        """The most steps to a place, or to each of a loop, if one comes to it."""
+        heads = [at for at in ((node,) if isinstance(node, int) else node.heads) if at in before]
+        if not heads:
+            return {}
+        start = max(before[at] for at in heads)
+        if isinstance(node, int):
+            return {node: start + weights[node]}
+        return {at: start + steps for at, steps in self.turn(function, node, follows, weights).items()}
 
     def turn(self, function, loop, follows, weights):
-        """The most steps from the first time that a loop is come to, to each of its places."""
+        """The most steps from the first time that a loop is come to, to each of its places; none if it never is."""
+        turns = self.turns(function, loop)
+        if not turns:
+            return {}
         others = loop.places - set(loop.heads)
         within = {at: tuple(to for to in follows[at] if to in others) for at in loop.places}
         ways = self.ways(function, loop.places, within, loop.inner, weights, loop.heads)
-        back = max(ways[at] for at in loop.places if any(to in loop.heads for to in follows[at]))
-        turns = self.turns(function, loop)
+        back = max((ways[at] for at in ways if any(to in loop.heads for to in follows[at])), default=0)
         return {at: steps + (turns - 1) * back for at, steps in ways.items()}
 
 
