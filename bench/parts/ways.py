@@ -167,7 +167,10 @@ LIVE = [
     Like(64, 1, 1, 80), Like(64, 4, 1, 80), Like(64, 32, 1, 80), Like(64, 1, 0, 80), Like(64, 32, 0, 80),
     Like(1, 32, 1, 80), Like(1, 32, 0, 80),
 ]
-LIVE_WAYS = ["task", "one", "one_bursts", "two", "two_bursts"]
+# The ways in which frames are given, each with the number of groups in which the links stand; by as many as there are links.
+EACH = 64
+LIVE_WAYS = [("task", EACH), ("one", EACH), ("one_bursts", EACH), ("two", EACH), ("two_bursts", EACH), ("one_bursts", 2),
+             ("two", 2), ("two_bursts", 2), ("two_bursts", 4), ("two_bursts", 8)]
 # Some of these, of a million calls.
 LIVE_LONGEST = [Like(64, 1, 1, 8), Like(64, 1, 0, 8), Like(1, 32, 1, 8)]
 
@@ -195,12 +198,12 @@ def ran(program, *words):
 
 
 def least_of(program, like, turns):
-    """By its way the least of so many turns: wall and processor time of a frame, and its share of published ones."""
+    """By its way and groups the least of so many turns: wall and processor time of a frame, and its share of published ones."""
     found = {}
-    idle = min(ran(program, "one", *like[:3], 0).processors for _ in range(turns))
+    idle = min(ran(program, "one", *like[:3], 0, EACH).processors for _ in range(turns))
     for _ in range(turns):
-        for way in LIVE_WAYS:
-            run = ran(program, way, *like)
+        for way in LIVE_WAYS if like.links > 1 else LIVE_WAYS[:5]:
+            run = ran(program, way[0], *like, way[1])
             times = run.wall / run.frames, (run.processors - idle) / run.frames
             found[way] = *map(min, times, found.get(way, times)), run.published / run.frames, run.memory / 1024
     return found
@@ -211,24 +214,29 @@ def named(like):
     return f"{like.links} links, {like.row} in a row, {sizes}"
 
 
+def shown_groups(groups):
+    return "" if groups == EACH else f", {groups} groups"
+
+
 def print_live_longest(program):
     print("single calls of two threads, a million of them: ns; the longest, and how many above 2,500, by the least of 4 passes")
-    print(f"{'':38}{'mean':>10}{'longest':>10}{'above':>8}{'the longest of all passes':>28}", flush=True)
+    print(f"{'':50}{'mean':>10}{'longest':>10}{'above':>8}{'the longest of all passes':>28}", flush=True)
     for like in LIVE_LONGEST:
-        words = " ".join(map(str, ("longest", *like)))
-        told = subprocess.run([program], input=words, stdout=subprocess.PIPE, text=True, check=True).stdout
-        mean, longest, above, of_all = told.split()
-        print(f"{named(like):38}{mean:>10}{longest:>10}{above:>8}{of_all:>28}", flush=True)
+        for groups in (EACH, 2) if like.links > 1 else (EACH,):
+            words = " ".join(map(str, ("longest", *like, groups)))
+            told = subprocess.run([program], input=words, stdout=subprocess.PIPE, text=True, check=True).stdout
+            mean, longest, above, of_all = told.split()
+            print(f"{named(like) + shown_groups(groups):50}{mean:>10}{longest:>10}{above:>8}{of_all:>28}", flush=True)
 
 
 def live(program, turns):
     print_load()
     for like in LIVE:
         found = least_of(program, like, turns)
-        wall, used = found["one"][:2]
+        wall, used = found["one", EACH][:2]
         print(f"{named(like)}: ns a frame, of the processors; over one thread; published; MiB")
-        for way, (each, by, published, memory) in found.items():
-            print(f"{way:12} {each:7.1f} {by:7.1f}  {each / wall:.2f} {by / used:.2f}  {published:.3f}  {memory:.0f}", flush=True)
+        for (way, groups), (each, by, published, memory) in found.items():
+            print(f"{way + shown_groups(groups):22} {each:7.1f} {by:7.1f}  {each / wall:.2f} {by / used:.2f}  {published:.3f}  {memory:.0f}", flush=True)
     print_live_longest(program)
     print_load()
     return 0

@@ -28,7 +28,7 @@ def test_the_tree_has_no_slip(tree):
 
 
 CODE, KEPT, REASONS = "crates/integrity_check/src/lib.rt", "crates/integrity_check/specs/Kept.antt", "checks/names.txt"
-HEAD, QUEUE = "crates/message_ring/src/head.rt", "crates/receiver/specs/Queue.antt"
+RING, ENDS = "crates/message_ring/src/lib.rt", "crates/message_ring/specs/Ends.antt"
 CRATES, OFFER, STEPS = "crates.txt", "crates/link_core/specs/Offer.antt", "crates/triple_buffer/src/steps.rt"
 # A file, what stands there, what is put in its place, and what is told.
 SLIPS = [
@@ -37,9 +37,9 @@ SLIPS = [
     (CODE, "        match self.last {", 41 * "        let _ = 0;\n" + "        match self.last {", "lines, 40 at most"),
     (CODE, "\nimpl Sequence {", "\n#[test]\nfn a_test() {}\n\nimpl Sequence {", "its place is a crate of tests"),
     (STEPS, "let found = self\n", "self.table.shared.peek(0);\n        let found = self\n", "a load that no contract counts"),
-    (HEAD, "requires { len ≤ longest_queued }", "requires { len ≤ 8192 }", f"{HEAD}:46: 8192; its name is longest_queued"),
-    (QUEUE, "depth ≤ deepest_queue", "depth ≤ 64", f"{QUEUE}:56: 64; its name is most_links or deepest_queue"),
-    (QUEUE, "now.queue.max ≤ longest_queued", "now.queue.max < 8192", "8192; its name is longest_queued"),
+    (RING, "(max ≤ longest_queued)", "(max ≤ 8192)", f"{RING}:129: 8192; its name is longest_queued"),
+    (ENDS, "depth ≤ deepest_queue", "depth ≤ 64", f"{ENDS}:28: 64; its name is most_links or deepest_queue"),
+    (RING, "(max ≤ longest_queued)", "(max < 8192)", "8192; its name is longest_queued"),
     (KEPT, "-- what is kept is", "abbrev pub latest : ℕ\nlatest = 0\n\n-- what is kept is", "latest stands in "),
     (KEPT, "abbrev pub StandsFor", "abbrev pub IsRun", "IsRun stands in "),
     # Crates that share other names, of a link with its history and without.

@@ -1,17 +1,18 @@
 -- A visit in which no frame comes, and the outlets that it finds.
-use Rattle.std.proofs.Common.{◌≡◌, ◌∙◌, ap, refl, sym, subst, zero, suc, ℕ, List, [], ◌∷◌, ◌++◌, drop, length, map, reverse, Option, None, Some, append-nil, arith}
+use Rattle.std.proofs.Common.{◌≡◌, ◌<◌, ◌∙◌, ap, refl, sym, subst, zero, suc, ℕ, ⊎_elim, List, [], ◌∷◌, ◌++◌, drop, length, map, reverse, Option, None, Some, append-nil, arith}
 use Rattle.std.specs.List.{slice_get}
 use Rattle.std.proofs.lemmas.List.{drop_all, length-reverse}
 use Rattle.std.proofs.lemmas.Option.{same_Some}
 use Rattle.es_base.specs.declared.event.Event.{Event}
 use Rattle.es_base.specs.declared.event.Message.{Message}
+use Rattle.es_base.specs.declared.place.Net.{Net}
 use Rattle.es_base.specs.declared.place.PortNo.{PortNo}
 use Rattle.es_base.specs.Port.{Port}
 use Rattle.link_core.specs.Link.{Link as Core}
 use Rattle.link_lock.specs.declared.user.User.{User}
 use Rattle.link_lock.specs.declared.user.User.TheVariants.{First, Second}
 use Rattle.link_lock.specs.Lists.{with_list}
-use Rattle.link_lock.specs.Pass.{KnownPass, MayFind, MayLeave}
+use Rattle.link_lock.specs.Pass.{KnownPass, MayFind, MayLeave, Visited, with_list_of}
 use Rattle.mailbox_port.specs.Reads.{PortReader}
 use Rattle.message_ring.specs.Queue.{Known as Taker}
 use Rattle.receiver.specs.declared.port.PortOutlet.{PortOutlet}
@@ -22,8 +23,14 @@ use Rattle.receiver.specs.Outlet.{GivesAt, ShowsAt}
 use Rattle.receiver.specs.Port.{GivesPort, IsPortOf, IsQueueOf, ShowsPort}
 use Rattle.receiver.specs.PortLaws.{port_adds, port_stays}
 use Rattle.network_calls.specs.declared.call.Call.{Call}
+use Rattle.network_calls.specs.declared.counts.LinkCounts.{LinkCounts}
 use Rattle.network_calls.specs.Calls.{calls_from, net_of}
+use Rattle.network_calls.specs.Passes.{DoesAt}
 use Rattle.live_system.specs.Calls.{Agrees, LiveLink, as_opened, events_of, goes_on, new_outlet}
+use Rattle.live_system.specs.Groups.{AgreeEach, GroupUser, IsOfGroup, calls_at, known_links, pass_at, go_on as group_goes_on}
+use Rattle.live_system.specs.Meetings.{VisitsAt}
+use Rattle.live_system.specs.Pass.{known_link}
+use Rattle.live_system.proofs.Groups.{found_there, known_same, of_link, others_stay, same_or_other, still_group_same}
 use Rattle.live_system.proofs.Outlets.{same_outlets}
 
 -- ---- what is found
@@ -132,3 +139,34 @@ module _ (found left : LiveLink) (same : left ≡ found) (pass : KnownPass LiveL
 
   pub no_call_of_reader : goes_on pass.user found left pass.list ≡ pass.list
   no_call_of_reader = subst (λ (l : LiveLink). goes_on pass.user found l pass.list ≡ pass.list) (sym same) (no_call found found refl refl (gives_none found) pass lists finds)
+
+-- ---- the pass after a visit of a group in which no frame came
+
+module _ (net : Net) (did : List LiveLink → List LiveLink → Type 0) (pass last : GroupUser) (visit : Visited (map as_opened) AgreeEach group_goes_on did pass last) (at : ℕ) (Step : LiveLink → LiveLink → Type 0) (done : DoesAt Step visit.found at visit.left)
+    (counts : List LinkCounts) (group : IsOfGroup net pass counts) where
+  -- its counts are those of its calls still, and of each link it knows what it knew
+  pub known_still : goes_on pass.user done.before done.after (calls_at pass.list at) ≡ calls_at pass.list at → IsOfGroup net last counts × (known_links net last 0 counts ≡ known_links net pass 0 counts)
+  known_still none = (still_group_same net did pass last visit at Step done counts group same_here, known_same net pass last 0 counts (λ p low high. same_each p (omega (arith, high))))
+    where
+      same_here : pass_at last at ≡ pass_at pass at
+      same_here = (of_link did pass last visit at Step done).knows ∙ ap (λ (list : List Call). with_list_of (pass_at pass at) list) none
+
+      same_each : (p : ℕ) → p < length counts → pass_at last p ≡ pass_at pass p
+      same_each p within = ⊎_elim (λ (same : p ≡ at). ap (pass_at last) same ∙ (same_here ∙ ap (pass_at pass) (sym same))) (λ (other : p ≡ at → ⊥). others_stay net did pass last visit at Step done counts group p other within) (same_or_other p at)
+
+  -- the pass met its link
+  pub met_at : (c : LinkCounts) → slice_get counts at ≡ Some c → VisitsAt (known_links net pass 0 counts) at Step
+  met_at c was =
+      let link = of_link did pass last visit at Step done in (
+        known_link net (pass_at pass at) c,
+        found_there net did pass last visit at Step done counts group c c was,
+        record {
+          lists = link.lists;
+          found = link.found;
+          left = link.left;
+          opened = link.finds.fixed;
+          own = ap link.lists (sym group.user) ∙ link.finds.own;
+          agrees = link.finds.agrees;
+          does = link.does;
+        },
+      )

@@ -1,6 +1,9 @@
 pub mod Burst
 pub mod Calls
+pub mod Chunk
+pub mod Groups
 pub mod Meetings
 pub mod Pass
+pub mod Rows
 pub mod Run
 pub mod System

@@ -1,6 +1,6 @@
 //! What crosses threads: a system may be shared, and a pass may be sent. Nothing calls this; its proof is its use: a
 //! field that can't be shared is refused as it is added.
-use crate::link_pass::NetPass;
+use crate::net_pass::NetPass;
 use crate::system::LiveSystem;
 
 fn may_be_sent<T: Send>(_: &T) {}

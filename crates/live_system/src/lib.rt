@@ -1,7 +1,7 @@
-//! The receiving half of an end system for two threads, one a network, which keeps no frame: each link stands under a
-//! lock of its own, with its ports, and its past is a value that proofs alone read. After the opening no call takes
-//! memory or fails, and a call waits for the lock of its link and for nothing else; `try_receive` waits for nobody, and
-//! gives up while the other network has the link.
+//! The receiving half of an end system for two threads, one a network, which keeps no frame: the links stand with their
+//! ports in groups of neighbours, each group under a lock of its own, and a link's past is a value that proofs alone
+//! read. After the opening no call takes memory or fails, and a call waits for the lock of its link's group and for
+//! nothing else; `try_receive` waits for nobody, and gives up while the other network has the group.
 //!
 //! ```rust
 //! let opened = LiveSystem::open(alloc, config, ReaderCount::most())?;
@@ -17,18 +17,23 @@
 #![tactic(auto)]
 
 mod burst;
+mod chunk;
 mod crossing;
+mod cut;
+mod group;
 pub mod laws;
 mod link_pass;
-mod locked;
 mod meetings;
+mod net_pass;
 mod opened;
+mod opened_group;
 mod row;
 mod settled;
 mod system;
+mod visit;
 
 pub use crossing::may_cross;
-pub use link_pass::NetPass;
+pub use net_pass::NetPass;
 pub use network_calls::{Call, PassCounts};
 pub use opened::Opened;
 pub use receiver::{

@@ -1,291 +1,280 @@
-//! One network's pass on one link.
-ghost use Rattle.std.specs.Prelude.{◌≡◌, ◌<◌, ◌≤◌, ℕ, Some, IfNone, IfOk, IfSome, length, refl, take};
-ghost use Rattle.std.proofs.Common.{ap, ◌∙◌};
-ghost use Rattle.std.proofs.lemmas.Option.{same_Some};
-ghost use Rattle.es_base.specs.Frame.{IsFrame, link_number_of};
+//! One network's pass on a group of links.
+ghost use Rattle.std.specs.Prelude.{◌≡◌, ◌<◌, ◌≤◌, ◌+◌, ◌++◌, ℕ, List, [], Some, IfNone, IfOk, IfSome, length, map, reverse, slice_get, take};
+ghost use Rattle.std.specs.List.{All};
+ghost use Rattle.std.specs.Vec.{vec_capacity};
 ghost use Rattle.es_base.specs.declared.place.Net.TheVariants.{A, B};
+ghost use Rattle.es_base.specs.Frame.{IsFrame, link_number_of};
 ghost use Rattle.es_base.specs.Past.{arrived};
+ghost use Rattle.es_base.specs.Settings.{Settings};
+ghost use Rattle.es_base.specs.Tally.{IsKind};
+ghost use Rattle.es_base.specs.Verdict.{verdict_kinds};
 ghost use Rattle.link_core.specs.Counted.{shown};
-ghost use Rattle.receiver.specs.Link.{IsNewLink};
+ghost use Rattle.receiver.specs.declared.ends.LinkEnds.{LinkEnds};
+ghost use Rattle.receiver.specs.declared.partition.PartitionEnd.{PartitionEnd};
 ghost use Rattle.receiver.specs.Meetings.{HasOutletAt};
 ghost use Rattle.receiver.specs.Outlet.{reads_by};
 ghost use Rattle.receiver.specs.Port.{IsPortOf, IsQueueOf, ReadsPort, ShowsPort};
+ghost use Rattle.receiver.specs.Receiver.{AreNewLinks};
+ghost use Rattle.network_calls.specs.declared.counts.LinkCounts.{LinkCounts};
 ghost use Rattle.network_calls.specs.Calls.{call, user_of};
-ghost use Rattle.network_calls.specs.Counts.{AreCounts};
-ghost use Rattle.live_system.specs.Burst.{AreFramesFor, CallsInTurn, StandTogether, TookInTurn, most_in_row};
-ghost use Rattle.live_system.specs.Calls.{LiveLink, as_opened, no_calls};
-ghost use Rattle.live_system.specs.Meetings.{MeetsReader, MeetsTaker};
-ghost use Rattle.live_system.specs.Pass.{Calls, Did, IsNewPass, IsNoCall, IsSettled, Visits};
-ghost use Rattle.live_system.specs.System.{keeping_no_frame};
+ghost use Rattle.network_calls.specs.Passes.{AreCounted, AreIdle, ArePasses, DoesAt, pass_with};
+ghost use Rattle.live_system.specs.Burst.{StandTogetherAt, most_in_row};
+ghost use Rattle.live_system.specs.Calls.{LiveLink, as_opened};
+ghost use Rattle.live_system.specs.Groups.{AreLetGo, AreNewCounts, HasLinkAt, IsGroup, KnowsAt, calls_shown, count_shown, ids_of, known_links, no_calls_on_any, under};
+ghost use Rattle.live_system.specs.Meetings.{MeetsReader, MeetsTaker, VisitsAt};
+ghost use Rattle.live_system.specs.Pass.{Did, KnownLink};
+ghost use Rattle.live_system.specs.Rows.{AreForLinks, CallsEach, IsApart, KnowsFor, TookEach, index_at};
+ghost use Rattle.live_system.specs.System.{CallsAt, KnowLinks, keeping_no_frame};
 
-use crate::locked::Locked;
+use crate::cut::LinkPlace;
+use crate::group::Group;
 use crate::meetings::{meet_reader, meet_taker};
-use crate::row::{Answers, take, take_row, tell};
+use crate::row::{Answers, Entry, take_at, take_each, tell_each};
 use es_base::{LinkNo, LinkSettings, Memory, Net, PortNo, Verdict};
 use frame_reader::Frame;
 use link_lock::{Lock, Opened, PassOf};
-use network_calls::{LinkCounts, PassOnLink, SettledLink};
+use network_calls::{LinkCounts, counts_on};
 use receiver::{
-    LinkWithPorts, MailboxReader, PartitionEnd, PortEnd, PortOutlet, Readers, Reply, RingTaker,
+    LinkEnds, LinkWithPorts, MailboxReader, PartitionEnd, PortOutlet, Readers, Reply, RingTaker,
 };
 use std::alloc::Global;
 use std::marker::Model;
 use std::sync::Wait;
 
-/// One network's pass on one link, by which a thread gives the link its frames. To a contract it is the link's lock,
-/// the network, the link as it was opened, the calls made, and their counts.
+/// One network's pass on the links of a group, by which a thread gives them its frames. To a contract it is what it
+/// knows of each link: the link's lock, the network, the link as it was opened, the calls made, and their counts.
 #[derive(Drop)]
-pub struct LinkPass {
+pub struct GroupPass {
     net: Net,
-    pass: PassOf<Locked>,
-    counts: LinkCounts,
+    pass: PassOf<Group>,
+    counts: Vec<LinkCounts>,
 }
 
-impl Model for LinkPass {
-    ghost use Rattle.std.specs.Prelude.{◌≡◌};
-    ghost use Rattle.network_calls.specs.Calls.{user_of};
-    ghost use Rattle.link_core.specs.Counted.{shown};
-    ghost use Rattle.network_calls.specs.Counts.{AreCounts};
-    ghost use Rattle.live_system.specs.Pass.{KnownLink, known_link};
+impl Model for GroupPass {
+    ghost use Rattle.std.specs.Prelude.{List};
+    ghost use Rattle.live_system.specs.Groups.{IsOfGroup, known_links};
+    ghost use Rattle.live_system.specs.Pass.{KnownLink};
 
-    ghost Value = { KnownLink };
+    ghost Value = { List KnownLink };
 
-    ghost view = { λ p. known_link p.net p.pass p.counts };
+    ghost view = { λ p. known_links p.net p.pass 0 p.counts.items };
 
-    ghost invariant = { λ p. (p.pass.user ≡ user_of p.net) × AreCounts shown p.net p.pass.list p.counts };
+    ghost invariant = { λ p. IsOfGroup p.net p.pass p.counts.items };
 }
 
-impl LinkPass {
-    /// A new pass.
-    fn new(net: Net, vl: LinkNo, pass: PassOf<Locked>) -> LinkPass
+impl GroupPass {
+    /// A new pass on links with these counts.
+    pub(crate) fn new(net: Net, pass: PassOf<Group>, counts: Vec<LinkCounts>) -> GroupPass
         requires user { pass.user ≡ user_of net }
-        requires list { pass.list ≡ no_calls }
-        ensures { IsNoCall result net vl pass }
+        requires list { pass.list ≡ no_calls_on_any }
+        requires links { (settings : List Settings) × (links : List LiveLink) × (pass.fixed ≡ Some links) × (length settings ≡ length links) × AreNewCounts settings counts.items }
+        requires some { 0 < length counts.items }
+        ensures { result ≡ known_links net pass 0 counts.items }
     {
-        LinkPass {
-            net,
-            pass,
-            counts: LinkCounts::new(vl),
+        GroupPass { net, pass, counts }
+    }
+
+    /// Number of calls on the link with this number, saturating at 2^64 - 1. None if no link of the group has it.
+    pub(crate) fn calls(&self, vl: LinkNo) -> Option<u64>
+        ensures { result ≡ calls_shown (pass_with keeping_no_frame vl self.now) }
+    {
+        match counts_on(&self.counts, vl) {
+            Some(counts) => Some(counts.number),
+            None => None,
         }
     }
 
-    /// Gives the link a frame that came on the pass's network at `now`, in microseconds: waits until the link is free,
-    /// and lets the link take the frame. Returns its event's place, which saturates at 2^64 - 1, and its verdict. Takes
-    /// no memory, and can't fail.
+    /// Number of calls on the link with this number whose verdict has this kind, 1 to 13, saturating at 2^64 - 1. None
+    /// if no link of the group has it.
+    pub(crate) fn count(&self, vl: LinkNo, kind: usize) -> Option<u64>
+        requires { IsKind verdict_kinds kind }
+        ensures { result ≡ count_shown kind (pass_with keeping_no_frame vl self.now) }
+    {
+        match counts_on(&self.counts, vl) {
+            Some(counts) => Some(counts.tally.count(self.net, kind)),
+            None => None,
+        }
+    }
+
+    /// Gives the link at this index of the group a frame that came on the pass's network at `now`, in microseconds:
+    /// waits until the group is free, and lets the link take the frame. Returns its event's place, which saturates at
+    /// 2^64 - 1, and its verdict. Takes no memory, and can't fail.
     pub(crate) fn receive<R: Wait>(
         &mut self,
         rt: &R,
-        lock: &Lock<Locked>,
+        lock: &Lock<Group>,
+        index: usize,
         now: u64,
         frame: &Frame<'_>,
     ) -> (u64, Verdict)
-        requires lock { self.old.lock ≡ lock.now }
-        requires link { (link : LiveLink) × (self.old.link ≡ Some link) × (link_number_of frame.now.whole.now ≡ link.core.settings.vl.0) }
-        ensures { (place : ℕ) × (result.0 ≡ shown place) × Calls self.old (call place now frame.now.whole.now result.1) self.new }
+        requires { KnowsAt self.old lock.now index (λ link. link_number_of frame.now.whole.now ≡ link.core.settings.vl.0) }
+        ensures { (place : ℕ) × (result.0 ≡ shown place) × CallsAt self.old index (call place now frame.now.whole.now result.1) self.new }
     {
         let net = self.net;
         let octets = frame.whole;
         let answer = lock.visit(
             rt,
             &mut self.pass,
-            move |locked: &mut Locked| -> (u64, Verdict)
+            move |group: &mut Group| -> (u64, Verdict)
                 requires frame { IsFrame octets.now }
-                requires link { link_number_of octets.now ≡ locked.old.core.settings.vl.0 }
-                ensures { Did (arrived net now octets.entry.now) locked.old locked.new result }
-            { take(locked, net, now, octets) },
+                requires link { HasLinkAt group.old index (λ link. link_number_of octets.now ≡ link.core.settings.vl.0) }
+                ensures { DoesAt (λ old new. Did (arrived net now octets.entry.now) old new result) group.old index group.new }
+            { take_at(group, index, net, now, octets) },
         );
-        self.counts.add(net, answer.1);
+        self.counts[index].add(net, answer.1);
         answer
     }
 
-    /// As [`receive`](LinkPass::receive) if nobody has the link at this moment. `None` if the other network has it: the
-    /// link didn't take the frame, and the pass is as it was. Waits for nobody, takes no memory, and can't fail.
+    /// As [`receive`](GroupPass::receive) if nobody has the group at this moment. `None` if the other network has a
+    /// link of it: the link didn't take the frame, and the pass is as it was. Waits for nobody, takes no memory, and
+    /// can't fail.
     pub(crate) fn try_receive(
         &mut self,
-        lock: &Lock<Locked>,
+        lock: &Lock<Group>,
+        index: usize,
         now: u64,
         frame: &Frame<'_>,
     ) -> Option<(u64, Verdict)>
-        requires lock { self.old.lock ≡ lock.now }
-        requires link { (link : LiveLink) × (self.old.link ≡ Some link) × (link_number_of frame.now.whole.now ≡ link.core.settings.vl.0) }
-        ensures calls { IfSome result (λ answer. (place : ℕ) × (answer.0 ≡ shown place) × Calls self.old (call place now frame.now.whole.now answer.1) self.new) }
+        requires { KnowsAt self.old lock.now index (λ link. link_number_of frame.now.whole.now ≡ link.core.settings.vl.0) }
+        ensures calls { IfSome result (λ answer. (place : ℕ) × (answer.0 ≡ shown place) × CallsAt self.old index (call place now frame.now.whole.now answer.1) self.new) }
         ensures away { IfNone result (self.new ≡ self.old) }
     {
         let net = self.net;
         let octets = frame.whole;
         let (place, verdict) = lock.try_visit(
             &mut self.pass,
-            move |locked: &mut Locked| -> (u64, Verdict)
+            move |group: &mut Group| -> (u64, Verdict)
                 requires frame { IsFrame octets.now }
-                requires link { link_number_of octets.now ≡ locked.old.core.settings.vl.0 }
-                ensures { Did (arrived net now octets.entry.now) locked.old locked.new result }
-            { take(locked, net, now, octets) },
+                requires link { HasLinkAt group.old index (λ link. link_number_of octets.now ≡ link.core.settings.vl.0) }
+                ensures { DoesAt (λ old new. Did (arrived net now octets.entry.now) old new result) group.old index group.new }
+            { take_at(group, index, net, now, octets) },
         )?;
-        self.counts.add(net, verdict);
+        self.counts[index].add(net, verdict);
         Some((place, verdict))
     }
 
-    /// Gives the link frames that came on the pass's network, each at its time, in microseconds: waits until the link
-    /// is free, lets the link take them one after another, and then gives it back: one visit. Replies the link's index,
-    /// `at`, each event's place, which saturates at 2^64 - 1, and its verdict. Takes no memory, and can't fail.
-    pub(crate) fn receive_row<R: Wait>(
+    /// Gives links of the group frames that came on the pass's network, each with the index of its link in the
+    /// configuration and its time, in microseconds; `places` says where each link stands. Waits until the group is free,
+    /// lets the links take the frames one after another, and then gives it back: one visit. Takes no memory, and can't
+    /// fail.
+    pub(crate) fn receive_each<R: Wait>(
         &mut self,
         rt: &R,
-        lock: &Lock<Locked>,
-        at: usize,
-        row: &[(u64, &[u8])],
+        lock: &Lock<Group>,
+        places: &[LinkPlace],
+        row: &[Entry<'_>],
         replies: &mut [Reply],
     )
-        requires lock { self.old.lock ≡ lock.now }
         requires some { 0 < length row.now }
         requires few { length row.now ≤ most_in_row }
         requires room { length replies.old ≡ length row.now }
-        requires frames { (link : LiveLink) × (self.old.link ≡ Some link) × (self.old.counts.vl ≡ link.core.settings.vl) × AreFramesFor link.core.settings.vl row.now }
-        ensures calls { CallsInTurn at self.old row.now replies.new self.new }
-        ensures together { (place : ℕ) × StandTogether place replies.new }
+        requires frames { All (KnowsFor (index_at places.now) (length places.now) self.old lock.now) row.now }
+        ensures calls { CallsEach (index_at places.now) self.old row.now replies.new self.new }
+        ensures together { All (λ e. IsApart (index_at places.now) e.0 row.now → (place : ℕ) × StandTogetherAt e.0 place replies.new) row.now }
     {
         let net = self.net;
         let answers = lock.visit(
             rt,
             &mut self.pass,
-            move |locked: &mut Locked| -> Answers
+            move |group: &mut Group| -> Answers
                 requires few { length row.now ≤ most_in_row }
-                requires frames { AreFramesFor locked.old.core.settings.vl row.now }
-                ensures { TookInTurn net locked.old row.entry.now (take (length row.entry.now) result) locked.new }
-            { take_row(locked, net, row) },
+                requires frames { AreForLinks (index_at places.now) (length places.now) group.old row.now }
+                ensures { TookEach (index_at places.entry.now) net group.old row.entry.now (take (length row.entry.now) result) group.new }
+            { take_each(group, places, net, row) },
         );
-        tell(&mut self.counts, net, at, &answers, replies);
+        tell_each(&mut self.counts, places, net, row, &answers, replies);
     }
 
-    /// Synchronizes a sampling port of the link with a reader of it. Waits for the link's lock.
+    /// Synchronizes a sampling port of the link at this index of the group with a reader of it. Waits for the group's
+    /// lock.
     pub(crate) fn meet_reader<R: Wait>(
         &mut self,
         rt: &R,
-        lock: &Lock<Locked>,
+        lock: &Lock<Group>,
+        index: usize,
         port: PortNo,
         reader: MailboxReader,
     ) -> MailboxReader
-        requires lock { self.old.lock ≡ lock.now }
-        requires outlet { (link : LiveLink) × (self.old.link ≡ Some link) × HasOutletAt link port (λ outlet. IsPortOf outlet reader) }
+        requires { KnowsAt self.old lock.now index (λ link. HasOutletAt link port (λ outlet. IsPortOf outlet reader)) }
         ensures pass { self.new ≡ self.old }
-        ensures meets { Visits self.old (λ found left. MeetsReader port reader result found left) }
+        ensures meets { VisitsAt self.old index (λ found left. MeetsReader port reader result found left) }
     {
         lock.visit(
             rt,
             &mut self.pass,
-            move |locked: &mut Locked| -> MailboxReader
-                requires { HasOutletAt locked.old port (λ outlet. IsPortOf outlet reader) }
-                ensures { MeetsReader port reader result locked.old locked.new }
-            { meet_reader(locked, port, reader) },
+            move |group: &mut Group| -> MailboxReader
+                requires { HasLinkAt group.old index (λ link. HasOutletAt link port (λ outlet. IsPortOf outlet reader)) }
+                ensures { DoesAt (λ found left. MeetsReader port reader result found left) group.old index group.new }
+            { meet_reader(group, index, port, reader) },
         )
     }
 
-    /// Synchronizes a queuing port of the link with its taker. Waits for the link's lock.
+    /// Synchronizes a queuing port of the link at this index of the group with its taker. Waits for the group's lock.
     pub(crate) fn meet_taker<R: Wait>(
         &mut self,
         rt: &R,
-        lock: &Lock<Locked>,
+        lock: &Lock<Group>,
+        index: usize,
         port: PortNo,
         taker: RingTaker,
     ) -> RingTaker
-        requires lock { self.old.lock ≡ lock.now }
-        requires outlet { (link : LiveLink) × (self.old.link ≡ Some link) × HasOutletAt link port (λ outlet. IsQueueOf outlet taker) }
+        requires { KnowsAt self.old lock.now index (λ link. HasOutletAt link port (λ outlet. IsQueueOf outlet taker)) }
         ensures pass { self.new ≡ self.old }
-        ensures meets { Visits self.old (λ found left. MeetsTaker port taker result found left) }
+        ensures meets { VisitsAt self.old index (λ found left. MeetsTaker port taker result found left) }
     {
         lock.visit(
             rt,
             &mut self.pass,
-            move |locked: &mut Locked| -> RingTaker
-                requires { HasOutletAt locked.old port (λ outlet. IsQueueOf outlet taker) }
-                ensures { MeetsTaker port taker result locked.old locked.new }
-            { meet_taker(locked, port, taker) },
+            move |group: &mut Group| -> RingTaker
+                requires { HasLinkAt group.old index (λ link. HasOutletAt link port (λ outlet. IsQueueOf outlet taker)) }
+                ensures { DoesAt (λ found left. MeetsTaker port taker result found left) group.old index group.new }
+            { meet_taker(group, index, port, taker) },
         )
     }
-}
 
-impl PassOnLink for LinkPass {
-    type Lock = Lock<Locked>;
-
-    type Link = LinkWithPorts<PortOutlet>;
-
-    ghost keeping = { keeping_no_frame };
-
-    ghost lock_id = { λ lock. lock };
-
-    ghost nothing = { refl };
-
-    ghost settles_known = { λ one other link left settled known. ap (λ (l : LiveLink). l.core.settings) (same_Some (as_opened left) link (settled.opened ∙ known)) };
-
-    fn vl(&self) -> LinkNo {
-        self.counts.vl
-    }
-
-    fn calls(&self) -> u64 {
-        self.counts.number
-    }
-
-    fn count(&self, kind: usize) -> u64 {
-        self.counts.tally.count(self.net, kind)
-    }
-
-    fn settle(
-        lock: Lock<Locked>,
-        a: LinkPass,
-        b: LinkPass,
-    ) -> SettledLink<LinkWithPorts<PortOutlet>>
-        requires lock { (a.lock ≡ lock) × (b.lock ≡ lock) }
-        requires nets { (a.net ≡ A) × (b.net ≡ B) }
-        ensures link { IsSettled a.link a.calls b.calls result.link }
-        ensures a { (result.a ≡ a.counts) × AreCounts shown A a.calls result.a }
-        ensures b { (result.b ≡ b.counts) × AreCounts shown B b.calls result.b }
+    /// Ends the lock of a group, whose passes these are, and adds its links and what both passes counted on them, each
+    /// in reverse order. Takes no memory, and waits for nobody.
+    pub(crate) fn settle(
+        lock: Lock<Group>,
+        a: GroupPass,
+        b: GroupPass,
+        links: &mut Vec<LinkWithPorts<PortOutlet>>,
+        counts_a: &mut Vec<LinkCounts>,
+        counts_b: &mut Vec<LinkCounts>,
+    )
+        requires own { (settings : List Settings) × ArePasses keeping_no_frame A (ids_of lock 0 (length settings)) settings a × ArePasses keeping_no_frame B (ids_of lock 0 (length settings)) settings b }
+        requires room { length links.old.items + length a ≤ vec_capacity links.old }
+        requires room_a { length counts_a.old.items + length a ≤ vec_capacity counts_a.old }
+        requires room_b { length counts_b.old.items + length b ≤ vec_capacity counts_b.old }
+        ensures links { (left : List LiveLink) × (links.new.items ≡ links.old.items ++ reverse left) × AreLetGo a b left }
+        ensures a { (counted : List LinkCounts) × (counts_a.new.items ≡ counts_a.old.items ++ reverse counted) × AreCounted keeping_no_frame A a counted }
+        ensures b { (counted : List LinkCounts) × (counts_b.new.items ≡ counts_b.old.items ++ reverse counted) × AreCounted keeping_no_frame B b counted }
+        ensures room { (vec_capacity links.new ≡ vec_capacity links.old) × (vec_capacity counts_a.new ≡ vec_capacity counts_a.old) × (vec_capacity counts_b.new ≡ vec_capacity counts_b.old) }
     {
-        let LinkPass {
+        let GroupPass {
             net: _,
             pass: first,
             counts: a,
         } = a;
-        let LinkPass {
+        let GroupPass {
             net: _,
             pass: second,
             counts: b,
         } = b;
-        let Locked { link } = lock.settle(first, second);
-        SettledLink { link, a, b }
+        let Group { links: left } = lock.settle(first, second);
+        add_reversed(left, links);
+        add_reversed(a, counts_a);
+        add_reversed(b, counts_b);
     }
 }
 
-/// One network's pass on all links, by which a thread gives them the frames of its network.
-pub type NetPass = network_calls::NetPass<LinkPass>;
-
-/// A link under its lock, the passes of both networks on it, and the ends of its ports.
-#[derive(Drop)]
-pub(crate) struct OpenedLink {
-    pub lock: Lock<Locked>,
-    pub a: LinkPass,
-    pub b: LinkPass,
-    pub ends: Vec<PortEnd<PartitionEnd>>,
-}
-
-/// Opens a link with these settings. Each of its sampling ports has as many readers as `readers` says.
-pub(crate) fn open_link<R: Readers>(
-    alloc: Global,
-    settings: &LinkSettings,
-    readers: &R,
-) -> Result<OpenedLink, Memory>
-    ensures { IfOk result (λ o. (link : LiveLink) × IsNewLink ShowsPort (reads_by ReadsPort (R.count readers.now)) settings.now link o.ends.items
-        × IsNewPass settings.now link o.lock A o.a × IsNewPass settings.now link o.lock B o.b) }
+/// Adds all of these, the last first, where there is room.
+fn add_reversed<T: Drop>(mut from: Vec<T>, to: &mut Vec<T>)
+    requires { length to.old.items + length from.items ≤ vec_capacity to.old }
+    ensures added { to.new.items ≡ to.old.items ++ reverse from.items }
+    ensures room { vec_capacity to.new ≡ vec_capacity to.old }
 {
-    let (link, ends) = LinkWithPorts::<PortOutlet>::open(alloc, settings, readers)?;
-    let Opened {
-        lock,
-        first,
-        second,
-    } = Lock::open(alloc, Locked { link })?;
-    Ok(OpenedLink {
-        lock,
-        a: LinkPass::new(Net::A, settings.vl(), first),
-        b: LinkPass::new(Net::B, settings.vl(), second),
-        ends,
-    })
+    'items: while let Some(item) = from.pop() {
+        to.push_reserved(item);
+    }
 }

@@ -2,11 +2,14 @@
 ghost use Rattle.std.specs.Prelude.{◌≡◌};
 ghost use Rattle.receiver.specs.Meetings.{HasOutletAt};
 ghost use Rattle.receiver.specs.Port.{IsPortOf, IsQueueOf};
+ghost use Rattle.network_calls.specs.Passes.{DoesAt};
+ghost use Rattle.live_system.specs.Groups.{HasLinkAt};
 ghost use Rattle.live_system.specs.Meetings.{KnowsOutlet, MeetsReader, MeetsTaker, VisitsAt};
 ghost use Rattle.live_system.specs.System.{IsPassOf};
 
-use crate::link_pass::NetPass;
-use crate::locked::Locked;
+use crate::cut::LinkPlace;
+use crate::group::Group;
+use crate::net_pass::NetPass;
 use crate::system::LiveSystem;
 use es_base::PortNo;
 use receiver::{MailboxReader, RingTaker};
@@ -29,8 +32,9 @@ impl LiveSystem {
         ensures pass { pass.new ≡ pass.old }
         ensures meets { VisitsAt pass.old.links place (λ found left. MeetsReader port reader result found left) }
     {
-        let lock = &self.locks[place];
-        pass.links[place].meet_reader(rt, lock, port, reader)
+        let LinkPlace { group, index } = self.places[place];
+        let lock = &self.groups[group];
+        pass.groups[group].meet_reader(rt, lock, index, port, reader)
     }
 
     /// Synchronizes a queuing port of the link at this place with its taker. Waits for the link's lock. The taker is
@@ -48,29 +52,36 @@ impl LiveSystem {
         ensures pass { pass.new ≡ pass.old }
         ensures meets { VisitsAt pass.old.links place (λ found left. MeetsTaker port taker result found left) }
     {
-        let lock = &self.locks[place];
-        pass.links[place].meet_taker(rt, lock, port, taker)
+        let LinkPlace { group, index } = self.places[place];
+        let lock = &self.groups[group];
+        pass.groups[group].meet_taker(rt, lock, index, port, taker)
     }
 }
 
-/// Synchronizes a reader with its port of a locked link.
+/// Synchronizes a reader with its port of the link at this index of a locked group.
 pub(crate) fn meet_reader(
-    locked: &mut Locked,
+    group: &mut Group,
+    index: usize,
     port: PortNo,
     mut reader: MailboxReader,
 ) -> MailboxReader
-    requires { HasOutletAt locked.old port (λ outlet. IsPortOf outlet reader) }
-    ensures { MeetsReader port reader result locked.old locked.new }
+    requires { HasLinkAt group.old index (λ link. HasOutletAt link port (λ outlet. IsPortOf outlet reader)) }
+    ensures { DoesAt (λ found left. MeetsReader port reader result found left) group.old index group.new }
 {
-    locked.link.meet_reader(port, &mut reader);
+    group.links[index].meet_reader(port, &mut reader);
     reader
 }
 
-/// Synchronizes a taker with its queue of a locked link.
-pub(crate) fn meet_taker(locked: &mut Locked, port: PortNo, mut taker: RingTaker) -> RingTaker
-    requires { HasOutletAt locked.old port (λ outlet. IsQueueOf outlet taker) }
-    ensures { MeetsTaker port taker result locked.old locked.new }
+/// Synchronizes a taker with its queue of the link at this index of a locked group.
+pub(crate) fn meet_taker(
+    group: &mut Group,
+    index: usize,
+    port: PortNo,
+    mut taker: RingTaker,
+) -> RingTaker
+    requires { HasLinkAt group.old index (λ link. HasOutletAt link port (λ outlet. IsQueueOf outlet taker)) }
+    ensures { DoesAt (λ found left. MeetsTaker port taker result found left) group.old index group.new }
 {
-    locked.link.meet_taker(port, &mut taker);
+    group.links[index].meet_taker(port, &mut taker);
     taker
 }

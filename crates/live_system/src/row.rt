@@ -1,67 +1,99 @@
-//! Frames in a row that come to one link, given in one visit of it.
-ghost use Rattle.std.specs.Prelude.{◌≡◌, ◌≤◌, length, map, take};
+//! Frames of several links of a group, taken in one visit of it.
+ghost use Rattle.std.specs.Prelude.{◌≡◌, ◌<◌, ◌≤◌, length, take};
+ghost use Rattle.std.specs.List.{All};
 ghost use Rattle.es_base.specs.Frame.{IsFrame, link_number_of};
 ghost use Rattle.es_base.specs.Past.{arrived};
-ghost use Rattle.live_system.specs.Burst.{AreFramesFor, CountsInTurn, TookInTurn, most_in_row, reply_of};
+ghost use Rattle.live_system.specs.Burst.{most_in_row};
+ghost use Rattle.network_calls.specs.Passes.{DoesAt};
+ghost use Rattle.live_system.specs.Groups.{HasLinkAt};
 ghost use Rattle.live_system.specs.Pass.{Did};
+ghost use Rattle.live_system.specs.Rows.{AreForLinks, CountsEach, TookEach, index_at};
 
-use crate::locked::Locked;
+use crate::cut::LinkPlace;
+use crate::group::Group;
 use es_base::{Net, Verdict};
 use frame_reader::frame_in;
 use network_calls::LinkCounts;
-use receiver::Reply;
+use receiver::{LinkWithPorts, PortOutlet, Reply};
 
-/// Most frames of one visit.
-pub(crate) const MOST_IN_ROW: usize = 8;
+/// Most frames of one visit, and of a chunk of a burst.
+pub(crate) const MOST_IN_ROW: usize = 32;
 
-/// Place of the event and verdict, for each frame of a row; the entries after these mean nothing.
+/// Place of the event and verdict, for each frame of a visit; the entries after these mean nothing.
 pub(crate) type Answers = [(u64, Verdict); MOST_IN_ROW];
 
-/// Lets a locked link take a frame. Returns its event's place and its verdict.
-pub(crate) fn take(locked: &mut Locked, net: Net, now: u64, octets: &[u8]) -> (u64, Verdict)
-    requires link { link_number_of octets.now ≡ locked.old.core.settings.vl.0 }
+/// Lets a link take a frame. Returns its event's place and its verdict.
+fn take(link: &mut LinkWithPorts<PortOutlet>, net: Net, now: u64, octets: &[u8]) -> (u64, Verdict)
+    requires link { link_number_of octets.now ≡ link.old.core.settings.vl.0 }
     requires frame { IsFrame octets.now }
-    ensures { Did (arrived net now octets.now) locked.old locked.new result }
+    ensures { Did (arrived net now octets.now) link.old link.new result }
 {
-    let place = locked.link.received();
-    (place, locked.link.receive(net, now, &frame_in(octets)))
+    let place = link.received();
+    (place, link.receive(net, now, &frame_in(octets)))
 }
 
-/// Lets a locked link take frames, one after another. Returns their answers.
-pub(crate) fn take_row(locked: &mut Locked, net: Net, row: &[(u64, &[u8])]) -> Answers
+/// Lets the link at this index of a locked group take a frame. Returns its event's place and its verdict.
+pub(crate) fn take_at(
+    group: &mut Group,
+    index: usize,
+    net: Net,
+    now: u64,
+    octets: &[u8],
+) -> (u64, Verdict)
+    requires link { HasLinkAt group.old index (λ link. link_number_of octets.now ≡ link.core.settings.vl.0) }
+    requires frame { IsFrame octets.now }
+    ensures { DoesAt (λ old new. Did (arrived net now octets.now) old new result) group.old index group.new }
+{
+    take(&mut group.links[index], net, now, octets)
+}
+
+/// A frame with the index of its link in the configuration, and its time, in microseconds.
+pub(crate) type Entry<'a> = (usize, (u64, &'a [u8]));
+
+/// Lets links of a locked group take frames, one after another. Returns their answers.
+pub(crate) fn take_each(
+    group: &mut Group,
+    places: &[LinkPlace],
+    net: Net,
+    row: &[Entry<'_>],
+) -> Answers
     requires few { length row.now ≤ most_in_row }
-    requires frames { AreFramesFor locked.old.core.settings.vl row.now }
-    ensures { TookInTurn net locked.old row.now (take (length row.now) result) locked.new }
+    requires frames { AreForLinks (index_at places.now) (length places.now) group.old row.now }
+    ensures { TookEach (index_at places.now) net group.old row.now (take (length row.now) result) group.new }
 {
     let mut answers = [(0, Verdict::Redundant); MOST_IN_ROW];
     'frames: for place in 0..row.len() {
-        let (now, octets) = row[place];
-        answers[place] = take(locked, net, now, octets);
+        let (at, (now, octets)) = row[place];
+        let index = places[at].index;
+        answers[place] = take_at(group, index, net, now, octets);
     }
     answers
 }
 
-/// Counts the answers of as many frames as there are replies, and replies them, of the link at this index.
-pub(crate) fn tell(
-    counts: &mut LinkCounts,
+/// Counts the answers of as many frames as there are replies, each on its link, and replies them.
+pub(crate) fn tell_each(
+    counts: &mut Vec<LinkCounts>,
+    places: &[LinkPlace],
     net: Net,
-    at: usize,
+    row: &[Entry<'_>],
     answers: &Answers,
     replies: &mut [Reply],
 )
-    requires few { length replies.old ≤ most_in_row }
-    ensures vl { counts.new.vl ≡ counts.old.vl }
-    ensures counts { CountsInTurn net counts.old (take (length replies.old) answers.now) counts.new }
-    ensures replies { replies.new ≡ map (reply_of at counts.old.vl) (take (length replies.old) answers.now) }
+    requires few { length row.now ≤ most_in_row }
+    requires room { length replies.old ≡ length row.now }
+    requires places { All (λ e. (e.0 < length places.now) × (index_at places.now e.0 < length counts.old.items)) row.now }
+    ensures { CountsEach (index_at places.now) net counts.old.items row.now (take (length row.now) answers.now) replies.new counts.new.items }
 {
-    'answers: for index in 0..replies.len() {
-        let (place, verdict) = answers[index];
-        counts.add(net, verdict);
-        let vl = counts.vl;
-        replies[index] = Reply::Link {
+    'frames: for place in 0..row.len() {
+        let (at, _) = row[place];
+        let index = places[at].index;
+        let (shows, verdict) = answers[place];
+        let vl = counts[index].vl;
+        counts[index].add(net, verdict);
+        replies[place] = Reply::Link {
             at,
             vl,
-            place,
+            place: shows,
             verdict,
         };
     }

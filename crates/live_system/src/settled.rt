@@ -4,9 +4,11 @@ ghost use Rattle.es_base.specs.declared.place.Net.TheVariants.{A, B};
 ghost use Rattle.network_calls.specs.Passes.{AreSettled, IsCounted};
 ghost use Rattle.live_system.specs.System.{IsPassOf, keeping_no_frame};
 
-use crate::link_pass::NetPass;
+use crate::link_pass::GroupPass;
+use crate::net_pass::NetPass;
 use crate::system::LiveSystem;
-use network_calls::settle;
+use es_base::Net;
+use network_calls::PassCounts;
 use receiver::{LinkWithPorts, PortOutlet};
 
 /// A system that has ended: its links, in their order, and the counts of the passes of networks A and B.
@@ -22,7 +24,33 @@ impl LiveSystem {
         ensures a { IsCounted keeping_no_frame a result.a }
         ensures b { IsCounted keeping_no_frame b result.b }
     {
-        let LiveSystem { config, locks } = self;
-        settle(config.links(), locks, a, b)
+        let LiveSystem { mut groups, .. } = self;
+        let NetPass {
+            groups: mut ones,
+            filtered: filtered_a,
+            settled: mut links,
+            counts: mut counts_a,
+            ..
+        } = a;
+        let NetPass {
+            groups: mut others,
+            filtered: filtered_b,
+            counts: mut counts_b,
+            ..
+        } = b;
+        'groups: while let Some(lock) = groups.pop() {
+            let (Some(one), Some(other)) = (ones.pop(), others.pop()) else {
+                unreachable!()
+            };
+            GroupPass::settle(lock, one, other, &mut links, &mut counts_a, &mut counts_b);
+        }
+        links.reverse();
+        counts_a.reverse();
+        counts_b.reverse();
+        Settled {
+            links,
+            a: PassCounts::new(Net::A, counts_a, filtered_a),
+            b: PassCounts::new(Net::B, counts_b, filtered_b),
+        }
     }
 }

@@ -12,28 +12,30 @@
 //! assert_eq!(rt; taker.take(&mut out), Some(Taken { time: 5, len: 3 }));
 //! assert_eq!(rt; &out[..], &b"abc"[..]);
 //! ```
+//!
+//! A message stands in a slot of its own from its put to its taking. The two words between the ends count what was put
+//! and what was taken. Of the free slots those octets are used first that came back last, so a deep queue that is emptied
+//! in time goes through little memory. [`laws`] says what follows at every moment.
 #![tactic(auto)]
 
-mod ends;
-mod head;
-mod look;
-mod wait;
+pub mod laws;
+mod rule;
+mod slot;
+mod steps;
 
-ghost use Rattle.std.specs.Prelude.{◌≡◌, ◌+◌, ◌*◌, ◌<◌, ◌≤◌, ℕ, length, take, drop, slice_get, Some, IfOk, OnOk, OnErr, IfSome, IfNone, IsOk, IsSome, IsTrue, IsFalse};
-ghost use Rattle.message_ring.specs.Ends.{octets_of_last, width};
+ghost use Rattle.std.specs.Prelude.{◌≡◌, ◌+◌, ◌<◌, ◌≤◌, ℕ, length, take, drop, slice_get, Some, IfOk, IfSome, IfNone, IsSome, IsTrue, IsFalse};
 ghost use Rattle.es_base.specs.Limits.{deepest_queue, longest_queued};
 ghost use Rattle.es_base.specs.Queue.{BeginsWith};
 ghost use Rattle.message_ring.specs.Queue.{IsFullByLook, LooksForRoom, SeemsEmpty, SeemsFull, after_look, message, opened_ring, ring_with_put, ring_with_taken};
+ghost use Rattle.message_ring.specs.Ends.{AreRoomy};
+ghost use Rattle.message_ring.specs.Rule.{slot_for};
 
-use crate::ends::{has_room, next_head, pop_octets, push_message};
-use crate::head::{Head, most_at_once};
-use crate::look::{OctetPutter, OctetTaker};
-use crate::wait::{last_with, size_at};
-use circular_buffer::HeapCircularBuffer;
-pub use head::HEAD;
-use rtrb::RingBuffer;
+use crate::rule::Right;
+use crate::slot::Slot;
+use crate::steps::Slots;
 use std::alloc::{AllocError, Global};
 use std::marker::Model;
+use std::sync::Arc;
 
 /// A taken message: its arrival time, and its length in `out`.
 #[derive(Debug, Clone, Copy, PartialEq, Eq)]
@@ -46,50 +48,81 @@ pub struct Taken {
 /// taken list of which it learned.
 #[derive(Drop)]
 pub struct RingPutter {
-    ring: OctetPutter,
-    max: usize,
+    table: Arc<Slots, Global>,
+    right: Right,
     depth: usize,
-    // Octets that have to be free, if fewer messages wait than the queue holds.
-    needed: usize,
-    // Sizes of the messages that were put last, one fewer than the queue holds.
-    latest: HeapCircularBuffer<u16>,
-    // Buffer in which a message of one frame is written beside its head before it is put.
-    room: Vec<u8>,
+    max: usize,
+    // Slot of its next message.
+    next: usize,
+    // Number of messages that it put, modulo 2^64.
+    count: u64,
+    // Number of those that it doesn't know to be taken.
+    waits: usize,
+    // How many slots behind its next one that slot stands which came back last, of those whose octets it didn't use
+    // since. 0: none does.
+    apart: usize,
+    // Octets of two slots change places through it. It has none between calls.
+    spare: Vec<u8>,
 }
 
 impl Model for RingPutter {
-    ghost use Rattle.std.specs.Prelude.{◌≡◌, length};
+    ghost use Rattle.std.specs.Prelude.{◌≡◌};
+    ghost use Rattle.std.specs.Arc.{arc_value};
     ghost use Rattle.message_ring.specs.Queue.{Known};
-    ghost use Rattle.message_ring.specs.Ends.{IsRoomFor, KeepsPut, putter_of};
+    ghost use Rattle.message_ring.specs.Plays.{putter_in};
+    ghost use Rattle.message_ring.specs.Ends.{KeepsPut, known_by};
 
     ghost Value = { Known };
 
-    ghost view = { λ p. putter_of p.ring.end p.max p.depth p.ring.looks.count };
+    ghost view = { λ p. known_by p.right.table_id (putter_in p.right.me.0) };
 
-    ghost invariant = { λ p. KeepsPut p.ring.end p.max p.depth p.latest p.needed × IsRoomFor p.max p.room.items };
+    ghost invariant = { λ p. (p.right.table_id ≡ (arc_value p.table).table.shared.table_id) × KeepsPut p.right.me p.depth p.max p.next p.count p.waits p.apart };
 }
 
 /// The end that takes messages. Contracts see what it knows: the whole taken list, and that part of the
 /// put list of which it learned.
 #[derive(Drop)]
 pub struct RingTaker {
-    ring: OctetTaker,
-    max: usize,
+    table: Arc<Slots, Global>,
+    right: Right,
     depth: usize,
-    // The head of a message whose octets this end has not seen yet.
-    begun: Option<Head>,
+    max: usize,
+    // Slot of its next message.
+    next: usize,
+    // Number of messages that it took, modulo 2^64.
+    count: u64,
+    // Number of those that it knows to be put and didn't take.
+    waits: usize,
 }
 
 impl Model for RingTaker {
-    ghost use Rattle.rtrb.specs.Ring.{received};
+    ghost use Rattle.std.specs.Prelude.{◌≡◌};
+    ghost use Rattle.std.specs.Arc.{arc_value};
     ghost use Rattle.message_ring.specs.Queue.{Known};
-    ghost use Rattle.message_ring.specs.Ends.{IsBegun, taker_of};
+    ghost use Rattle.message_ring.specs.Plays.{taker_in};
+    ghost use Rattle.message_ring.specs.Ends.{KeepsTaken, known_by};
 
     ghost Value = { Known };
 
-    ghost view = { λ t. taker_of t.ring.end t.max t.depth t.ring.looks.count };
+    ghost view = { λ t. known_by t.right.table_id (taker_in t.right.me.0) };
 
-    ghost invariant = { λ t. IsBegun t.max (received t.ring.end) t.begun };
+    ghost invariant = { λ t. (t.right.table_id ≡ (arc_value t.table).table.shared.table_id) × KeepsTaken t.right.me t.depth t.max t.next t.count t.waits };
+}
+
+/// Empty slots, each with room for a message of `max` octets.
+fn empty_slots(alloc: Global, depth: usize, max: usize) -> Result<Vec<Slot>, AllocError>
+    ensures { IfOk result (λ slots. AreRoomy depth max slots.items) }
+{
+    let mut slots = Vec::with_capacity(alloc, depth)?;
+    'slots: for _ in 0..depth {
+        let octets = vec![in alloc; 0u8; max]?;
+        slots.push(Slot {
+            time: 0,
+            len: 0,
+            octets,
+        })?;
+    }
+    Ok(slots)
 }
 
 /// Both ends of a new queue, which holds up to `depth` messages of up to `max` octets. All memory of the queue is
@@ -103,23 +136,29 @@ pub fn open_ring(
     ensures putter { IfOk result (λ ends. (ends.0 ≡ opened_ring ends.0.queue depth) × (ends.0.queue.max ≡ max)) }
     ensures taker { IfOk result (λ ends. ends.1 ≡ ends.0) }
 {
-    let width = HEAD + max;
-    let room = Vec::from_elem(alloc, 0u8, HEAD + most_at_once(max))?;
-    let latest = HeapCircularBuffer::with_capacity(alloc, depth - 1)?;
-    let (producer, consumer) = RingBuffer::new(alloc, depth * width)?;
+    let slots = empty_slots(alloc, depth, max)?;
+    let (table, right, takers) = steps::open(alloc, depth, max, slots)?;
+    let table = Arc::new(alloc, table)?;
+    let again = Arc::try_clone(&table)?;
     let putter = RingPutter {
-        ring: OctetPutter::new(producer),
-        max,
+        table,
+        right,
         depth,
-        needed: depth * width,
-        latest,
-        room,
+        max,
+        next: 0,
+        count: 0,
+        waits: 0,
+        apart: 0,
+        spare: Vec::new(alloc),
     };
     let taker = RingTaker {
-        ring: OctetTaker::new(consumer),
-        max,
+        table: again,
+        right: takers,
         depth,
-        begun: None,
+        max,
+        next: 0,
+        count: 0,
+        waits: 0,
     };
     Ok((putter, taker))
 }
@@ -136,8 +175,19 @@ pub fn meet(putter: &mut RingPutter, taker: &mut RingTaker)
     ensures begins { BeginsWith taker.new.put taker.new.taken }
     ensures held { length taker.new.put ≤ length taker.new.taken + taker.old.depth }
 {
-    putter.ring.slots_beside(&mut taker.ring);
-    taker.ring.slots_beside(&mut putter.ring);
+    putter.table.meet(&mut putter.right, &mut taker.right);
+    let waits = putter.count.wrapping_sub(taker.count) as usize;
+    putter.waits = waits;
+    taker.waits = waits;
+}
+
+/// The slot so many behind this one: that of the message so many after its own.
+fn slot_after(slot: usize, many: usize, depth: usize) -> usize
+    requires { (slot < depth) × (many ≤ depth) × (depth ≤ deepest_queue) }
+    ensures { (number : ℕ) → slot ≡ slot_for depth number → result ≡ slot_for depth (number + many) }
+{
+    let after = slot + many;
+    if after < depth { after } else { after - depth }
 }
 
 impl RingPutter {
@@ -161,11 +211,14 @@ impl RingPutter {
         ensures looked { LooksForRoom self.old self.new }
         ensures refused { IsFalse result → IsFullByLook self.old self.new }
     {
-        has_room(&mut self.ring, self.needed)
+        if self.waits < self.depth {
+            return true;
+        }
+        self.waiting() < self.depth
     }
 
     /// Number of waiting messages: those put that this end doesn't know to be taken, after it looked what the other end
-    /// took. A message is taken once all of its octets are. It costs a step for each message that waits.
+    /// took. A message is taken once all of its octets are.
     pub fn waiting(&mut self) -> usize
         ensures end { self.new ≡ record self.old { taken = self.new.taken; looks = self.new.looks } }
         ensures told { BeginsWith self.new.taken self.old.taken }
@@ -173,35 +226,18 @@ impl RingPutter {
         ensures depth { result ≤ self.new.depth }
         ensures looked { self.new.looks ≡ self.old.looks + 1 }
     {
-        let free = self.ring.slots();
-        last_with(&self.latest, self.ring.capacity() - free)
+        let taken = self.table.look_taken(&mut self.right);
+        self.waits = self.count.wrapping_sub(taken) as usize;
+        self.apart = (self.depth - self.waits).saturating_sub(1);
+        self.waits
     }
 
-    /// Octets of the message that was put so many messages before the last one, its head included; 0 if there is none.
-    pub fn size_before_last(&self, before: usize) -> usize
-        requires { before + 1 < self.now.depth }
-        ensures { octets_of_last (before + 1) self.now.put ≡ octets_of_last before self.now.put + result }
+    /// Number of messages that were put and that this end doesn't know to be taken: it makes no look, so no fewer than
+    /// wait.
+    pub fn known_waiting(&self) -> usize
+        ensures { result + length self.now.taken ≡ length self.now.put }
     {
-        if before < self.latest.len() {
-            size_at(&self.latest, before)
-        } else {
-            0
-        }
-    }
-
-    /// Whether more octets wait than these, heads included. True: after it looked in this call. By the octets of the last
-    /// so many messages it tells whether more than so many wait.
-    pub fn has_more_waiting(&mut self, octets: usize) -> bool
-        ensures end { self.new ≡ record self.old { taken = self.new.taken; looks = self.new.looks } }
-        ensures told { BeginsWith self.new.taken self.old.taken }
-        ensures more { IsTrue result → (count : ℕ) → octets ≡ octets_of_last count self.old.put → length self.new.taken + count < length self.new.put }
-        ensures no_more { IsFalse result → (count : ℕ) → octets ≡ octets_of_last count self.old.put → length self.new.put ≤ length self.new.taken + count }
-        ensures looked { IsTrue result → self.new.looks ≡ self.old.looks + 1 }
-        ensures looks { (self.old.looks ≤ self.new.looks) × (self.new.looks ≤ self.old.looks + 1) }
-    {
-        let free = self.ring.capacity().saturating_sub(octets);
-        let is_room = has_room(&mut self.ring, free);
-        !is_room
+        self.waits
     }
 
     /// Puts a message at the end of the queue, of which this end knows that it has room. It makes no look.
@@ -213,10 +249,27 @@ impl RingPutter {
         ensures depth { length self.new.put ≤ length self.new.taken + self.old.depth }
         ensures looks { self.new.looks ≡ self.old.looks }
     {
-        let size = HEAD + octets.len();
-        push_message(&mut self.ring, &mut self.room, time, octets);
-        let oldest = self.latest.push_back(size as u16).unwrap_or(0);
-        self.needed = self.needed - size + oldest as usize;
+        self.warm_next();
+        let count = self.count.wrapping_add(1);
+        self.table
+            .put(&mut self.right, self.next, count, time, octets);
+        self.count = count;
+        self.next = slot_after(self.next, 1, self.depth);
+        self.waits += 1;
+        self.apart = self.apart.saturating_sub(1);
+    }
+
+    /// The next message gets the octets that came back last, of those that it knows to be back: they are in the caches.
+    fn warm_next(&mut self)
+        ensures { self.new ≡ self.old }
+    {
+        if self.apart == 0 {
+            return;
+        }
+        let later = slot_after(self.next, self.apart, self.depth);
+        self.table
+            .swap(&mut self.right, self.next, later, &mut self.spare);
+        self.apart -= 1;
     }
 }
 
@@ -242,19 +295,45 @@ impl RingTaker {
         ensures next { IfSome result (λ got. length self.old.taken < length self.old.put →
             slice_get self.old.put (length self.old.taken) ≡ Some (message got.time (take got.len out.new))) }
     {
-        let Some(head) = next_head(&mut self.ring, self.begun) else {
-            return None;
-        };
-        if pop_octets(&mut self.ring, self.max, head.len, out) {
-            self.begun = None;
-            Some(Taken {
-                time: head.time,
-                len: head.len,
-            })
+        if self.has_next() {
+            Some(self.take_next(out))
         } else {
-            self.begun = Some(head);
             None
         }
+    }
+
+    /// Whether it knows a message to take. False: after it looked in this call. It looks only if it knows of none
+    /// before.
+    fn has_next(&mut self) -> bool
+        ensures end { IsTrue result → self.new ≡ record self.old { put = self.new.put } }
+        ensures more { IsTrue result → length self.new.taken < length self.new.put }
+        ensures told { BeginsWith self.new.put self.old.put }
+        ensures none { IsFalse result → (self.new ≡ after_look self.old) × SeemsEmpty self.old }
+    {
+        if 0 < self.waits {
+            return true;
+        }
+        let put = self.table.look_put(&mut self.right);
+        self.waits = put.wrapping_sub(self.count) as usize;
+        0 < self.waits
+    }
+
+    /// Takes the oldest message, which it knows to be put.
+    fn take_next(&mut self, out: &mut [u8]) -> Taken
+        requires room { self.old.queue.max ≤ length out.old }
+        requires more { length self.old.taken < length self.old.put }
+        ensures taken { self.new ≡ ring_with_taken self.old (message result.time (take result.len out.new)) self.old.put }
+        ensures next { slice_get self.old.put (length self.old.taken) ≡ Some (message result.time (take result.len out.new)) }
+        ensures short { result.len ≤ self.old.queue.max }
+        ensures rest { drop result.len out.new ≡ drop result.len out.old }
+        ensures begins { BeginsWith self.new.put self.new.taken }
+    {
+        let count = self.count.wrapping_add(1);
+        let taken = self.table.take(&mut self.right, self.next, count, out);
+        self.count = count;
+        self.next = slot_after(self.next, 1, self.depth);
+        self.waits -= 1;
+        taken
     }
 }
 

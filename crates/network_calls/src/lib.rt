@@ -15,6 +15,6 @@ pub use call::Call;
 pub use counts::LinkCounts;
 pub use net_pass::NetPass;
 pub use on_link::{PassOnLink, SettledLink};
-pub use pass_counts::PassCounts;
+pub use pass_counts::{PassCounts, counts_on};
 pub use reply::Reply;
 pub use settled::{Settled, settle};

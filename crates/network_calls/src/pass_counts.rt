@@ -76,8 +76,8 @@ impl PassCounts {
     }
 }
 
-/// The counts on the link with this number.
-fn counts_on(links: &[LinkCounts], vl: LinkNo) -> Option<&LinkCounts>
+/// The counts on the link with this number, of those on some links.
+pub fn counts_on(links: &[LinkCounts], vl: LinkNo) -> Option<&LinkCounts>
     ensures { option_copied result ≡ counts_of_link vl links.now }
 {
     links.iter().find(|link| link.vl == vl)

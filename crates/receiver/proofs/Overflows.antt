@@ -14,7 +14,7 @@ use Rattle.receiver.specs.declared.port.PortOutlet.{PortOutlet}
 use Rattle.receiver.specs.declared.port.PortOutlet.TheVariants as outlets
 use Rattle.receiver.specs.Fill.{IsFoundFull}
 use Rattle.receiver.specs.Link.{OverflowsIfRefused, Ported, Takes, deliveries_of}
-use Rattle.receiver.specs.Outlet.{RefusesAt, ShowsAt}
+use Rattle.receiver.specs.Outlet.{ShowsAt}
 use Rattle.receiver.specs.Port.{AnswersPort, GivesPort, RefusesPort, ShowsAs, ShowsPort}
 use Rattle.receiver.specs.Queue.{CountedQueue}
 

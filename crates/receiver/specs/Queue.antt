@@ -1,9 +1,6 @@
 -- The queue of a port, as its outlet knows it.
-use Rattle.std.specs.Prelude.{◌≡◌, ◌≤◌, ◌<◌, ℕ, ◌+◌, ◌-◌, List, [], ◌∷◌, length, map, max}
-use Rattle.es_base.specs.Limits.{deepest_queue, longest_queued}
-use Rattle.message_ring.specs.Ends.{AreShort, octets_of_last, width}
+use Rattle.std.specs.Prelude.{◌≡◌, ◌≤◌, ℕ, ◌+◌, ◌-◌, List, [], ◌∷◌, length, max}
 use Rattle.message_ring.specs.Queue.{Known, QueueId, opened_ring}
-use Rattle.message_ring.specs.Stream.{size}
 
 -- what the end that puts knows, and the greatest number of messages that waited
 pub record CountedQueue : Type 0 where
@@ -42,19 +39,3 @@ pub record CountsWaiting (old new : CountedQueue) (messages : ℕ) : Type 0 wher
   pub each : length taken ≡ messages
   pub rising : RiseFrom (length old.known.taken) (length new.known.taken) taken
   pub greatest : new.greatest ≡ greatest_after old.greatest (length old.known.put) taken
-
--- ---- what is kept for it
-
--- octets of a message at most, head included
-abbrev pub most_octets : ℕ
-most_octets = width longest_queued
-
--- While the queue was never as full as it may be but for one, the octets of the last messages are kept: of as many as
--- waited at most.
-pub record KeepsGreatest (now : Known) (depth octets greatest : ℕ) : Type 0 where
-  pub depth_is : depth ≡ now.depth
-  pub most : depth ≤ deepest_queue
-  pub long : now.queue.max ≤ longest_queued
-  pub short : AreShort most_octets (map size now.put)
-  pub is : IsGreatest now greatest
-  pub octets_are : greatest + 1 < depth → octets ≡ octets_of_last greatest now.put

@@ -14,7 +14,7 @@ use es_base::PortNo;
 impl LinkWithPorts<PortOutlet> {
     /// Fill level of a port's queue: the messages delivered and not taken, as far as its end of the queue knows after
     /// it looked in this call, and the greatest number that waited. None if the port samples, or the link has no such port. Takes no
-    /// memory, and waits for nobody; it costs a step for each message that waits.
+    /// memory, and waits for nobody.
     pub fn fill(&mut self, port: PortNo) -> Option<Fill>
         ensures core { self.new.core ≡ self.old.core }
         ensures received { self.new.received ≡ self.old.received }
@@ -29,7 +29,7 @@ impl LinkWithPorts<PortOutlet> {
 
 impl Receiver<PortOutlet> {
     /// Fill level of the queue of a port of the link at this place. None if the port samples, or there is no such port.
-    /// Takes no memory, and waits for nobody; it costs a step for each message that waits.
+    /// Takes no memory, and waits for nobody.
     pub fn fill(&mut self, place: usize, port: PortNo) -> Option<Fill>
         ensures stays { LinksStay GivesPort self.old self.new }
         ensures fill { IsFillIn (slice_get self.new.links place) port result }

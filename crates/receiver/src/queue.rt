@@ -6,7 +6,7 @@ ghost use Rattle.message_ring.specs.Queue.{IsFullByLook, LooksForRoom, SeemsFull
 ghost use Rattle.receiver.specs.Queue.{IsGreatest, new_queue};
 
 use es_base::Memory;
-use message_ring::{HEAD, RingPutter, RingTaker, meet, open_ring};
+use message_ring::{RingPutter, RingTaker, meet, open_ring};
 use std::alloc::Global;
 use std::marker::Model;
 
@@ -23,21 +23,17 @@ pub struct Fill {
 #[derive(Drop)]
 pub struct CountingPutter {
     putter: RingPutter,
-    depth: usize,
     greatest: usize,
-    // Octets of the last `greatest` messages, heads included, while `greatest` is at least two below the depth: more
-    // messages wait if more octets do.
-    octets: usize,
 }
 
 impl Model for CountingPutter {
-    ghost use Rattle.receiver.specs.Queue.{CountedQueue, KeepsGreatest};
+    ghost use Rattle.receiver.specs.Queue.{CountedQueue, IsGreatest};
 
     ghost Value = { CountedQueue };
 
     ghost view = { λ q. record { known = q.putter; greatest = q.greatest } };
 
-    ghost invariant = { λ q. KeepsGreatest q.putter q.depth q.octets q.greatest };
+    ghost invariant = { λ q. IsGreatest q.putter q.greatest };
 }
 
 impl CountingPutter {
@@ -55,9 +51,7 @@ impl CountingPutter {
         let (putter, taker) = open_ring(alloc, depth, max)?;
         let counting = CountingPutter {
             putter,
-            depth,
             greatest: 0,
-            octets: 0,
         };
         Ok((counting, taker))
     }
@@ -90,15 +84,8 @@ impl CountingPutter {
         ensures looks { (self.old.known.looks ≤ self.new.known.looks) × (self.new.known.looks ≤ self.old.known.looks + 1) }
     {
         self.putter.put(time, octets);
-        if self.greatest + 1 < self.depth {
-            let with_one_more = self.octets + HEAD + octets.len();
-            self.octets = with_one_more - self.putter.size_before_last(self.greatest);
-            if self.putter.has_more_waiting(self.octets) {
-                self.greatest += 1;
-                self.octets = with_one_more;
-            }
-        } else if self.greatest < self.depth && !self.putter.has_room() {
-            self.greatest = self.depth;
+        if self.greatest < self.putter.known_waiting() {
+            self.greatest = self.greatest.max(self.putter.waiting());
         }
     }
 
@@ -116,8 +103,7 @@ impl CountingPutter {
         meet(&mut self.putter, taker);
     }
 
-    /// Fill level of the queue, after this end looked what the other end took. It costs a step for each message that
-    /// waits.
+    /// Fill level of the queue, after this end looked what the other end took.
     pub(crate) fn fill(&mut self) -> Fill
         ensures end { self.new ≡ record self.old { known = record self.old.known { taken = self.new.known.taken; looks = self.new.known.looks } } }
         ensures told { BeginsWith self.new.known.taken self.old.known.taken }

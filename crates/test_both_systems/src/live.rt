@@ -1,17 +1,42 @@
-//! The ends of the system that keeps no frame.
-use live_system::{MailboxReader, RingTaker};
+//! The system that keeps no frame: what it is lent, its replies and its ends.
+use crate::made::{Burst, number_at};
+use end_system::Reply as KeptReply;
+use es_base::FilterCause::TooLong;
+use es_base::LinkNo;
+use live_system::{MailboxReader, Reply, RingTaker};
 use receiver::Reading;
+use std::alloc::Global;
 use std::process::Abort;
-use test_inputs_live_system::Live;
 
-/// A reader of the sampling port with this name.
-pub(crate) fn reader_of(rt: &impl Abort, live: &mut Live, name: &str) -> MailboxReader {
-    live.take_reader(name).expect(rt, "a reader")
+/// Numbers of groups that the systems are opened with. Past the number of links each link is a group of its own.
+pub(crate) const GROUPS: [usize; 3] = [1, 2, 64];
+
+/// Reply of an entry before a burst, which no frame of these tests gets.
+pub(crate) const NOTHING: Reply = Reply::Filtered(TooLong);
+
+/// The frames of a burst as they are lent.
+pub(crate) fn lent<'a>(rt: &impl Abort, alloc: Global, burst: &'a Burst) -> Vec<(u64, &'a [u8])> {
+    let mut frames = Vec::new(alloc);
+    for (time, octets) in &burst.frames {
+        frames.push((*time, octets.as_slice())).expect(rt, "memory");
+    }
+    frames
 }
 
-/// The taker of the queuing port with this name.
-pub(crate) fn taker_of(rt: &impl Abort, live: &mut Live, name: &str) -> RingTaker {
-    live.take_taker(name).expect(rt, "a taker")
+/// The reply that a system with histories gives where one that keeps no frame gives this.
+pub(crate) fn without_index(rt: &impl Abort, reply: Reply) -> KeptReply {
+    match reply {
+        Reply::Filtered(cause) => KeptReply::Filtered(cause),
+        Reply::Link {
+            at,
+            vl,
+            place,
+            verdict,
+        } => {
+            assert!(rt; vl == LinkNo(number_at(at)), "{at}");
+            KeptReply::Link { vl, place, verdict }
+        }
+    }
 }
 
 /// The number, the time and the length of the newest message of a sampling port, whose octets are copied.

@@ -38,6 +38,21 @@ impl Live {
         Ok(Live { opened })
     }
 
+    /// The same, with the links in so many groups.
+    pub fn open_in_groups(alloc: Global, config: &Config, groups: usize) -> Result<Live, Memory> {
+        let readers = ReaderCount::most();
+        let opened = LiveSystem::open_in_groups(alloc, config, readers, groups)?;
+        Ok(Live { opened })
+    }
+
+    /// The system that has these parts.
+    pub fn of(opened: Opened) -> Live
+        requires own { IsPassOf opened.system opened.a × IsPassOf opened.system opened.b }
+        requires nets { (opened.a.net ≡ A) × (opened.b.net ≡ B) }
+    {
+        Live { opened }
+    }
+
     /// Moves out a reader of the sampling port with this name.
     pub fn take_reader(&mut self, name: &str) -> Option<MailboxReader> {
         self.opened.take_reader(name)

@@ -100,8 +100,8 @@ fn messages_that_nobody_took_wait(rt: HostRuntime) {
 }
 
 /// Messages are put and taken, by turns so many.
-fn put_and_taken() -> [(u8, u64); 4] {
-    [(1, 1), (1, 1), (2, 1), (2, 3)]
+fn put_and_taken() -> [(u8, u64); 5] {
+    [(1, 1), (1, 1), (2, 1), (2, 3), (1, 1)]
 }
 
 fn check_greatest(rt: &impl Abort, alloc: Global) {

@@ -1,0 +1,57 @@
+use Rattle.std.proofs.Common.{◌≡◌, ◌∙◌, ap, refl, rules, sym}
+use Rattle.std.proofs.lemmas.Option.{slice_get_read, slice_get_within}
+use Rattle.es_base.specs.Frame.{IsFrame, link_number_of}
+use Rattle.live_system.specs.Calls.{LiveLink}
+use Rattle.live_system.specs.Groups.{HasLinkAt}
+use Rattle.live_system.proofs.Groups.{counts_there, done_as, finds_link, same_lock}
+use Rattle.live_system.proofs.Receives.{TakesOne, calls_after, group_after, may_leave}
+use Rattle.live_system.proofs.link_pass.GroupPass.receive.Goals as goal
+
+pub visit-answer-requires-clause-lock : goal.visit-answer-requires-clause-lock
+visit-answer-requires-clause-lock g c =
+    let s = c.self.inside in same_lock s.net s.pass s.counts.items c.args.lock.now c.args.index (λ (link : LiveLink). link_number_of c.args.frame.now.whole.now ≡ link.core.settings.vl.0) (rw (← c.self.view_is) at c.requires)
+
+pub visit-answer-requires-clause-callable : goal.visit-answer-requires-clause-callable
+visit-answer-requires-clause-callable g c = λ lists found finds p is.
+    let s = c.self.inside in
+    let octets = c.args.frame.now.whole.now in
+    let knows = rw (← c.self.view_is) at c.requires in
+    let link = finds_link s.net s.pass s.counts.items c.args.lock.now c.args.index (λ (link : LiveLink). link_number_of octets ≡ link.core.settings.vl.0) knows lists found finds in
+    let frame : IsFrame octets = search rules in
+    let has : HasLinkAt found c.args.index (λ (l : LiveLink). link_number_of octets ≡ l.core.settings.vl.0) = (link.0, link.1, knows.5 ∙ ap (λ (l : LiveLink). l.core.settings.vl.0) (sym link.2)) in
+    (frame, rw is has)
+
+pub visit-answer-requires-clause-keeps : goal.visit-answer-requires-clause-keeps
+visit-answer-requires-clause-keeps g c lists found left answer finds did =
+    let s = c.self.inside in
+    let octets = c.args.frame.now.whole.now in
+    may_leave s.net s.pass lists found left c.args.index c.args.now octets answer c.self.invariant.user finds (done_as (TakesOne s.net c.args.index c.args.now octets answer) did.shows did.leaves did.met)
+
+pub index_mut-requires : goal.index_mut-requires
+index_mut-requires g c =
+    let s = c.self.inside in
+    let known = counts_there s.net s.pass s.counts.items c.args.lock.now c.args.index (λ (link : LiveLink). link_number_of c.args.frame.now.whole.now ≡ link.core.settings.vl.0) (rw (← c.self.view_is) at c.requires) in
+    let within = slice_get_within s.counts.items c.args.index known.0 known.1 in
+    search rules
+
+pub invariant_of-self : goal.invariant_of-self
+invariant_of-self g c =
+    let s = c.self.inside in
+    let visit = c.visit-answer.ensures in
+    let octets = c.args.frame.now.whole.now in
+    let done = done_as (TakesOne s.net c.args.index c.args.now octets c.visit-answer.result) visit.does.shows visit.does.leaves visit.does.met in
+    let known = counts_there s.net s.pass s.counts.items c.args.lock.now c.args.index (λ (link : LiveLink). link_number_of octets ≡ link.core.settings.vl.0) (rw (← c.self.view_is) at c.requires) in
+    let was = slice_get_read s.counts.items _ c.args.index c.index_mut.result.now refl (slice_get_within s.counts.items c.args.index known.0 known.1) c.index_mut.ensures.value in
+    group_after s.net s.pass _ s.counts.items c.self.invariant _ visit c.args.index c.args.now octets c.visit-answer.result done c.index_mut.result.now c.add.new.self was
+    record { vl = c.add.ensures.vl; number = c.add.ensures.number; tally = c.add.ensures.tally }
+
+pub returns : goal.returns
+returns g c =
+    let s = c.self.inside in
+    let visit = c.visit-answer.ensures in
+    let octets = c.args.frame.now.whole.now in
+    let done = done_as (TakesOne s.net c.args.index c.args.now octets c.visit-answer.result) visit.does.shows visit.does.leaves visit.does.met in
+    let known = counts_there s.net s.pass s.counts.items c.args.lock.now c.args.index (λ (link : LiveLink). link_number_of octets ≡ link.core.settings.vl.0) (rw (← c.self.view_is) at c.requires) in
+    let was = slice_get_read s.counts.items _ c.args.index c.index_mut.result.now refl (slice_get_within s.counts.items c.args.index known.0 known.1) c.index_mut.ensures.value in
+    rw (← c.self.view_is) (calls_after s.net s.pass _ s.counts.items c.self.invariant _ visit c.args.index c.args.now octets c.visit-answer.result done c.index_mut.result.now c.add.new.self was
+    record { vl = c.add.ensures.vl; number = c.add.ensures.number; tally = c.add.ensures.tally })

@@ -1,0 +1,505 @@
+-- Each step at the slots keeps their rule.
+use Rattle.std.proofs.Common.{◌≡◌, ◌≢◌, ℕ, ◌+◌, ◌-◌, ◌<◌, ◌≤◌, ◌⊎◌, inl, inr, ⊎_elim, true, false, List, [], ◌∷◌, ◌++◌, length, get_or, set, sym, refl, ap, ◌∙◌, subst, arith, length-set, length-append, Bool, Some}
+use Rattle.std.specs.List.{slice_get}
+use Rattle.std.proofs.lemmas.Bool.{cases_lt}
+use Rattle.std.proofs.lemmas.List.{set-get_or}
+use Rattle.std.proofs.lemmas.Option.{same_Some, slice_get_within}
+use Rattle.std.proofs.Math.Nat.{add-mod_right, mod-lt}
+use mathlib.Core.Option as maybe
+use mathlib.Core.Option.{some, none}
+use mathlib.Core.Logic.{dite}
+use native.Mathlib.Decide.{ℕ_discrete}
+use lib.ListN.{get_elem?}
+use Rattle.atomic_table.specs.Table as table
+use Rattle.atomic_table.specs.Table.{chain, keeps, takes, gives, Allows, Valid}
+use Rattle.atomic_table.proofs.Lists.{at_set, set_here, set_else}
+use Rattle.es_base.specs.declared.event.Message.{Message}
+use Rattle.es_base.specs.Queue.{BeginsWith}
+use Rattle.es_base.proofs.Elements.{slice_get-push}
+use Rattle.message_ring.specs.declared.slot.Slot.{Slot}
+use Rattle.message_ring.specs.declared.rule.QueueView.{QueueView}
+use Rattle.message_ring.specs.declared.rule.SeatView.{SeatView}
+use Rattle.message_ring.specs.declared.rule.SeatView.TheVariants.{Puts, Takes, Meets, Spent}
+use Rattle.message_ring.specs.Rule.{IsInPlace, IsRoomy, KeptQueue, KnowsItsQueue, LawfulQueue, in_slot, slot_for, wrapped}
+use Rattle.message_ring.specs.Plays.{QueueSeat, ends_learn, putter_enters, putter_gives_both, putter_looks, putter_puts, putter_takes_both, puts_one, sees_none, sees_put, sees_taken, taker_enters, taker_looks, taker_takes, takes_one, told_taken, warmed, with_both, with_slot_taken}
+use Rattle.message_ring.specs.Ends.{IsOutside}
+use Rattle.message_ring.proofs.Lists.{begins_get, begins_length, begins_same, begins_trans, next_of, one_slot, push_other}
+
+abbrev pub T : Type 0
+T = table.State Slot SeatView
+
+abbrev pub Homes : Type 0
+Homes = List (maybe.Option Slot)
+
+not_both : {A : Type 0} (b : Bool) → b ≡ true → b ≡ false → A
+not_both b t f = absurd (cc)
+
+-- ---- the rule over plain values
+
+-- a slot of another number changed
+stays : (hs : Homes) (p : QueueView) (low changed number : ℕ) (x : maybe.Option Slot) → low ≤ changed → changed < low + p.depth → low ≤ number → number < low + p.depth → number ≢ changed
+    → IsInPlace hs p number → IsInPlace (set hs (slot_for p.depth changed) x) p number
+stays hs p low changed number x from to from' to' ne is = record {
+  slot = is.slot;
+  home = set_else hs (slot_for p.depth changed) (slot_for p.depth number) x (λ e. ne (one_slot low p.depth number changed from' to' from to e)) ∙ is.home;
+  room = is.room;
+  message = is.message;
+}
+
+module _ (ws : List ℕ) (hs : Homes) (p t : QueueView) (l : LawfulQueue ws hs p t) where
+  taken_put : length t.taken ≤ length p.put
+  taken_put = let a = begins_length t.taken t.put l.taken in let b = begins_length t.put p.put l.put in omega (arith, a, b)
+
+  -- a slot of another number changed
+  still : (changed number : ℕ) (x : maybe.Option Slot) (put taken : List Message) (has : Bool) (looks : ℕ)
+      → length t.taken ≤ changed → changed < length t.taken + p.depth → length t.taken ≤ number → number < length t.taken + p.depth → number ≢ changed
+      → ((message : Message) → slice_get put number ≡ Some message → slice_get p.put number ≡ Some message)
+      → IsInPlace hs p number → IsInPlace (set hs (slot_for p.depth changed) x) (record p { put = put; taken = taken; has = has; looks = looks }) number
+  still changed number x put taken has looks low high low' high' ne here is = let s = stays hs p (length t.taken) changed number x low high low' high' ne is in record {
+    slot = s.slot;
+    home = s.home;
+    room = s.room;
+    message = λ message at. s.message message (here message at);
+  }
+
+  below : (number : ℕ) → slot_for p.depth number < length hs
+  below number = let less : slot_for p.depth number < p.depth = mod-lt number l.some_slot in let c = l.count in omega (arith, less, c)
+
+  pub putter_enters_keeps : length p.put < length p.taken + p.depth → LawfulQueue ws (set hs (slot_for p.depth (length p.put)) none) (with_slot_taken p) t
+  putter_enters_keeps room =
+      let known = begins_length p.taken t.taken l.known in
+      let low = taken_put in
+      let high : length p.put < length t.taken + p.depth = omega (arith, known, room) in
+      record {
+        words_are = l.words_are;
+        some_slot = l.some_slot;
+        most = l.most;
+        count = length-set hs _ none ∙ l.count;
+        size = l.size;
+        few = l.few;
+        put = l.put;
+        taken = l.taken;
+        known = l.known;
+        putting = λ _. high;
+        swapping = l.swapping;
+        taking = l.taking;
+        places = λ number from to not_put not_swapped not_taken.
+            still (length p.put) number none p.put p.taken true p.looks low high from to (not_put refl) (λ message at. at)
+            (l.places number from to (λ _. not_put refl) not_swapped not_taken);
+      }
+
+  pub puts_keeps : (slot : Slot) → IsRoomy p.max slot → p.has ≡ true → p.swaps ≡ false
+      → LawfulQueue (wrapped (length p.put + 1) ∷ wrapped (length t.taken) ∷ []) (set hs (slot_for p.depth (length p.put)) (some slot)) (puts_one p (in_slot slot)) t
+  puts_keeps slot roomy entered apart =
+      let low = taken_put in
+      let high = l.putting entered in
+      let all : List Message = p.put ++ in_slot slot ∷ [] in
+      let long : length all ≡ length p.put + 1 = length-append p.put (in_slot slot ∷ []) in
+      let hs' = set hs (slot_for p.depth (length p.put)) (some slot) in
+      record {
+        words_are = ap (λ (n : ℕ). wrapped n ∷ wrapped (length t.taken) ∷ []) (sym long);
+        some_slot = l.some_slot;
+        most = l.most;
+        count = length-set hs _ (some slot) ∙ l.count;
+        size = l.size;
+        few = omega (arith, long, high);
+        put = begins_trans t.put p.put all l.put (in_slot slot ∷ [], refl);
+        taken = l.taken;
+        known = l.known;
+        putting = λ h. not_both false h refl;
+        swapping = λ h. not_both p.swaps h apart;
+        taking = l.taking;
+        places = λ number from to not_put not_swapped not_taken. dite (ℕ_discrete number (length p.put))
+            (λ (e : number ≡ length p.put). record {
+              slot = slot;
+              home = subst (λ (n : ℕ). get_elem? hs' (slot_for p.depth n) ≡ some (some slot)) (sym e) (set_here hs _ (some slot) (below (length p.put)));
+              room = roomy;
+              message = λ message at. same_Some (in_slot slot) message (sym (ap (slice_get all) e ∙ slice_get-push p.put (in_slot slot)) ∙ at);
+            })
+            (λ (ne : number ≢ length p.put). still (length p.put) number (some slot) all p.taken false p.looks low high from to ne
+            (λ message at. push_other p.put (in_slot slot) number message ne at)
+            (l.places number from to (λ _. ne) (λ h. not_both p.swaps h apart) not_taken));
+      }
+
+  -- the putter takes its next slot, and a later one that is free
+  pub both_taken_keeps : p.has ≡ false → length p.put < p.warm → p.warm < length p.taken + p.depth
+      → LawfulQueue ws (set (set hs (slot_for p.depth (length p.put)) none) (slot_for p.depth p.warm) none) (with_both p) t
+  both_taken_keeps outside after free =
+      let low = taken_put in
+      let known = begins_length p.taken t.taken l.known in
+      let high : p.warm < length t.taken + p.depth = omega (arith, known, free) in
+      let hs' = set hs (slot_for p.depth (length p.put)) none in
+      record {
+        words_are = l.words_are;
+        some_slot = l.some_slot;
+        most = l.most;
+        count = length-set hs' _ none ∙ length-set hs _ none ∙ l.count;
+        size = l.size;
+        few = l.few;
+        put = l.put;
+        taken = l.taken;
+        known = l.known;
+        putting = l.putting;
+        swapping = λ _. (after, high);
+        taking = l.taking;
+        places = λ number from to not_put not_swapped not_taken.
+            let was = l.places number from to not_put (λ _. not_swapped refl) not_taken in
+            let first = stays hs p (length t.taken) (length p.put) number none low (omega (arith, after, high)) from to (not_swapped refl).0 was in
+            let is = stays hs' p (length t.taken) p.warm number none (omega (arith, low, after)) high from to (not_swapped refl).1 first in
+            record { slot = is.slot; home = is.home; room = is.room; message = is.message };
+      }
+
+  -- the putter gives both home, with room
+  pub both_given_keeps : (later next : Slot) → IsRoomy p.max later → IsRoomy p.max next → p.has ≡ false → p.swaps ≡ true
+      → LawfulQueue ws (set (set hs (slot_for p.depth p.warm) (some later)) (slot_for p.depth (length p.put)) (some next)) (warmed p) t
+  both_given_keeps later next roomy_later roomy_next outside swaps =
+      let low = taken_put in
+      let after = (l.swapping swaps).0 in
+      let high = (l.swapping swaps).1 in
+      let hs' = set hs (slot_for p.depth p.warm) (some later) in
+      let all : length hs' ≡ length hs = length-set hs _ (some later) in
+      let empty : (number : ℕ) → length p.put ≤ number → (slot : Slot) (put : Message) → slice_get p.put number ≡ Some put → in_slot slot ≡ put = λ number past slot put at.
+      let within = slice_get_within p.put number put at in absurd (omega (arith, within, past)) in
+      record {
+        words_are = l.words_are;
+        some_slot = l.some_slot;
+        most = l.most;
+        count = length-set hs' _ (some next) ∙ all ∙ l.count;
+        size = l.size;
+        few = l.few;
+        put = l.put;
+        taken = l.taken;
+        known = l.known;
+        putting = λ h. not_both p.has h outside;
+        swapping = λ h. not_both false h refl;
+        taking = l.taking;
+        places = λ number from to not_put not_swapped not_taken. dite (ℕ_discrete number (length p.put))
+            (λ (e : number ≡ length p.put). record {
+              slot = next;
+              home = subst (λ (n : ℕ). get_elem? (set hs' (slot_for p.depth (length p.put)) (some next)) (slot_for p.depth n) ≡ some (some next)) (sym e)
+                  (set_here hs' _ (some next) (let less = below (length p.put) in omega (arith, less, all)));
+              room = roomy_next;
+              message = empty number (omega (arith, e)) next;
+            })
+            (λ (ne : number ≢ length p.put). dite (ℕ_discrete number p.warm)
+            (λ (e : number ≡ p.warm). let is = stays hs' p (length t.taken) (length p.put) number (some next) low (omega (arith, after, high)) from to ne (record {
+              slot = later;
+              home = subst (λ (n : ℕ). get_elem? hs' (slot_for p.depth n) ≡ some (some later)) (sym e) (set_here hs _ (some later) (below p.warm));
+              room = roomy_later;
+              message = empty number (omega (arith, e, after)) later;
+            }) in record { slot = is.slot; home = is.home; room = is.room; message = is.message })
+            (λ (ne' : number ≢ p.warm).
+            let was = l.places number from to (λ _. ne) (λ _. (ne, ne')) not_taken in
+            let first = stays hs p (length t.taken) p.warm number (some later) (omega (arith, low, after)) high from to ne' was in
+            let is = stays hs' p (length t.taken) (length p.put) number (some next) low (omega (arith, after, high)) from to ne first in
+            record { slot = is.slot; home = is.home; room = is.room; message = is.message }));
+      }
+
+  pub taker_enters_keeps : length t.taken < length t.put → LawfulQueue ws (set hs (slot_for p.depth (length t.taken)) none) p (with_slot_taken t)
+  taker_enters_keeps more =
+      let some_slot = l.some_slot in
+      record {
+        words_are = l.words_are;
+        some_slot = l.some_slot;
+        most = l.most;
+        count = length-set hs _ none ∙ l.count;
+        size = l.size;
+        few = l.few;
+        put = l.put;
+        taken = l.taken;
+        known = l.known;
+        putting = l.putting;
+        swapping = l.swapping;
+        taking = λ _. more;
+        places = λ number from to not_put not_swapped not_taken.
+            still (length t.taken) number none p.put p.taken p.has p.looks (omega arith) (omega (arith, some_slot)) from to (not_taken refl) (λ message at. at)
+            (l.places number from to not_put not_swapped (λ _. not_taken refl));
+      }
+
+  pub takes_keeps : (slot : Slot) → IsRoomy p.max slot → t.has ≡ true → slice_get t.put (length t.taken) ≡ Some (in_slot slot)
+      → LawfulQueue (wrapped (length p.put) ∷ wrapped (length t.taken + 1) ∷ []) (set hs (slot_for p.depth (length t.taken)) (some slot)) p (takes_one t (in_slot slot))
+  takes_keeps slot roomy entered is =
+      let some_slot = l.some_slot in
+      let few = l.few in
+      let all : List Message = t.taken ++ in_slot slot ∷ [] in
+      let long : length all ≡ length t.taken + 1 = length-append t.taken (in_slot slot ∷ []) in
+      let next = next_of t.taken t.put l.taken (l.taking entered) in
+      let same : next.0 ≡ in_slot slot = same_Some next.0 (in_slot slot) (sym next.1 ∙ is) in
+      let hs' = set hs (slot_for p.depth (length t.taken)) (some slot) in
+      record {
+        words_are = ap (λ (n : ℕ). wrapped (length p.put) ∷ wrapped n ∷ []) (sym long);
+        some_slot = l.some_slot;
+        most = l.most;
+        count = length-set hs _ (some slot) ∙ l.count;
+        size = l.size;
+        few = omega (arith, long, few);
+        put = l.put;
+        taken = subst (λ (m : Message). BeginsWith t.put (t.taken ++ m ∷ [])) same next.2;
+        known = begins_trans p.taken t.taken all l.known (in_slot slot ∷ [], refl);
+        putting = λ h. let room = l.putting h in omega (arith, long, room);
+        swapping = λ h. let both = l.swapping h in let free = both.1 in (both.0, omega (arith, long, free));
+        taking = λ h. not_both false h refl;
+        places = λ number from to not_put not_swapped not_taken. ⊎_elim
+            (λ (less : number < length t.taken + p.depth).
+            still (length t.taken) number (some slot) p.put p.taken p.has p.looks (omega arith) (omega (arith, some_slot)) (omega (arith, long, from)) less (λ e. absurd (omega (arith, e, long, from))) (λ message at. at)
+            (l.places number (omega (arith, long, from)) less not_put not_swapped (λ _ e. absurd (omega (arith, e, long, from)))))
+            (λ (past : length t.taken + p.depth ≤ number).
+            let e : number ≡ length t.taken + p.depth = omega (arith, past, to, long) in
+            let around : slot_for p.depth number ≡ slot_for p.depth (length t.taken) = ap (slot_for p.depth) e ∙ add-mod_right (length t.taken) p.depth in
+            record {
+              slot = slot;
+              home = subst (λ (n : ℕ). get_elem? hs' n ≡ some (some slot)) (sym around) (set_here hs _ (some slot) (below (length t.taken)));
+              room = roomy;
+              message = λ message at. let within = slice_get_within p.put number message at in absurd (omega (arith, within, few, past));
+            })
+            (cases_lt number (length t.taken + p.depth));
+      }
+
+  -- The putter knows these to be taken, and the taker these to be put. The putter's last free slot may be another.
+  pub known_keeps : (taken put : List Message) (looks looks' warm : ℕ) → BeginsWith t.taken taken → BeginsWith p.put put → BeginsWith put t.put → (p.swaps ≡ true → warm ≡ p.warm)
+      → LawfulQueue ws hs (record p { taken = taken; looks = looks; warm = warm }) (record t { put = put; looks = looks' })
+  known_keeps taken put looks looks' warm known_taken known_put more same = record {
+    words_are = l.words_are;
+    some_slot = l.some_slot;
+    most = l.most;
+    count = l.count;
+    size = l.size;
+    few = l.few;
+    put = known_put;
+    taken = begins_trans t.taken t.put put l.taken more;
+    known = known_taken;
+    putting = l.putting;
+    swapping = λ h. let both = l.swapping h in let after = both.0 in let free = both.1 in let is = same h in (omega (arith, after, is), omega (arith, free, is));
+    taking = λ h. let was = l.taking h in let long = begins_length t.put put more in omega (arith, was, long);
+    places = λ number from to not_put not_swapped not_taken.
+        let is = l.places number from to not_put (λ h. ((not_swapped h).0, λ e. (not_swapped h).1 (e ∙ sym (same h)))) not_taken in record { slot = is.slot; home = is.home; room = is.room; message = is.message };
+  }
+
+-- ---- the rule over seats
+
+module _ (s : T) (k : KeptQueue s) (id : ℕ) where
+  -- what the seat knows becomes x; the putter's view changes only if it is the putter's seat, and the taker's too
+  pub turns : (p t : QueueView) (ws : List ℕ) (hs : Homes) (x : SeatView)
+      → (p ≡ k.putter) ⊎ (id ≡ k.putter_seat) → (t ≡ k.taker) ⊎ (id ≡ k.taker_seat)
+      → KnowsItsQueue p t k.putter_seat k.taker_seat id x → LawfulQueue ws hs p t
+      → KeptQueue (record { words = ws; homes = hs; views = set s.views id x })
+  turns p t ws hs x ps_is ts_is me ok =
+      let to_p : (j : ℕ) → j ≢ id → (v : QueueView) → v ≡ k.putter → j ≡ k.putter_seat → v ≡ p = λ j ne v h at. ⊎_elim (λ (e : p ≡ k.putter). h ∙ sym e) (λ (mine : id ≡ k.putter_seat). absurd (ne (at ∙ sym mine))) ps_is in
+      let to_t : (j : ℕ) → j ≢ id → (u : QueueView) → u ≡ k.taker → j ≡ k.taker_seat → u ≡ t = λ j ne u h at. ⊎_elim (λ (e : t ≡ k.taker). h ∙ sym e) (λ (mine : id ≡ k.taker_seat). absurd (ne (at ∙ sym mine))) ts_is in
+      let others : (j : ℕ) → j ≢ id → (u : SeatView) → KnowsItsQueue k.putter k.taker k.putter_seat k.taker_seat j u → KnowsItsQueue p t k.putter_seat k.taker_seat j u = λ j ne. elim [
+        | Puts v ↦ λ h. (to_p j ne v h.0 h.1, h.1)
+        | Takes u ↦ λ h. (to_t j ne u h.0 h.1, h.1)
+        | Meets v u ↦ λ h. ((to_p j ne v h.0.0 h.0.1, h.0.1), (to_t j ne u h.1.0 h.1.1, h.1.1))
+        | Spent ↦ λ h. tt
+      ] in record {
+        putter = p;
+        taker = t;
+        putter_seat = k.putter_seat;
+        taker_seat = k.taker_seat;
+        lawful = ok;
+        seats = λ j u e. ⊎_elim
+            (λ (h : (j ≡ id) × (x ≡ u)). subst (λ (z : SeatView). KnowsItsQueue p t k.putter_seat k.taker_seat j z) h.1 (subst (λ (i : ℕ). KnowsItsQueue p t k.putter_seat k.taker_seat i x) (sym h.0) me))
+            (λ (h : (j ≢ id) × (get_elem? s.views j ≡ some u)). others j h.0 u (k.seats j u h.1))
+            (at_set s.views id j x u e);
+      }
+
+  -- after a load, or a store
+  abbrev pub Goes : List ℕ → Homes → SeatView → Type 0
+  Goes ws hs x = KeptQueue (record { words = ws; homes = hs; views = set s.views id x })
+
+  module _ (p : QueueView) (at : get_elem? s.views id ≡ some (Puts p)) where
+    pub putter_lawful : LawfulQueue s.words s.homes p k.taker
+    putter_lawful = subst (λ (z : QueueView). LawfulQueue s.words s.homes z k.taker) (sym (k.seats id (Puts p) at).0) k.lawful
+
+    putter_turns : (ws ws' : List ℕ) (p' : QueueView) (hs : Homes) → ws' ≡ ws → LawfulQueue ws hs p' k.taker → Goes ws' hs (Puts p')
+    putter_turns ws ws' p' hs same ok = let mine = (k.seats id (Puts p) at).1 in
+        turns p' k.taker ws' hs (Puts p') (inr mine) (inl refl) (refl, mine) (subst (λ (z : List ℕ). LawfulQueue z hs p' k.taker) (sym same) ok)
+
+  module _ (t : QueueView) (at : get_elem? s.views id ≡ some (Takes t)) where
+    pub taker_lawful : LawfulQueue s.words s.homes k.putter t
+    taker_lawful = subst (λ (z : QueueView). LawfulQueue s.words s.homes k.putter z) (sym (k.seats id (Takes t) at).0) k.lawful
+
+    taker_turns : (ws ws' : List ℕ) (t' : QueueView) (hs : Homes) → ws' ≡ ws → LawfulQueue ws hs k.putter t' → Goes ws' hs (Takes t')
+    taker_turns ws ws' t' hs same ok = let mine = (k.seats id (Takes t) at).1 in
+        turns k.putter t' ws' hs (Takes t') (inl refl) (inr mine) (refl, mine) (subst (λ (z : List ℕ). LawfulQueue z hs k.putter t') (sym same) ok)
+
+-- ---- each step
+
+-- the message in the first of these slots
+abbrev message_of : Slot → List (ℕ × Slot) → Message
+message_of other [] = in_slot other
+message_of other (c ∷ cs) = in_slot c.1
+
+module _ (slots id : ℕ) where
+  abbrev pub May : QueueSeat → ℕ → (ℕ → ℕ) → (ℕ → QueueSeat → Type 0) → Type 0
+  May me word f then = Allows KeptQueue slots id me word f then
+
+  put_enters : (p : QueueView) → IsOutside p → length p.put < length p.taken + p.depth → May (Puts p, []) 0 (λ n. n) (putter_enters (Puts p, []))
+  put_enters p outside room s k _ mine _ =
+      let l = putter_lawful s k id p mine in
+      let known = begins_length p.taken k.taker.taken l.known in
+      let place = l.places (length p.put) (taken_put s.words s.homes p k.taker l) (omega (arith, room, known)) (λ h. not_both p.has h outside.0) (λ h. not_both p.swaps h outside.1)
+      (λ h e. let more = l.taking h in let long = begins_length k.taker.put p.put l.put in absurd (omega (arith, more, long, e))) in (
+        Puts (with_slot_taken p),
+        takes (slot_for p.depth (length p.put)) place.slot,
+        place.home,
+        putter_turns s k id p mine s.words _ _ _ (set-get_or s.words 0 0) (putter_enters_keeps s.words s.homes p k.taker l room),
+        (place.slot, refl, place.room),
+      )
+
+  pub put_enters_at : (me : QueueSeat) (p : QueueView) → me ≡ (Puts p, []) → IsOutside p → length p.put < length p.taken + p.depth → May me 0 (λ n. n) (putter_enters me)
+  put_enters_at me p is outside room = subst (λ (y : QueueSeat). May y 0 (λ n. n) (putter_enters y)) (sym is) (put_enters p outside room)
+
+  put_goes : (p : QueueView) (slot : Slot) → IsRoomy p.max slot → p.has ≡ true → p.swaps ≡ false
+      → May (Puts p, (slot_for p.depth (length p.put), slot) ∷ []) 0 (λ _. wrapped (length p.put + 1)) (λ found. putter_puts (Puts p, (slot_for p.depth (length p.put), slot) ∷ []) (wrapped (length p.put + 1)))
+  put_goes p slot roomy entered apart s k _ mine _ =
+      let l = putter_lawful s k id p mine in (
+        Puts (puts_one p (in_slot slot)),
+        gives,
+        tt,
+        putter_turns s k id p mine _ _ _ _ (ap (λ (ws : List ℕ). set ws 0 (wrapped (length p.put + 1))) l.words_are) (puts_keeps s.words s.homes p k.taker l slot roomy entered apart),
+        λ number other is. ap (λ (c : List (ℕ × Slot)). (Puts (puts_one p (message_of slot c)), [])) is,
+      )
+
+  pub put_goes_at : (me : QueueSeat) (p : QueueView) (slot : Slot) (count : ℕ) → me ≡ (Puts p, (slot_for p.depth (length p.put), slot) ∷ []) → count ≡ wrapped (length p.put + 1) → IsRoomy p.max slot → p.has ≡ true → p.swaps ≡ false
+      → May me 0 (λ _. count) (λ found. putter_puts me count)
+  put_goes_at me p slot count is count_is roomy entered apart =
+      subst (λ (y : QueueSeat). May y 0 (λ _. count) (λ found. putter_puts y count)) (sym is)
+      (subst (λ (n : ℕ). May (Puts p, (slot_for p.depth (length p.put), slot) ∷ []) 0 (λ _. n) (λ found. putter_puts (Puts p, (slot_for p.depth (length p.put), slot) ∷ []) n)) (sym count_is) (put_goes p slot roomy entered apart))
+
+  both_taken : (p : QueueView) → IsOutside p → length p.put < p.warm → p.warm < length p.taken + p.depth → May (Puts p, []) 0 (λ n. n) (putter_takes_both (Puts p, []))
+  both_taken p outside after free s k _ mine _ =
+      let l = putter_lawful s k id p mine in
+      let low = taken_put s.words s.homes p k.taker l in
+      let known = begins_length p.taken k.taker.taken l.known in
+      let at_home : (number : ℕ) → length p.put ≤ number → number < length k.taker.taken + p.depth → IsInPlace s.homes p number = λ number from to.
+      l.places number (omega (arith, low, from)) to (λ h. not_both p.has h outside.0) (λ h. not_both p.swaps h outside.1)
+      (λ h e. let more = l.taking h in let long = begins_length k.taker.put p.put l.put in absurd (omega (arith, more, long, e, from))) in
+      let next = at_home (length p.put) (omega arith) (omega (arith, known, after, free)) in
+      let later = at_home p.warm (omega (arith, after)) (omega (arith, known, free)) in
+      let other = stays s.homes p (length k.taker.taken) (length p.put) p.warm none low (omega (arith, known, after, free)) (omega (arith, low, after)) (omega (arith, known, free)) (λ e. absurd (omega (arith, e, after))) later in (
+        Puts (with_both p),
+        chain (takes (slot_for p.depth (length p.put)) next.slot) (takes (slot_for p.depth p.warm) other.slot),
+        (next.home, other.home),
+        putter_turns s k id p mine s.words _ _ _ (set-get_or s.words 0 0) (both_taken_keeps s.words s.homes p k.taker l outside.0 after free),
+        (other.slot, next.slot, refl, other.room, next.room),
+      )
+
+  pub both_taken_at : (me : QueueSeat) (p : QueueView) → me ≡ (Puts p, []) → IsOutside p → length p.put < p.warm → p.warm < length p.taken + p.depth → May me 0 (λ n. n) (putter_takes_both me)
+  both_taken_at me p is outside after free = subst (λ (y : QueueSeat). May y 0 (λ n. n) (putter_takes_both y)) (sym is) (both_taken p outside after free)
+
+  both_given : (p : QueueView) (later next : Slot) → IsRoomy p.max later → IsRoomy p.max next → p.has ≡ false → p.swaps ≡ true
+      → May (Puts p, (slot_for p.depth p.warm, later) ∷ (slot_for p.depth (length p.put), next) ∷ []) 0 (λ n. n) (putter_gives_both (Puts p, (slot_for p.depth p.warm, later) ∷ (slot_for p.depth (length p.put), next) ∷ []))
+  both_given p later next roomy_later roomy_next outside swaps s k _ mine _ =
+      let l = putter_lawful s k id p mine in (
+        Puts (warmed p),
+        chain gives gives,
+        (tt, tt),
+        putter_turns s k id p mine s.words _ _ _ (set-get_or s.words 0 0) (both_given_keeps s.words s.homes p k.taker l later next roomy_later roomy_next outside swaps),
+        refl,
+      )
+
+  pub both_given_at : (me : QueueSeat) (p : QueueView) (later next : Slot) → me ≡ (Puts p, (slot_for p.depth p.warm, later) ∷ (slot_for p.depth (length p.put), next) ∷ []) → IsRoomy p.max later → IsRoomy p.max next
+      → p.has ≡ false → p.swaps ≡ true → May me 0 (λ n. n) (putter_gives_both me)
+  both_given_at me p later next is roomy_later roomy_next outside swaps =
+      subst (λ (y : QueueSeat). May y 0 (λ n. n) (putter_gives_both y)) (sym is) (both_given p later next roomy_later roomy_next outside swaps)
+
+  put_looks : (p : QueueView) (c : List (ℕ × Slot)) → p.swaps ≡ false → May (Puts p, c) 1 (λ n. n) (putter_looks (Puts p, c))
+  put_looks p c apart s k _ mine _ =
+      let l = putter_lawful s k id p mine in
+      let all = begins_trans k.taker.taken k.taker.put p.put l.taken l.put in (
+        Puts (sees_taken p k.taker.taken),
+        keeps,
+        tt,
+        putter_turns s k id p mine s.words _ _ _ (set-get_or s.words 1 0) (known_keeps s.words s.homes p k.taker l k.taker.taken k.taker.put (p.looks + 1) k.taker.looks (length k.taker.taken + p.depth - 1) (begins_same k.taker.taken) l.put (begins_same k.taker.put) (λ h. not_both p.swaps h apart)),
+        (k.taker.taken, refl, ap (λ (ws : List ℕ). get_or ws 1 0) l.words_are, l.known, all, l.few),
+      )
+
+  pub put_looks_at : (me : QueueSeat) (p : QueueView) → me.0 ≡ Puts p → p.swaps ≡ false → May me 1 (λ n. n) (putter_looks me)
+  put_looks_at me p is apart = subst (λ (y : SeatView). May (y, me.1) 1 (λ n. n) (putter_looks (y, me.1))) (sym is) (put_looks p me.1 apart)
+
+  take_enters : (t : QueueView) → IsOutside t → length t.taken < length t.put → May (Takes t, []) 1 (λ n. n) (taker_enters (Takes t, []))
+  take_enters t outside more s k _ mine _ =
+      let l = taker_lawful s k id t mine in
+      let some_slot = l.some_slot in
+      let depth : t.depth ≡ k.putter.depth = l.size.0 in
+      let long = begins_length t.put k.putter.put l.put in
+      let place = l.places (length t.taken) (omega arith) (omega (arith, some_slot)) (λ h e. absurd (omega (arith, more, long, e)))
+      (λ h. let after = (l.swapping h).0 in ((λ e. absurd (omega (arith, more, long, e))), (λ e. absurd (omega (arith, more, long, after, e))))) (λ h. not_both t.has h outside.0) in
+      let next = next_of t.taken t.put l.taken more in
+      let is : in_slot place.slot ≡ next.0 = place.message next.0 (begins_get t.put k.putter.put (length t.taken) next.0 l.put next.1) in (
+        Takes (with_slot_taken t),
+        takes (slot_for t.depth (length t.taken)) place.slot,
+        subst (λ (d : ℕ). get_elem? s.homes (slot_for d (length t.taken)) ≡ some (some place.slot)) (sym depth) place.home,
+        taker_turns s k id t mine s.words _ _ _ (set-get_or s.words 1 0)
+            (subst (λ (d : ℕ). LawfulQueue s.words (set s.homes (slot_for d (length t.taken)) none) k.putter (with_slot_taken t)) (sym depth) (taker_enters_keeps s.words s.homes k.putter t l more)),
+        (place.slot, refl, place.room ∙ sym l.size.1, next.1 ∙ ap Some (sym is)),
+      )
+
+  pub take_enters_at : (me : QueueSeat) (t : QueueView) → me ≡ (Takes t, []) → IsOutside t → length t.taken < length t.put → May me 1 (λ n. n) (taker_enters me)
+  take_enters_at me t is outside more = subst (λ (y : QueueSeat). May y 1 (λ n. n) (taker_enters y)) (sym is) (take_enters t outside more)
+
+  take_goes : (t : QueueView) (slot : Slot) → IsRoomy t.max slot → t.has ≡ true → slice_get t.put (length t.taken) ≡ Some (in_slot slot)
+      → May (Takes t, (slot_for t.depth (length t.taken), slot) ∷ []) 1 (λ _. wrapped (length t.taken + 1)) (λ found. taker_takes (Takes t, (slot_for t.depth (length t.taken), slot) ∷ []) (wrapped (length t.taken + 1)))
+  take_goes t slot roomy entered next s k _ mine _ =
+      let l = taker_lawful s k id t mine in
+      let depth : t.depth ≡ k.putter.depth = l.size.0 in (
+        Takes (takes_one t (in_slot slot)),
+        gives,
+        tt,
+        taker_turns s k id t mine _ _ _ _ (ap (λ (ws : List ℕ). set ws 1 (wrapped (length t.taken + 1))) l.words_are)
+            (subst (λ (d : ℕ). LawfulQueue (wrapped (length k.putter.put) ∷ wrapped (length t.taken + 1) ∷ []) (set s.homes (slot_for d (length t.taken)) (some slot)) k.putter (takes_one t (in_slot slot))) (sym depth)
+            (takes_keeps s.words s.homes k.putter t l slot (roomy ∙ l.size.1) entered next)),
+        λ number other is. ap (λ (c : List (ℕ × Slot)). (Takes (takes_one t (message_of slot c)), [])) is,
+      )
+
+  pub take_goes_at : (me : QueueSeat) (t : QueueView) (slot : Slot) (count : ℕ) → me ≡ (Takes t, (slot_for t.depth (length t.taken), slot) ∷ []) → count ≡ wrapped (length t.taken + 1) → IsRoomy t.max slot → t.has ≡ true
+      → slice_get t.put (length t.taken) ≡ Some (in_slot slot) → May me 1 (λ _. count) (λ found. taker_takes me count)
+  take_goes_at me t slot count is count_is roomy entered next =
+      subst (λ (y : QueueSeat). May y 1 (λ _. count) (λ found. taker_takes y count)) (sym is)
+      (subst (λ (n : ℕ). May (Takes t, (slot_for t.depth (length t.taken), slot) ∷ []) 1 (λ _. n) (λ found. taker_takes (Takes t, (slot_for t.depth (length t.taken), slot) ∷ []) n)) (sym count_is) (take_goes t slot roomy entered next))
+
+  take_looks : (t : QueueView) (c : List (ℕ × Slot)) → May (Takes t, c) 0 (λ n. n) (taker_looks (Takes t, c))
+  take_looks t c s k _ mine _ =
+      let l = taker_lawful s k id t mine in
+      let p = k.putter in
+      let found : get_or s.words 0 0 ≡ wrapped (length p.put) = ap (λ (ws : List ℕ). get_or ws 0 0) l.words_are in
+      let all = begins_trans t.taken t.put p.put l.taken l.put in
+      let depth : t.depth ≡ p.depth = l.size.0 in
+      let few = l.few in
+      let within : length p.put ≤ length t.taken + t.depth = omega (arith, few, depth) in
+      let Z : Type 0 = (x : SeatView) × (a : table.Act Slot) × Valid s.homes c a × KeptQueue (table.stepped s 0 (get_or s.words 0 0) id c x a) × taker_looks (Takes t, c) (get_or s.words 0 0) (x, table.carried_after c a) in
+      let more : length t.taken < length p.put → Z = λ more. (
+        Takes (sees_put t p.put),
+        keeps,
+        tt,
+        taker_turns s k id t mine s.words _ _ _ (set-get_or s.words 0 0) (known_keeps s.words s.homes p t l p.taken p.put p.looks t.looks p.warm l.known (begins_same p.put) l.put (λ _. refl)),
+        (p.put, refl, found, l.put, all, within, (λ none. absurd (omega (arith, none, more))), λ _. refl),
+      ) in
+      let none : length p.put ≤ length t.taken → Z = λ none. (
+        Takes (sees_none t),
+        keeps,
+        tt,
+        taker_turns s k id t mine s.words _ _ _ (set-get_or s.words 0 0) (known_keeps s.words s.homes p t l p.taken t.put p.looks (t.looks + 1) p.warm l.known l.put (begins_same t.put) (λ _. refl)),
+        (p.put, refl, found, l.put, all, within, (λ _. refl), λ more. absurd (omega (arith, none, more))),
+      ) in ⊎_elim more none (cases_lt (length t.taken) (length p.put))
+
+  pub take_looks_at : (me : QueueSeat) (t : QueueView) → me.0 ≡ Takes t → May me 0 (λ n. n) (taker_looks me)
+  take_looks_at me t is = subst (λ (y : SeatView). May (y, me.1) 0 (λ n. n) (taker_looks (y, me.1))) (sym is) (take_looks t me.1)
+
+  learn : (p t : QueueView) (c : List (ℕ × Slot)) → May (Meets p t, c) 0 (λ n. n) (ends_learn (Meets p t, c))
+  learn p t c s k _ mine _ =
+      let me = k.seats id (Meets p t) mine in
+      let l : LawfulQueue s.words s.homes p t = subst (λ (z : QueueView). LawfulQueue s.words s.homes z t) (sym me.0.0) (subst (λ (z : QueueView). LawfulQueue s.words s.homes k.putter z) (sym me.1.0) k.lawful) in
+      let p' = told_taken p t.taken in
+      let t' = sees_put t p.put in
+      let ok : LawfulQueue s.words s.homes p' t' = known_keeps s.words s.homes p t l t.taken p.put p.looks t.looks p.warm (begins_same t.taken) (begins_same p.put) l.put (λ _. refl) in (
+        Meets p' t',
+        keeps,
+        tt,
+        turns s k id p' t' _ _ (Meets p' t') (inr me.0.1) (inr me.1.1) ((refl, me.0.1), (refl, me.1.1)) (subst (λ (z : List ℕ). LawfulQueue z s.homes p' t') (sym (set-get_or s.words 0 0)) ok),
+        (refl, record { few = l.few; put = l.put; all = begins_trans t.taken t.put p.put l.taken l.put; known = l.known }),
+      )
+
+  pub learn_at : (me : QueueSeat) (p t : QueueView) → me.0 ≡ Meets p t → May me 0 (λ n. n) (ends_learn me)
+  learn_at me p t is = subst (λ (y : SeatView). May (y, me.1) 0 (λ n. n) (ends_learn (y, me.1))) (sym is) (learn p t me.1)

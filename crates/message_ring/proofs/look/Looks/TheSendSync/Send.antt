@@ -1,6 +1,0 @@
--- A number of looks owns nothing, so it may go to another thread.
-use denote.Param.Send.{IsSend, owning_send, sendable}
-use Rattle.message_ring.specs.contracts.look.Looks.{the_row, the_type}
-
-pub send : IsSend the_row
-send = owning_send the_type tt (λ d. tt) (λ k x w. tt)

@@ -1,0 +1,58 @@
+//! The rule of a queue's slots, and the knowledge of each seat at their table. No value of these types is made but
+//! `Size`.
+use crate::slot::Slot;
+use atomic_table::{Seat, TableRule};
+use es_base::Message;
+use std::collections::LinkedList;
+
+/// Number of messages that a queue holds, and the most octets of each.
+#[derive(Clone, Copy)]
+pub struct Size {
+    pub depth: usize,
+    pub max: usize,
+}
+
+/// Knowledge of an end's seat.
+pub struct QueueView {
+    /// The messages that it knows to be put: a putter all, a taker the first of them.
+    pub put: LinkedList<Message>,
+    /// The messages that it knows to be taken: a taker all, a putter the first of them.
+    pub taken: LinkedList<Message>,
+    /// Whether it has the slot of its next message.
+    pub has: bool,
+    pub depth: u64,
+    pub max: u64,
+    /// Its looks at the other end's word: a putter's all, a taker's by which it found no message.
+    pub looks: u64,
+    /// Number of the message whose slot came back last, of those whose octets weren't used since. A putter's alone.
+    pub warm: u64,
+    /// Whether it has that slot, and the one of its next message, so that their octets change places.
+    pub swaps: bool,
+}
+
+/// Knowledge of a seat.
+pub enum SeatView {
+    /// The putter's.
+    Puts(QueueView),
+    /// The taker's.
+    Takes(QueueView),
+    /// Both.
+    Meets(QueueView, QueueView),
+    /// A seat that was joined to another.
+    Spent,
+}
+
+/// A message stands in its slot from its put to its taking. The two words count what was put and what was taken.
+pub struct InSlots;
+
+impl TableRule<Slot, SeatView, Size> for InSlots {
+    ghost use Rattle.message_ring.specs.Rule.{KeptQueue, view_at_first};
+    ghost use Rattle.message_ring.specs.declared.rule.SeatView.TheVariants.{Meets};
+
+    ghost holds = { λ _ state. KeptQueue state };
+
+    ghost first = { λ size. Meets (view_at_first size.depth size.max) (view_at_first size.depth size.max) };
+}
+
+/// A right to make steps at the table, with what it knows. Between calls it has no slot. It has no octets.
+pub(crate) type Right = Seat<Slot, SeatView>;

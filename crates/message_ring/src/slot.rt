@@ -1,0 +1,65 @@
+//! A message in its slot.
+ghost use Rattle.std.specs.Prelude.{◌≡◌, ◌≤◌, length, take, drop};
+ghost use Rattle.std.specs.Vec.{vec_len};
+
+use crate::Taken;
+use std::mem;
+
+/// A slot of a queue, with room for its longest message. It has the message that was put there last.
+#[derive(Drop)]
+pub struct Slot {
+    pub(crate) time: u64,
+    pub(crate) len: usize,
+    pub(crate) octets: Vec<u8>,
+    ghost short: { len ≤ vec_len octets },
+}
+
+/// Writes octets over the first ones of a slice.
+fn write_over(out: &mut [u8], octets: &[u8])
+    requires { length octets.now ≤ length out.old }
+    ensures octets { take (length octets.now) out.new ≡ octets.now }
+    ensures rest { drop (length octets.now) out.new ≡ drop (length octets.now) out.old }
+    ensures len { length out.new ≡ length out.old }
+{
+    out[..octets.len()].copy_from_slice(octets);
+}
+
+impl Slot {
+    /// Writes a message into it, over the one before.
+    pub(crate) fn write(&mut self, time: u64, octets: &[u8])
+        requires { length octets.now ≤ length self.old.octets.items }
+        ensures time { self.new.time ≡ time }
+        ensures octets { take self.new.len self.new.octets.items ≡ octets.now }
+        ensures room { length self.new.octets.items ≡ length self.old.octets.items }
+    {
+        self.time = time;
+        write_over(self.octets.as_mut_slice(), octets);
+        self.len = octets.len();
+    }
+
+    /// Its octets and these change places, and its message goes.
+    pub(crate) fn swap_octets(&mut self, octets: &mut Vec<u8>)
+        ensures slot { self.new.octets.items ≡ octets.old.items }
+        ensures octets { octets.new.items ≡ self.old.octets.items }
+    {
+        self.len = 0;
+        mem::swap(&mut self.octets, octets);
+    }
+
+    /// Copies its message's octets to the beginning of `out`. It stays as it is.
+    pub(crate) fn read(&mut self, out: &mut [u8]) -> Taken
+        requires { length self.old.octets.items ≤ length out.old }
+        ensures slot { self.new ≡ self.old }
+        ensures time { result.time ≡ self.old.time }
+        ensures octets { take result.len out.new ≡ take self.old.len self.old.octets.items }
+        ensures short { result.len ≤ length self.old.octets.items }
+        ensures rest { drop result.len out.new ≡ drop result.len out.old }
+        ensures len { length out.new ≡ length out.old }
+    {
+        write_over(out, &self.octets[..self.len]);
+        Taken {
+            time: self.time,
+            len: self.len,
+        }
+    }
+}
