@@ -42,9 +42,9 @@
    or one opens another receiver meanwhile, the three functions are called by several threads at once. malloc and free are made
    for that; a list of free blocks of the program's own needs a lock, or all is opened and closed by one task.
 
-   TOUCHED MEMORY. The opening writes once to the octets of queues, of sampling ports and of datagrams in pieces, and not to all
-   else that it asks for. An operating system may bring a page of memory in only when it is first touched: with such memory a
-   receive that comes to a new page takes as long as that needs, many times what the rest of the call takes. So the three functions had better write to each page
+   TOUCHED MEMORY. The opening doesn't write to all that it asks for. An operating system may bring a page of memory in only
+   when it is first touched: with such memory a receive that comes to a new page, of a queue or of a datagram in pieces, takes
+   as long as that needs, many times what the rest of the call takes. So the three functions had better write to each page
    that they give, as examples/c/pool.c does. Where pages may be taken out again the program locks them too (mlockall).
 
    AFTER A CLOSE the room holds nothing: it may be given up, or used again for a handle of the same kind, without .._init. Ends

@@ -1,6 +1,9 @@
 -- What the steps of a put and of a take make of a seat.
-use Rattle.std.proofs.Common.{◌≡◌, ◌∙◌, ap, sym, refl, subst, ℕ, List, [], ◌∷◌, length, take, get_or, Some}
+use Rattle.std.proofs.Common.{◌≡◌, ◌∙◌, ap, sym, refl, subst, arith, ◌≤◌, ℕ, List, [], ◌∷◌, length, get_or, Some}
 use Rattle.std.specs.List.{slice_get}
+use Rattle.std.specs.Vec.{vec_capacity}
+use Rattle.std.specs.declared.alloc.Global.{Global}
+use Rattle.std.specs.declared.vec.Vec.{Vec}
 use Rattle.atomic_table.specs.Table.{rest, turned}
 use Rattle.es_base.specs.declared.event.Message.{Message}
 use Rattle.message_ring.specs.declared.slot.Slot.{Slot}
@@ -25,19 +28,26 @@ pub seat_with : (me : QueueSeat) (view : SeatView) (n number : ℕ) (slot writte
 seat_with me view n number slot written is same = λ i. ((is i).0, (same i, written) ∷ rest (is i).1)
 
 -- the octets of the first slot changed places with these
-pub swapped : (me me' : QueueSeat) (view : SeatView) (n number : ℕ) (slot : Slot) (later : List (ℕ × Slot)) (before after : List ℕ) → me ≡ (view, (number, slot) ∷ later) → n ≡ number
-    → (w : AreSwapped me me' n before after) → (me' ≡ (view, (number, w.slot') ∷ later)) × (after ≡ slot.octets.items)
+pub swapped : (me me' : QueueSeat) (view : SeatView) (n number : ℕ) (slot : Slot) (later : List (ℕ × Slot)) (before after : Vec ℕ Global) → me ≡ (view, (number, slot) ∷ later) → n ≡ number
+    → (w : AreSwapped me me' n before after) → (me' ≡ (view, (number, w.slot') ∷ later)) × (after ≡ slot.octets)
 swapped me me' view n number slot later before after is same w = (
   w.seat' ∙ (λ i. ((is i).0, (same i, w.slot') ∷ rest (is i).1)),
-  w.out ∙ ap (λ (s : Slot). s.octets.items) (first_is me.1 later n number w.slot slot w.seat (ap (λ (m : QueueSeat). m.1) is)),
+  w.out ∙ ap (λ (s : Slot). s.octets) (first_is me.1 later n number w.slot slot w.seat (ap (λ (m : QueueSeat). m.1) is)),
 )
 
 -- and then the other slot came to the front
-pub swapped_turned : (me me' me2 : QueueSeat) (view : SeatView) (n number number2 : ℕ) (slot slot2 : Slot) (before after : List ℕ) → me ≡ (view, (number, slot) ∷ (number2, slot2) ∷ []) → n ≡ number
-    → (w : AreSwapped me me' n before after) → me2 ≡ (me'.0, turned me'.1) → (me2 ≡ (view, (number2, slot2) ∷ (number, w.slot') ∷ [])) × (after ≡ slot.octets.items)
+pub swapped_turned : (me me' me2 : QueueSeat) (view : SeatView) (n number number2 : ℕ) (slot slot2 : Slot) (before after : Vec ℕ Global) → me ≡ (view, (number, slot) ∷ (number2, slot2) ∷ []) → n ≡ number
+    → (w : AreSwapped me me' n before after) → me2 ≡ (me'.0, turned me'.1) → (me2 ≡ (view, (number2, slot2) ∷ (number, w.slot') ∷ [])) × (after ≡ slot.octets)
 swapped_turned me me' me2 view n number number2 slot slot2 before after is same w is2 =
     let to = swapped me me' view n number slot ((number2, slot2) ∷ []) before after is same w in
     (is2 ∙ ap (λ (m : QueueSeat). (m.0, turned m.1)) to.0, to.1)
+
+-- the slot has room still with the message that was written into it
+pub roomy_with : (max : ℕ) (slot before written : Slot) (octets : List ℕ) → IsRoomy max slot → before ≡ slot → vec_capacity before.octets ≤ vec_capacity written.octets
+    → written.octets.items ≡ octets → length octets ≤ max → IsRoomy max written
+roomy_with max slot before written octets roomy same more are short =
+    let enough : max ≤ vec_capacity before.octets = subst (λ (s : Slot). max ≤ vec_capacity s.octets) (sym same) roomy.0 in
+    (omega (arith, enough, more), subst (λ (l : List ℕ). length l ≤ max) (sym are) short)
 
 pub put_may_go : (slots id n count len : ℕ) (me me1 : QueueSeat) (slot written : Slot) → MayPutNext me n count len
     → me1 ≡ (Puts (with_slot_taken (putter_in me.0)), (slot_for (putter_in me.0).depth (length (putter_in me.0).put), slot) ∷ []) → IsRoomy (putter_in me.0).max written
@@ -47,7 +57,7 @@ put_may_go slots id n count len me me1 slot written may is roomy =
 
 pub put_done : (n count len : ℕ) (me me1 me2 : QueueSeat) (slot written : Slot) (time : ℕ) (octets : List ℕ) → MayPutNext me n count len
     → me1 ≡ (Puts (with_slot_taken (putter_in me.0)), (slot_for (putter_in me.0).depth (length (putter_in me.0).put), slot) ∷ [])
-    → putter_puts (me1.0, (n, written) ∷ rest me1.1) count me2 → written.time ≡ time → take written.len written.octets.items ≡ octets
+    → putter_puts (me1.0, (n, written) ∷ rest me1.1) count me2 → written.time ≡ time → written.octets.items ≡ octets
     → me2 ≡ (Puts (puts_one (putter_in me.0) (message time octets)), [])
 put_done n count len me me1 me2 slot written time octets may is told time_is octets_are =
     let seat = seat_with me1 _ n _ slot written is may.next_is in

@@ -433,7 +433,7 @@ module _ (slots id : ℕ) where
         subst (λ (d : ℕ). get_elem? s.homes (slot_for d (length t.taken)) ≡ some (some place.slot)) (sym depth) place.home,
         taker_turns s k id t mine s.words _ _ _ (set-get_or s.words 1 0)
             (subst (λ (d : ℕ). LawfulQueue s.words (set s.homes (slot_for d (length t.taken)) none) k.putter (with_slot_taken t)) (sym depth) (taker_enters_keeps s.words s.homes k.putter t l more)),
-        (place.slot, refl, place.room ∙ sym l.size.1, next.1 ∙ ap Some (sym is)),
+        (place.slot, refl, subst (λ (m : ℕ). IsRoomy m place.slot) (sym l.size.1) place.room, next.1 ∙ ap Some (sym is)),
       )
 
   pub take_enters_at : (me : QueueSeat) (t : QueueView) → me ≡ (Takes t, []) → IsOutside t → length t.taken < length t.put → May me 1 (λ n. n) (taker_enters me)
@@ -449,7 +449,7 @@ module _ (slots id : ℕ) where
         tt,
         taker_turns s k id t mine _ _ _ _ (ap (λ (ws : List ℕ). set ws 1 (wrapped (length t.taken + 1))) l.words_are)
             (subst (λ (d : ℕ). LawfulQueue (wrapped (length k.putter.put) ∷ wrapped (length t.taken + 1) ∷ []) (set s.homes (slot_for d (length t.taken)) (some slot)) k.putter (takes_one t (in_slot slot))) (sym depth)
-            (takes_keeps s.words s.homes k.putter t l slot (roomy ∙ l.size.1) entered next)),
+            (takes_keeps s.words s.homes k.putter t l slot (subst (λ (m : ℕ). IsRoomy m slot) l.size.1 roomy) entered next)),
         λ number other is. ap (λ (c : List (ℕ × Slot)). (Takes (takes_one t (message_of slot c)), [])) is,
       )
 

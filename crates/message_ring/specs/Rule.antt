@@ -1,5 +1,7 @@
 -- The rule of a queue's slots: message number n, from 0 on, stands in slot n % depth from its put to its taking (own).
-use Rattle.std.specs.Prelude.{◌≡◌, ◌≢◌, ℕ, ◌+◌, ◌<◌, ◌≤◌, ◌%◌, ◌^◌, true, false, List, [], ◌∷◌, length, take, slice_get, Some}
+use Rattle.std.specs.Prelude.{◌≡◌, ◌≢◌, ℕ, ◌+◌, ◌<◌, ◌≤◌, ◌%◌, ◌^◌, true, false, List, [], ◌∷◌, length, slice_get, Some, vec_capacity}
+use Rattle.std.specs.declared.alloc.Global.{Global}
+use Rattle.std.specs.declared.vec.Vec.{Vec}
 use mathlib.Core.Option as maybe
 use mathlib.Core.Option.{some}
 use lib.ListN.{get_elem?}
@@ -15,11 +17,15 @@ use Rattle.message_ring.specs.declared.rule.SeatView.TheVariants.{Puts, Takes, M
 
 -- the message in a slot
 abbrev pub in_slot : Slot → Message
-in_slot slot = message slot.time (take slot.len slot.octets.items)
+in_slot slot = message slot.time slot.octets.items
+
+-- room for this many octets, with no more in it
+abbrev pub HasRoomFor : ℕ → Vec ℕ Global → Type 0
+HasRoomFor max octets = (max ≤ vec_capacity octets) × (length octets.items ≤ max)
 
 -- a slot with room for this many octets
 abbrev pub IsRoomy : ℕ → Slot → Type 0
-IsRoomy max slot = length slot.octets.items ≡ max
+IsRoomy max slot = HasRoomFor max slot.octets
 
 -- a word of the table counts modulo 2 ^ 64
 abbrev pub wrapped : ℕ → ℕ

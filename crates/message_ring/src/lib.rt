@@ -115,12 +115,8 @@ fn empty_slots(alloc: Global, depth: usize, max: usize) -> Result<Vec<Slot>, All
 {
     let mut slots = Vec::with_capacity(alloc, depth)?;
     'slots: for _ in 0..depth {
-        let octets = vec![in alloc; 0u8; max]?;
-        slots.push(Slot {
-            time: 0,
-            len: 0,
-            octets,
-        })?;
+        let octets = Vec::with_capacity(alloc, max)?;
+        slots.push(Slot { time: 0, octets })?;
     }
     Ok(slots)
 }

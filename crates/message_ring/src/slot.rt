@@ -1,17 +1,16 @@
 //! A message in its slot.
 ghost use Rattle.std.specs.Prelude.{◌≡◌, ◌≤◌, length, take, drop};
-ghost use Rattle.std.specs.Vec.{vec_len};
+ghost use Rattle.std.specs.Vec.{vec_capacity};
 
 use crate::Taken;
 use std::mem;
 
-/// A slot of a queue, with room for its longest message. It has the message that was put there last.
+/// A slot of a queue, with room for its longest message, which is reserved and not written before a message comes. It has
+/// the message that was put there last.
 #[derive(Drop)]
 pub struct Slot {
     pub(crate) time: u64,
-    pub(crate) len: usize,
     pub(crate) octets: Vec<u8>,
-    ghost short: { len ≤ vec_len octets },
 }
 
 /// Writes octets over the first ones of a slice.
@@ -25,24 +24,23 @@ fn write_over(out: &mut [u8], octets: &[u8])
 }
 
 impl Slot {
-    /// Writes a message into it, over the one before.
+    /// Writes a message into it, in place of the one before.
     pub(crate) fn write(&mut self, time: u64, octets: &[u8])
-        requires { length octets.now ≤ length self.old.octets.items }
+        requires { length octets.now ≤ vec_capacity self.old.octets }
         ensures time { self.new.time ≡ time }
-        ensures octets { take self.new.len self.new.octets.items ≡ octets.now }
-        ensures room { length self.new.octets.items ≡ length self.old.octets.items }
+        ensures octets { self.new.octets.items ≡ octets.now }
+        ensures room { vec_capacity self.old.octets ≤ vec_capacity self.new.octets }
     {
         self.time = time;
-        write_over(self.octets.as_mut_slice(), octets);
-        self.len = octets.len();
+        self.octets.clear();
+        self.octets.extend_from_slice(octets).unwrap();
     }
 
-    /// Its octets and these change places, and its message goes.
+    /// Its room and this one change places, with what is in them.
     pub(crate) fn swap_octets(&mut self, octets: &mut Vec<u8>)
-        ensures slot { self.new.octets.items ≡ octets.old.items }
-        ensures octets { octets.new.items ≡ self.old.octets.items }
+        ensures slot { self.new.octets ≡ octets.old }
+        ensures octets { octets.new ≡ self.old.octets }
     {
-        self.len = 0;
         mem::swap(&mut self.octets, octets);
     }
 
@@ -51,15 +49,15 @@ impl Slot {
         requires { length self.old.octets.items ≤ length out.old }
         ensures slot { self.new ≡ self.old }
         ensures time { result.time ≡ self.old.time }
-        ensures octets { take result.len out.new ≡ take self.old.len self.old.octets.items }
+        ensures octets { take result.len out.new ≡ self.old.octets.items }
         ensures short { result.len ≤ length self.old.octets.items }
         ensures rest { drop result.len out.new ≡ drop result.len out.old }
         ensures len { length out.new ≡ length out.old }
     {
-        write_over(out, &self.octets[..self.len]);
+        write_over(out, &self.octets);
         Taken {
             time: self.time,
-            len: self.len,
+            len: self.octets.len(),
         }
     }
 }

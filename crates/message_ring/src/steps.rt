@@ -172,7 +172,7 @@ impl Slots {
         requires table { right.old.table_id ≡ self.now.table.shared.table_id }
         requires seat { HasFirst right.old.me slot }
         ensures table { right.new.table_id ≡ right.old.table_id }
-        ensures swapped { AreSwapped right.old.me right.new.me slot octets.old.items octets.new.items }
+        ensures swapped { AreSwapped right.old.me right.new.me slot octets.old octets.new }
     {
         right.slot_mut(&self.table.shared, slot).swap_octets(octets);
     }

@@ -65,7 +65,7 @@ pub(crate) struct Source {
     /// Number of frames made, up to 255, and then from 0 again.
     made: u8,
     /// The last sequence number of each link on each network.
-    numbers: [[u8; LINKS]; 2],
+    numbers: [[u8; 2]; LINKS],
 }
 
 impl Source {
@@ -74,7 +74,7 @@ impl Source {
             state: seed,
             time: 1000,
             made: 0,
-            numbers: [[0; LINKS]; 2],
+            numbers: [[0; 2]; LINKS],
         }
     }
 
@@ -103,12 +103,11 @@ impl Source {
     fn next_number(&mut self, place: usize, net: Net) -> u8 {
         let draw = self.draw(8);
         let step = if draw < 6 { 1 } else { (draw % 4) as u8 };
-        let [a, b] = &mut self.numbers;
-        let numbers = if net == Net::A { a } else { b };
-        match numbers.get_mut(place) {
-            Some(number) => {
-                *number = number.wrapping_add(step);
-                *number
+        let at = if net == Net::A { 0 } else { 1 };
+        match self.numbers.get_mut(place) {
+            Some(numbers) => {
+                numbers[at] = numbers[at].wrapping_add(step);
+                numbers[at]
             }
             None => 0,
         }

@@ -1,7 +1,6 @@
-use Rattle.std.proofs.Common.{rules, ap, length, ◌≡◌, ◌∙◌}
-use Rattle.message_ring.specs.declared.slot.Slot.{Slot}
+use Rattle.std.proofs.Common.{rules, ap, ◌≡◌}
 use Rattle.message_ring.specs.Plays.{QueueSeat}
-use Rattle.message_ring.proofs.Seats.{first_is, put_done, put_may_go, there}
+use Rattle.message_ring.proofs.Seats.{first_is, put_done, put_may_go, roomy_with, there}
 use Rattle.message_ring.proofs.Turns.{put_enters_at}
 use Rattle.message_ring.proofs.steps.Slots.put.Goals as goal
 
@@ -15,7 +14,7 @@ pub store-requires : goal.store-requires
 store-requires c =
     let t = c.load.ensures.2 in
     let same : c.slot_mut.result.now ≡ t.0 = first_is _ _ _ _ _ _ c.slot_mut.ensures.value (ap (λ (m : QueueSeat). m.1) t.1) in
-    (search rules, search rules, put_may_go _ _ _ _ _ _ _ t.0 _ c.requires.seat t.1 (c.write.ensures.room ∙ ap (λ (s : Slot). length s.octets.items) same ∙ t.2))
+    (search rules, search rules, put_may_go _ _ _ _ _ _ _ t.0 _ c.requires.seat t.1 (roomy_with _ t.0 c.slot_mut.result.now c.write.new.self _ t.2 same c.write.ensures.room c.write.ensures.octets c.requires.seat.short))
 
 pub returns-clause-put : goal.returns-clause-put
 returns-clause-put c = let t = c.load.ensures.2 in
