@@ -20,12 +20,12 @@ abbrev pub in_slot : Slot → Message
 in_slot slot = message slot.time slot.octets.items
 
 -- room for this many octets, with no more in it
-abbrev pub HasRoomFor : ℕ → Vec ℕ Global → Type 0
-HasRoomFor max octets = (max ≤ vec_capacity octets) × (length octets.items ≤ max)
+abbrev pub HoldsUpTo : ℕ → Vec ℕ Global → Type 0
+HoldsUpTo max octets = (max ≤ vec_capacity octets) × (length octets.items ≤ max)
 
 -- a slot with room for this many octets
 abbrev pub IsRoomy : ℕ → Slot → Type 0
-IsRoomy max slot = HasRoomFor max slot.octets
+IsRoomy max slot = HoldsUpTo max slot.octets
 
 -- a word of the table counts modulo 2 ^ 64
 abbrev pub wrapped : ℕ → ℕ

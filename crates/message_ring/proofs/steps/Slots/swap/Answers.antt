@@ -1,5 +1,5 @@
 use Rattle.std.proofs.Common.{rules, ap, refl, subst, sym, ◌∙◌}
-use Rattle.message_ring.specs.Rule.{HasRoomFor}
+use Rattle.message_ring.specs.Rule.{HoldsUpTo}
 use Rattle.message_ring.specs.Plays.{QueueSeat, putter_in, with_both}
 use Rattle.message_ring.proofs.Seats.{swapped, swapped_turned, there}
 use Rattle.message_ring.proofs.Turns.{both_given_at, both_taken_at}
@@ -35,5 +35,5 @@ load-requires-2 c =
     let a = swapped_turned _ _ _ _ _ _ _ t.0 t.1 _ _ t.2 may.later_is first c.turn.ensures.2 in
     let b = swapped_turned _ _ _ _ _ _ _ t.1 first.slot' _ _ a.0 may.next_is second c.turn-2.ensures.2 in
     let d = swapped _ _ _ _ _ first.slot' _ _ _ b.0 may.later_is third in
-    let room = HasRoomFor (putter_in c.args.right.now.me.0).max in
+    let room = HoldsUpTo (putter_in c.args.right.now.me.0).max in
     (search rules, search rules, both_given_at _ _ _ (with_both (putter_in c.args.right.now.me.0)) third.slot' second.slot' d.0 (subst room (sym (third.into ∙ b.1)) t.4) (subst room (sym (second.into ∙ a.1)) t.3) may.outside.0 refl)
