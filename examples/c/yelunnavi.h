@@ -31,12 +31,12 @@
    Which of two threads finds BUSY isn't said, nor how often: no order of turns is promised. Nothing else of a system is shared by
    its passes: frames of different links, filtered frames, counts and the ends of ports never meet.
 
-   MEMORY. yelunnavi_receiver_open and .._open_table, and those of a system, ask for memory, by rattle_alloc, rattle_realloc and rattle_dealloc below; .._close
-   give some back. No other call asks for any or gives any back. For each sampling port they keep 400 octets, and for each
-   of its readers 376 and three times the longest message of the port. A program that has no such functions compiles heap.c,
-   which lies beside the library: it has them by malloc. Beside these three the library needs memcpy,
-   memmove and memset, and nothing else: no operating system, no C library's start-up. It never prints, never ends the
-   process, and has no state of its own outside of the rooms and of what it asked for.
+   MEMORY. yelunnavi_receiver_open and .._open_table, and those of a system, ask for memory, by rattle_alloc, rattle_realloc and
+   rattle_dealloc below; .._close give some back. No other call asks for any or gives any back. docs/EMBEDDING.md has what they
+   ask for, by links, ports, readers and queues. A program that has no such functions compiles heap.c, which lies beside the
+   library: it has them by malloc. Beside these three the library needs memcpy, memmove and memset, and nothing else: no
+   operating system, no C library's start-up. It never prints, never ends the process, and has no state of its own outside of
+   the rooms and of what it asked for.
 
    MEMORY AND THREADS. Each .._close gives memory back, on the thread that calls it. So where several threads close their handles,
    or one opens another receiver meanwhile, the three functions are called by several threads at once. malloc and free are made
@@ -70,8 +70,9 @@
    NULL. A pointer may be null where the length after it is 0.
 
    WHAT NOTHING CHECKS, and what is undefined where it is not kept:
-   - A handle went through .._init, once, before any other call, .._close too: one of zeros has no room to look at; its room has as many octets as .._init was told, and is of
-     no other handle. The program neither reads, writes nor moves it, nor changes the handle.
+   - A handle went through .._init, once, before any other call, .._close too: one of zeros has no room to look at. Its room has
+     as many octets as .._init was told, and is of no other handle. The program neither reads, writes nor moves it, nor changes
+     the handle.
    - One call at a time is made on a handle: no interrupt handler makes another one in its midst. Two threads in one reader may
      write where the receiver's task writes, and into memory that was given back: then no other handle is safe either.
    - No other pointer is null; each reaches as many octets as the length after it says, or its type.
@@ -344,8 +345,10 @@ struct yelunnavi_fault {
     size_t link;    /* LEVEL_LINK and LEVEL_PORT: the place of the link in the document */
     size_t port;    /* LEVEL_PORT: the place of the port in the link */
     uint64_t line;  /* the line of the text, from 1: of FAULT_TEXT where TOML's reading stops, or of the first octet that is no
-                       UTF-8; else of the key, or of the heading of its table. 0 if none is found: headings are known as
-                       [[link]] and [[link.port]] alone, and keys where they begin a line. What else looks like one counts */
+                       UTF-8; else of the key, or of the heading of its table; the document's own keys begin at line 1, of an
+                       empty text too. The key of a DOUBLE_LINK is `vl`, of a DOUBLE_PORT `udp`, of a DOUBLE_NAME `name`. 0 if
+                       none is found: headings are known as [[link]] and [[link.port]] alone, and keys where they begin a line,
+                       without quotes. What else looks like one counts */
 };
 
 /* Opens the receiver of a configuration: a TOML text, as docs/FORMATS.md says, `len` octets without a 0 after them. It is
