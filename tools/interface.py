@@ -1,5 +1,6 @@
 """What lies beside the library for C: its headers, its memory of malloc, its files for pkg-config and CMake, and a shared
 object."""
+import ctypes
 import os
 import re
 import shutil
@@ -72,6 +73,13 @@ def abi():
     return re.search(r"^#define YELUNNAVI_ABI (\d+)$", HEADERS[0].read_text(encoding="ascii"), re.M)[1]
 
 
+def short_rooms(shared):
+    """The kinds of handles whose slot takes more octets than the header says are enough."""
+    library, header = ctypes.CDLL(shared), HEADERS[0].read_text(encoding="ascii")
+    octets = re.findall(r"^#define YELUNNAVI_(\w+)_OCTETS (\d+)U$", header, re.M)
+    return [kind for kind, enough in octets if library[f"yelunnavi_{kind.lower()}_room"]() > int(enough)]
+
+
 def compiler_of(target):
     named = os.environ.get("CC") if target == HERE else None
     return (named or TARGETS[target]).split()
@@ -92,16 +100,18 @@ def add_texts(made, soname):
 
 def add_interface(product, made):
     """Lays the headers, the files for pkg-config and CMake and, if a C compiler for the target makes it, the shared object
-    into a folder."""
+    into a folder. Returns why the header isn't of this library, if it isn't."""
     soname = f"{SHARED}.{abi()}"
     add_texts(made, soname)
     compiler = compiler_of(product.target)
     if not shutil.which(compiler[0]):
         say(f"no {compiler[0]} here, so there is no shared object for {product.target}")
-        return
+        return None
     words = ["-shared", "-O2", "-fPIC", "-fvisibility=hidden", f"-I{HEADERS[0].parent}", "-o", soname, HEAP, *WHOLE,
              f"-Wl,-soname,{soname}"]
     if subprocess.run([*compiler, *words], cwd=made).returncode:
         say(f"{' '.join(compiler)} fails, as it says above, so there is no shared object for {product.target}")
-        return
+        return None
     (made / SHARED).symlink_to(soname)
+    short = short_rooms(made / soname) if product.target == HERE else []
+    return f"{HEADERS[0].name}: too few octets for the room of {', '.join(short)}" if short else None

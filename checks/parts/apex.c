@@ -24,7 +24,7 @@ static uint8_t frame[60] = {3, 0, 0, 0, 0, 17, 2, 0, 0, 0, 1, 32, 8, 0, 69, 0, 0
 enum { OF_PORT = 37, OF_NAV = 138 };
 
 static uint64_t now;
-static uint64_t room[64];
+static uint64_t room[YELUNNAVI_RECEIVER_OCTETS / 8U];
 static struct yelunnavi_receiver receiver;
 static uint8_t out[YELUNNAVI_LONGEST_QUEUED];
 static SAMPLING_PORT_NAME_TYPE pos_name = "pos";

@@ -275,7 +275,8 @@ static void want_no_queue(struct yelunnavi_queue *h) {
 static void of_rooms(void) {
     size_t sizes[3] = {yelunnavi_receiver_room(), yelunnavi_reader_room(), yelunnavi_queue_room()};
     unsigned char *odd = (unsigned char *)rooms[0] + 4;
-    for (int k = 0; k < 3; k++) if (sizes[k] > sizeof rooms[0]) exit(9);
+    size_t enough[3] = {YELUNNAVI_RECEIVER_OCTETS, YELUNNAVI_READER_OCTETS, YELUNNAVI_QUEUE_OCTETS};
+    for (int k = 0; k < 3; k++) if (sizes[k] > sizeof rooms[0] || sizes[k] > enough[k]) exit(9);
     WANT(NO_ROOM, yelunnavi_receiver_init(&receiver, NULL, 512)); want_no_receiver(&receiver);
     WANT(NO_ROOM, yelunnavi_receiver_init(&receiver, odd, 400)); want_no_receiver(&receiver);
     WANT(TOO_SHORT, yelunnavi_receiver_init(&receiver, rooms[0], sizes[0] - 1)); want_no_receiver(&receiver);

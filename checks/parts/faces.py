@@ -526,6 +526,15 @@ def inits(tree, path):
             for kind, body in bodies}
 
 
+# The octets that are enough for a slot, by the kind of its handle.
+ROOMS = {C: r"^#define YELUNNAVI_(\w+)_OCTETS (\d+)U$", RUST: r"^    (\w+), \w+Room, (\d+), yelunnavi_",
+         ADA: r"^   (\w+)_Octets : constant size_t := (\d+);$"}
+
+
+def rooms(tree, path):
+    octets = re.findall(ROOMS[path], (tree / path).read_text(encoding="utf-8"), re.M)
+    return {HANDLES_OF_FACES.get(kind.title(), kind.title()): int(many) for kind, many in octets}
+
 
 
 # ---- the faces: the file, how it is read, how a number is called there, and what the source is there

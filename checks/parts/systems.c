@@ -66,6 +66,7 @@ static void of_rooms(void) {
     uint64_t before[128];
     struct yelunnavi_system none = {0}, of_pass = {passes[0].room};
     struct yelunnavi_pass no_pass = {0}, of_system = {both.room}, of_reader = {reader.room};
+    if (yelunnavi_system_room() > YELUNNAVI_SYSTEM_OCTETS || yelunnavi_pass_room() > YELUNNAVI_PASS_OCTETS) exit(12);
     WANT(NO_ROOM, yelunnavi_system_init(&none, NULL, 1024)); want_no_system(&none);
     WANT(TOO_SHORT, yelunnavi_system_init(&none, rooms[4], yelunnavi_system_room() - 1)); want_no_system(&none);
     WANT(NO_ROOM, yelunnavi_pass_init(&no_pass, NULL, 1024)); want_no_pass(&no_pass);

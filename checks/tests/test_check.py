@@ -29,6 +29,7 @@ def slips_of(written, text, *captures):
 
 def test_nothing_is_found_where_nothing_is_wrong(written, tmp_path):
     assert slips(CONFIG) == slips(ROOT / "examples" / "turning.toml") == []
+    assert slips_of(written, GOOD.replace("udp = 5000", "udp = 5000\nreaders = 8")) == []
     assert slips_of(written, FITS, A, B) == slips_of(written, FITS, CAPTURES / "both.pcapng") == []
     for profile in ("sampling", "queuing", "fragments", "mixed"):
         words = [ROOT / "peer" / "gen_trace.py", "--frames", "200", "--profile", profile, "--out-dir", tmp_path]
@@ -57,6 +58,8 @@ def test_nothing_is_found_where_nothing_is_wrong(written, tmp_path):
     ("vl = 17", "vl = 17\nredundncy = false", "5: link 17: unknown key redundncy is ignored (redundancy of a link?)"),
     ("vl = 17", "vl = 17\nudp = 1", "5: link 17: unknown key udp is ignored (udp of a port?)"),
     ("depth = 4", "depth = 4\nrefresh_us = 1", "21: link 17 port nav: refresh_us is ignored at a queuing port"),
+    ("depth = 4", "depth = 4\nreaders = 2", "21: link 17 port nav: readers is ignored at a queuing port"),
+    ("udp = 5000", "udp = 5000\nreaders = 9", "13: link 17 port pos: readers isn't a whole number, 1 to 8"),
     ("224.224.0.18", "224.224.0.17", "27: link 18 port alt: 224.224.0.17 UDP 5000 is also a port of link 17"),
     ("224.224.0.18", "224.224.1.18",
      "30: link 18 port alt: the address ends in 274, where most end in their link's number (18)"),

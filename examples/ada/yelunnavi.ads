@@ -100,6 +100,13 @@ package Yelunnavi is
    Service_Sampling : constant Unsigned_32 := 1;
    Service_Queuing : constant Unsigned_32 := 2;
 
+   --  Octets that are enough for a slot with every library of this interface's number, for static rooms.
+   Receiver_Octets : constant size_t := 512;
+   End_System_Octets : constant size_t := 1024;
+   Pass_Octets : constant size_t := 512;
+   Reader_Octets : constant size_t := 128;
+   Queue_Octets : constant size_t := 128;
+
    --  Bounds, for room of the program's.
    Most_Links : constant := 64;
    Most_Ports : constant := 32;

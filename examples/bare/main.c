@@ -3,7 +3,7 @@
 #include "../c/yelunnavi_words.h"
 #include "frames.h"
 
-static uint64_t room[64];
+static uint64_t room[YELUNNAVI_RECEIVER_OCTETS / 8U];
 static struct yelunnavi_receiver receiver;
 
 /* How many readers each sampling port has. */

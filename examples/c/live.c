@@ -48,7 +48,8 @@ static uint64_t time_now(void) {
 
 /* ---- the receiver and its ends */
 
-static uint64_t receiver_room[64], reader_room[16], queue_room[16];
+static uint64_t receiver_room[YELUNNAVI_RECEIVER_OCTETS / 8U], reader_room[YELUNNAVI_READER_OCTETS / 8U];
+static uint64_t queue_room[YELUNNAVI_QUEUE_OCTETS / 8U];
 static struct yelunnavi_receiver receiver;
 static struct yelunnavi_reader reader;
 static struct yelunnavi_queue queue;

@@ -13,7 +13,7 @@
 /* One partition reads. */
 enum { READERS = 1 };
 
-static uint64_t pos_room[16], nav_room[16];
+static uint64_t pos_room[YELUNNAVI_READER_OCTETS / 8U], nav_room[YELUNNAVI_QUEUE_OCTETS / 8U];
 static struct yelunnavi_reader pos;
 static struct yelunnavi_queue nav;
 static struct yelunnavi_place pos_place, nav_place;

@@ -8,7 +8,7 @@
 /* The requests of pool.c. */
 extern unsigned long pool_requests;
 
-static uint64_t receiver_room[64];
+static uint64_t receiver_room[YELUNNAVI_RECEIVER_OCTETS / 8U];
 static struct yelunnavi_receiver receiver;
 
 /* An end of each port. */

@@ -6,7 +6,7 @@
 
 #include <string.h>
 
-static uint64_t receiver_room[64];
+static uint64_t receiver_room[YELUNNAVI_RECEIVER_OCTETS / 8U];
 static struct yelunnavi_receiver receiver;
 
 static bool open_all(const char *config) {

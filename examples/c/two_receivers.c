@@ -20,7 +20,7 @@ struct driver {
     uint64_t sampled, queued, again;
 };
 
-static uint64_t system_room[128], pass_rooms[2][64];
+static uint64_t system_room[YELUNNAVI_SYSTEM_OCTETS / 8U], pass_rooms[2][YELUNNAVI_PASS_OCTETS / 8U];
 static struct yelunnavi_system end_system;
 static struct driver drivers[2];
 static struct traces traces;

@@ -6,7 +6,7 @@
    taken. Readers and queues are handed out of a receiver or of a system, by the names of their ports, into slots of their
    own, and so is each network's pass out of a system.
 
-   Static room:   static uint64_t room[64];
+   Static room:   static uint64_t room[YELUNNAVI_RECEIVER_OCTETS / 8U];
                   static struct yelunnavi_receiver receiver;
                   if (yelunnavi_abi() != YELUNNAVI_ABI) ...;
                   if (yelunnavi_receiver_init(&receiver, room, sizeof room) != YELUNNAVI_DONE) ...;
@@ -250,6 +250,14 @@ size_t yelunnavi_system_room(void);
 size_t yelunnavi_pass_room(void);
 size_t yelunnavi_reader_room(void);
 size_t yelunnavi_queue_room(void);
+
+/* Octets that are enough for a slot with every library of this YELUNNAVI_ABI, for static rooms: a room is of uint64_t, so that it
+   is aligned. .._init says TOO_SHORT if they weren't. */
+#define YELUNNAVI_RECEIVER_OCTETS 512U
+#define YELUNNAVI_SYSTEM_OCTETS 1024U
+#define YELUNNAVI_PASS_OCTETS 512U
+#define YELUNNAVI_READER_OCTETS 128U
+#define YELUNNAVI_QUEUE_OCTETS 128U
 
 /* Makes a slot in a room as large as .._room() says, aligned to 8: for .._init, and what does its work in another language. A
    program in C calls .._init, never .._make, which takes any pointer for a room, a handle's address too. */

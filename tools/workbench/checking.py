@@ -20,7 +20,7 @@ LEVELS = {
     "a port": ("name", "kind", "address", "udp", "max", "refresh_us", "depth", *settings.OWN_KEYS["a port"]),
 }
 LEVEL_OF = {key: level for level, keys in LEVELS.items() for key in keys}
-OF_OTHER_KIND = {"sampling": ("depth", "take_us"), "queuing": ("refresh_us", "read_us")}
+OF_OTHER_KIND = {"sampling": ("depth", "take_us"), "queuing": ("refresh_us", "read_us", "readers")}
 MOST_FAULTS = 100
 # A value that is right, for each key whose value needn't differ from others.
 MENDED = {"constant": "03000000", "skew_max_us": 0, "redundancy": True, "reassembly_us": 0, "window": 2, "port": [],

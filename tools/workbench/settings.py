@@ -4,7 +4,7 @@ from workbench import files, places
 from workbench.faults import Fault, plain
 
 MOST_PERIOD, LONGEST_NAME, LONGEST_TEXT = 10**9, 40, 200  # microseconds, letters
-MOST_LINKS, MOST_PORTS, AHEAD = 64, 32, 128  # and gaps after which a sequence number isn't ahead any more
+MOST_LINKS, MOST_PORTS, MOST_READERS, AHEAD = 64, 32, 8, 128  # and gaps after which a sequence number isn't ahead any more
 # Of faults that name no key: which one is at fault, and what is allowed.
 UNNAMED = {"link given twice": ("vl", "a number that no other link has"),
            "port given twice": ("udp", "an address and UDP port that no other port of the link has"),
@@ -15,7 +15,7 @@ PERIOD = f"a whole number of microseconds, 1 to {MOST_PERIOD}"
 LONGEST = {"name": LONGEST_NAME, "not_one_sender": LONGEST_TEXT}
 OWN_KEYS = {"a link": {**{key: f"a text of 1 to {most} letters" for key, most in LONGEST.items()}, "bag_us": PERIOD,
                        "jitter_us": PERIOD.replace("1", "0", 1)},
-            "a port": {"read_us": PERIOD, "take_us": PERIOD}}
+            "a port": {"read_us": PERIOD, "take_us": PERIOD, "readers": f"a whole number, 1 to {MOST_READERS}"}}
 
 
 def read(path):
@@ -37,7 +37,8 @@ def refusal(fault):
 def is_right(key, value):
     if key in LONGEST:
         return isinstance(value, str) and 0 < len(value) <= LONGEST[key] and plain(value) == value
-    return type(value) is int and (key != "jitter_us") <= value <= MOST_PERIOD
+    most = MOST_READERS if key == "readers" else MOST_PERIOD
+    return type(value) is int and (key != "jitter_us") <= value <= most
 
 
 def wrong_keys(config):
