@@ -1,12 +1,26 @@
 """The pages that checks/book makes: the matrix of the rules and its tables both ways, the promises, the crates."""
 import csv
 import io
+import re
 
 from parts.options import ROOT
 from parts.rules import CALLS, PARTS, links, remarks, rules, source_of
 from parts.tree import CRATES, bodies, crates, functions, head_of
 
 NOTE = "<!-- Made by checks/book: edit the sources. -->"
+LINK = re.compile(r"\[([^][]*)\]\(([^)\s]+)\)")
+
+
+def from_made(words, page):
+    """The words of a page, whose links lead to the same places from docs/made."""
+    def moved(to):
+        return to if "://" in to else f"../{page.name}{to}" if to.startswith("#") else f"../{to}"
+    return LINK.sub(lambda found: f"[{found[1]}]({moved(found[2])})", words)
+
+
+def without_links(comment):
+    """The words of a comment of the code, whose links are names there."""
+    return LINK.sub(lambda found: found[0] if "://" in found[2] else found[1], comment)
 
 
 # ---- the matrix
@@ -57,7 +71,7 @@ def matrix():
         if (rule.page, rule.section) != at:
             at = (rule.page, rule.section)
             yield from ("", f"## [{rule.page.stem}](../{rule.page.name}): {rule.section}")
-        yield from ("", f"### {rule.number}", "", f"> {rule.words}", "", f"Source: {source_of(rule)}", "")
+        yield from ("", f"### {rule.number}", "", f"> {from_made(rule.words, rule.page)}", "", f"Source: {source_of(rule)}", "")
         for part in PARTS:
             own = [it for it in links() if (it.rule, it.part) == (rule.number, part)]
             yield f"- {part}: {SHOWN[part](own) if own else 'none: ' + reasons.get((rule.number, part), 'no reason')}"
@@ -110,9 +124,9 @@ def promises():
         own = [it for it in functions() if it.crate == crate and it.is_public and not it.is_test]
         if not own or crate.startswith("test_") or not (CRATES / crate / "src" / "lib.rt").exists():
             continue
-        yield from ("", f"## {crate}", "", head_of(crate))
+        yield from ("", f"## {crate}", "", without_links(head_of(crate)))
         for it in own:
-            yield from ("", f"**{it.name.partition('::')[2]}** {it.said}".rstrip())
+            yield from ("", f"**{it.name.partition('::')[2]}** {without_links(it.said)}".rstrip())
             said = [(word, name, " ".join(body.split())) for word, name, body in it.clauses if word != "decreases"]
             if said:
                 yield ""
@@ -132,7 +146,7 @@ def crates_page():
             last = heading
             yield from ("", heading, "", "| crate | what it is | stands on |", "|---|---|---|")
         tied = ", ".join(f"`{name}`" for name in below)
-        yield f"| [{crate}](../../crates/{crate}/src) | {head_of(crate).replace('|', chr(92) + '|')} | {tied} |"
+        yield f"| [{crate}](../../crates/{crate}/src) | {without_links(head_of(crate)).replace('|', chr(92) + '|')} | {tied} |"
 
 
 def pages():
