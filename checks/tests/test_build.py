@@ -170,20 +170,55 @@ def test_the_workbench_tells_the_version():
     assert (done.returncode, done.stdout) == (0, f"yelunnavi {version()}\n")
 
 
+def unbuilt(*words):
+    """A run of the script that builds nothing: its status, and the one line that it says."""
+    done = subprocess.run([ROOT / "afdx_play", "--unproved", *words], stdin=subprocess.DEVNULL, capture_output=True,
+                          text=True, timeout=10)
+    assert done.stdout == "" and done.stderr.count("\n") == 1, done
+    return done.returncode, done.stderr
+
+
+def words_with(**more):
+    """A whole command line, with these words in place of those that would be played."""
+    trace = ROOT / "examples" / "network_a.trace"
+    return [part for name, value in {"config": CONFIG, "a": trace, "b": trace, **more}.items() for part in (f"--{name}", value)]
+
+
 @pytest.mark.parametrize("words, told", [
     (["--nonsense"], "no such word: --nonsense"),
     (["--config"], "--config needs a file"),
-    (["--config", "/nowhere"], "--config: there is no file /nowhere"),
-    (["--config=/nowhere"], "--config: there is no file /nowhere"),
-    (["--config", CONFIG, "--at", "soon"], "--at needs a number of microseconds"),
-    (["--config", CONFIG, "--a", ROOT], "can't be read"),
-    (["--config", CONFIG, "--a", "/dev/stdin"], "is no plain file, and --unproved reads nothing else"),
+    (["--a", "/nowhere", "--b", "/nowhere"], "--config FILE is missing"),
+    (["--config", "/nowhere", "--nonsense"], "no such word: --nonsense"),
+    (["--threads", "--threads"], "--threads is given twice"),
+    (words_with(at="soon"), "--at needs a number of microseconds"),
+    (words_with(at="-5"), "--at needs a number of microseconds"),
+    (words_with(at="9223372036854775808"), "--at is at most 9223372036854775807"),
+    (words_with(a="/dev/stdin"), "is no plain file, and --unproved reads nothing else"),
 ])
 def test_words_are_refused_at_once(words, told):
-    done = subprocess.run([ROOT / "afdx_play", "--unproved", *words], stdin=subprocess.DEVNULL, capture_output=True,
-                          text=True, timeout=10)
-    assert done.returncode == 2 and done.stdout == ""
-    assert done.stderr.startswith("afdx_play: ") and told in done.stderr and done.stderr.count("\n") == 1
+    status, said = unbuilt(*words)
+    assert status == 2 and said.startswith("afdx_play: ") and told in said
+
+
+@pytest.mark.parametrize("words, said", [
+    (words_with(config="/nowhere"), "config not read"),
+    (words_with(config=ROOT), "config not read"),
+    (words_with(a="/nowhere"), "trace A not read"),
+    (words_with(b="/nowhere"), "trace B not read"),
+])
+def test_a_file_that_cannot_be_read_has_the_line_and_the_status_of_the_program(words, said):
+    assert unbuilt(*words) == (3, f"afdx_play: {said}\n")
+
+
+@pytest.mark.parametrize("time", ["5", "+5", "+0005", "9223372036854775807", "000000000000000000000009"])
+def test_a_time_is_read_as_by_the_program(time):
+    """It isn't refused: the file after it is."""
+    assert unbuilt(*words_with(b="/nowhere"), "--at", time) == (3, "afdx_play: trace B not read\n")
+
+
+def test_the_script_tells_the_version():
+    done = subprocess.run([ROOT / "afdx_play", "--unproved", "--version"], capture_output=True, text=True, timeout=10)
+    assert (done.returncode, done.stdout) == (0, f"afdx_play {version()}\n")
 
 
 def test_help_needs_no_build():
