@@ -15,7 +15,7 @@ import interface
 import pytest
 import release
 from conftest import ROOT
-from marks import HERE, Product, sum_of
+from marks import HERE, TARGETS, Product, sum_of
 from version import version
 
 CONFIG = ROOT / "examples" / "two_links.toml"
@@ -112,7 +112,11 @@ def test_a_release_of_one_commit_is_always_the_same_octets(tmp_path):
     assert sums == {name: sum_of(octets) for name, (_, octets) in files.items()}
     assert files["evidence/gate"][1] == b"12 passed, 0 failed\n"
     ported = [line.split()[1] for line in files["evidence/index"][1].decode().splitlines() if line.startswith("ported ")]
-    assert "atomic_table:" in ported and b"compiler of C: " in files["evidence/made-by"][1]
+    assert "atomic_table:" in ported
+    made_by = {line.partition(": ")[0] for line in files["evidence/made-by"][1].decode().splitlines()}
+    assert made_by >= {"archiver", "system", *(f"compiler of C for {target}" for target in TARGETS)}
+    summed = {line.split("  ", 1)[1] for line in files["evidence/sources"][1].decode().splitlines()}
+    assert summed >= {"build", "bench/run", "crates.txt", "checks/book", "tools/release.py", "peer/receiver.h"}
     rows = csv.DictReader(io.StringIO(files["evidence/TRACEABILITY.csv"][1].decode()))
     assert {row["part"] for row in rows} == {"definition", "contract", "wrong body", "test"}
 
@@ -121,9 +125,10 @@ def test_each_link_of_a_release_leads_to_what_is_packed(tmp_path):
     with tarfile.open(fileobj=io.BytesIO(packed(tmp_path, None))) as archive:
         files = {entry.name.partition("/")[2]: archive.extractfile(entry).read() for entry in archive}
     known = {str(folder) for name in files for folder in (Path(name), *Path(name).parents)}
-    for name, octets in files.items():
-        for found in re.finditer(r"\]\(([^)\s#]+)[^)]*\)", octets.decode()) if name.endswith(".md") else ():
-            assert ":" in found[1] or os.path.normpath(Path(name).parent / found[1]) in known, (name, found[0])
+    links = [(name, found[1]) for name, octets in files.items() if name.endswith(".md")
+             for found in re.finditer(r"\]\(([^)\s#]+)[^)]*\)", octets.decode())]
+    dead = [link for link in links if "://" not in link[1] and os.path.normpath(Path(link[0]).parent / link[1]) not in known]
+    assert len(links) > 100 and not dead
 
 
 @pytest.fixture
@@ -145,6 +150,8 @@ def test_a_release_is_of_one_commit(committed):
     evidence.look_at_commit(f"commit {commit}\n3 passed, 0 failed\n")
     with pytest.raises(evidence.NotOfOneCommit, match="no line 'commit"):
         evidence.look_at_commit("3 passed, 0 failed\n")
+    with pytest.raises(evidence.NotOfOneCommit, match="no line 'N passed, 0 failed'"):
+        evidence.look_at_commit(f"commit {commit}\n13 passed, 1 failed\n")
     (tree / "file").write_text("two")
     with pytest.raises(evidence.NotOfOneCommit, match="isn't that of its commit"):
         evidence.look_at_commit(None)
