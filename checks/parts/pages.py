@@ -4,7 +4,7 @@ import io
 import re
 
 from parts.options import ROOT
-from parts.rules import CALLS, PARTS, links, remarks, rules, source_of
+from parts.rules import CALLS, NUMBER, PARTS, links, remarks, rules, source_of
 from parts.tree import CRATES, bodies, crates, functions, head_of
 
 NOTE = "<!-- Made by checks/book: edit the sources. -->"
@@ -54,6 +54,12 @@ def contracts_text(found):
 SHOWN = {"definition": definitions_text, "contract": contracts_text, "wrong body": names_of, "test": names_of}
 
 
+def quoted(rule):
+    """The list or table that a rule leads in, if no other rule stands in it."""
+    if len(rule.beside) > 1 and not any(map(NUMBER.search, rule.beside)):
+        yield from (">", *(f"> {from_made(line, rule.page)}" for line in rule.beside))
+
+
 def matrix():
     """A heading for each rule, and its four parts."""
     yield from ("# Which rule is kept by what", "", NOTE, "")
@@ -71,7 +77,7 @@ def matrix():
         if (rule.page, rule.section) != at:
             at = (rule.page, rule.section)
             yield from ("", f"## [{rule.page.stem}](../{rule.page.name}): {rule.section}")
-        yield from ("", f"### {rule.number}", "", f"> {from_made(rule.words, rule.page)}", "", f"Source: {source_of(rule)}", "")
+        yield from ("", f"### {rule.number}", "", f"> {from_made(rule.words, rule.page)}", *quoted(rule), "", f"Source: {source_of(rule)}", "")
         for part in PARTS:
             own = [it for it in links() if (it.rule, it.part) == (rule.number, part)]
             yield f"- {part}: {SHOWN[part](own) if own else 'none: ' + reasons.get((rule.number, part), 'no reason')}"
