@@ -51,7 +51,7 @@ GAPS = [
     (RULES, "PORT-5 test: ", "PORT-6 test: ", "PORT-5: no test, and no reason"),
     (RULES, "PORT-5 test: ", "PORT-5, PORT-6 test: ", "PORT-6: a test, and a reason for none"),
     (RULES, "PORT-5 test: ", "PORT-5, PORT-99 test: ", "no rule PORT-99"),
-    (RULES, "DELIV-12\n", "DELIV-12, DELIV-13\n", "DELIV-13: a test, and a reason for none"),
+    (RULES, "DELIV-12, DELIV-15\n", "DELIV-12, DELIV-13\n", "DELIV-15: no test, and no reason"),
     (RULES, "CONF-26\n\n", "CONF-26, CONF-27\n\n", "the contract of system_c::yelunnavi_system_open_table doesn't come to CONF-27"),
     ("docs/made/CODE.csv", "contract,block_list::BlockList::block,crates/block_list/src/lib.rt,0,\n", "",
      "docs/made/CODE.csv: would come out otherwise"),
