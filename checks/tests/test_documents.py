@@ -1,5 +1,6 @@
 """checks/documents finds each kind of gap, planted in a copy of the tree: an example in a comment whose lines no test has, and
-links and anchors that lead nowhere. A page that is too long is none."""
+links and anchors that lead nowhere, a word that isn't explained where it first stands or has two meanings, a number of the
+interface that CHANGELOG passes over. A page that is too long is none."""
 import shutil
 import subprocess
 import sys
@@ -55,6 +56,32 @@ def test_an_example_that_no_test_has_is_told(tree, file, old, new):
     ("docs/made/PROMISES.md", "`visit`", "[`visit`](Lock::visit)", "the link to Lock::visit leads nowhere"),
 ])
 def test_a_link_that_leads_nowhere_is_told(tree, file, old, new, told):
+    status, found = checked(tree, file, old, new)
+    assert status == 1 and told in found, found
+
+
+@pytest.mark.parametrize("file, old, new, told", [
+    ("README.md", "*gate*", "gate", "gate isn't explained where it first stands"),
+    ("README.md", "*wrong bodies*", "wrong bodies", "wrong bodies isn't explained where it first stands"),
+    ("README.md", "# Yelunnavi\n", "# Yelunnavi\n\nThe gate passes.\n", "gate isn't explained where it first stands"),
+    ("README.md", "*run*", "run", "run isn't explained where it first stands"),
+    ("README.md", "*kit*", "kit", "kit isn't explained where it first stands"),
+    ("docs/ARCHITECTURE.md", "*roofs*", "roofs", "roofs isn't explained where it first stands"),
+    ("docs/DELIVERY.md", "*law*", "law", "law isn't explained where it first stands"),
+    ("docs/EMBEDDING.md", "*room*", "room", "room isn't explained where it first stands"),
+    ("docs/EMBEDDING.md", "*slot*", "slot", "slot isn't explained where it first stands"),
+    ("docs/EMBEDDING.md", "*mark*", "mark", "mark isn't explained where it first stands"),
+    ("docs/GROWTHS.md", "*growth*", "growth", "growth isn't explained where it first stands"),
+    ("docs/READING.md", "**Copy**: ", "**Copy**: a frame. **Copy**: ", "the glossary has copy twice"),
+    ("README.md", "a port is given each message once", "a partition gets each message once", "a port is given each message"),
+    ("docs/DELIVERY.md", "D + lateness < gap", "D + wait < gap", "'D + wait': lateness"),
+    ("docs/SYMPTOMS.md", "where numbers were left out", "after a gap in the numbers", "gap is the least time between two frames"),
+    ("docs/PROVED.md", "a second player, in C", "an independent player in C", "one author wrote the players"),
+    ("docs/RECEIVER.md", "The pieces that are held", "The pieces that wait", "pieces are held"),
+    ("CHANGELOG.md", "`YELUNNAVI_ABI` was 5 with it", "it had a number", "passes over YELUNNAVI_ABI 5"),
+    ("examples/c/yelunnavi.h", "YELUNNAVI_ABI 6", "YELUNNAVI_ABI 7", "passes over YELUNNAVI_ABI 7"),
+])
+def test_a_word_that_is_not_explained_or_has_two_meanings_is_told(tree, file, old, new, told):
     status, found = checked(tree, file, old, new)
     assert status == 1 and told in found, found
 
