@@ -86,6 +86,19 @@ def test_a_word_that_is_not_explained_or_has_two_meanings_is_told(tree, file, ol
     assert status == 1 and told in found, found
 
 
+@pytest.mark.parametrize("file, old, new, told", [
+    ("README.md", "`ar`", "an archiver", "`ar` isn't named, which a build wants"),
+    ("CONTRIBUTING.md", "Python from 3.11", "Python", "Python from 3.11 isn't named, which a build wants"),
+    ("README.md", "(CONTRIBUTING.md#what-a-machine-needs)", "(CONTRIBUTING.md)", "no link to CONTRIBUTING.md#what-a-machine-needs"),
+    ("afdx_play", "    exit 3\n", "    exit 2\n", "afdx_play:1: status 2"),
+    ("afdx_play", r"^\+?0*", "^0*", "afdx_play:1: status 2"),
+    ("docs/FORMATS.md", "`config not read`", "`config isn't read`", "and in FORMATS None"),
+])
+def test_what_a_new_user_meets_otherwise_is_told(tree, file, old, new, told):
+    status, found = checked(tree, file, old, new)
+    assert status == 1 and told in found, found
+
+
 @pytest.mark.parametrize("file", ["README.md", "CHANGELOG.md", "docs/DELIVERY.md"])
 def test_a_page_that_is_too_long_fails_nothing(tree, file):
     text = (tree / file).read_text(encoding="utf-8")
