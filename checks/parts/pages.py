@@ -68,7 +68,8 @@ def matrix():
            "the calls that a user makes whose contracts come to the rule through any number of definitions. To be cited is "
            "necessary, not enough: that a contract says the rule is read in it. A **wrong body** is refused: by the prover, "
            "or, where it stands in `by_tests` or `by_laws`, by the test or the law that it names. A **test** checks that the "
-           "definition means what the rule means. `checks/book RM-3` prints a rule's places with their lines, `checks/book NAME` what "
+           "definition means what the rule means. The **source** is the public standard that the rule is of, or own, this profile's "
+           "choice; both, where its sentences differ. `checks/book RM-3` prints a rule's places with their lines, `checks/book NAME` what "
            "a definition, function, test or wrong body serves, and `checks/book RM-3 NAME` how a contract comes to a rule.")
     yield ""
     yield from (f"- *{kind}*: {', '.join(f'`{name}`' for name in names)}" for kind, names in CALLS.items())
