@@ -30,7 +30,7 @@ def tree(tmp_path_factory):
 
 
 def checked(tree):
-    return subprocess.run([sys.executable, tree / "checks" / "book", "--check"], capture_output=True, text=True, timeout=60)
+    return subprocess.run([sys.executable, tree / "checks" / "book", "--check"], capture_output=True, text=True, timeout=300)
 
 
 def test_the_tree_has_no_gap(tree):
