@@ -1,9 +1,11 @@
 """What a release tells of itself: its commit, by what it was made, of which sources, what the gate printed, and what carries
 each rule."""
+import re
 import subprocess
 from pathlib import Path
 
-from marks import kit, sum_of
+from interface import compiler_of
+from marks import TARGETS, kit, sum_of
 from proving import ROOT, lines_of_crates
 
 # What the gate reads, and what it and a release are made with.
@@ -11,10 +13,12 @@ SOURCES = ("HANDLES", "crates.txt", "crates", "wrong_bodies", "checks", ".ci", "
 # What carries each rule, and which rules a piece of code carries.
 MATRICES = ("TRACEABILITY.csv", "CODE.csv")
 # Who makes the objects and the archives, and tells its version in a line.
-MAKERS = {"compiler of C": ["cc", "--version"], "archiver": ["ar", "--version"], "linker": ["ld", "--version"],
-          "packer of packages": ["dpkg-deb", "--version"], "python": ["python3", "--version"]}
+MAKERS = {**{f"compiler of C for {target}": [*compiler_of(target), "--version"] for target in TARGETS},
+          "archiver": ["ar", "--version"], "linker": ["ld", "--version"], "packer of packages": ["dpkg-deb", "--version"],
+          "python": ["python3", "--version"]}
 SYSTEM = Path("/etc/os-release")
 NO_GATE = "Nothing that the gate printed was packed.\n"
+PASSED = re.compile(r"^\d+ passed, 0 failed\b", re.M)
 
 
 class NotOfOneCommit(Exception):
@@ -26,12 +30,14 @@ def git(*words):
 
 
 def look_at_commit(gate):
-    """A release is of a commit, as it stands; and the gate's output, if there is one, is of that very commit."""
+    """A release is of a commit, as it stands; and the gate's output, if there is one, is of that very commit, which passed."""
     if changed := git("status", "--porcelain"):
         raise NotOfOneCommit(f"the tree isn't that of its commit: {changed.splitlines()[0]}")
     commit = git("rev-parse", "HEAD").strip()
     if gate is not None and f"commit {commit}" not in gate.splitlines():
         raise NotOfOneCommit(f"what the gate printed has no line 'commit {commit}', as .ci/run begins")
+    if gate is not None and not PASSED.search(gate):
+        raise NotOfOneCommit("what the gate printed has no line 'N passed, 0 failed'")
 
 
 def sums_of_sources():

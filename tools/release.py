@@ -21,6 +21,7 @@ NAME = "yelunnavi"
 # What of the tree goes along: what runs without the toolchain, and what is read.
 PACKED = ("README.md", "CHANGELOG.md", "afdx_play", "docs", "examples", "tools")
 LINK = re.compile(r"(?<!!)\[([^][]*)\]\(([^)\s]+)\)")
+OUTSIDE = re.compile(r"[a-z]+://")
 SUMS, EVIDENCE = "SUMS", "evidence"
 # Where Debian's package lays the same files, and what one calls.
 PLACE, COMMANDS = f"usr/lib/{NAME}", {"afdx_play": "afdx_play", NAME: f"tools/{NAME}"}
@@ -57,7 +58,7 @@ def without_dead_links(files):
 
     def cut(page, found):
         to = found[2].partition("#")[0]
-        is_there = not to or ":" in to or os.path.normpath(page.parent / to) in known
+        is_there = not to or OUTSIDE.match(to) or os.path.normpath(page.parent / to) in known
         return found[0] if is_there else found[1]
 
     return {name: (LINK.sub(lambda found, page=Path(name): cut(page, found), octets.decode()).encode()

@@ -1,12 +1,26 @@
 """The pages that checks/book makes: the matrix of the rules and its tables both ways, the promises, the crates."""
 import csv
 import io
+import re
 
 from parts.options import ROOT
-from parts.rules import CALLS, PARTS, links, remarks, rules, source_of
+from parts.rules import CALLS, NUMBER, PARTS, links, remarks, rules, source_of
 from parts.tree import CRATES, bodies, crates, functions, head_of
 
 NOTE = "<!-- Made by checks/book: edit the sources. -->"
+LINK = re.compile(r"\[([^][]*)\]\(([^)\s]+)\)")
+
+
+def from_made(words, page):
+    """The words of a page, whose links lead to the same places from docs/made."""
+    def moved(to):
+        return to if "://" in to else f"../{page.name}{to}" if to.startswith("#") else f"../{to}"
+    return LINK.sub(lambda found: f"[{found[1]}]({moved(found[2])})", words)
+
+
+def without_links(comment):
+    """The words of a comment of the code, whose links are names there."""
+    return LINK.sub(lambda found: found[0] if "://" in found[2] else found[1], comment)
 
 
 # ---- the matrix
@@ -40,6 +54,12 @@ def contracts_text(found):
 SHOWN = {"definition": definitions_text, "contract": contracts_text, "wrong body": names_of, "test": names_of}
 
 
+def quoted(rule):
+    """The list or table that a rule leads in, if no other rule stands in it."""
+    if len(rule.beside) > 1 and not any(map(NUMBER.search, rule.beside)):
+        yield from (">", *(f"> {from_made(line, rule.page)}" for line in rule.beside))
+
+
 def matrix():
     """A heading for each rule, and its four parts."""
     yield from ("# Which rule is kept by what", "", NOTE, "")
@@ -48,7 +68,8 @@ def matrix():
            "the calls that a user makes whose contracts come to the rule through any number of definitions. To be cited is "
            "necessary, not enough: that a contract says the rule is read in it. A **wrong body** is refused: by the prover, "
            "or, where it stands in `by_tests` or `by_laws`, by the test or the law that it names. A **test** checks that the "
-           "definition means what the rule means. `checks/book RM-3` prints a rule's places with their lines, `checks/book NAME` what "
+           "definition means what the rule means. The **source** is the public standard that the rule is of, or own, this profile's "
+           "choice; both, where its sentences differ. `checks/book RM-3` prints a rule's places with their lines, `checks/book NAME` what "
            "a definition, function, test or wrong body serves, and `checks/book RM-3 NAME` how a contract comes to a rule.")
     yield ""
     yield from (f"- *{kind}*: {', '.join(f'`{name}`' for name in names)}" for kind, names in CALLS.items())
@@ -57,7 +78,7 @@ def matrix():
         if (rule.page, rule.section) != at:
             at = (rule.page, rule.section)
             yield from ("", f"## [{rule.page.stem}](../{rule.page.name}): {rule.section}")
-        yield from ("", f"### {rule.number}", "", f"> {rule.words}", "", f"Source: {source_of(rule)}", "")
+        yield from ("", f"### {rule.number}", "", f"> {from_made(rule.words, rule.page)}", *quoted(rule), "", f"Source: {source_of(rule)}", "")
         for part in PARTS:
             own = [it for it in links() if (it.rule, it.part) == (rule.number, part)]
             yield f"- {part}: {SHOWN[part](own) if own else 'none: ' + reasons.get((rule.number, part), 'no reason')}"
@@ -110,9 +131,9 @@ def promises():
         own = [it for it in functions() if it.crate == crate and it.is_public and not it.is_test]
         if not own or crate.startswith("test_") or not (CRATES / crate / "src" / "lib.rt").exists():
             continue
-        yield from ("", f"## {crate}", "", head_of(crate))
+        yield from ("", f"## {crate}", "", without_links(head_of(crate)))
         for it in own:
-            yield from ("", f"**{it.name.partition('::')[2]}** {it.said}".rstrip())
+            yield from ("", f"**{it.name.partition('::')[2]}** {without_links(it.said)}".rstrip())
             said = [(word, name, " ".join(body.split())) for word, name, body in it.clauses if word != "decreases"]
             if said:
                 yield ""
@@ -132,7 +153,7 @@ def crates_page():
             last = heading
             yield from ("", heading, "", "| crate | what it is | stands on |", "|---|---|---|")
         tied = ", ".join(f"`{name}`" for name in below)
-        yield f"| [{crate}](../../crates/{crate}/src) | {head_of(crate).replace('|', chr(92) + '|')} | {tied} |"
+        yield f"| [{crate}](../../crates/{crate}/src) | {without_links(head_of(crate)).replace('|', chr(92) + '|')} | {tied} |"
 
 
 def pages():

@@ -1,7 +1,11 @@
 """The numbered rules of the pages, and what serves each: definitions, contracts, wrong bodies and tests.
 
-A rule is a sentence with a number, `**RM-3** words`, up to the next number or the end of its paragraph. What a tag can't
-say stands in checks/rules.txt: why a rule has none of a part, and the rules that a stored run shows.
+A rule is a sentence with a number, `**RM-3** words`, up to the next number or the end of its paragraph, and the list or the
+table that it leads in with a colon. What a tag can't say stands in checks/rules.txt: why a rule has none of a part, and the
+rules that a stored run shows.
+
+A rule's source is what its sentences name, `own` or a public standard, and of a sentence that names none what the heading
+above names, or else `own`. "All of this is own" speaks of the rules before it in its paragraph, too.
 
 Which contracts carry a rule follows: those whose promises cite a definition that carries it, directly or through up to
 STEPS other definitions; of the functions that a user calls, CALLS, through any number.
@@ -35,14 +39,34 @@ CALLS = {
 ENTRIES = tuple(name for names in CALLS.values() for name in names)
 NUMBER = re.compile(r"\*\*([A-Z]+-\d+)\*\* ")
 
-Rule = namedtuple("Rule", "number words page line section")
+# Its words with what leads them in, and alone; the lines of what it leads in, or of the head of its table.
+Rule = namedtuple("Rule", "number words own beside page line section")
 # The sum of each rule's words when somebody last compared what serves it with them.
 SUMS = ROOT / "checks" / "rules_sums.txt"
 DROPPED = re.compile(r"\b([A-Z]+-\d+) is dropped")
-# What a rule's words, or else the heading above it, name as its source; the rest is own.
-SOURCES = re.compile(r"RFC \d+(?: \d+(?:\.\d+)*)?|ARINC 664 Part 7|\bown\b")
+SOURCES = re.compile(r"RFC \d+(?: \d+(?:\.\d+)*)?|ARINC 664 Part 7|(?<=[(: ])own(?=[),:;. ])")
+IS_ITEM = re.compile(r"\s*(?:\d+\.|-) ")
 # What serves a rule: its part, the name, the place, and how many definitions stand between (0 where it has the tag).
 Link = namedtuple("Link", "rule part name path line steps")
+
+
+def block_after(lines, at):
+    """The lines of the list, table or code that stands after a paragraph."""
+    at += 1 + (lines[at + 1:at + 2] == [""])
+    starts = lines[at] if at < len(lines) else ""
+    if starts.startswith("```"):
+        return lines[at:lines.index("```", at + 1) + 1]
+    end = at
+    while end < len(lines) and (IS_ITEM.match(lines[end]) if IS_ITEM.match(starts) else lines[end].startswith("|")):
+        end += 1
+    return lines[at:end]
+
+
+def table_head(lines, at):
+    """The first row of the table in which a line stands."""
+    while lines[at].startswith("|") and at:
+        at -= 1
+    return lines[at + 1:at + 2]
 
 
 @cache
@@ -50,17 +74,19 @@ def rules():
     """The numbered rules in the order of their pages. What leads a list in stands before each rule of the list."""
     found = []
     for page in PAGES:
-        section = lead = ""
-        for line, text in enumerate(lines_of(page), 1):
-            heading, is_item = re.match(r"##+ (.*)", text), re.match(r"\s*(?:\d+\.|-) ", text)
+        lines, section, lead = lines_of(page), "", ""
+        for at, text in enumerate(lines):
+            heading, is_item = re.match(r"##+ (.*)", text), IS_ITEM.match(text)
             section = heading[1] if heading else section
             if text and not is_item:
                 last = NUMBER.sub("", re.split(r"(?<=[.;]) (?=\S)", text)[-1])
                 lead = f"{last} .. " if last.endswith((":", ",")) else ""
             pieces = NUMBER.split(text)
-            for number, words in zip(pieces[1::2], pieces[2::2]):
-                own = words.strip().strip("|").strip()
-                found.append(Rule(number, lead + own if is_item else own, page, line, section))
+            own = [words.strip().strip("|").strip() for words in pieces[2::2]]
+            for place, number in enumerate(pieces[1::2]):
+                leads_in = own[-1].endswith((":", ",")) and all(words.endswith((":", ",")) for words in own[place:]) and not is_item
+                beside = block_after(lines, at) if leads_in else table_head(lines, at) if text.startswith("|") else []
+                found.append(Rule(number, lead + own[place] if is_item else own[place], own[place], beside, page, at + 1, section))
     return found
 
 
@@ -70,13 +96,24 @@ def dropped():
     return {found for page in PAGES for line in lines_of(page) for found in DROPPED.findall(line)}
 
 
+def sentences_of(words):
+    """The sentences of a rule, each with the remark in brackets after it."""
+    return re.split(r"(?<=[.;]) (?!\()", words)
+
+
 def source_of(rule):
-    """The public standard that a rule is of, or `own`."""
-    return next((found[0] for text in (rule.words, rule.section) if (found := SOURCES.search(text))), "own")
+    """The public standards that a rule is of, and `own`, in the order of its sentences."""
+    same = [other for other in rules() if (other.page, other.line) == (rule.page, rule.line)]
+    if any("ll of this is own" in other.own for other in same[same.index(rule):]):
+        return "own"
+    found = []
+    for sentence in sentences_of(rule.own):
+        found += SOURCES.findall(" ".join(re.findall(r"\([^()]*\)", sentence))) or SOURCES.findall(rule.section)[:1] or ["own"]
+    return ", ".join(dict.fromkeys(found))
 
 
 def sum_of(rule):
-    return hashlib.sha256(rule.words.encode()).hexdigest()[:12]
+    return hashlib.sha256("\n".join([rule.words, *rule.beside]).encode()).hexdigest()[:12]
 
 
 def sums():
@@ -89,19 +126,20 @@ def write_sums():
 
 
 def remarks():
-    """What checks/rules.txt says: the reasons by rule and part, and the stored runs with their rules."""
-    reasons, stored = {}, []
+    """What checks/rules.txt says: the reasons by rule and part, the stored runs with their rules, and the calls that have to
+    come to rules."""
+    reasons, stored, promised = {}, [], []
     for line in lines_of(REMARKS):
         if not line or line.startswith("#"):
             continue
         head, _, text = line.partition(": ")
-        if head == "stored":
-            file, _, named = text.partition(": ")
-            stored.append((file, named.split(", ")))
+        if head in ("stored", "promised"):
+            name, _, named = text.partition(": ")
+            (stored if head == "stored" else promised).append((name, named.split(", ")))
             continue
         part = next(part for part in PARTS if head.endswith(f" {part}"))
         reasons.update({(rule, part): text for rule in head.removesuffix(f" {part}").split(", ")})
-    return reasons, stored
+    return reasons, stored, promised
 
 
 @cache

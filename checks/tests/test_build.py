@@ -15,7 +15,7 @@ import interface
 import pytest
 import release
 from conftest import ROOT
-from marks import HERE, Product, sum_of
+from marks import HERE, TARGETS, Product, sum_of
 from version import version
 
 CONFIG = ROOT / "examples" / "two_links.toml"
@@ -112,7 +112,11 @@ def test_a_release_of_one_commit_is_always_the_same_octets(tmp_path):
     assert sums == {name: sum_of(octets) for name, (_, octets) in files.items()}
     assert files["evidence/gate"][1] == b"12 passed, 0 failed\n"
     ported = [line.split()[1] for line in files["evidence/index"][1].decode().splitlines() if line.startswith("ported ")]
-    assert "atomic_table:" in ported and b"compiler of C: " in files["evidence/made-by"][1]
+    assert "atomic_table:" in ported
+    made_by = {line.partition(": ")[0] for line in files["evidence/made-by"][1].decode().splitlines()}
+    assert made_by >= {"archiver", "system", *(f"compiler of C for {target}" for target in TARGETS)}
+    summed = {line.split("  ", 1)[1] for line in files["evidence/sources"][1].decode().splitlines()}
+    assert summed >= {"build", "bench/run", "crates.txt", "checks/book", "tools/release.py", "peer/receiver.h"}
     rows = csv.DictReader(io.StringIO(files["evidence/TRACEABILITY.csv"][1].decode()))
     assert {row["part"] for row in rows} == {"definition", "contract", "wrong body", "test"}
 
@@ -121,9 +125,10 @@ def test_each_link_of_a_release_leads_to_what_is_packed(tmp_path):
     with tarfile.open(fileobj=io.BytesIO(packed(tmp_path, None))) as archive:
         files = {entry.name.partition("/")[2]: archive.extractfile(entry).read() for entry in archive}
     known = {str(folder) for name in files for folder in (Path(name), *Path(name).parents)}
-    for name, octets in files.items():
-        for found in re.finditer(r"\]\(([^)\s#]+)[^)]*\)", octets.decode()) if name.endswith(".md") else ():
-            assert ":" in found[1] or os.path.normpath(Path(name).parent / found[1]) in known, (name, found[0])
+    links = [(name, found[1]) for name, octets in files.items() if name.endswith(".md")
+             for found in re.finditer(r"\]\(([^)\s#]+)[^)]*\)", octets.decode())]
+    dead = [link for link in links if "://" not in link[1] and os.path.normpath(Path(link[0]).parent / link[1]) not in known]
+    assert len(links) > 100 and not dead
 
 
 @pytest.fixture
@@ -145,6 +150,8 @@ def test_a_release_is_of_one_commit(committed):
     evidence.look_at_commit(f"commit {commit}\n3 passed, 0 failed\n")
     with pytest.raises(evidence.NotOfOneCommit, match="no line 'commit"):
         evidence.look_at_commit("3 passed, 0 failed\n")
+    with pytest.raises(evidence.NotOfOneCommit, match="no line 'N passed, 0 failed'"):
+        evidence.look_at_commit(f"commit {commit}\n13 passed, 1 failed\n")
     (tree / "file").write_text("two")
     with pytest.raises(evidence.NotOfOneCommit, match="isn't that of its commit"):
         evidence.look_at_commit(None)
@@ -170,20 +177,55 @@ def test_the_workbench_tells_the_version():
     assert (done.returncode, done.stdout) == (0, f"yelunnavi {version()}\n")
 
 
+def unbuilt(*words):
+    """A run of the script that builds nothing: its status, and the one line that it says."""
+    done = subprocess.run([ROOT / "afdx_play", "--unproved", *words], stdin=subprocess.DEVNULL, capture_output=True,
+                          text=True, timeout=10)
+    assert done.stdout == "" and done.stderr.count("\n") == 1, done
+    return done.returncode, done.stderr
+
+
+def words_with(**more):
+    """A whole command line, with these words in place of those that would be played."""
+    trace = ROOT / "examples" / "network_a.trace"
+    return [part for name, value in {"config": CONFIG, "a": trace, "b": trace, **more}.items() for part in (f"--{name}", value)]
+
+
 @pytest.mark.parametrize("words, told", [
     (["--nonsense"], "no such word: --nonsense"),
     (["--config"], "--config needs a file"),
-    (["--config", "/nowhere"], "--config: there is no file /nowhere"),
-    (["--config=/nowhere"], "--config: there is no file /nowhere"),
-    (["--config", CONFIG, "--at", "soon"], "--at needs a number of microseconds"),
-    (["--config", CONFIG, "--a", ROOT], "can't be read"),
-    (["--config", CONFIG, "--a", "/dev/stdin"], "is no plain file, and --unproved reads nothing else"),
+    (["--a", "/nowhere", "--b", "/nowhere"], "--config FILE is missing"),
+    (["--config", "/nowhere", "--nonsense"], "no such word: --nonsense"),
+    (["--threads", "--threads"], "--threads is given twice"),
+    (words_with(at="soon"), "--at needs a number of microseconds"),
+    (words_with(at="-5"), "--at needs a number of microseconds"),
+    (words_with(at="9223372036854775808"), "--at is at most 9223372036854775807"),
+    (words_with(a="/dev/stdin"), "is no plain file, and --unproved reads nothing else"),
 ])
 def test_words_are_refused_at_once(words, told):
-    done = subprocess.run([ROOT / "afdx_play", "--unproved", *words], stdin=subprocess.DEVNULL, capture_output=True,
-                          text=True, timeout=10)
-    assert done.returncode == 2 and done.stdout == ""
-    assert done.stderr.startswith("afdx_play: ") and told in done.stderr and done.stderr.count("\n") == 1
+    status, said = unbuilt(*words)
+    assert status == 2 and said.startswith("afdx_play: ") and told in said
+
+
+@pytest.mark.parametrize("words, said", [
+    (words_with(config="/nowhere"), "config not read"),
+    (words_with(config=ROOT), "config not read"),
+    (words_with(a="/nowhere"), "trace A not read"),
+    (words_with(b="/nowhere"), "trace B not read"),
+])
+def test_a_file_that_cannot_be_read_has_the_line_and_the_status_of_the_program(words, said):
+    assert unbuilt(*words) == (3, f"afdx_play: {said}\n")
+
+
+@pytest.mark.parametrize("time", ["5", "+5", "+0005", "9223372036854775807", "000000000000000000000009"])
+def test_a_time_is_read_as_by_the_program(time):
+    """It isn't refused: the file after it is."""
+    assert unbuilt(*words_with(b="/nowhere"), "--at", time) == (3, "afdx_play: trace B not read\n")
+
+
+def test_the_script_tells_the_version():
+    done = subprocess.run([ROOT / "afdx_play", "--unproved", "--version"], capture_output=True, text=True, timeout=10)
+    assert (done.returncode, done.stdout) == (0, f"afdx_play {version()}\n")
 
 
 def test_help_needs_no_build():

@@ -30,6 +30,13 @@ def test_the_tree_has_no_slip(tree):
 CODE, KEPT, REASONS = "crates/integrity_check/src/lib.rt", "crates/integrity_check/specs/Kept.antt", "checks/names.txt"
 RING, ENDS = "crates/message_ring/src/lib.rt", "crates/message_ring/specs/Ends.antt"
 CRATES, OFFER, STEPS = "crates.txt", "crates/link_core/specs/Offer.antt", "crates/triple_buffer/src/steps.rt"
+
+
+def line_of(file, text):
+    """The line of a file in which a text stands first."""
+    return (ROOT / file).read_text(encoding="utf-8").partition(text)[0].count("\n") + 1
+
+
 # A file, what stands there, what is put in its place, and what is told.
 SLIPS = [
     (CRATES, "\nlink_lock: atomic_table\n", "\n", "crates/link_lock: no line of crates.txt names it"),
@@ -37,8 +44,8 @@ SLIPS = [
     (CODE, "        match self.last {", 41 * "        let _ = 0;\n" + "        match self.last {", "lines, 40 at most"),
     (CODE, "\nimpl Sequence {", "\n#[test]\nfn a_test() {}\n\nimpl Sequence {", "its place is a crate of tests"),
     (STEPS, "let found = self\n", "self.table.shared.peek(0);\n        let found = self\n", "a load that no contract counts"),
-    (RING, "(max ≤ longest_queued)", "(max ≤ 8192)", f"{RING}:129: 8192; its name is longest_queued"),
-    (ENDS, "depth ≤ deepest_queue", "depth ≤ 64", f"{ENDS}:28: 64; its name is most_links or deepest_queue"),
+    (RING, "(max ≤ longest_queued)", "(max ≤ 8192)", f"{RING}:{line_of(RING, '(max ≤ longest_queued)')}: 8192; its name is longest_queued"),
+    (ENDS, "depth ≤ deepest_queue", "depth ≤ 64", f"{ENDS}:{line_of(ENDS, 'depth ≤ deepest_queue')}: 64; its name is most_links or deepest_queue"),
     (RING, "(max ≤ longest_queued)", "(max < 8192)", "8192; its name is longest_queued"),
     (KEPT, "-- what is kept is", "abbrev pub latest : ℕ\nlatest = 0\n\n-- what is kept is", "latest stands in "),
     (KEPT, "abbrev pub StandsFor", "abbrev pub IsRun", "IsRun stands in "),

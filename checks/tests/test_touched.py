@@ -39,7 +39,7 @@ def test_nothing_is_left_out(tree):
 
 @pytest.mark.parametrize("file, old, new, word, places", [
     (WORDS, '"exhausted": "refused",', '"exhausted": "refused", "odd-length": "refused",', "odd-length",
-     ("crates/es_base/specs/Verdict.antt", "crates/output_lines/src/frame.rt", OUTCOMES, OUTCOME, "crates/link_core/src/way.rt",
+     ("crates/es_base/specs/Verdict.antt", "crates/output_lines/src/frame.rt", OUTCOMES, OUTCOME, "crates/link_core/src/rules.rt",
       "docs/FORMATS.md", "docs/RECEIVER.md", "docs/SYMPTOMS.md", "examples/c/yelunnavi.h", "examples/ada/yelunnavi.ads",
       "examples/rust/yelunnavi.rs", "peer/afdx_peer.c", "peer/receiver.h", "checks/parts/model.py")),
     (WORDS, '"checksum", "protocol")', '"checksum", "protocol", "odd-flags")', "odd-flags",
@@ -47,7 +47,7 @@ def test_nothing_is_left_out(tree):
     (WORDS, '"unknown-link")', '"unknown-link", "odd-source")', "odd-source",
      ("crates/thread_player/src/report.rt", "crates/es_base/src/fault.rt", "crates/receiver_slots/src/told/numbers.rt")),
     (PORTS, "pub enum PortKind {\n", "pub enum PortKind {\n    Streaming,\n", "streaming",
-     ("crates/vl_config/src/port.rt", "tools/workbench/checking.py", "crates/output_lines/specs/Report.antt")),
+     ("crates/vl_config/src/document/port.rt", "tools/workbench/checking.py", "crates/output_lines/specs/Report.antt")),
     (REPLIES, "    pub given_up: u64,\n", "    pub given_up: u64,\n    pub cut_short: u64,\n", "cut_short",
      ("crates/receiver_slots/specs/Health.antt", "examples/ada/yelunnavi.ads", "tools/receiver/calls.py", "checks/parts/drive.c")),
 ])
