@@ -99,6 +99,14 @@ def test_what_a_new_user_meets_otherwise_is_told(tree, file, old, new, told):
     assert status == 1 and told in found, found
 
 
+@pytest.mark.parametrize("file, old, new, told", [
+    ("docs/PERF.md", ", with one reader 5,", ", with one reader 6,", "octets with eight readers and one, by EMBEDDING"),
+])
+def test_memory_that_pages_say_otherwise_is_told(tree, file, old, new, told):
+    status, found = checked(tree, file, old, new)
+    assert status == 1 and told in found, found
+
+
 @pytest.mark.parametrize("file", ["README.md", "CHANGELOG.md", "docs/DELIVERY.md"])
 def test_a_page_that_is_too_long_fails_nothing(tree, file):
     text = (tree / file).read_text(encoding="utf-8")
