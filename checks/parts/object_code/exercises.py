@@ -32,19 +32,15 @@ def calls_of_case(r):
 
 
 def openings(given):
-    """Openings of TOML texts and configurations by chance, also with one request for memory after the other refused."""
+    """Openings of TOML texts and configurations by chance, of some with each request for memory refused."""
     r = random.Random(f"{given.seed} openings")
     for number in range(given.texts):
         text = toml_text(r) if number % 4 else Case(r).config
         yield from (f"open 1 {hexed(text)}", "close")
-        if number % 20 == 0:
-            for request in range(1, given.refused):
-                yield from (f"refuse {request}", f"open 2 {hexed(text)}", "close")
-            yield "refuse 0"
-    whole = (EXAMPLES / "two_links.toml").read_bytes()
-    for request in range(1, 4 * given.refused):
-        yield from (f"refuse {request}", f"open 2 {hexed(whole)}", "close")
-    yield from ("refuse 0", *CLOSED)
+        if number % given.texts_for_each == 0:
+            yield from (f"open_each 2 {hexed(text)}", "close")
+    yield f"open_each 2 {hexed((EXAMPLES / 'two_links.toml').read_bytes())}"
+    yield from CLOSED
 
 
 def by_chance(given):
