@@ -1,8 +1,8 @@
 /* drive < SCRIPT: what the library for C answers to the calls of a script, a line each: the code, and what was told with
    DONE. Octets are in hexadecimal, `-` if there are none. Each buffer has just the room that the call is told, and was
    filled with 0xa5. Ends stand in slots by number. At the end a line says how many blocks of memory weren't given back.
-   `open_each` opens a text with each of its requests for memory refused, one at a time, and then with none. With SYSTEM the calls are those of a system and of both its passes. With COUNTED callgrind writes what each call took,
-   by the call's word. */
+   `open_each` opens a text with each of its requests for memory refused, one at a time, and then with none. With SYSTEM the
+   calls are those of a system and of both its passes. With COUNTED callgrind writes what each call took, by the call's word. */
 #include "yelunnavi.h"
 #include <inttypes.h>
 #include <stdio.h>
@@ -134,17 +134,17 @@ static void open_it(void) {
     free(text);
 }
 
-/* Until a request has a number that the opening doesn't come to. What it answered then. */
+/* Until an opening doesn't come to the request; what it answered then. One that is refused may be asked again, of less. */
 static void open_each(void) {
     struct yelunnavi_fault fault;
-    uint32_t answer = YELUNNAVI_NO_MEMORY;
+    uint32_t answer = YELUNNAVI_DONE;
     size_t readers_each = number(), len;
     uint8_t *text = octets(&len);
     may_ask = true;
     for (uint64_t request = 1; !refused; request++) {
+        yelunnavi_receiver_close(&receiver);
         refused = request;
         answer = yelunnavi_receiver_open(&receiver, text, len, readers_each, &fault);
-        if (!refused && answer != YELUNNAVI_NO_MEMORY) exit(5);
     }
     may_ask = false, refused = 0;
     show_code(answer);

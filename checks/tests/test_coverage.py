@@ -74,11 +74,12 @@ def test_a_way_that_is_never_gone_is_told(told, word):
 
 
 def test_a_reason_is_for_so_much_and_no_more(told):
-    reason = "2 1: stand_receive: no empty frame\n"
+    reason = "2 1: stand_receive: contract: no empty frame\n"
     assert told(runs=[["1"]], reasons=reason)[0] == [FEW.format(1, 0)]
     assert told(runs=[["1"]], reasons=reason.replace("2", "1"))[0][0] == f"{LEFT}1 and 1"
-    assert told(reasons=reason)[0] == ["reasons.txt: a reason for stand_receive, of which all was gone"]
+    assert told(reasons=reason)[0] == ["reasons.txt: stand_receive: reasons for 2 and 1, and 0 and 0 weren't gone"]
     assert "no line of this file" in told(reasons="stand_receive: no number\n")[0][0]
+    assert "no line of this file" in told(reasons=reason.replace("contract", "belief"))[0][0]
 
 
 def test_a_function_that_no_test_calls_is_told(told):

@@ -18,6 +18,10 @@ class Holes(NamedTuple):
     def executed(self):
         return self.of_instructions - len(self.instructions)
 
+    @property
+    def left(self):
+        return len(self.instructions), len(self.ways)
+
     def text(self, function):
         """The holes by their offsets in the function, instructions as ranges."""
         places = ", ".join(f"+{at - function.first:x}" for at in self.instructions)

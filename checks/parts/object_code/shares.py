@@ -34,6 +34,13 @@ def total(functions, holes):
     return instructions, executed, sum(it.of_branches for it in found), sum(it.whole_branches for it in found)
 
 
+def print_reasons(parts, reasons):
+    """Of the calls for frames and at the ends what has a reason, by its kind."""
+    found = reasons.by_kinds(parts["receives"] | parts["reads and takes"])
+    told = [f"{kind} {instructions} and {ways}" for kind, (instructions, ways) in found.items()]
+    print(f"instructions and ways with a reason: {', '.join(told) or 'none'}")
+
+
 def print_table(parts, holes):
     print("| part | functions | instructions | executed | branches | both ways |\n|---|---|---|---|---|---|")
     for name, functions in parts.items():
