@@ -6,6 +6,9 @@ from parts.c_programs import POOL, ROOFS, compiled_part, of_examples, of_profile
 from parts.driven import ENOUGH, hexed
 from parts.fuzz_cases import Case
 from parts.object_code.counted import FIXED
+from parts.object_code.decimals import decimals
+from parts.object_code.names import lookups
+from parts.object_code.near_texts import TEXTS, near_texts
 from parts.object_code.toml_texts import toml_text
 from parts.object_code.walks import CLOSED
 from parts.options import EXAMPLES
@@ -32,14 +35,18 @@ def calls_of_case(r):
 
 
 def openings(given):
-    """Openings of TOML texts and configurations by chance, of some with each request for memory refused."""
+    """Openings of texts near to good ones, of numbers, and of TOML texts and configurations by chance; of the good ones and of some
+    others with each request for memory refused."""
+    for text in (*near_texts(), *(f"a = {number}".encode() for number in decimals())):
+        yield from (f"open 1 {hexed(text)}", "close")
+    for text in (*map(str.encode, TEXTS), (EXAMPLES / "two_links.toml").read_bytes()):
+        yield from (f"open_each 2 {hexed(text)}", "close")
     r = random.Random(f"{given.seed} openings")
     for number in range(given.texts):
         text = toml_text(r) if number % 4 else Case(r).config
         yield from (f"open 1 {hexed(text)}", "close")
         if number % given.texts_for_each == 0:
             yield from (f"open_each 2 {hexed(text)}", "close")
-    yield f"open_each 2 {hexed((EXAMPLES / 'two_links.toml').read_bytes())}"
     yield from CLOSED
 
 
@@ -49,7 +56,8 @@ def by_chance(given):
     cases = [calls_of_case(random.Random(f"{given.seed} case {number}")) for number in range(given.cases)]
     for roof in ROOFS:
         calls = [call for _, script in under(roof, scripts) for call in (*script.calls, *CLOSED)]
-        yield roof, "\n".join(calls + [call for case in cases for call in case] + [*openings(given)]).encode()
+        calls += [call for case in cases for call in case]
+        yield roof, "\n".join([*calls, *lookups(), *openings(given)]).encode()
 
 
 def exercises(library, room, given):

@@ -1,0 +1,45 @@
+"""Texts near to a few good ones, which have each form of TOML and of a configuration: each of these cut at each place,
+and with each octet changed into others."""
+LINK = """\
+[[link]]
+vl = 17
+redundancy = true
+skew_max_us = 1000
+reassembly_us = 50000
+window = 3
+[[link.port]]
+name = "p-_0"
+kind = "sampling"
+address = "224.24.0.17"
+udp = 5000
+refresh_us = 20000
+[[link.port]]
+name = "nav"
+kind = "queuing"
+address = "224.24.0.17"
+udp = 5002
+max = 64
+depth = 2
+"""
+TEXTS = [
+    r'a = "\x41\u00e9\U0001F600\b\t\n\f\r\e\"\\ "',
+    'a = """\r\nb "" c\\  \r\n d\\\n e\\u0041\r\n""""" # f\r\ng = \'\'\'\nh\'\'\'\n',
+    "a = [ 'b' , \"c\", # d\n[ ],\n]\n'e f' = { g = 1, \"h\".i = {}, }\n",
+    "a = [0xdead_BEEF, 0o755, 0b1101, +1_0, -0, 9223372036854775807]",
+    "a = [-1.5e+3, 60E-7, 0.25, inf, -inf, +nan, true, false]",
+    "a = 1979-05-27T07:32:00.25-07:00",
+    "a = 1979-12-31 07:32:00Z",
+    "a = [2024-02-29, 07:32, 23:59:59.999999999]",
+    '[a.b . "c"]\nd.e = 1\nd.f = 2\n[[a.g]]\nh = 1\n[[a.g.i]]\n[a.g.i.j]\n[[a.g]]\n',
+    "\ufeff# é\u20ac\U0001F600\na = 'é\u20ac\U0001F600'\n",
+    'constant = "03ABcdef"\n[[link]]\nvl = 1\nskew_max_us = 0\nreassembly_us = 0\n',
+    LINK,
+]
+OTHERS = b"\0\t\n\r \"#',-./0159:=@AGZ[\\_agz{~\x7f\x80\xc3\xe0\xed\xf4\xff"
+
+
+def near_texts():
+    for text in map(str.encode, TEXTS):
+        for place in range(len(text)):
+            yield text[:place]
+            yield from (text[:place] + bytes([other]) + text[place + 1:] for other in OTHERS)
