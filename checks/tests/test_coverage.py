@@ -61,7 +61,7 @@ def told(tmp_path):
 
 
 def test_all_is_exercised(told):
-    assert told() == ([], (6, 6, 1, 1))
+    assert told() == ([], (6, 6, 1, 1, 0))
 
 
 LEFT = "stand_receive of code.o: 2 instructions and 1 ways weren't gone, and reasons.txt has reasons for "
@@ -70,7 +70,7 @@ FEW = "of {} branches {} were followed and passed, 95 in 100 is the least"
 
 @pytest.mark.parametrize("word", ["0", "1"])
 def test_a_way_that_is_never_gone_is_told(told, word):
-    assert told(runs=[[word]]) == ([f"{LEFT}0 and 0", FEW.format(1, 0)], (6, 4, 1, 0))
+    assert told(runs=[[word]]) == ([f"{LEFT}0 and 0", FEW.format(1, 0)], (6, 4, 1, 0, 1))
 
 
 def test_a_reason_is_for_so_much_and_no_more(told):

@@ -2,7 +2,7 @@
 import random
 
 from parts import fuzz_cases
-from parts.c_programs import POOL, ROOFS, compiled_part, of_examples, of_profiles, scripts_of, under
+from parts.c_programs import POOL, ROOFS, compiled_part, of_examples, scripts_of, under
 from parts.driven import ENOUGH, hexed
 from parts.fuzz_cases import Case
 from parts.object_code.counted import FIXED
@@ -62,7 +62,7 @@ def by_chance(given):
 
 def exercises(library, room, given):
     """Each program, its map, and what it is run with: words, and what it reads."""
-    cases = [files for _, files, _ in (*of_examples(), *of_profiles(room, given.frames))]
+    _, (_, fragments, _), _ = of_examples()
     pool = (EXAMPLES / "c" / "pool.c", POOL)
 
     def part(name, *words, called=None):
@@ -76,4 +76,4 @@ def exercises(library, room, given):
     yield *part("schedules", "-pthread", f"-DFRAMES={given.frames}"), [(["1", str(given.seed)], b"")]
     for number, (roof, text) in enumerate(by_chance(given)):
         yield *part("drive", *ROOFS[roof], called=f"drive{number}"), [([], text)]
-        yield *part("stack", *pool, *ROOFS[roof], called=f"stack{number}"), [(files, b"") for files in cases[:2]]
+        yield *part("stack", *pool, *ROOFS[roof], called=f"stack{number}"), [(fragments, b"")]

@@ -22,16 +22,17 @@ def problems_of(calls, parts, holes, reasons):
     yield from (f"{it.name}: no run executes it" for it in sorted(calls.flows.keys() & reached)
                 if not holes[it].executed and not reasons.has(it))
     yield from reasons.compare(holes, parts["receives"] | parts["reads and takes"])
-    branches, whole = total(parts["the whole archive"], holes)[2:]
+    branches, whole = total(parts["the whole archive"], holes)[2:4]
     if 100 * whole < LEAST * branches:
         yield f"of {branches} branches {whole} were followed and passed, {LEAST} in 100 is the least"
 
 
 def total(functions, holes):
-    """How many instructions some functions have, how many were executed, and the same of branches."""
-    found = [holes[it] for it in functions]
-    instructions, executed = sum(it.of_instructions for it in found), sum(it.executed for it in found)
-    return instructions, executed, sum(it.of_branches for it in found), sum(it.whole_branches for it in found)
+    """How many instructions some functions have, and how many were executed; how many branches, and of how many both ways
+    or one were gone."""
+    found = [(it.of_instructions, it.executed, it.of_branches, it.whole_branches, it.half_branches)
+             for it in (holes[function] for function in functions)]
+    return tuple(map(sum, zip(*found)))
 
 
 def print_reasons(parts, reasons):
@@ -42,7 +43,7 @@ def print_reasons(parts, reasons):
 
 
 def print_table(parts, holes):
-    print("| part | functions | instructions | executed | branches | both ways |\n|---|---|---|---|---|---|")
+    print("| part | functions | instructions | executed | branches | both ways | one way |\n|---|---|---|---|---|---|---|")
     for name, functions in parts.items():
-        instructions, done, branches, whole = total(functions, holes)
-        print(f"| {name} | {len(functions)} | {instructions:,} | {done:,} | {branches:,} | {whole:,} |")
+        numbers = " | ".join(f"{number:,}" for number in total(functions, holes))
+        print(f"| {name} | {len(functions)} | {numbers} |")
