@@ -65,7 +65,7 @@ def test_all_is_exercised(told):
 
 
 LEFT = "stand_receive of code.o: 2 instructions and 1 ways weren't gone, and reasons.txt has reasons for "
-FEW = "of {} branches {} were followed and passed, 95 in 100 is the least"
+FEW = "of {} branches {} were followed and passed, 50 in 100 is the least"
 
 
 @pytest.mark.parametrize("word", ["0", "1"])
@@ -84,7 +84,7 @@ def test_a_reason_is_for_so_much_and_no_more(told):
 
 def test_a_function_that_no_test_calls_is_told(told):
     problems, _ = told(code=CODE + EXPORTED)
-    assert problems == ["stand_place: no run executes it", FEW.format(2, 1)]
+    assert problems == ["stand_place: no run executes it"]
 
 
 def test_a_function_that_nothing_reaches_is_told(told):

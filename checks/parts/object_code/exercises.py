@@ -35,11 +35,13 @@ def calls_of_case(r):
 
 
 def openings(given):
-    """Openings of texts near to good ones, of numbers, and of TOML texts and configurations by chance; of the good ones and of some
-    others with each request for memory refused."""
-    for text in (*near_texts(), *(f"a = {number}".encode() for number in decimals())):
+    """Openings of texts near to good ones, of numbers, and of texts by chance; of good ones, of some with a fault at their
+    end, and of some by chance with each request for memory refused."""
+    numbers = [f"a = {sign}{number}".encode() for number in decimals() for sign in ("", "-")]
+    for text in (*near_texts(), *numbers):
         yield from (f"open 1 {hexed(text)}", "close")
-    for text in (*map(str.encode, TEXTS), (EXAMPLES / "two_links.toml").read_bytes()):
+    whole = (EXAMPLES / "two_links.toml").read_bytes()
+    for text in (*map(str.encode, TEXTS), whole, whole + whole, whole + b"[[link.port]]\n", whole + b"udp = 1\n"):
         yield from (f"open_each 2 {hexed(text)}", "close")
     r = random.Random(f"{given.seed} openings")
     for number in range(given.texts):
