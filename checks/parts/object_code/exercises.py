@@ -1,5 +1,6 @@
 """The runs by which checks/coverage exercises the library: its tests in C, and calls by chance."""
 import random
+from itertools import islice
 
 from parts import fuzz_cases
 from parts.c_programs import POOL, ROOFS, compiled_part, of_examples, scripts_of, under
@@ -8,7 +9,7 @@ from parts.fuzz_cases import Case
 from parts.object_code.counted import FIXED
 from parts.object_code.decimals import decimals
 from parts.object_code.names import lookups
-from parts.object_code.near_texts import TEXTS, near_texts
+from parts.object_code.near_texts import LONG, TEXTS, WIDE, near_texts, texts_of_lines
 from parts.object_code.toml_texts import toml_text
 from parts.object_code.walks import CLOSED
 from parts.options import EXAMPLES
@@ -34,21 +35,27 @@ def calls_of_case(r):
     return calls + CLOSED
 
 
-def openings(given):
-    """Openings of texts near to good ones, of numbers, and of texts by chance; of good ones, of some with a fault at their
-    end, and of some by chance with each request for memory refused."""
-    numbers = [f"a = {sign}{number}".encode() for number in decimals() for sign in ("", "-")]
-    for text in (*near_texts(), *numbers):
-        yield from (f"open 1 {hexed(text)}", "close")
+def good_texts():
+    """Texts that are opened with each request for memory refused, too; some have a fault at their end."""
     whole = (EXAMPLES / "two_links.toml").read_bytes()
-    for text in (*map(str.encode, TEXTS), whole, whole + whole, whole + b"[[link.port]]\n", whole + b"udp = 1\n"):
-        yield from (f"open_each 2 {hexed(text)}", "close")
+    yield from (*map(str.encode, [*TEXTS, *LONG]), *texts_of_lines(2))
+    yield from (whole, whole + whole, whole + b"[[link.port]]\n", whole + b"udp = 1\n")
+
+
+def texts(given):
+    """Texts that are opened: near to good ones, of a few lines, of numbers, and by chance."""
     r = random.Random(f"{given.seed} openings")
-    for number in range(given.texts):
-        text = toml_text(r) if number % 4 else Case(r).config
+    yield from (*near_texts(), *texts_of_lines(3), *map(str.encode, WIDE))
+    yield from (f"a = {sign}{number}".encode() for number in decimals() for sign in ("", "-"))
+    yield from (toml_text(r) if number % 4 else Case(r).config for number in range(given.texts))
+
+
+def openings(given):
+    """Each text is opened and closed."""
+    for text in texts(given):
         yield from (f"open 1 {hexed(text)}", "close")
-        if number % given.texts_for_each == 0:
-            yield from (f"open_each 2 {hexed(text)}", "close")
+    for text in (*good_texts(), *islice(texts(given), None, None, given.texts_for_each)):
+        yield from (f"open_each 2 {hexed(text)}", "close")
     yield from CLOSED
 
 

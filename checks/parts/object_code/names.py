@@ -20,7 +20,8 @@ def names_near(name):
 
 
 def lookups():
-    """Calls in the words of drive.c."""
+    """Calls in the words of drive.c: first of a receiver that isn't open."""
+    yield from ("links", "link 0", "port 0 0", "place 61")
     yield f"open 1 {hexed(''.join(text_of_links(NAMES)).encode())}"
     yield from ("links", "link 0", "link 2")
     yield from (f"port {link} {place}" for link in range(3) for place in (*range(len(NAMES)), 99))

@@ -1,5 +1,8 @@
 """Texts near to a few good ones, which have each form of TOML and of a configuration: each of these cut at each place,
-and with each octet changed into others."""
+and with each octet changed into others; all texts of a few lines that name the same tables; and some that are long, deep
+or wide."""
+from itertools import product
+
 LINK = """\
 [[link]]
 vl = 17
@@ -29,13 +32,25 @@ TEXTS = [
     "a = [-1.5e+3, 60E-7, 0.25, inf, -inf, +nan, true, false]",
     "a = 1979-05-27T07:32:00.25-07:00",
     "a = 1979-12-31 07:32:00Z",
+    "a = 1979-12-31t07:32:00+07:00",
     "a = [2024-02-29, 07:32, 23:59:59.999999999]",
     '[a.b . "c"]\nd.e = 1\nd.f = 2\n[[a.g]]\nh = 1\n[[a.g.i]]\n[a.g.i.j]\n[[a.g]]\n',
     "\ufeff# é\u20ac\U0001F600\na = 'é\u20ac\U0001F600'\n",
     'constant = "03ABcdef"\n[[link]]\nvl = 1\nskew_max_us = 0\nreassembly_us = 0\n',
     LINK,
 ]
+LINES = ["a = 1", "a = [1]", "a = {}", "a = {b = 1}", "b = 1", "b.c = 1", "a.b = 1", "a.b.c = 1", "[a]", "[b]", "[a.b]", "[a.b.c]", "[[a]]",
+         "[[a.b]]"]
+LONG = ['a = "\\U00000041\\U0000e041"', 'a = "\\U0000d800"', 'a = "\\ud800"', "a = ]", "a = ^", "a = _", f'a = "{2000 * "x"}"',
+        f'a = "{100 * (chr(92) + "n")}\u00e9"', f"a = [{100 * '1,'}]", f"a = {90 * '['}", f"a = {90 * '{a='}", f"{90 * 'a.'}a = 1", f"[{90 * 'a.'}a]"]
+WIDE = ["".join(f"k{number} = {number}\n" for number in range(300)), "".join(f"k{number}.a = 1\n" for number in range(300, 0, -1)),
+        "".join(f"[[a]]\nk{number * 7 % 40}.b = 1\n" for number in range(40))]
 OTHERS = b"\0\t\n\r \"#',-./0159:=@AGZ[\\_agz{~\x7f\x80\xc3\xe0\xed\xf4\xff"
+
+
+def texts_of_lines(many):
+    """All that have so many of these lines."""
+    yield from ("\n".join(lines).encode() for lines in product(LINES, repeat=many))
 
 
 def near_texts():
