@@ -33,9 +33,14 @@ class Reasons:
         """The instructions and ways that the lines of a name add up to."""
         return added(*self.of_kinds[name].values()) if name in self.of_kinds else (0, 0)
 
-    def by_kinds(self, functions):
-        """The same of some functions, by the kinds of the reasons that there are."""
-        found = {kind: added(*(self.of_kinds[it.name][kind] for it in functions if self.has(it))) for kind in KINDS}
+    def by_kinds(self, holes, functions):
+        """What some functions have left out, by the kinds of the reasons: as the lines say, or what it is if there is one
+        kind."""
+        found = {kind: (0, 0) for kind in KINDS}
+        for function in filter(self.has, functions):
+            kinds = {kind: numbers for kind, numbers in self.of_kinds[function.name].items() if any(numbers)}
+            for kind, numbers in kinds.items():
+                found[kind] = added(found[kind], holes[function].left if len(kinds) == 1 else numbers)
         return {kind: numbers for kind, numbers in found.items() if any(numbers)}
 
     def compare(self, holes, needed):

@@ -50,9 +50,9 @@ def total(functions, holes):
     return tuple(map(sum, zip(*found)))
 
 
-def print_reasons(parts, reasons):
+def print_reasons(parts, holes, reasons):
     """Of the calls for frames and at the ends what has a reason, by its kind."""
-    found = reasons.by_kinds(of_the_way(parts))
+    found = reasons.by_kinds(holes, of_the_way(parts))
     told = [f"{kind} {instructions} and {ways}" for kind, (instructions, ways) in found.items()]
     print(f"instructions and ways with a reason: {', '.join(told) or 'none'}")
 
