@@ -2,7 +2,7 @@
 
     INSTRUCTIONS WAYS: FUNCTION: KIND: why    so many of its instructions, and ways of branches that are executed
 
-Lines of one function add up, and each function of this name has so much at most, and one of them has so much. A kind is
+Lines of one function add up: each function of this name has so much at most, and one of them has so many ways. A kind is
 one of KINDS.
 """
 import re
@@ -54,7 +54,7 @@ class Reasons:
         for name in sorted(self.of_kinds):
             of_name, allowed = [hole.left for function, hole in holes.items() if function.name == name], self.allowed(name)
             most = tuple(map(max, zip(*of_name))) if of_name else (0, 0)
-            if any(one > other for one, other in zip(allowed, most)):
+            if allowed[1] > most[1] or not any(most):
                 yield f"{self.name}: {name}: reasons for {allowed[0]} and {allowed[1]}, and {most[0]} and {most[1]} weren't gone"
 
 
