@@ -9,7 +9,7 @@ from parts.fuzz_cases import Case
 from parts.object_code.counted import FIXED
 from parts.object_code.decimals import decimals
 from parts.object_code.names import lookups
-from parts.object_code.near_texts import LONG, TEXTS, WIDE, near_texts, texts_of_lines
+from parts.object_code.near_texts import LONG, TEXTS, WIDE, faulty_links, near_texts, texts_of_lines
 from parts.object_code.toml_texts import toml_text
 from parts.object_code.walks import CLOSED
 from parts.options import EXAMPLES
@@ -45,7 +45,7 @@ def good_texts():
 def texts(given):
     """Texts that are opened: near to good ones, of a few lines, of numbers, and by chance."""
     r = random.Random(f"{given.seed} openings")
-    yield from (*near_texts(), *texts_of_lines(3), *map(str.encode, WIDE))
+    yield from (*near_texts(), *faulty_links(), *texts_of_lines(3), *map(str.encode, WIDE))
     yield from (f"a = {sign}{number}".encode() for number in decimals() for sign in ("", "-"))
     yield from (toml_text(r) if number % 4 else Case(r).config for number in range(given.texts))
 

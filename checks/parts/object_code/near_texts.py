@@ -1,6 +1,6 @@
 """Texts near to a few good ones, which have each form of TOML and of a configuration: each of these cut at each place,
-and with each octet changed into others; all texts of a few lines that name the same tables; and some that are long, deep
-or wide."""
+and with each octet changed into others; a configuration with each fault of a line; all texts of a few lines that name the
+same tables; and some that are long, deep or wide."""
 from itertools import product
 
 LINK = """\
@@ -55,6 +55,14 @@ OTHERS = b"\0\t\n\r \"#',-./0159:=@AGZ[\\_agz{~\x7f\x80\xc3\xe0\xed\xf4\xff"
 def texts_of_lines(many):
     """All that have so many of these lines."""
     yield from ("\n".join(lines).encode() for lines in product(LINES, repeat=many))
+
+
+def faulty_links():
+    """The configuration without each of its lines, and with other values there."""
+    lines = LINK.splitlines()
+    for place, line in enumerate(lines):
+        others = [f"{line.split(' = ')[0]} = {value}" for value in ("[]", '"x"', "-1", "4611686018427387904")] if " = " in line else []
+        yield from ("\n".join([*lines[:place], *other, *lines[place + 1:]]).encode() for other in [[], *([it] for it in others)])
 
 
 def near_texts():
