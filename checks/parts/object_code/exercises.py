@@ -9,7 +9,7 @@ from parts.fuzz_cases import Case
 from parts.object_code.counted import FIXED
 from parts.object_code.decimals import decimals
 from parts.object_code.names import lookups
-from parts.object_code.near_texts import LONG, TEXTS, WIDE, faulty_links, near_texts, texts_of_lines
+from parts.object_code.near_texts import LONG, SHORT, TEXTS, WIDE, faulty_links, near_texts, texts_of_lines
 from parts.object_code.toml_texts import toml_text
 from parts.object_code.walks import CLOSED
 from parts.options import EXAMPLES
@@ -39,7 +39,7 @@ def good_texts():
     """Texts that are opened with each request for memory refused, too; some have a fault at their end."""
     whole = (EXAMPLES / "two_links.toml").read_bytes()
     yield from (*map(str.encode, [*TEXTS, *LONG]), *texts_of_lines(2))
-    yield from (whole, whole + whole, whole + b"[[link.port]]\n", whole + b"udp = 1\n")
+    yield from (SHORT.encode(), whole, whole + whole, whole + b"[[link.port]]\n", whole + b"udp = 1\n")
 
 
 def texts(given):

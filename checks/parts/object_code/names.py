@@ -2,6 +2,7 @@
 from parts.driven import hexed
 
 NAMES = ["abcdefghijklmnop"[:length] for length in range(1, 17)]
+TWINS = ["abcdefghijklmnop", "abcdefghijklmnoq", "zbcdefghijklmnop", "a-c_efgh", "a-c_efgi", "zbcdefgh", "_ab", "zab", "_", "-", "a1", "b1"]
 PORT = '[[link.port]]\nname = "{}"\naddress = "224.224.{}.1"\nudp = {}\n'
 SAMPLING, QUEUING = 'kind = "sampling"\nrefresh_us = 1\n', 'kind = "queuing"\ndepth = 1\n'
 
@@ -19,6 +20,12 @@ def names_near(name):
     yield from (name[:place] + other + name[place + 1:] for place in range(len(name)) for other in "-z\u00e9")
 
 
+def table():
+    """A table of a link with ports of both kinds, whose names differ in their first octets or in their last ones."""
+    rows = [f"{1 + place % 2} {place} 5000 0 1 {hexed(name.encode())} {place % 3}" for place, name in enumerate(TWINS)]
+    return f"open_table 1 1 1 1 0 0 1 {len(TWINS)} {len(TWINS)} {' '.join(rows)}"
+
+
 def lookups():
     """Calls in the words of drive.c: first of a receiver that isn't open."""
     yield from ("links", "link 0", "port 0 0", "place 61")
@@ -30,4 +37,4 @@ def lookups():
             octets = hexed(near.encode())
             yield from (f"place {octets}", f"hand_reader 0 {octets}", f"hand_queue 0 {octets}", "close_reader 0", "close_queue 0")
     yield from (f"place {hexed(octets)}" for octets in (b"", b"\xff", b"a" * 17, b"a" * 500, b"\xc3", b"\xf0\x9f\x98\x80"))
-    yield "close"
+    yield from ("close", table(), "close")

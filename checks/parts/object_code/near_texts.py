@@ -24,6 +24,9 @@ udp = 5002
 max = 64
 depth = 2
 """
+PORT = '[[link.port]]\nname = "p{0}{1}"\nkind = "{1}"\naddress = "224.24.1.{0}"\nudp = {2}\nmax = {0}\n{3} = 1\n'
+SHORT = LINK + "".join(PORT.format(most, kind, udp, limit) for most in (0, 1, 2)
+                       for kind, udp, limit in (("sampling", 1, "refresh_us"), ("queuing", 2, "depth")))
 TEXTS = [
     r'a = "\x41\u00e9\U0001F600\b\t\n\f\r\e\"\\ "',
     'a = """\r\nb "" c\\  \r\n d\\\n e\\u0041\r\n""""" # f\r\ng = \'\'\'\nh\'\'\'\n',
