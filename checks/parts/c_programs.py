@@ -7,6 +7,7 @@ import sys
 from parts.driven import Script
 from parts.options import EXAMPLES, ROOT
 from parts.random_traces import write_case
+from parts.rare_frames import rare_script
 
 PROFILES = ("sampling", "queuing", "fragments", "mixed")
 POOL = "-DPOOL_OCTETS=268435456u"
@@ -81,9 +82,10 @@ def stack_of(library, room, cases, runner=(), roof=()):
 
 
 def scripts_of(given, cases):
-    """Cases of calls at random moments, and what the model answers."""
+    """Cases of calls at random moments, and what the model answers; and one of frames that these hardly have."""
     for case in range(cases):
         yield f"script {case}", Script(random.Random(f"{given.seed} script {case}"), given.script_frames).make()
+    yield "rare frames", rare_script()
 
 
 def under(roof, scripts):

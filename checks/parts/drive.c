@@ -1,8 +1,8 @@
 /* drive < SCRIPT: what the library for C answers to the calls of a script, a line each: the code, and what was told with
    DONE. Octets are in hexadecimal, `-` if there are none. Each buffer has just the room that the call is told, and was
    filled with 0xa5. Ends stand in slots by number. At the end a line says how many blocks of memory weren't given back.
-   After `refuse N` the Nth request for memory is refused. With SYSTEM the calls are those of a system and of both its passes. With COUNTED callgrind writes what each call took,
-   by the call's word. */
+   `open_each` opens a text with each of its requests for memory refused, one at a time, and then with none. With SYSTEM the
+   calls are those of a system and of both its passes. With COUNTED callgrind writes what each call took, by the call's word. */
 #include "yelunnavi.h"
 #include <inttypes.h>
 #include <stdio.h>
@@ -30,7 +30,7 @@ static struct yelunnavi_reader readers[SLOTS];
 static struct yelunnavi_queue queues[SLOTS];
 static long blocks;
 static bool may_ask, may_give_back;
-static uint64_t refused; /* the number of a request for memory, from now on, that is refused; 0 for none */
+static uint64_t refused; /* the number of a request for memory, from now on, that is refused; 0: none, or it was */
 
 /* ---- memory: blocks that weren't given back are counted; none is asked for but by an opening, nor given back but by an
    opening or a close */
@@ -131,6 +131,23 @@ static void open_it(void) {
     code(yelunnavi_receiver_open(&receiver, text, len, readers_each, &fault));
     may_ask = false;
     memset(text, FILL, len);
+    free(text);
+}
+
+/* Until an opening doesn't come to the request; what it answered then. One that is refused may be asked again, of less. */
+static void open_each(void) {
+    struct yelunnavi_fault fault;
+    uint32_t answer = YELUNNAVI_DONE;
+    size_t readers_each = number(), len;
+    uint8_t *text = octets(&len);
+    may_ask = true;
+    for (uint64_t request = 1; !refused; request++) {
+        yelunnavi_receiver_close(&receiver);
+        refused = request;
+        answer = yelunnavi_receiver_open(&receiver, text, len, readers_each, &fault);
+    }
+    may_ask = false, refused = 0;
+    show_code(answer);
     free(text);
 }
 
@@ -302,7 +319,7 @@ static void close_it(const char *name) {
 static void call(const char *name) {
     if (!strcmp(name, "open")) open_it();
     else if (!strcmp(name, "open_table")) open_table();
-    else if (!strcmp(name, "refuse")) refused = number();
+    else if (!strcmp(name, "open_each")) open_each();
     else if (!strcmp(name, "receive")) receive();
     else if (!strcmp(name, "hand_reader")) hand(true);
     else if (!strcmp(name, "hand_queue")) hand(false);

@@ -1,7 +1,7 @@
 /* The answers of a system and of its passes (examples/c/yelunnavi.h, BUSY): each comes from the library where the header says so; an
    opening with its Nth request for memory refused answers NO_MEMORY, for each N, and gives everything back; passes and ends outlive
-   the system, and the last of them gives its memory back. Two threads that give frames of one link at once find BUSY now and then,
-   and no frame is lost or taken twice. Fails with the line of the first call that answers something else, or with a status. */
+   the system, and the last of them gives its memory back. A pass that is given a frame while the other one copies a message of that
+   link finds BUSY. Two threads that give frames of one link at once find it now and then, and no frame is lost or taken twice. Fails with the line of the first call that answers something else, or with a status. */
 #include "memory.h"
 #include "wanted.h"
 #include <pthread.h>
@@ -137,6 +137,43 @@ static void of_a_closed_system(void) {
     if (blocks) exit(23);
 }
 
+/* ---- a link that is in use: what the library copies by memmove is copied here, and a call is made in the midst of it */
+
+static void (*meanwhile)(void);
+
+/* Volatile, so that no compiler makes a call of memmove of the loop. */
+void *memmove(void *to, const void *from, size_t octets) {
+    volatile uint8_t *out = to;
+    const volatile uint8_t *in = from;
+    void (*call)(void) = meanwhile;
+    if (call) meanwhile = NULL, call();
+    bool is_forward = (uintptr_t)to <= (uintptr_t)from;
+    for (size_t k = 0; k < octets; k++) {
+        size_t place = is_forward ? k : octets - 1 - k;
+        out[place] = in[place];
+    }
+    return to;
+}
+
+static void find_busy(void) {
+    struct yelunnavi_verdict told = {.kind = 77};
+    WANT(BUSY, yelunnavi_pass_receive(&passes[1], 1000, FRAME, sizeof FRAME, &told));
+    if (told.kind != 77) exit(31);
+}
+
+static void of_a_link_in_use(void) {
+    struct yelunnavi_verdict told;
+    WANT(DONE, yelunnavi_system_open(&both, TEXT(CONFIG), 1, &fault));
+    for (uint32_t net = 0; net < 2; net++) WANT(DONE, yelunnavi_system_hand_pass(&both, net, &passes[net]));
+    meanwhile = find_busy;
+    WANT(DONE, yelunnavi_pass_receive(&passes[0], 1000, FRAME, sizeof FRAME, &told));
+    if (meanwhile || told.kind != YELUNNAVI_VERDICT_SAMPLED) exit(32);
+    WANT(DONE, yelunnavi_pass_receive(&passes[1], 1000, FRAME, sizeof FRAME, &told));
+    if (told.kind != YELUNNAVI_VERDICT_REDUNDANT) exit(33);
+    for (int net = 0; net < 2; net++) yelunnavi_pass_close(&passes[net]);
+    yelunnavi_system_close(&both);
+}
+
 /* ---- two threads, at one link at once */
 
 static unsigned long again[2];
@@ -196,6 +233,7 @@ int main(void) {
     of_memory();
     of_passes();
     of_a_closed_system();
+    of_a_link_in_use();
     of_two_threads();
     return 0;
 }

@@ -7,16 +7,21 @@ FOLLOWED, PASSED = "followed", "passed"
 
 class Holes(NamedTuple):
     """What no run did in a function: instructions, and ways of branches that were executed, by offsets in its
-    section; and how many instructions and branches it has, and how many branches of which both ways were gone."""
+    section; and how many instructions and branches it has, and of how many branches both ways or one were gone."""
     instructions: tuple
     ways: tuple
     of_instructions: int
     of_branches: int
     whole_branches: int
+    half_branches: int
 
     @property
     def executed(self):
         return self.of_instructions - len(self.instructions)
+
+    @property
+    def left(self):
+        return len(self.instructions), len(self.ways)
 
     def text(self, function):
         """The holes by their offsets in the function, instructions as ranges."""
@@ -38,4 +43,4 @@ def holes_of(flow, counts):
         ways += [(at, PASSED)] if done and taken == done else []
     part = {at for at, _ in ways}
     whole = sum(1 for at in branches if counts.executed[place[at]] and at not in part)
-    return Holes(missed, tuple(ways), len(flow.reached), len(branches), whole)
+    return Holes(missed, tuple(ways), len(flow.reached), len(branches), whole, len(part))

@@ -1,11 +1,15 @@
 """The runs by which checks/coverage exercises the library: its tests in C, and calls by chance."""
 import random
+from itertools import islice
 
 from parts import fuzz_cases
-from parts.c_programs import POOL, ROOFS, compiled_part, of_examples, of_profiles, scripts_of, under
+from parts.c_programs import POOL, ROOFS, compiled_part, of_examples, scripts_of, under
 from parts.driven import ENOUGH, hexed
 from parts.fuzz_cases import Case
 from parts.object_code.counted import FIXED
+from parts.object_code.decimals import decimals
+from parts.object_code.names import lookups
+from parts.object_code.near_texts import LONG, SHORT, TEXTS, WIDE, faulty_links, near_texts, texts_of_lines
 from parts.object_code.toml_texts import toml_text
 from parts.object_code.walks import CLOSED
 from parts.options import EXAMPLES
@@ -31,20 +35,28 @@ def calls_of_case(r):
     return calls + CLOSED
 
 
-def openings(given):
-    """Openings of TOML texts and configurations by chance, also with one request for memory after the other refused."""
-    r = random.Random(f"{given.seed} openings")
-    for number in range(given.texts):
-        text = toml_text(r) if number % 4 else Case(r).config
-        yield from (f"open 1 {hexed(text)}", "close")
-        if number % 20 == 0:
-            for request in range(1, given.refused):
-                yield from (f"refuse {request}", f"open 2 {hexed(text)}", "close")
-            yield "refuse 0"
+def good_texts():
+    """Texts that are opened with each request for memory refused, too; some have a fault at their end."""
     whole = (EXAMPLES / "two_links.toml").read_bytes()
-    for request in range(1, 4 * given.refused):
-        yield from (f"refuse {request}", f"open 2 {hexed(whole)}", "close")
-    yield from ("refuse 0", *CLOSED)
+    yield from (*map(str.encode, [*TEXTS, *LONG]), *texts_of_lines(2))
+    yield from (SHORT.encode(), whole, whole + whole, whole + b"[[link.port]]\n", whole + b"udp = 1\n")
+
+
+def texts(given):
+    """Texts that are opened: near to good ones, of a few lines, of numbers, and by chance."""
+    r = random.Random(f"{given.seed} openings")
+    yield from (*near_texts(), *faulty_links(), *texts_of_lines(3), *map(str.encode, WIDE))
+    yield from (f"a = {sign}{number}".encode() for number in decimals() for sign in ("", "-"))
+    yield from (toml_text(r) if number % 4 else Case(r).config for number in range(given.texts))
+
+
+def openings(given):
+    """Each text is opened and closed."""
+    for text in texts(given):
+        yield from (f"open 1 {hexed(text)}", "close")
+    for text in (*good_texts(), *islice(texts(given), None, None, given.texts_for_each)):
+        yield from (f"open_each 2 {hexed(text)}", "close")
+    yield from CLOSED
 
 
 def by_chance(given):
@@ -53,12 +65,13 @@ def by_chance(given):
     cases = [calls_of_case(random.Random(f"{given.seed} case {number}")) for number in range(given.cases)]
     for roof in ROOFS:
         calls = [call for _, script in under(roof, scripts) for call in (*script.calls, *CLOSED)]
-        yield roof, "\n".join(calls + [call for case in cases for call in case] + [*openings(given)]).encode()
+        calls += [call for case in cases for call in case]
+        yield roof, "\n".join([*calls, *lookups(), *openings(given)]).encode()
 
 
 def exercises(library, room, given):
     """Each program, its map, and what it is run with: words, and what it reads."""
-    cases = [files for _, files, _ in (*of_examples(), *of_profiles(room, given.frames))]
+    _, (_, fragments, _), _ = of_examples()
     pool = (EXAMPLES / "c" / "pool.c", POOL)
 
     def part(name, *words, called=None):
@@ -72,4 +85,4 @@ def exercises(library, room, given):
     yield *part("schedules", "-pthread", f"-DFRAMES={given.frames}"), [(["1", str(given.seed)], b"")]
     for number, (roof, text) in enumerate(by_chance(given)):
         yield *part("drive", *ROOFS[roof], called=f"drive{number}"), [([], text)]
-        yield *part("stack", *pool, *ROOFS[roof], called=f"stack{number}"), [(files, b"") for files in cases[:2]]
+        yield *part("stack", *pool, *ROOFS[roof], called=f"stack{number}"), [(fragments, b"")]
