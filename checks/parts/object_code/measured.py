@@ -15,7 +15,7 @@ def calls_of(word, roof):
     if roof == "receiver":
         return [f"yelunnavi_receiver_{word}"]
     if word == "close":
-        return ["yelunnavi_system_close", "yelunnavi_pass_close"]
+        return ["yelunnavi_system_close"]
     return [f"yelunnavi_{'pass' if word in OF_PASSES else 'system'}_{word}"]
 
 

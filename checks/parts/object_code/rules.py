@@ -4,6 +4,7 @@
     memory: NAME ..                 those functions
     outside: NAME ..                the other functions outside of the archive
     frees: NAME: why                another call that reaches the one that gives memory back, and never comes to it
+    grows: NAME: why                another call that reaches those that ask for memory, and never comes to them
     levels NUMBER: FUNCTION: why    a function that calls itself, and how many of its calls are open at most; one
                                     that calls itself through others as FUNCTION with FUNCTION ..
     loop TURNS: FUNCTION SHAPE: ROW a loop of a function, how often it takes a turn at most each time that it is come
@@ -16,7 +17,7 @@ from typing import NamedTuple
 from parts.object_code.calls import Recursion
 
 OF_NAMES = re.compile(r"^(asks|memory|outside): (.*)$")
-OF_FREES = re.compile(r"^frees: (\w+): (.*)$")
+OF_NEVER = re.compile(r"^(frees|grows): (\w+): (.*)$")
 OF_LEVELS = re.compile(r"^levels ([\d,]+): (.*?): (.*)$")
 OF_LOOP = re.compile(r"^loop ([\d,]+): (.*) ([\d.]+ of \d+): (.*)$")
 NUMBERS = {"twice": 2, "three": 3, "four": 4}
@@ -34,7 +35,7 @@ class Rules:
     """The lines of the file."""
 
     def __init__(self, path):
-        self.asks, self.memory, self.outside, self.frees = set(), set(), set(), set()
+        self.asks, self.memory, self.outside, self.frees, self.grows = set(), set(), set(), set(), set()
         self.levels, self.loops, self.bad = [], [], []
         for number, line in enumerate(path.read_text(encoding="utf-8").splitlines(), 1):
             if line.strip() and not line.startswith("#") and not self.takes(line):
@@ -42,10 +43,10 @@ class Rules:
 
     def takes(self, line):
         """Whether a line is one of these."""
-        names, frees = OF_NAMES.match(line), OF_FREES.match(line)
+        names, never = OF_NAMES.match(line), OF_NEVER.match(line)
         levels, loop = OF_LEVELS.match(line), OF_LOOP.match(line)
-        if frees:
-            self.frees.add(frees[1])
+        if never:
+            getattr(self, never[1]).add(never[2])
         elif names:
             getattr(self, names[1]).update(names[2].split())
         elif levels:
@@ -54,7 +55,7 @@ class Rules:
             self.levels.append(Recursion(frozenset([counted]), number_of(levels[1]), ring))
         elif loop:
             self.loops.append(LoopRow(loop[2], loop[3], number_of(loop[1]), loop[4]))
-        return bool(names or frees or levels or loop)
+        return bool(names or never or levels or loop)
 
 
 # ---- the page
