@@ -6,6 +6,13 @@
 #define ARINC653_H
 #include "yelunnavi.h"
 
+/* A value as one of another type. */
+#ifdef __cplusplus
+#define APEX_AS(type, value) static_cast<type>(value)
+#else
+#define APEX_AS(type, value) ((type)(value))
+#endif
+
 typedef int32_t APEX_INTEGER, MESSAGE_SIZE_TYPE, MESSAGE_RANGE_TYPE, SAMPLING_PORT_ID_TYPE, QUEUING_PORT_ID_TYPE;
 typedef int64_t SYSTEM_TIME_TYPE; /* nanoseconds */
 typedef uint8_t *MESSAGE_ADDR_TYPE;
@@ -44,14 +51,16 @@ static inline void apex_create(const char *text, uint32_t service, MESSAGE_SIZE_
                                PORT_DIRECTION_TYPE direction, APEX_INTEGER *id, RETURN_CODE_TYPE *answer) {
     struct yelunnavi_place place;
     uint8_t name[YELUNNAVI_LONGEST_NAME];
+    const void *octets = text;
     size_t len = 0;
     while (len < sizeof(SAMPLING_PORT_NAME_TYPE) && text[len]) len++;
     *answer = INVALID_CONFIG;
     if (apex_created == APEX_PORTS || direction != DESTINATION) return;
     struct apex_port *to = &apex_ports[apex_created];
-    if (yelunnavi_receiver_place(apex_receiver, (const uint8_t *)text, len, &place) != YELUNNAVI_DONE
+    if (yelunnavi_receiver_place(apex_receiver, APEX_AS(const uint8_t *, octets), len, &place) != YELUNNAVI_DONE
         || yelunnavi_receiver_port(apex_receiver, place.link, place.port, &to->port, &name) != YELUNNAVI_DONE) return;
-    if (to->port.service != service || (MESSAGE_SIZE_TYPE)to->port.max != max || (SYSTEM_TIME_TYPE)to->port.limit != limit) return;
+    if (to->port.service != service || APEX_AS(MESSAGE_SIZE_TYPE, to->port.max) != max
+        || APEX_AS(SYSTEM_TIME_TYPE, to->port.limit) != limit) return;
     uint32_t code;
     if (service == YELUNNAVI_SERVICE_SAMPLING) {
         if (yelunnavi_reader_init(&to->reader, to->room, sizeof to->room) != YELUNNAVI_DONE) return;
@@ -88,7 +97,7 @@ static inline void READ_SAMPLING_MESSAGE(SAMPLING_PORT_ID_TYPE id, MESSAGE_ADDR_
     if (!port) return;
     if (yelunnavi_reader_read(&port->reader, apex_now(), message, port->port.max, &found) != YELUNNAVI_DONE) return;
     *answer = found.found ? NO_ERROR : NO_ACTION;
-    *len = (MESSAGE_SIZE_TYPE)found.len;
+    *len = APEX_AS(MESSAGE_SIZE_TYPE, found.len);
     *validity = port->validity = found.valid ? VALID : INVALID;
 }
 
@@ -101,15 +110,15 @@ static inline void RECEIVE_QUEUING_MESSAGE(QUEUING_PORT_ID_TYPE id, SYSTEM_TIME_
     if (!port) return;
     if (yelunnavi_queue_take(&port->queue, message, port->port.max, &taken) != YELUNNAVI_DONE) return;
     *answer = taken.found ? NO_ERROR : NOT_AVAILABLE;
-    *len = (MESSAGE_SIZE_TYPE)taken.len;
+    *len = APEX_AS(MESSAGE_SIZE_TYPE, taken.len);
 }
 
 static inline void GET_SAMPLING_PORT_STATUS(SAMPLING_PORT_ID_TYPE id, SAMPLING_PORT_STATUS_TYPE *status, RETURN_CODE_TYPE *answer) {
     const struct apex_port *port = apex_port_of(id, YELUNNAVI_SERVICE_SAMPLING);
     *answer = port ? NO_ERROR : INVALID_PARAM;
     if (!port) return;
-    status->REFRESH_PERIOD = (SYSTEM_TIME_TYPE)port->port.limit * 1000;
-    status->MAX_MESSAGE_SIZE = (MESSAGE_SIZE_TYPE)port->port.max;
+    status->REFRESH_PERIOD = APEX_AS(SYSTEM_TIME_TYPE, port->port.limit) * 1000;
+    status->MAX_MESSAGE_SIZE = APEX_AS(MESSAGE_SIZE_TYPE, port->port.max);
     status->PORT_DIRECTION = DESTINATION;
     status->LAST_MSG_VALIDITY = port->validity;
 }
@@ -118,8 +127,8 @@ static inline void GET_QUEUING_PORT_STATUS(QUEUING_PORT_ID_TYPE id, QUEUING_PORT
     const struct apex_port *port = apex_port_of(id, YELUNNAVI_SERVICE_QUEUING);
     *answer = port ? NO_ERROR : INVALID_PARAM;
     if (!port) return;
-    status->MAX_NB_MESSAGE = (MESSAGE_RANGE_TYPE)port->port.limit;
-    status->MAX_MESSAGE_SIZE = (MESSAGE_SIZE_TYPE)port->port.max;
+    status->MAX_NB_MESSAGE = APEX_AS(MESSAGE_RANGE_TYPE, port->port.limit);
+    status->MAX_MESSAGE_SIZE = APEX_AS(MESSAGE_SIZE_TYPE, port->port.max);
     status->PORT_DIRECTION = DESTINATION;
 }
 #endif

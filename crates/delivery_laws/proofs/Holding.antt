@@ -24,7 +24,7 @@ use Rattle.delivery_laws.specs.Holding.{AreOutletsOf, EachHolds, HoldsEach, Know
 
 outlets_hold : (link : Link) (carried : List Carried) (outlets : List Outlet) (at : ℕ) → BringDatagrams link.settings (past_of link) carried → AreOutletsOf link outlets
     → ShowsDelivered (slice_get outlets at) (messages_ended (port_no at) carried)
-outlets_hold link carried outlets at bring (taken, pieces, now, is, of_channels) =
+outlets_hold link carried outlets at bring (taken, pieces, nets, now, is, of_channels) =
     subst (λ (messages : List Message). ShowsDelivered (slice_get outlets at) messages) (brought_by link.settings (past_of link) carried (port_no at) bring) (is.all.shown at)
 
 all_told : (published wanted : List (List ℕ)) (readers : List ReaderEnd) → published ≡ wanted → All (λ (reader : ReaderEnd). reader.seen ≡ wanted) (map (λ (reader : ReaderEnd). is_told reader published) readers)

@@ -4,6 +4,7 @@ use Rattle.std.specs.List.{All}
 use Rattle.es_base.specs.declared.place.LinkNo.{LinkNo}
 use Rattle.es_base.specs.Config.{link_of}
 use Rattle.ip_reassembly.specs.Kept.{Kept}
+use Rattle.link_core.specs.declared.nets.NetStates.{NetStates}
 use Rattle.link_core.specs.declared.rules_state.RulesState.{RulesState}
 use Rattle.link_core.specs.Counted.{port_no}
 use Rattle.sampling_port.specs.Ends.{ReaderEnd, is_told}
@@ -23,7 +24,7 @@ use Rattle.network_calls.specs.Passes.{System}
 -- the outlets of a state of the link, with the link's channels, which keeps them as each `LinkState` does
 abbrev pub AreOutletsOf : Link → List Outlet → Type 0
 AreOutletsOf link outlets =
-    (taken : ℕ) × (pieces : Kept) × (now : RulesState) × IsLinkKept link.settings link.before link.history taken pieces now outlets × (map channel_of outlets ≡ link.channels)
+    (taken : ℕ) × (pieces : Kept) × (nets : NetStates) × (now : RulesState) × IsLinkKept link.settings link.before link.history taken pieces nets now outlets × (map channel_of outlets ≡ link.channels)
 
 -- ---- the ends of its ports
 

@@ -38,7 +38,7 @@ MayFollow numbering window None index = Unit {0}
 MayFollow numbering window (Some before) index = ((index ≤ before + window) × RunsOn numbering before index) ⊎ (numbering.restarts index ≡ true)
 
 -- each network loses fewer than `window` frames in a row, and not the first after a restart
--- rule: DELIV-4
+-- rule: DELIV-4, DELIV-18
 abbrev pub LosesFew : Numbering → ℕ → List Copy → Type 0
 LosesFew numbering window copies = EachCopy (λ before copy. MayFollow numbering window (latest (indices_on before copy.event.net)) copy.index) copies
 
@@ -100,6 +100,7 @@ pub record KeepsTimes (numbering : Numbering) (timing : Timing) (copies : List C
 
 -- SkewMax fits the networks: the times on the way differ by no more than it, and it is over before the sender
 -- restarts
+-- rule: DELIV-16
 pub record FitsSkew (timing : Timing) (skew_max : ℕ) : Type 0 where
   pub covers : timing.greatest ≤ timing.least + skew_max
   pub restarts : timing.greatest + skew_max < timing.least + timing.pause
@@ -135,6 +136,7 @@ BeginNear skew_max copies = EachCopy (BeginsNear skew_max) copies
 
 -- no copy of a frame comes after a copy of a later frame: the times on the way, and the wait, differ by less than the
 -- gap
+-- rule: DELIV-17
 abbrev pub HasNoOvertaking : Timing → Type 0
 HasNoOvertaking timing = timing.greatest + timing.wait < timing.least + timing.gap
 
@@ -160,6 +162,7 @@ abbrev pub KeepsBefore : Timing → Delays → Net → Net → List Copy → Typ
 KeepsBefore timing delays net other copies = (delays.greatest net + timing.wait < delays.least other + timing.gap) ⊎ LosesNoneOf other net copies
 
 -- the networks keep the order, each by itself, and each before the other
+-- rule: DELIV-17
 pub record KeepOrderTogether (timing : Timing) (delays : Delays) (copies : List Copy) : Type 0 where
   pub gaps : KeepsGap timing
   pub order : KeepsOrder copies

@@ -70,7 +70,7 @@ IsNotOvertaken before copy = is_new copy.index before ≡ false → has_come cop
 
 -- Of each frame the first copy comes before all copies of later frames. A further copy may come after one of a later
 -- frame: it is redundant.
--- rule: DELIV-5
+-- rule: DELIV-5, DELIV-17
 abbrev pub FirstsInOrder : List Copy → Type 0
 FirstsInOrder copies = EachCopy IsNotOvertaken copies
 

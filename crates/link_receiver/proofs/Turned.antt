@@ -1,5 +1,5 @@
 -- A link after a frame that was kept away: nothing was published or queued.
-use Rattle.std.proofs.Common.{◌≡◌, ap, refl, true, false, List, ◌∷◌, None, Some}
+use Rattle.std.proofs.Common.{◌≡◌, ap, refl, true, false, List, None, Some}
 use Rattle.es_base.specs.declared.event.Arrival.{Arrival}
 use Rattle.es_base.specs.declared.event.Event.{Event}
 use Rattle.es_base.specs.declared.place.PortNo.{PortNo}
@@ -7,13 +7,15 @@ use Rattle.es_base.specs.declared.verdict.Verdict.{Verdict}
 use Rattle.link_rules.specs.Deliveries.{number_delivered}
 use Rattle.link_rules.specs.Outcome as way
 use Rattle.es_base.specs.Past.{event_of}
-use Rattle.link_rules.specs.Run.{settled}
+use Rattle.link_rules.specs.Run.{settled, verdict_of}
 use Rattle.es_base.specs.Settings.{Settings}
 use Rattle.link_core.specs.declared.rules_state.RulesState.{RulesState as Kept}
 use Rattle.link_core.specs.Counted.{port_no}
 use Rattle.link_core.specs.Kept.{Keeps}
 use Rattle.link_core.specs.Seen.{kept_away}
-use Rattle.link_core.proofs.Away.{away_decided, away_delivers_nothing}
+use Rattle.link_core.specs.Told.{tells_delivered}
+use Rattle.link_core.proofs.Away.{away_decided, away_delivers_nothing, away_not_forwarded}
+use Rattle.link_core.proofs.Keeping.{keeps_away}
 use Rattle.link_receiver.specs.declared.outlet.Outlet.{Outlet}
 use Rattle.link_receiver.specs.Kept.{brings_to}
 use Rattle.link_receiver.proofs.Kept.{IsNext}
@@ -24,14 +26,15 @@ brings_nothing way.redundant verdict port away = refl
 brings_nothing (way.refused other) verdict port away = cc
 brings_nothing (way.brings payload) verdict port away = cc
 
-pub turned : (o : Settings) (past : List Event) (a : Arrival) (verdict : Verdict) (outlets : List Outlet) (new : Kept) → kept_away (way.outcome o past a) ≡ Some verdict
-    → Keeps new o (event_of a true verdict ∷ past) → IsNext o past (event_of a true verdict) outlets outlets new
-turned o past a verdict outlets new away keeps =
+pub turned : (o : Settings) (past : List Event) (a : Arrival) (verdict : Verdict) (outlets : List Outlet) (kept : Kept) → kept_away (way.outcome o past a) ≡ Some verdict
+    → ((port : PortNo) → tells_delivered verdict port ≡ false) → Keeps kept o past → IsNext o past (event_of a true verdict) outlets outlets kept
+turned o past a verdict outlets kept away nowhere keeps =
     let outcome = way.outcome o past a in
+    let becomes : verdict ≡ verdict_of o past a true = ap (λ d. settled d true) (away_decided outcome verdict (number_delivered o past) away) in
     record {
-      verdict = ap (λ d. settled d true) (away_decided outcome verdict (number_delivered o past) away);
+      verdict = becomes;
       may = tt;
-      keeps = keeps;
+      keeps = keeps_away o past (event_of a true verdict) kept becomes keeps (away_not_forwarded o past a verdict away) (λ port. nowhere (port_no port));
       delivery = None;
       publishes = (refl, refl);
       within = tt;

@@ -35,7 +35,7 @@ use es_base::{
 };
 use frame_reader::{Frame, frame_in};
 use ip_reassembly::WaitingDatagrams;
-use link_core::{Place, RulesState, settled};
+use link_core::{NetStates, Place, RulesState, settled};
 use past_log::Past;
 use queuing_port::Taker;
 use sampling_port::Reader;
@@ -58,7 +58,9 @@ pub struct LinkState {
     /// The partial datagrams before the history.
     pieces: WaitingDatagrams,
     history: BlockList<Event>,
-    /// State after all events.
+    /// State after all events, of each network alone.
+    nets: NetStates,
+    /// State after all events, of both networks together.
     kept: RulesState,
     outlets: Vec<Outlet>,
 }
@@ -79,7 +81,7 @@ impl Model for LinkState {
       channels = map channel_of s.outlets.items;
     } };
 
-    ghost invariant = { λ s. IsLinkKept s.settings s.before.events s.history.items s.taken s.pieces s.kept s.outlets.items };
+    ghost invariant = { λ s. IsLinkKept s.settings s.before.events s.history.items s.taken s.pieces s.nets s.kept s.outlets.items };
 }
 
 impl LinkState {
@@ -100,6 +102,7 @@ impl LinkState {
             taken: 0,
             pieces,
             history: BlockList::new(alloc),
+            nets: NetStates::new(settings.window()),
             kept,
             outlets,
         };
@@ -164,7 +167,7 @@ impl LinkState {
     pub fn tally(&self) -> &VerdictTally
         ensures { HasCounts result.now (past_of self.now) }
     {
-        self.kept.tally()
+        self.nets.tally()
     }
 
     /// The history's deliveries to a port, in order, worked out from it. This walks through the history, up to the last
@@ -222,7 +225,8 @@ impl LinkState {
     pub fn decide(&self, net: Net, now: u64, frame: &Frame<'_>) -> Decision
         ensures { result ≡ decision_after self.now (arrived net now frame.now.whole.now) }
     {
-        match self.kept.kept_away(&self.settings, net, now, frame) {
+        let passed = self.nets.check(net, frame.sequence_number);
+        match self.kept.kept_away(&self.settings, passed, now, frame) {
             Some(verdict) => Decision::Final(verdict),
             None => self.kept.look(&self.settings, net, now, frame).decision(),
         }
@@ -273,7 +277,9 @@ impl LinkState {
         };
         let (net, time) = (arrival.net, arrival.time);
         let frame = frame_in(arrival.frame.as_slice());
-        if let Some(verdict) = self.kept.turn_away(&self.settings, net, time, &frame) {
+        let passed = self.nets.check(net, frame.sequence_number);
+        if let Some(verdict) = self.kept.kept_away(&self.settings, passed, time, &frame) {
+            self.nets.note(net, frame.sequence_number, time, verdict);
             self.history
                 .push_reserved(Event::of(arrival, true, verdict));
             return Ok(verdict);
@@ -287,7 +293,8 @@ impl LinkState {
         let payload = self.kept.offer(&step, place);
         let had_room = give(rt, &mut self.outlets, payload, time, room);
         let verdict = settled(decision, had_room);
-        self.kept.note(net, verdict);
+        self.kept.note(verdict);
+        self.nets.note(net, frame.sequence_number, time, verdict);
         self.history
             .push_reserved(Event::of(arrival, had_room, verdict));
         Ok(verdict)

@@ -7,7 +7,7 @@ use Rattle.std.proofs.lemmas.List.Elements.{All-cons, All-head, All-tail}
 use Rattle.std.proofs.lemmas.Option.{same_Some, slice_get-map, slice_get_read}
 use Rattle.es_base.specs.declared.place.Net.{Net}
 use Rattle.es_base.specs.Settings.{Settings}
-use Rattle.es_base.proofs.Elements.{map-set_same, there}
+use Rattle.es_base.proofs.Elements.{map-set_same}
 use Rattle.link_lock.specs.Pass.{LockId}
 use Rattle.network_calls.specs.Passes.{ArePasses, IsPassOn}
 use Rattle.network_calls.proofs.Rows.{at_place}

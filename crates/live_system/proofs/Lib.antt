@@ -16,6 +16,7 @@ pub mod Meets
 pub mod Knowing
 pub mod Turns
 pub mod Entries
+pub mod Checks
 pub mod InTurn
 pub mod Parts
 pub mod Together
@@ -26,5 +27,6 @@ pub mod Order
 pub mod Grouped
 pub mod Lined
 pub mod Chunked
+pub mod RowEnds
 pub mod Turned
 pub mod Alone

@@ -1,6 +1,8 @@
 -- Frames that are given at once.
-use Rattle.std.specs.Prelude.{◌≡◌, ℕ, suc, ◌*◌, ◌==◌, List, [], ◌∷◌, ◌++◌, drop, take, if◌then◌else◌}
+use Rattle.std.specs.Prelude.{◌≡◌, ◌⊎◌, ◌<◌, ◌≤◌, ℕ, suc, ◌+◌, ◌==◌, List, [], ◌∷◌, ◌++◌, Some, drop, slice_get, take, if◌then◌else◌}
 use Rattle.std.specs.Borrow.{Bor}
+use Rattle.es_base.specs.Addressing.{ComesToPlace}
+use Rattle.es_base.specs.Config.{Configuration}
 use Rattle.es_base.specs.declared.place.Net.{Net}
 use Rattle.es_base.specs.declared.verdict.Verdict.{Verdict}
 use Rattle.es_base.specs.Tally.{AddsOne, one_more}
@@ -59,8 +61,46 @@ StandTogetherAt at place answers = StandTogether place (of_link at answers)
 abbrev pub EachStandsTogether : List Reply → Type 0
 EachStandsTogether answers = (at : ℕ) → (place : ℕ) × StandTogetherAt at place answers
 
--- The replies come in chunks of 32, of which the last may have fewer, and in each chunk the events of each link stand
--- together.
+-- ---- frames of one link in a row
+
+-- Frames of one link in a row are parted only behind so many of them.
 -- rule: CONC-6, EMB-32
-abbrev pub AreInChunks : List Reply → Type 0
-AreInChunks answers = (number : ℕ) → EachStandsTogether (take most_in_row (drop (most_in_row * number) answers))
+abbrev pub fewest_in_row : ℕ
+fewest_in_row = 8
+
+-- the frame at this place comes to the link at this index
+abbrev pub ComesAt : Configuration → Frames → ℕ → ℕ → Type 0
+ComesAt config frames place at = (f : ℕ × Bor (List ℕ)) × (slice_get frames place ≡ Some f) × ComesToPlace config f.1.now at
+
+-- so many frames before this place come to the link
+abbrev pub ComeBefore : Configuration → Frames → ℕ → ℕ → ℕ → Type 0
+ComeBefore config frames place many at = (many ≤ place) × ((other : ℕ) → place ≤ other + many → other < place → ComesAt config frames other at)
+
+-- if the frames on both sides of this place come to one link, so many before it do
+-- rule: CONC-6, EMB-32
+abbrev pub PartsLate : Configuration → Frames → ℕ → Type 0
+PartsLate config frames place = (before at : ℕ) → suc before ≡ place → ComesAt config frames before at → ComesAt config frames place at → ComeBefore config frames place fewest_in_row at
+
+-- Of the first so many frames, the events of two that stand side by side and come to one link stand side by side among
+-- those of the link, unless 8 in a row came to it before the second.
+-- rule: CONC-6, EMB-32
+abbrev pub AreInRows : Configuration → Frames → List Reply → ℕ → Type 0
+AreInRows config frames answers many =
+    (place at : ℕ) → suc place < many → ComesAt config frames place at → ComesAt config frames (suc place) at → (ComeBefore config frames (suc place) fewest_in_row at → ⊥)
+    → (shows : ℕ) × StandTogetherAt at shows (take 2 (drop place answers))
+
+-- ---- chunks
+
+-- a chunk of so many, of which the last is the one before this place, has 32 at most, and 25 at least but at the end
+-- rule: CONC-6, EMB-32
+pub record IsChunk (all size place : ℕ) : Type 0 where
+  pub some : 0 < size
+  pub few : size ≤ most_in_row
+  pub many : (most_in_row < size + fewest_in_row) ⊎ (place ≡ all)
+
+-- The replies come in chunks of these sizes, the last one first, and in each the events of each link stand together.
+-- rule: CONC-6, EMB-32
+abbrev pub AreInChunks : ℕ → List ℕ → List Reply → ℕ → Type 0
+AreInChunks all [] answers done = done ≡ 0
+AreInChunks all (size ∷ sizes) answers done =
+    (before : ℕ) × (done ≡ before + size) × IsChunk all size done × EachStandsTogether (take size (drop before answers)) × AreInChunks all sizes answers before

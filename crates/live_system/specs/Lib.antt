@@ -1,5 +1,6 @@
 pub mod Burst
 pub mod Calls
+pub mod Checked
 pub mod Chunk
 pub mod Groups
 pub mod Meetings

@@ -1,14 +1,14 @@
 //! Links under one lock, and the calls of both networks in their pasts.
 use link_lock::Recorded;
 use network_calls::Call;
-use receiver::{LinkWithPorts, PortOutlet};
+use receiver::{PortOutlet, PortedLink};
 use std::collections::LinkedList;
 use std::marker::Model;
 
 /// Neighbouring links under one lock, in the order of the configuration. To a contract it is the links.
 #[derive(Drop)]
 pub struct Group {
-    pub(crate) links: Vec<LinkWithPorts<PortOutlet>>,
+    pub(crate) links: Vec<PortedLink<PortOutlet>>,
 }
 
 impl Model for Group {

@@ -37,7 +37,7 @@ pub use net_pass::NetPass;
 pub use network_calls::{Call, PassCounts};
 pub use opened::Opened;
 pub use receiver::{
-    LinkEnds, LinkWithPorts, MailboxReader, PartitionEnd, PortOutlet, ReaderCount, Reply, RingTaker,
+    LinkEnds, MailboxReader, PartitionEnd, PortOutlet, PortedLink, ReaderCount, Reply, RingTaker,
 };
 pub use settled::Settled;
 pub use system::LiveSystem;

@@ -18,7 +18,10 @@ ghost use Rattle.receiver.specs.Receiver.{AreNewLinks};
 ghost use Rattle.network_calls.specs.declared.counts.LinkCounts.{LinkCounts};
 ghost use Rattle.network_calls.specs.Calls.{call, user_of};
 ghost use Rattle.network_calls.specs.Passes.{AreCounted, AreIdle, ArePasses, DoesAt, pass_with};
+ghost use Rattle.link_rules.specs.Integrity.{passes};
+ghost use Rattle.link_core.specs.declared.net_checks.NetChecks.{NetChecks as Checks};
 ghost use Rattle.live_system.specs.Burst.{StandTogetherAt, most_in_row};
+ghost use Rattle.live_system.specs.Checked.{AreChecked, AreStanding, TestsEach};
 ghost use Rattle.live_system.specs.Calls.{LiveLink, as_opened};
 ghost use Rattle.live_system.specs.Groups.{AreLetGo, AreNewCounts, HasLinkAt, IsGroup, KnowsAt, calls_shown, count_shown, ids_of, known_links, no_calls_on_any, under};
 ghost use Rattle.live_system.specs.Meetings.{MeetsReader, MeetsTaker, VisitsAt};
@@ -29,29 +32,34 @@ ghost use Rattle.live_system.specs.System.{CallsAt, KnowLinks, keeping_no_frame}
 use crate::cut::LinkPlace;
 use crate::group::Group;
 use crate::meetings::{meet_reader, meet_taker};
-use crate::row::{Answers, Entry, take_at, take_each, tell_each};
+use crate::row::{Answers, Entry, take_at, take_each, tell_each, test_each};
 use es_base::{LinkNo, LinkSettings, Memory, Net, PortNo, Verdict};
 use frame_reader::Frame;
+use link_core::NetChecks;
 use link_lock::{Lock, Opened, PassOf};
 use network_calls::{LinkCounts, counts_on};
 use receiver::{
-    LinkEnds, LinkWithPorts, MailboxReader, PartitionEnd, PortOutlet, Readers, Reply, RingTaker,
+    LinkEnds, MailboxReader, PartitionEnd, PortOutlet, PortedLink, Readers, Reply, RingTaker,
 };
 use std::alloc::Global;
 use std::marker::Model;
 use std::sync::Wait;
 
 /// One network's pass on the links of a group, by which a thread gives them its frames. To a contract it is what it
-/// knows of each link: the link's lock, the network, the link as it was opened, the calls made, and their counts.
+/// knows of each link: the link's lock, the network, the link as it was opened, the calls made, and their counts. It has
+/// integrity checking too, since that needs nothing of the other network: a frame is tested before its link is locked.
 #[derive(Drop)]
 pub struct GroupPass {
     net: Net,
     pass: PassOf<Group>,
     counts: Vec<LinkCounts>,
+    /// What the network alone keeps of each link.
+    checks: Vec<NetChecks>,
 }
 
 impl Model for GroupPass {
     ghost use Rattle.std.specs.Prelude.{List};
+    ghost use Rattle.live_system.specs.Checked.{AreChecked};
     ghost use Rattle.live_system.specs.Groups.{IsOfGroup, known_links};
     ghost use Rattle.live_system.specs.Pass.{KnownLink};
 
@@ -59,19 +67,30 @@ impl Model for GroupPass {
 
     ghost view = { λ p. known_links p.net p.pass 0 p.counts.items };
 
-    ghost invariant = { λ p. IsOfGroup p.net p.pass p.counts.items };
+    ghost invariant = { λ p. IsOfGroup p.net p.pass p.counts.items × AreChecked (known_links p.net p.pass 0 p.counts.items) p.checks.items };
 }
 
 impl GroupPass {
-    /// A new pass on links with these counts.
-    pub(crate) fn new(net: Net, pass: PassOf<Group>, counts: Vec<LinkCounts>) -> GroupPass
+    /// A new pass on links with these counts and checks.
+    pub(crate) fn new(
+        net: Net,
+        pass: PassOf<Group>,
+        counts: Vec<LinkCounts>,
+        checks: Vec<NetChecks>,
+    ) -> GroupPass
         requires user { pass.user ≡ user_of net }
         requires list { pass.list ≡ no_calls_on_any }
         requires links { (settings : List Settings) × (links : List LiveLink) × (pass.fixed ≡ Some links) × (length settings ≡ length links) × AreNewCounts settings counts.items }
         requires some { 0 < length counts.items }
+        requires checks { AreChecked (known_links net pass 0 counts.items) checks.items }
         ensures { result ≡ known_links net pass 0 counts.items }
     {
-        GroupPass { net, pass, counts }
+        GroupPass {
+            net,
+            pass,
+            counts,
+            checks,
+        }
     }
 
     /// Number of calls on the link with this number, saturating at 2^64 - 1. None if no link of the group has it.
@@ -112,15 +131,18 @@ impl GroupPass {
     {
         let net = self.net;
         let octets = frame.whole;
+        let passed = self.checks[index].check(frame.sequence_number);
         let answer = lock.visit(
             rt,
             &mut self.pass,
             move |group: &mut Group| -> (u64, Verdict)
                 requires frame { IsFrame octets.now }
                 requires link { HasLinkAt group.old index (λ link. link_number_of octets.now ≡ link.core.settings.vl.0) }
+                requires passed { (link : LiveLink) → slice_get group.old index ≡ Some link → passed ≡ passes link.core.settings link.core.past (arrived net now octets.now) }
                 ensures { DoesAt (λ old new. Did (arrived net now octets.entry.now) old new result) group.old index group.new }
-            { take_at(group, index, net, now, octets) },
+            { take_at(group, index, net, passed, now, octets) },
         );
+        self.checks[index].note(frame.sequence_number, now);
         self.counts[index].add(net, answer.1);
         answer
     }
@@ -141,14 +163,17 @@ impl GroupPass {
     {
         let net = self.net;
         let octets = frame.whole;
+        let passed = self.checks[index].check(frame.sequence_number);
         let (place, verdict) = lock.try_visit(
             &mut self.pass,
             move |group: &mut Group| -> (u64, Verdict)
                 requires frame { IsFrame octets.now }
                 requires link { HasLinkAt group.old index (λ link. link_number_of octets.now ≡ link.core.settings.vl.0) }
+                requires passed { (link : LiveLink) → slice_get group.old index ≡ Some link → passed ≡ passes link.core.settings link.core.past (arrived net now octets.now) }
                 ensures { DoesAt (λ old new. Did (arrived net now octets.entry.now) old new result) group.old index group.new }
-            { take_at(group, index, net, now, octets) },
+            { take_at(group, index, net, passed, now, octets) },
         )?;
+        self.checks[index].note(frame.sequence_number, now);
         self.counts[index].add(net, verdict);
         Some((place, verdict))
     }
@@ -173,14 +198,16 @@ impl GroupPass {
         ensures together { All (λ e. IsApart (index_at places.now) e.0 row.now → (place : ℕ) × StandTogetherAt e.0 place replies.new) row.now }
     {
         let net = self.net;
+        let passed = test_each(&mut self.checks, places, row);
         let answers = lock.visit(
             rt,
             &mut self.pass,
             move |group: &mut Group| -> Answers
                 requires few { length row.now ≤ most_in_row }
+                requires passed { (checks : List Checks) × (news : List Checks) × AreStanding net group.old checks × TestsEach (index_at places.now) checks row.now (take (length row.now) passed) news }
                 requires frames { AreForLinks (index_at places.now) (length places.now) group.old row.now }
                 ensures { TookEach (index_at places.entry.now) net group.old row.entry.now (take (length row.entry.now) result) group.new }
-            { take_each(group, places, net, row) },
+            { take_each(group, places, net, &passed, row) },
         );
         tell_each(&mut self.counts, places, net, row, &answers, replies);
     }
@@ -238,7 +265,7 @@ impl GroupPass {
         lock: Lock<Group>,
         a: GroupPass,
         b: GroupPass,
-        links: &mut Vec<LinkWithPorts<PortOutlet>>,
+        links: &mut Vec<PortedLink<PortOutlet>>,
         counts_a: &mut Vec<LinkCounts>,
         counts_b: &mut Vec<LinkCounts>,
     )
@@ -255,11 +282,13 @@ impl GroupPass {
             net: _,
             pass: first,
             counts: a,
+            checks: _,
         } = a;
         let GroupPass {
             net: _,
             pass: second,
             counts: b,
+            checks: _,
         } = b;
         let Group { links: left } = lock.settle(first, second);
         add_reversed(left, links);

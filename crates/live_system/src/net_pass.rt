@@ -16,7 +16,7 @@ ghost use Rattle.live_system.specs.System.{keeping_no_frame};
 use crate::link_pass::GroupPass;
 use es_base::{FilterCause, FilterTally, LinkNo, Memory, Net};
 use network_calls::LinkCounts;
-use receiver::{LinkWithPorts, PortOutlet};
+use receiver::{PortOutlet, PortedLink};
 use std::alloc::Global;
 use std::marker::Model;
 
@@ -29,7 +29,7 @@ pub struct NetPass {
     pub(crate) filtered: FilterTally,
     /// Room for all links in the pass of network A, so that `settle` takes no memory. It is here and not in the system,
     /// which threads share: a link may be sent to another thread, and not shared.
-    pub(crate) settled: Vec<LinkWithPorts<PortOutlet>>,
+    pub(crate) settled: Vec<PortedLink<PortOutlet>>,
     /// Room for the counts on all links.
     pub(crate) counts: Vec<LinkCounts>,
 }

@@ -8,15 +8,17 @@ ghost use Rattle.receiver.specs.Port.{ReadsPort, ShowsPort};
 ghost use Rattle.receiver.specs.Receiver.{AreNewLinks};
 ghost use Rattle.network_calls.specs.Passes.{AreIdle, ArePasses};
 ghost use Rattle.live_system.specs.Calls.{LiveLink};
+ghost use Rattle.live_system.specs.Checked.{AreNewChecks};
 ghost use Rattle.live_system.specs.Groups.{AreNewCounts, IsGroup, ids_of};
 ghost use Rattle.live_system.specs.System.{KnowLinks, keeping_no_frame};
 
 use crate::group::Group;
 use crate::link_pass::GroupPass;
 use es_base::{LinkSettings, Memory, Net};
+use link_core::NetChecks;
 use link_lock::{Lock, Opened};
 use network_calls::LinkCounts;
-use receiver::{LinkEnds, LinkWithPorts, PartitionEnd, PortOutlet, Readers};
+use receiver::{LinkEnds, PartitionEnd, PortOutlet, PortedLink, Readers};
 use std::alloc::Global;
 
 /// A group of links under its lock, and the passes of both networks on it.
@@ -43,6 +45,8 @@ pub(crate) fn open_group<R: Readers>(
 {
     let counts_a = new_counts(alloc, links)?;
     let counts_b = new_counts(alloc, links)?;
+    let checks_a = new_checks(alloc, links)?;
+    let checks_b = new_checks(alloc, links)?;
     let links = open_links(alloc, links, readers, ends)?;
     let Opened {
         lock,
@@ -51,8 +55,8 @@ pub(crate) fn open_group<R: Readers>(
     } = Lock::open(alloc, Group { links })?;
     Ok(OpenedGroup {
         lock,
-        a: GroupPass::new(Net::A, first, counts_a),
-        b: GroupPass::new(Net::B, second, counts_b),
+        a: GroupPass::new(Net::A, first, counts_a, checks_a),
+        b: GroupPass::new(Net::B, second, counts_b, checks_b),
     })
 }
 
@@ -62,13 +66,13 @@ fn open_links<R: Readers>(
     links: &[LinkSettings],
     readers: &R,
     ends: &mut Vec<LinkEnds<PartitionEnd>>,
-) -> Result<Vec<LinkWithPorts<PortOutlet>>, Memory>
+) -> Result<Vec<PortedLink<PortOutlet>>, Memory>
     ensures { IfOk result (λ opened. (more : List (LinkEnds PartitionEnd)) × (ends.new.items ≡ ends.old.items ++ more)
         × AreNewLinks ShowsPort (reads_by ReadsPort (R.count readers.now)) links.now opened.items more) }
 {
-    let mut opened = Vec::new(alloc);
+    let mut opened = Vec::with_capacity(alloc, links.len())?;
     'links: for settings in links {
-        let (link, ports) = LinkWithPorts::<PortOutlet>::open(alloc, settings, readers)?;
+        let (link, ports) = PortedLink::<PortOutlet>::open(alloc, settings, readers)?;
         opened.push(link)?;
         let vl = settings.vl();
         ends.push(LinkEnds { vl, ports })?;
@@ -80,9 +84,20 @@ fn open_links<R: Readers>(
 fn new_counts(alloc: Global, links: &[LinkSettings]) -> Result<Vec<LinkCounts>, Memory>
     ensures { IfOk result (λ counts. AreNewCounts links.now counts.items) }
 {
-    let mut counts = Vec::new(alloc);
+    let mut counts = Vec::with_capacity(alloc, links.len())?;
     'links: for settings in links {
         counts.push(LinkCounts::new(settings.vl()))?;
     }
     Ok(counts)
+}
+
+/// What a network alone keeps of links with these settings, before the first frame.
+fn new_checks(alloc: Global, links: &[LinkSettings]) -> Result<Vec<NetChecks>, Memory>
+    ensures { IfOk result (λ checks. AreNewChecks links.now checks.items) }
+{
+    let mut checks = Vec::with_capacity(alloc, links.len())?;
+    'links: for settings in links {
+        checks.push(NetChecks::new(settings.window()))?;
+    }
+    Ok(checks)
 }

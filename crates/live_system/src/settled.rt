@@ -9,10 +9,10 @@ use crate::net_pass::NetPass;
 use crate::system::LiveSystem;
 use es_base::Net;
 use network_calls::PassCounts;
-use receiver::{LinkWithPorts, PortOutlet};
+use receiver::{PortOutlet, PortedLink};
 
 /// A system that has ended: its links, in their order, and the counts of the passes of networks A and B.
-pub type Settled = network_calls::Settled<LinkWithPorts<PortOutlet>>;
+pub type Settled = network_calls::Settled<PortedLink<PortOutlet>>;
 
 impl LiveSystem {
     /// Ends the system. The calls in each link's past are those of both passes, each at its place, and its counts

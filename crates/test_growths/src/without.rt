@@ -363,7 +363,7 @@ fn check_live(rt: &(impl Abort + Wait), alloc: Global, case: &Case) {
     let settled = live.settle();
     for link in &settled.links {
         assert!(rt; link.received() == (frames.len() as u64).wrapping_mul(200));
-        assert!(rt; link.tally().count(B, 2) > 0);
+        assert!(rt; settled.b.count(link.settings().vl(), 2) > 0);
     }
 }
 

@@ -30,11 +30,12 @@ fn check_example<R: Abort + Threads + Wait + Sync>(rt: &R, alloc: Global) {
     let [to_b, ..] = to_b;
     assert!(rt; is_of_link_17(to_a) && is_of_link_17(to_b));
     assert!(rt; settled.a.calls(LINK_17) == 1 && settled.b.calls(LINK_17) == 1);
+    let (a, b) = (&settled.a, &settled.b);
+    let sampled = a.count(LINK_17, 10).wrapping_add(b.count(LINK_17, 10));
+    let redundant = a.count(LINK_17, 2).wrapping_add(b.count(LINK_17, 2));
+    assert!(rt; sampled == 1 && redundant == 1);
     for link in &settled.links {
-        let tally = link.tally();
-        let sampled = tally.count(A, 10).wrapping_add(tally.count(B, 10));
-        let redundant = tally.count(A, 2).wrapping_add(tally.count(B, 2));
-        assert!(rt; link.received() == 2 && sampled == 1 && redundant == 1);
+        assert!(rt; link.received() == 2);
     }
 }
 

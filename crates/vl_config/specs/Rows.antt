@@ -33,6 +33,7 @@ name_if None = Err (Range keys.Name)
 name_if (Some text) = name_from text
 
 -- the name at the beginning of its room, of 16 octets
+-- rule: CONF-10
 abbrev pub name_of_row : PortRow → Result (List ℕ) ConfigFault
 name_of_row row = if nat_le row.name_len 16 then name_if (text_of (take row.name_len row.name)) else Err (Range keys.Name)
 
@@ -44,10 +45,12 @@ is_this name (Err fault) = false
 abbrev pub has_row_name : List ℕ → PortRow → Bool
 has_row_name name row = is_this name (name_of_row row)
 
+-- rule: CONF-11
 abbrev pub service_of_row : PortRow → Result Service ConfigFault
 service_of_row row = if row.service == 1 then Ok Sampling else if row.service == 2 then Ok Queuing else Err (Range keys.Kind)
 
 -- a sampling port with its refresh period in microseconds, a queuing port with its depth in messages
+-- rule: CONF-15, CONF-16
 abbrev pub kind_of_row : Service → PortRow → Result PortKind ConfigFault
 kind_of_row Sampling row = do
   refresh ← bounded keys.RefreshUs 0 longest_refresh row.limit
@@ -57,6 +60,7 @@ kind_of_row Queuing row = do
   Ok (kinds.Queuing depth)
 
 -- the port of this row, after the ports of the earlier links and after these ports of its own link
+-- rule: CONF-13, CONF-14, CONF-18
 abbrev pub port_of_row : List Port → List Port → PortRow → Result Port ConfigFault
 port_of_row earlier ports row = do
   name ← name_of_row row
@@ -88,16 +92,19 @@ ports_of_rows earlier = read_each (port_of_row earlier) []
 
 -- ---- a link
 
+-- rule: CONF-6
 abbrev pub redundancy_of_row : LinkRow → Result Bool ConfigFault
 redundancy_of_row row = if row.redundancy == 0 then Ok false else if row.redundancy == 1 then Ok true else Err (Range keys.Redundancy)
 
 -- the link number, which no earlier link has
+-- rule: CONF-4
 abbrev pub link_number_of_row : List Settings → LinkRow → Result ℕ ConfigFault
 link_number_of_row links row = do
   vl ← bounded keys.Vl 0 greatest_u16 row.vl
   unless (list_any (has_link_number vl) links) DoubleLink vl
 
 -- the rows of its ports: the first of those that are left
+-- rule: CONF-9
 abbrev pub rows_of_link : List PortRow → LinkRow → Result (List PortRow) ConfigFault
 rows_of_link rest row =
     if nat_lt most_ports row.ports then Err TooMany
@@ -113,6 +120,7 @@ pub record RowHead : Type 0 where
   pub window : ℕ
   pub rows : List PortRow
 
+-- rule: CONF-5, CONF-7, CONF-8, CONF-18
 abbrev pub head_of_row : List Settings → List PortRow → LinkRow → Result RowHead ConfigFault
 head_of_row links rest row = do
   vl ← link_number_of_row links row
@@ -148,6 +156,7 @@ GivesLink (Err fault) wanted = (fault.0 ≡ Memory) ⊎ (wanted ≡ Err fault)
 
 -- ---- the table
 
+-- rule: CONF-24
 abbrev pub on_row : Result Settings (ConfigFault × Option ℕ) → ℕ → (Settings → Result (List Settings) TableFault) → Result (List Settings) TableFault
 on_row (Ok link) at next = next link
 on_row (Err fault) at next = Err (record { fault = fault.0; place = record { link = Some at; port = fault.1 } })
@@ -167,7 +176,7 @@ config_with constant (Ok links) = Ok (record { constant = constant; links = link
 config_with constant (Err fault) = Err fault
 
 -- the configuration of a table, or its first fault with its place
--- rule: CONF-26
+-- rule: CONF-3, CONF-18, CONF-26
 abbrev pub table_of : List ℕ → List LinkRow → List PortRow → Result Configuration TableFault
 table_of constant [] ports = Err (record { fault = Missing keys.Link; place = nowhere })
 table_of constant (row ∷ rows) ports =

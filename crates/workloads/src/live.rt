@@ -8,12 +8,12 @@ ghost use Rattle.live_system.specs.System.{IsPassOf};
 
 use crate::configs::{DEPTH, Shape, config_of};
 use crate::digest::Digest;
-use crate::outcomes::{Replies, add_tally};
+use crate::outcomes::Replies;
 use crate::pace::{BATCH, BATCHES, SKEW, wait_for};
 use crate::profiles::{Profile, traffic};
 use crate::refused;
 use crate::traffic::{Sent, Traffic};
-use es_base::{FilterCause, Memory, Net};
+use es_base::{FilterCause, LinkNo, Memory, Net, VERDICT_KINDS};
 use live_system::{
     LinkEnds, LiveSystem, MailboxReader, NetPass, Opened, PartitionEnd, ReaderCount, Reply,
     RingTaker, Settled,
@@ -307,9 +307,17 @@ fn give_all<R: Wait>(
 /// Adds the counts of each link.
 fn add_settled(digest: &mut Digest, settled: &Settled) {
     for link in settled.links.iter() {
-        add_tally(digest, link.tally());
+        add_counts(digest, settled, link.settings().vl());
         digest.add(link.received());
         digest.add(link.given_up());
+    }
+}
+
+/// Adds the counts of the link with this number, of both networks together.
+fn add_counts(digest: &mut Digest, settled: &Settled, vl: LinkNo) {
+    for kind in 1..=VERDICT_KINDS {
+        let on_a = settled.a.count(vl, kind);
+        digest.add(on_a.wrapping_add(settled.b.count(vl, kind)));
     }
 }
 

@@ -5,6 +5,7 @@ use Rattle.es_base.specs.Settings.{Settings}
 use Rattle.link_lock.specs.declared.user.User.TheVariants.{First, Second}
 use Rattle.live_system.specs.Calls.{LiveLink, as_opened}
 use Rattle.live_system.specs.Groups.{GroupUser, known_links}
+use Rattle.live_system.proofs.Checks.{new_checked}
 use Rattle.live_system.proofs.Groups.{known_many}
 use Rattle.live_system.proofs.Openings.{agree_new, as_many_counts, is_opened, opened_new, opened_passes}
 use Rattle.live_system.proofs.opened_group.open_group.Goals as goal
@@ -20,6 +21,14 @@ new-requires-clause-links g c =
     ap (λ (ss : List Settings). length ss) (sym opened.1) ∙ (length-map links (λ (l : LiveLink). l.core.settings) ∙ sym (length-map links as_opened)) in
     (c.args.links.now, map as_opened links, ap (λ (p : GroupUser). p.fixed) c.in_ok-lock.ensures.first, many, c.in_ok-counts_a.ensures)
 
+pub new-requires-clause-checks : goal.new-requires-clause-checks
+new-requires-clause-checks g c =
+    let links = c.in_ok-links.links.items in
+    let opened = opened_new (g.R.Readers.count c.args.readers.now) c.args.links.now links c.in_ok-links.ensures.0 c.in_ok-links.ensures.2 in
+    new_checked A c.in_ok-lock.field-0.first links c.args.links.now c.in_ok-counts_a.counts_a.items c.in_ok-checks_a.checks_a.items
+    (ap (λ (p : GroupUser). p.list) c.in_ok-lock.ensures.first) (ap (λ (p : GroupUser). p.fixed) c.in_ok-lock.ensures.first) opened.1
+    (as_many_counts c.args.links.now c.in_ok-counts_a.counts_a.items c.in_ok-counts_a.ensures) c.in_ok-checks_a.ensures
+
 pub new-requires-clause-some : goal.new-requires-clause-some
 new-requires-clause-some g c = let many = as_many_counts c.args.links.now c.in_ok-counts_a.counts_a.items c.in_ok-counts_a.ensures in omega (arith, many, c.requires)
 
@@ -30,6 +39,14 @@ new-requires-2-clause-links g c =
     let many : length c.args.links.now ≡ length (map as_opened links) =
     ap (λ (ss : List Settings). length ss) (sym opened.1) ∙ (length-map links (λ (l : LiveLink). l.core.settings) ∙ sym (length-map links as_opened)) in
     (c.args.links.now, map as_opened links, ap (λ (p : GroupUser). p.fixed) c.in_ok-lock.ensures.second, many, c.in_ok-counts_b.ensures)
+
+pub new-requires-2-clause-checks : goal.new-requires-2-clause-checks
+new-requires-2-clause-checks g c =
+    let links = c.in_ok-links.links.items in
+    let opened = opened_new (g.R.Readers.count c.args.readers.now) c.args.links.now links c.in_ok-links.ensures.0 c.in_ok-links.ensures.2 in
+    new_checked B c.in_ok-lock.field-0.second links c.args.links.now c.in_ok-counts_b.counts_b.items c.in_ok-checks_b.checks_b.items
+    (ap (λ (p : GroupUser). p.list) c.in_ok-lock.ensures.second) (ap (λ (p : GroupUser). p.fixed) c.in_ok-lock.ensures.second) opened.1
+    (as_many_counts c.args.links.now c.in_ok-counts_b.counts_b.items c.in_ok-counts_b.ensures) c.in_ok-checks_b.ensures
 
 pub new-requires-2-clause-some : goal.new-requires-2-clause-some
 new-requires-2-clause-some g c = let many = as_many_counts c.args.links.now c.in_ok-counts_b.counts_b.items c.in_ok-counts_b.ensures in omega (arith, many, c.requires)

@@ -7,10 +7,8 @@ returns c = (
     refl,
     (λ _. tt),
     record {
-      tally = refl;
       delivered = refl;
-      checked = c.note.ensures.past;
-      timed = c.note.ensures.times;
+      managed = λ o past e stands number time is. rw (is, number, time) (c.note_forwarded.ensures _ _ stands);
       waiting = λ limit groups stands. c.offer.follows.holds-at-none limit groups stands;
     },
   ),

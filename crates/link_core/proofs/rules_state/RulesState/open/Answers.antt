@@ -10,10 +10,9 @@ zeros (suc n) (suc port) = zeros n port
 pub returns : goal.returns
 returns c = record {
   keeps = record {
-    checked = record { a = rw c.window.ensures.value at c.new-2.ensures.a; b = rw c.window.ensures.value at c.new-2.ensures.b; redundancy = rw c.skew_max.ensures at c.new-2.ensures.redundancy };
+    managed = rw c.skew_max.ensures at c.opening.ensures;
     waiting = rw c.reassembly.ensures at c.in_ok-reassembly.ensures.pieces;
-    counted = let zero = c.opening.ensures in λ net kind is. zero net kind is;
     numbered = λ port. zeros 32 port;
   };
-  tells = record { times = c.new-2.ensures.times; given_up = c.in_ok-reassembly.ensures.given_up };
+  tells = c.in_ok-reassembly.ensures.given_up;
 }

@@ -35,15 +35,16 @@ invariant_of-self g c =
     let s = c.self.inside in
     let visit = c.visit.ensures in
     let done = done_as (λ (olds : List LiveLink) (news : List LiveLink). DoesAt (λ (old : LiveLink) (new : LiveLink). MeetsTaker c.args.port c.args.taker c.visit.result old new) olds c.args.index news) visit.does.shows visit.does.leaves visit.does.met in
-    (known_still s.net _ s.pass _ visit c.args.index (λ (old : LiveLink) (new : LiveLink). MeetsTaker c.args.port c.args.taker c.visit.result old new) done s.counts.items c.self.invariant
-    (no_call done.before done.after done.does.core done.does.received done.does.outlets (pass_at s.pass c.args.index) (lists_at visit.lists c.args.index) (link_found s.pass visit.lists visit.found visit.finds c.args.index done.before done.there))).0
+    let still = (known_still s.net _ s.pass _ visit c.args.index (λ (old : LiveLink) (new : LiveLink). MeetsTaker c.args.port c.args.taker c.visit.result old new) done s.counts.items c.self.invariant.0
+    (no_call done.before done.after done.does.core done.does.received done.does.outlets (pass_at s.pass c.args.index) (lists_at visit.lists c.args.index) (link_found s.pass visit.lists visit.found visit.finds c.args.index done.before done.there))) in
+    (still.0, rw still.1 c.self.invariant.1)
 
 pub returns-clause-pass : goal.returns-clause-pass
 returns-clause-pass g c =
     let s = c.self.inside in
     let visit = c.visit.ensures in
     let done = done_as (λ (olds : List LiveLink) (news : List LiveLink). DoesAt (λ (old : LiveLink) (new : LiveLink). MeetsTaker c.args.port c.args.taker c.visit.result old new) olds c.args.index news) visit.does.shows visit.does.leaves visit.does.met in
-    rw (← c.self.view_is) ((known_still s.net _ s.pass _ visit c.args.index (λ (old : LiveLink) (new : LiveLink). MeetsTaker c.args.port c.args.taker c.visit.result old new) done s.counts.items c.self.invariant
+    rw (← c.self.view_is) ((known_still s.net _ s.pass _ visit c.args.index (λ (old : LiveLink) (new : LiveLink). MeetsTaker c.args.port c.args.taker c.visit.result old new) done s.counts.items c.self.invariant.0
     (no_call done.before done.after done.does.core done.does.received done.does.outlets (pass_at s.pass c.args.index) (lists_at visit.lists c.args.index) (link_found s.pass visit.lists visit.found visit.finds c.args.index done.before done.there))).1)
 
 pub returns-clause-meets : goal.returns-clause-meets
@@ -52,4 +53,4 @@ returns-clause-meets g c =
     let visit = c.visit.ensures in
     let done = done_as (λ (olds : List LiveLink) (news : List LiveLink). DoesAt (λ (old : LiveLink) (new : LiveLink). MeetsTaker c.args.port c.args.taker c.visit.result old new) olds c.args.index news) visit.does.shows visit.does.leaves visit.does.met in
     let known = counts_there s.net s.pass s.counts.items c.args.lock.now c.args.index (λ (link : LiveLink). HasOutletAt link c.args.port (λ (outlet : PortOutlet). IsQueueOf outlet c.args.taker)) (rw (← c.self.view_is) at c.requires) in
-    rw (← c.self.view_is) (met_at s.net _ s.pass _ visit c.args.index (λ (old : LiveLink) (new : LiveLink). MeetsTaker c.args.port c.args.taker c.visit.result old new) done s.counts.items c.self.invariant known.0 known.1)
+    rw (← c.self.view_is) (met_at s.net _ s.pass _ visit c.args.index (λ (old : LiveLink) (new : LiveLink). MeetsTaker c.args.port c.args.taker c.visit.result old new) done s.counts.items c.self.invariant.0 known.0 known.1)
