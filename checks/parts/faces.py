@@ -43,13 +43,13 @@ STRUCTS_OF_C = {
     "FaultReply": "yelunnavi_fault", "FrameReply": "yelunnavi_verdict", "ReadReply": "yelunnavi_read",
     "TakeReply": "yelunnavi_taken", "LinkReply": "yelunnavi_link", "PortReply": "yelunnavi_port",
     "PlaceReply": "yelunnavi_place", "LimitReply": "yelunnavi_limits", "HeldOctets": "yelunnavi_octets",
-    "HealthReply": "yelunnavi_health", "FillReply": "yelunnavi_fill",
+    "HealthReply": "yelunnavi_health", "LinkHealthReply": "yelunnavi_link_health", "FillReply": "yelunnavi_fill",
     "LinkRow": "yelunnavi_link_row", "PortRow": "yelunnavi_port_row",
     **{f"{kind}Handle": f"yelunnavi_{kind.lower()}" for kind in KINDS_OF_HANDLES}, "TakerHandle": "yelunnavi_queue",
 }
 STRUCTS_OF_RUST = {
     "FaultReply": "Fault", "FrameReply": "Verdict", "ReadReply": "Read", "TakeReply": "Taken", "LinkReply": "Link",
-    "HealthReply": "Health", "FillReply": "Fill",
+    "HealthReply": "Health", "LinkHealthReply": "LinkHealth", "FillReply": "Fill",
     "PortReply": "Port", "PlaceReply": "Place", "LimitReply": "Limits", "LinkRow": "LinkRow", "PortRow": "PortRow", "HeldOctets": "Held",
 }
 STRUCTS_OF_ADA = {"Verdict_Reply": "FrameReply"}

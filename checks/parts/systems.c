@@ -54,10 +54,12 @@ static void want_no_system(struct yelunnavi_system *h) {
 
 static void want_no_pass(struct yelunnavi_pass *h) {
     struct yelunnavi_verdict told;
+    struct yelunnavi_link_health health;
     uint64_t count;
     WANT(NOT_MADE, yelunnavi_pass_receive(h, 0, FRAME, sizeof FRAME, &told));
     WANT(NOT_MADE, yelunnavi_pass_count(h, 0, YELUNNAVI_VERDICT_SAMPLED, &count));
     WANT(NOT_MADE, yelunnavi_pass_filtered(h, YELUNNAVI_FILTER_TOO_SHORT, &count));
+    WANT(NOT_MADE, yelunnavi_pass_health(h, 0, &health));
     yelunnavi_pass_close(h);
 }
 
@@ -86,9 +88,11 @@ static void of_rooms(void) {
 
 static void of_passes(void) {
     struct yelunnavi_verdict told;
+    struct yelunnavi_link_health health;
     uint64_t count = 77;
     WANT(NOT_OPEN, yelunnavi_system_hand_pass(&both, YELUNNAVI_A, &passes[0]));
     WANT(NOT_OPEN, yelunnavi_pass_receive(&passes[0], 0, FRAME, sizeof FRAME, &told));
+    WANT(NOT_OPEN, yelunnavi_pass_health(&passes[0], 0, &health));
     WANT(FAULTY, yelunnavi_system_open(&both, TEXT("[[link]]\nvl = 1\nskew_max_us = -1"), 1, &fault));
     if (fault.fault != YELUNNAVI_FAULT_RANGE || fault.key != YELUNNAVI_KEY_SKEW_MAX_US || fault.line != 3) exit(15);
     WANT(DONE, yelunnavi_system_open(&both, TEXT(CONFIG), 1, &fault));
@@ -111,6 +115,9 @@ static void of_passes(void) {
     WANT(NO_PLACE, yelunnavi_pass_count(&passes[1], 1, YELUNNAVI_VERDICT_SAMPLED, &count));
     WANT(NO_KIND, yelunnavi_pass_filtered(&passes[1], 6, &count));
     if (count != 1) exit(20);
+    WANT(DONE, yelunnavi_pass_health(&passes[1], 0, &health));
+    if (health.came != 1 || health.latest != 1000 || health.received != 2 || health.given_up != 0) exit(29);
+    WANT(NO_PLACE, yelunnavi_pass_health(&passes[1], 1, &health));
 }
 
 /* Passes and ends outlive the system, and each other. */

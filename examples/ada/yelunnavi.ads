@@ -12,7 +12,7 @@ package Yelunnavi is
    type Queue is limited record Room : System.Address; end record with Convention => C;
 
    --  The number of this interface: raised with each change of a struct, a call or a number. Library_Abi has the library's.
-   Abi : constant Unsigned_32 := 6;
+   Abi : constant Unsigned_32 := 7;
 
    subtype Code is Unsigned_32;
    Done : constant Code := 0;
@@ -130,6 +130,9 @@ package Yelunnavi is
    type Health_Reply is record
       Came_A, Came_B : Unsigned_32; Latest_A, Latest_B, Given_Up : Unsigned_64;
    end record with Convention => C;
+   type Link_Health_Reply is record
+      Came : Unsigned_32; Latest, Received, Given_Up : Unsigned_64;
+   end record with Convention => C;
    type Fill_Reply is record Waiting, Greatest : size_t; end record with Convention => C;
    type Port_Reply is record
       Service, Address, Udp, Max : Unsigned_32; Limit : Unsigned_64; Name_Length : size_t;
@@ -234,6 +237,8 @@ package Yelunnavi is
      with Import, Convention => C, External_Name => "yelunnavi_pass_receive";
    function Count (H : in out Pass; Link : size_t; Kind : Unsigned_32; Count : in out Unsigned_64) return Code
      with Import, Convention => C, External_Name => "yelunnavi_pass_count";
+   function Health (H : in out Pass; Link : size_t; Reply : in out Link_Health_Reply) return Code
+     with Import, Convention => C, External_Name => "yelunnavi_pass_health";
    function Filtered (H : in out Pass; Cause : Unsigned_32; Count : in out Unsigned_64) return Code
      with Import, Convention => C, External_Name => "yelunnavi_pass_filtered";
    procedure Close (H : in out Pass) with Import, Convention => C, External_Name => "yelunnavi_pass_close";

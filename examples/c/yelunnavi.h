@@ -116,7 +116,7 @@ extern "C" {
 typedef char yelunnavi_is_of_64_bits[((sizeof(size_t) == 8U) && (sizeof(void *) == 8U)) ? 1 : -1];
 
 /* The number of this interface: raised with each change of a struct, a call or a number. */
-#define YELUNNAVI_ABI 6
+#define YELUNNAVI_ABI 7
 
 /* The release of this header; one between two releases has that of the first. */
 #define YELUNNAVI_VERSION "0.4.0"
@@ -496,8 +496,8 @@ uint32_t yelunnavi_receiver_hand_reader(struct yelunnavi_receiver *h, struct yel
 uint32_t yelunnavi_receiver_hand_queue(struct yelunnavi_receiver *h, struct yelunnavi_queue *to, const uint8_t *name, size_t len);
 
 /* ---- a system: a receiver for two threads, one a network. It keeps no frame either, and its links, ports, verdicts and limits
-   are those of a receiver: the same frames in the same order come to the same. It tells neither health nor fill: both
-   need a look at the link, which the thread of the other network may have just then. See BUSY above */
+   are those of a receiver: the same frames in the same order come to the same. Its passes tell how a link is, and no
+   fill: that needs a look at the link, which the thread of the other network may have just then. See BUSY above */
 
 /* Opens the system of a configuration: as yelunnavi_receiver_open, and with its answers. */
 uint32_t yelunnavi_system_open(struct yelunnavi_system *h, const uint8_t *text, size_t len, size_t readers, struct yelunnavi_fault *fault);
@@ -534,6 +534,17 @@ uint32_t yelunnavi_pass_receive(struct yelunnavi_pass *h, uint64_t now, const ui
 /* Tells how many frames of the link at this place came on the network of the pass with a verdict of this kind; VERDICT_FILTERED is
    none. The pass of the other network tells of that one. NOT_OPEN, NO_KIND, NO_PLACE, tested in this order. */
 uint32_t yelunnavi_pass_count(struct yelunnavi_pass *h, size_t link, uint32_t kind, uint64_t *count);
+
+struct yelunnavi_link_health {
+    uint32_t came;     /* 1: a frame came on the network of the pass. 0: none did */
+    uint64_t latest;   /* when the latest of these came, as it was given; 0 if none came */
+    uint64_t received; /* how many frames came to the link, on both networks */
+    uint64_t given_up; /* how many datagrams of which fragments came were given up before they were complete */
+};
+
+/* Tells how the link at this place is: what is of both networks, as it was at one moment of the call. The pass of the other network
+   tells of the latest there. NOT_OPEN, NO_PLACE; BUSY, and then nothing is told: see BUSY above. */
+uint32_t yelunnavi_pass_health(struct yelunnavi_pass *h, size_t link, struct yelunnavi_link_health *reply);
 
 /* Tells how many frames were filtered on the network of the pass for this cause. NOT_OPEN, NO_KIND. */
 uint32_t yelunnavi_pass_filtered(struct yelunnavi_pass *h, uint32_t cause, uint64_t *count);

@@ -113,7 +113,7 @@ impl Key {
 }
 
 /// The number of this interface: raised with each change of a struct, a call or a number.
-pub const ABI: u32 = 6;
+pub const ABI: u32 = 7;
 pub const MOST_LINKS: usize = 64;
 /// Of a link.
 pub const MOST_PORTS: usize = 32;
@@ -153,6 +153,9 @@ replies! {
     /// How a link is: whether a frame came on each network, 1 or 0, when the latest did, in microseconds, and how many
     /// datagrams of which fragments came were given up.
     Health { came_a: u32, came_b: u32, latest_a: u64, latest_b: u64, given_up: u64 }
+    /// How a link is, by the pass of one network: whether a frame came on that, 1 or 0, when the latest did, in microseconds;
+    /// of both networks, how many frames came, and how many datagrams of which fragments came were given up.
+    LinkHealth { came: u32, latest: u64, received: u64, given_up: u64 }
     /// How full the queue of a port is: how many messages wait, and the greatest number that waited, counted after each
     /// message that was delivered.
     Fill { waiting: usize, greatest: usize }
@@ -245,6 +248,7 @@ calls! {
     yelunnavi_system_place(h: *mut Handle, name: *const u8, len: usize, reply: *mut Place) -> Code;
     yelunnavi_pass_receive(h: *mut Handle, now: u64, frame: *const u8, len: usize, reply: *mut Verdict) -> Code;
     yelunnavi_pass_count(h: *mut Handle, link: usize, kind: VerdictKind, count: *mut u64) -> Code;
+    yelunnavi_pass_health(h: *mut Handle, link: usize, reply: *mut LinkHealth) -> Code;
     yelunnavi_pass_filtered(h: *mut Handle, cause: FilterCause, count: *mut u64) -> Code;
     yelunnavi_pass_close(h: *mut Handle);
     yelunnavi_reader_read(h: *mut Handle, now: u64, out: *mut u8, len: usize, reply: *mut Read) -> Code;
@@ -454,6 +458,11 @@ impl Pass<'_> {
 
     pub fn count(&mut self, link: usize, kind: VerdictKind) -> Result<u64, Code> {
         told(|count| unsafe { yelunnavi_pass_count(&mut self.handle, link, kind, count) })
+    }
+
+    /// How the link at this place is. BUSY: the thread of the other network has it just now.
+    pub fn health(&mut self, link: usize) -> Result<LinkHealth, Code> {
+        told(|reply| unsafe { yelunnavi_pass_health(&mut self.handle, link, reply) })
     }
 
     pub fn filtered(&mut self, cause: FilterCause) -> Result<u64, Code> {

@@ -1,5 +1,5 @@
 -- What a pass keeps of integrity checking, and the links that it finds.
-use Rattle.std.proofs.Common.{◌≡◌, ◌∙◌, Bool, true, false, ap, refl, sym, subst, zero, suc, ℕ, ◌+◌, ◌<◌, List, [], ◌∷◌, ◌++◌, append-nil, drop, length, map, reverse, set, Option, Some, arith, if◌then◌else◌, ⊎_elim}
+use Rattle.std.proofs.Common.{◌≡◌, ◌∙◌, Bool, true, false, ap, refl, sym, subst, zero, suc, ℕ, ◌+◌, ◌<◌, List, [], ◌∷◌, ◌++◌, append-nil, drop, length, map, reverse, set, Option, None, Some, arith, if◌then◌else◌, ⊎_elim}
 use Rattle.std.specs.Prelude.{slice_index_or}
 use Rattle.std.specs.List.{slice_get}
 use Rattle.std.proofs.lemmas.List.{map-append, reverse-append}
@@ -25,7 +25,7 @@ use Rattle.network_calls.specs.Calls.{call, call_of, calls_from, net_of, user_of
 use Rattle.network_calls.proofs.Events.{calls_append}
 use Rattle.network_calls.proofs.Networks.{back, same_net}
 use Rattle.live_system.specs.Calls.{LiveLink, as_opened, events_of}
-use Rattle.live_system.specs.Checked.{AreChecked, AreNewChecks, AreStanding, IsChecked, Tests, TestsEach, numbers_of}
+use Rattle.live_system.specs.Checked.{AreChecked, AreNewChecks, AreStanding, IsChecked, Tests, TestsEach, latest_of, numbers_of}
 use Rattle.live_system.specs.Chunk.{Entries}
 use Rattle.live_system.specs.Groups.{AgreeEach, GroupUser, calls_at, known_links, opened_link_at, pass_at}
 use Rattle.live_system.specs.Pass.{KnownLink, known_link}
@@ -42,6 +42,9 @@ number c = sequence_number_of c.frame
 
 numbers_push : (calls : List Call) (c : Call) → numbers_of (calls ++ c ∷ []) ≡ sequence_number_of c.frame ∷ numbers_of calls
 numbers_push calls c = ap (λ (ns : List ℕ). reverse ns) (map-append number calls (c ∷ [])) ∙ reverse-append (map number calls) (number c ∷ [])
+
+times_push : (calls : List Call) (c : Call) → latest_of (calls ++ c ∷ []) ≡ Some c.time
+times_push calls c = ap (λ (ts : List ℕ). latest (reverse ts)) (map-append (λ (d : Call). d.time) calls (c ∷ [])) ∙ ap latest (reverse-append (map (λ (d : Call). d.time) calls) (c.time ∷ []))
 
 -- the calls of a network have the numbers of its events
 numbers_on : (net : Net) (past : List Event) → numbers_of (calls_from 0 net (reverse past)) ≡ sequence_numbers_on past net
@@ -71,7 +74,7 @@ checked_many [] (c ∷ checks) are = absurd are
 pub checks_within : (net : Net) (pass : GroupUser) (counts : List LinkCounts) (checks : List NetChecks) → AreChecked (known_links net pass 0 counts) checks → (at : ℕ) (k : KnownLink) → slice_get (known_links net pass 0 counts) at ≡ Some k → at < length checks
 checks_within net pass counts checks are at k is = omega (arith, slice_get_within (known_links net pass 0 counts) at k is, checked_many (known_links net pass 0 counts) checks are)
 
-checked_at : (passes : List KnownLink) (checks : List NetChecks) → AreChecked passes checks → (place : ℕ) (c : NetChecks) → slice_get checks place ≡ Some c → (k : KnownLink) × (slice_get passes place ≡ Some k) × IsChecked k c
+pub checked_at : (passes : List KnownLink) (checks : List NetChecks) → AreChecked passes checks → (place : ℕ) (c : NetChecks) → slice_get checks place ≡ Some c → (k : KnownLink) × (slice_get passes place ≡ Some k) × IsChecked k c
 checked_at [] [] are place c is = cc
 checked_at (k ∷ passes) (x ∷ checks) are zero c is = (k, refl, subst (IsChecked k) (same_Some x c is) are.0)
 checked_at (k ∷ passes) (x ∷ checks) are (suc place) c is = checked_at passes checks are.1 place c is
@@ -97,7 +100,7 @@ stand_found net pass counts checks user are lists found finds place link c link_
     let calls : its.0.calls ≡ calls_from 0 net (events_of link) =
     known.1 ∙ (sym one.own ∙ (one.agrees.calls pass.user ∙ ap (λ (n : Net). calls_from 0 n (events_of link)) (ap net_of user ∙ back net))) in
     let numbers : numbers_of its.0.calls ≡ sequence_numbers_on link.core.past net = ap numbers_of calls ∙ numbers_on net link.core.past in
-    subst (StandsFor c.sequence link.core.settings.window) numbers (its.2 (as_opened link) opened)
+    subst (StandsFor c.sequence link.core.settings.window) numbers (its.2.numbers (as_opened link) opened)
 
 -- a frame passes if it does by what stands for its link
 pub passes_by : (net : Net) (found : List LiveLink) (checks : List NetChecks) (at now : ℕ) (octets : List ℕ) (passed : Bool) (c : NetChecks) → AreStanding net found checks → slice_get checks at ≡ Some c
@@ -118,13 +121,16 @@ checked_set (k ∷ passes) (x ∷ checks) (suc at) before after c new are there_
 -- after one call more
 pub checked_call : (olds news : List KnownLink) (checks : List NetChecks) (at place now : ℕ) (octets : List ℕ) (verdict : Verdict) (c new : NetChecks) → AreChecked olds checks → CallsAt olds at (call place now octets verdict) news → slice_get checks at ≡ Some c
     → ((window : ℕ) (numbers : List ℕ) → StandsFor c.sequence window numbers → StandsFor new.sequence window (sequence_number_of octets ∷ numbers))
-    → AreChecked news (set checks at new)
-checked_call olds news checks at place now octets verdict c new are done is notes =
+    → new.latest ≡ Some now → AreChecked news (set checks at new)
+checked_call olds news checks at place now octets verdict c new are done is notes last =
     subst (λ (links : List KnownLink). AreChecked links (set checks at new)) (sym done.only)
     (checked_set olds checks at done.before done.after c new are done.there is
-    (λ was link known.
-    subst (StandsFor new.sequence link.core.settings.window) (sym (ap numbers_of done.does.calls ∙ numbers_push done.before.calls (call place now octets verdict)))
-    (notes _ _ (was link (sym done.does.link ∙ known)))))
+    (λ was. record {
+      numbers = λ link known.
+          subst (StandsFor new.sequence link.core.settings.window) (sym (ap numbers_of done.does.calls ∙ numbers_push done.before.calls (call place now octets verdict)))
+          (notes _ _ (was.numbers link (sym done.does.link ∙ known)));
+      times = last ∙ sym (ap latest_of done.does.calls ∙ times_push done.before.calls (call place now octets verdict));
+    }))
 
 -- after one frame more was taken
 pub standing_then : (net : Net) (found left : List LiveLink) (checks : List NetChecks) (at now : ℕ) (octets : List ℕ) (r : ℕ × Verdict) (c new : NetChecks) → AreStanding net found checks → TakesOne net at now octets r found left → slice_get checks at ≡ Some c
@@ -153,7 +159,7 @@ standing_then net found left checks at now octets r c new stands did is notes pl
 
 -- one frame more is tested
 pub tests_push : (index : ℕ → ℕ) (olds mids : List NetChecks) (es : Entries) (ps : List Bool) (e : Entry) (passed : Bool) (old new : NetChecks) → TestsEach index olds es ps mids → slice_get mids (index e.0) ≡ Some old
-    → Tests old (sequence_number_of e.1.1.now) passed new → TestsEach index olds (es ++ e ∷ []) (ps ++ passed ∷ []) (set mids (index e.0) new)
+    → Tests old (sequence_number_of e.1.1.now) e.1.0 passed new → TestsEach index olds (es ++ e ∷ []) (ps ++ passed ∷ []) (set mids (index e.0) new)
 tests_push index olds mids [] [] e passed old new told was one =
     (old, new, ap (λ (cs : List NetChecks). slice_get cs (index e.0)) (sym told) ∙ was, one, ap (λ (cs : List NetChecks). set cs (index e.0) new) told)
 tests_push index olds mids (d ∷ es) (p ∷ ps) e passed old new told was one = (told.0, told.1, told.2, told.3, tests_push index (set olds (index d.0) told.1) mids es ps e passed old new told.4 was one)
@@ -165,7 +171,7 @@ pub record Next (index : ℕ → ℕ) (olds : List NetChecks) (e : Entry) (passe
   pub old : NetChecks
   pub new : NetChecks
   pub was : slice_get olds (index e.0) ≡ Some old
-  pub tests : Tests old (sequence_number_of e.1.1.now) passed new
+  pub tests : Tests old (sequence_number_of e.1.1.now) e.1.0 passed new
   pub rest : TestsEach index (set olds (index e.0) new) es ps news
 
 pub tests_next : (index : ℕ → ℕ) (olds news : List NetChecks) (place : ℕ) (es : Entries) (ps : List Bool) → place < length es → TestsEach index olds (drop place es) (drop place ps) news
@@ -187,7 +193,7 @@ pub checked_each : (index : ℕ → ℕ) (olds news : List KnownLink) (checks af
 checked_each index olds news checks after [] [] [] are calls tests = rw (calls, tests) are
 checked_each index olds news checks after (e ∷ es) (r ∷ rs) (p ∷ ps) are calls tests =
     checked_each index calls.0 news (set checks (index e.0) tests.1) after es rs ps
-    (checked_call olds calls.0 checks (index e.0) calls.1 e.1.0 e.1.1.now calls.2 tests.0 tests.1 are calls.4 tests.2 tests.3.notes) calls.5 tests.4
+    (checked_call olds calls.0 checks (index e.0) calls.1 e.1.0 e.1.1.now calls.2 tests.0 tests.1 are calls.4 tests.2 tests.3.notes tests.3.last) calls.5 tests.4
 checked_each index olds news checks after [] [] (p ∷ ps) are calls tests = absurd tests
 checked_each index olds news checks after [] (r ∷ rs) ps are calls tests = absurd calls
 checked_each index olds news checks after (e ∷ es) [] ps are calls tests = absurd calls
@@ -195,7 +201,7 @@ checked_each index olds news checks after (e ∷ es) (r ∷ rs) [] are calls tes
 
 -- ---- the opening
 
-pub new_checks_push : (links : List Settings) (checks : List NetChecks) (settings : Settings) (c : NetChecks) → AreNewChecks links checks → StandsFor c.sequence settings.window [] → AreNewChecks (links ++ settings ∷ []) (checks ++ c ∷ [])
+pub new_checks_push : (links : List Settings) (checks : List NetChecks) (settings : Settings) (c : NetChecks) → AreNewChecks links checks → StandsFor c.sequence settings.window [] × (c.latest ≡ None) → AreNewChecks (links ++ settings ∷ []) (checks ++ c ∷ [])
 new_checks_push [] [] settings c are is = (is, tt)
 new_checks_push (s ∷ links) (x ∷ checks) settings c are is = (are.0, new_checks_push links checks settings c are.1 is)
 new_checks_push (s ∷ links) [] settings c are is = absurd are
@@ -211,10 +217,13 @@ new_from : (net : Net) (pass : GroupUser) (place : ℕ) (settings : List Setting
     → length counts ≡ length settings → AreNewChecks settings checks → AreChecked (known_links net pass place counts) checks
 new_from net pass place [] [] [] none each many are = tt
 new_from net pass place (s ∷ settings) (c ∷ counts) (x ∷ checks) none each many are = (
-  λ link known.
-      let z : place ≡ place + 0 = omega arith in
-      let same : link.core.settings ≡ s = each 0 link s (ap (opened_link_at pass.fixed) (sym z) ∙ known) refl in
-      rw (none, same) are.0,
+  record {
+    numbers = λ link known.
+        let z : place ≡ place + 0 = omega arith in
+        let same : link.core.settings ≡ s = each 0 link s (ap (opened_link_at pass.fixed) (sym z) ∙ known) refl in
+        rw (none, same) are.0.0;
+    times = rw none are.0.1;
+  },
   new_from net pass (suc place) settings counts checks none
       (λ i link t known is. let z : place + suc i ≡ suc place + i = omega arith in each (suc i) link t (ap (opened_link_at pass.fixed) z ∙ known) is) (omega (arith, many)) are.1,
 )

@@ -14,6 +14,7 @@ pub mod Opens
 pub mod Running
 pub mod Meets
 pub mod Knowing
+pub mod Telling
 pub mod Turns
 pub mod Entries
 pub mod Checks

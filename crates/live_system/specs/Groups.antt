@@ -149,6 +149,10 @@ KnowsAt group lock place IsSuch = (pass : KnownLink) × (slice_get group place �
 abbrev pub HasLinkAt : List LiveLink → ℕ → (LiveLink → Type 0) → Type 0
 HasLinkAt links place IsSuch = (link : LiveLink) × (slice_get links place ≡ Some link) × IsSuch link
 
+-- whatever link it is
+abbrev pub is_any : LiveLink → Type 0
+is_any link = Unit {0}
+
 -- what the counts of a link show of its calls, if there is such a link
 abbrev pub calls_shown : Option KnownLink → Option ℕ
 calls_shown None = None

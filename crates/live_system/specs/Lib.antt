@@ -3,6 +3,7 @@ pub mod Calls
 pub mod Checked
 pub mod Chunk
 pub mod Groups
+pub mod Health
 pub mod Meetings
 pub mod Pass
 pub mod Rows

@@ -21,6 +21,7 @@ mod chunk;
 mod crossing;
 mod cut;
 mod group;
+mod health;
 pub mod laws;
 mod link_pass;
 mod meetings;
@@ -33,6 +34,7 @@ mod system;
 mod visit;
 
 pub use crossing::may_cross;
+pub use health::LinkHealth;
 pub use net_pass::NetPass;
 pub use network_calls::{Call, PassCounts};
 pub use opened::Opened;

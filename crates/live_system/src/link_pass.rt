@@ -21,9 +21,10 @@ ghost use Rattle.network_calls.specs.Passes.{AreCounted, AreIdle, ArePasses, Doe
 ghost use Rattle.link_rules.specs.Integrity.{passes};
 ghost use Rattle.link_core.specs.declared.net_checks.NetChecks.{NetChecks as Checks};
 ghost use Rattle.live_system.specs.Burst.{StandTogetherAt, most_in_row};
-ghost use Rattle.live_system.specs.Checked.{AreChecked, AreStanding, TestsEach};
+ghost use Rattle.live_system.specs.Checked.{AreChecked, AreStanding, TestsEach, latest_of};
 ghost use Rattle.live_system.specs.Calls.{LiveLink, as_opened};
-ghost use Rattle.live_system.specs.Groups.{AreLetGo, AreNewCounts, HasLinkAt, IsGroup, KnowsAt, calls_shown, count_shown, ids_of, known_links, no_calls_on_any, under};
+ghost use Rattle.live_system.specs.Groups.{AreLetGo, AreNewCounts, HasLinkAt, IsGroup, KnowsAt, calls_shown, count_shown, ids_of, is_any, known_links, no_calls_on_any, under};
+ghost use Rattle.live_system.specs.Health.{TellsOfLink};
 ghost use Rattle.live_system.specs.Meetings.{MeetsReader, MeetsTaker, VisitsAt};
 ghost use Rattle.live_system.specs.Pass.{Did, KnownLink};
 ghost use Rattle.live_system.specs.Rows.{AreForLinks, CallsEach, IsApart, KnowsFor, TookEach, index_at};
@@ -31,6 +32,7 @@ ghost use Rattle.live_system.specs.System.{CallsAt, KnowLinks, keeping_no_frame}
 
 use crate::cut::LinkPlace;
 use crate::group::Group;
+use crate::health::{LinkHealth, health_at};
 use crate::meetings::{meet_reader, meet_taker};
 use crate::row::{Answers, Entry, take_at, take_each, tell_each, test_each};
 use es_base::{LinkNo, LinkSettings, Memory, Net, PortNo, Verdict};
@@ -113,6 +115,15 @@ impl GroupPass {
             Some(counts) => Some(counts.tally.count(self.net, kind)),
             None => None,
         }
+    }
+
+    /// Arrival time of the latest frame given to the link at this index of the group, in microseconds as given. None if
+    /// none was.
+    pub(crate) fn latest(&self, index: usize) -> Option<u64>
+        requires { index < length self.now }
+        ensures { (pass : KnownLink) → slice_get self.now index ≡ Some pass → result ≡ latest_of pass.calls }
+    {
+        self.checks[index].latest()
     }
 
     /// Gives the link at this index of the group a frame that came on the pass's network at `now`, in microseconds:
@@ -257,6 +268,23 @@ impl GroupPass {
                 ensures { DoesAt (λ found left. MeetsTaker port taker result found left) group.old index group.new }
             { meet_taker(group, index, port, taker) },
         )
+    }
+
+    /// What the link at this index of the group tells, if nobody has the group at this moment. `None` if the other network
+    /// has a link of it. Waits for nobody.
+    pub(crate) fn try_health(&mut self, lock: &Lock<Group>, index: usize) -> Option<LinkHealth>
+        requires { KnowsAt self.old lock.now index is_any }
+        ensures pass { self.new ≡ self.old }
+        ensures health { IfSome result (λ health. VisitsAt self.old index (λ found left. TellsOfLink health found left)) }
+    {
+        let health = lock.try_visit(
+            &mut self.pass,
+            move |group: &mut Group| -> LinkHealth
+                requires { HasLinkAt group.old index is_any }
+                ensures { DoesAt (λ found left. TellsOfLink result found left) group.old index group.new }
+            { health_at(group, index) },
+        )?;
+        Some(health)
     }
 
     /// Ends the lock of a group, whose passes these are, and adds its links and what both passes counted on them, each

@@ -15,6 +15,7 @@ use Rattle.receiver_slots.specs.Receiving.{Receiving}
 use Rattle.receiver_slots.specs.Replies.{or_0}
 use Rattle.receiver_slots.specs.declared.told.replies.FillReply.{FillReply}
 use Rattle.receiver_slots.specs.declared.told.replies.HealthReply.{HealthReply}
+use Rattle.receiver_slots.specs.declared.told.replies.LinkHealthReply.{LinkHealthReply}
 
 -- 0: no frame came; 1: one came
 abbrev pub came_number : Option ℕ → ℕ
@@ -29,6 +30,10 @@ health_reply_of link = record {
   latest_b = or_0 (latest_on link.core.past nets.B);
   given_up = shown (number_given_up link.core.settings link.core.past);
 }
+
+-- by the time of its latest frame on a network, and the numbers of its frames and of the groups of pieces given up
+abbrev pub link_health_reply_of : Option ℕ → ℕ → ℕ → LinkHealthReply
+link_health_reply_of latest received given_up = record { came = came_number latest; latest = or_0 latest; received = received; given_up = given_up }
 
 abbrev pub health_code : Option Receiving → ℕ → ℕ
 health_code None place = not_open

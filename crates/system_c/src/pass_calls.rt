@@ -5,14 +5,14 @@ ghost use Rattle.std.specs.Mem.{type_size};
 ghost use Rattle.std.specs.Ptr.{points_to, uninit_at};
 ghost use Rattle.system_c.specs.Made.{made_pass};
 ghost use Rattle.slot_handles.specs.Marks.{after_close, if_made, is_made, pass_mark};
-ghost use Rattle.receiver_slots.specs.Codes.{busy, done, not_made, not_open};
-ghost use Rattle.system_slots.specs.Passing.{ComesToLink, TellsFiltered, CountsFrames, Receives, count_code, filtered_code};
+ghost use Rattle.receiver_slots.specs.Codes.{busy, done, no_place, not_made, not_open};
+ghost use Rattle.system_slots.specs.Passing.{ComesToLink, TellsFiltered, TellsLinkHealth, CountsFrames, IsPlaceOfPass, Receives, count_code, filtered_code};
 ghost use Rattle.system_c.specs.contracts.marked.MarkedPass.{the_row as pass_row};
 
 use crate::marked::{MarkedPass, PASS};
 use crate::pass_handle::PassHandle;
-use receiver_slots::FrameReply;
 use receiver_slots::codes::NOT_MADE;
+use receiver_slots::{FrameReply, LinkHealthReply};
 
 /// Size of the slot of a network's pass, in octets. The room is aligned to 8.
 #[unsafe(no_mangle)]
@@ -75,6 +75,31 @@ pub extern "C" fn yelunnavi_pass_count(
         return NOT_MADE;
     }
     made.slot.count(link, kind, count)
+}
+
+/// Tells, of the link at this place, when its latest frame came on the pass's network, and the number of its frames and
+/// of partial datagrams given up, of both networks. BUSY while the other network's thread has the link.
+#[unsafe(no_mangle)]
+pub extern "C" fn yelunnavi_pass_health(
+    h: &mut PassHandle,
+    link: usize,
+    reply: &mut LinkHealthReply,
+) -> u32
+    ensures place { (h.new.at ≡ h.old.at) × (h.new.room.mark ≡ h.old.room.mark) }
+    ensures made { (result ≡ not_made) ↔ (is_made pass_mark h.old.room.mark ≡ false) }
+    ensures open { is_made pass_mark h.old.room.mark ≡ true → (result ≡ not_open) ↔ (h.old.room.slot ≡ None) }
+    ensures link { result ≡ no_place → IsPlaceOfPass h.old.room.slot link → ⊥ }
+    ensures told { result ≡ done → TellsLinkHealth h.old.room.slot link reply.new }
+    ensures busy { result ≡ busy → IsPlaceOfPass h.old.room.slot link }
+    ensures kept { h.new.room.slot ≡ h.old.room.slot }
+    ensures same { 0 < result → reply.new ≡ reply.old }
+    ensures codes { (result ≡ done) ⊎ ((result ≡ not_open) ⊎ ((result ≡ no_place) ⊎ ((result ≡ busy) ⊎ (result ≡ not_made)))) }
+{
+    let made = h.lend();
+    if made.mark != PASS {
+        return NOT_MADE;
+    }
+    made.slot.health(link, reply)
 }
 
 /// Tells the number of frames filtered on the pass's network for this cause, 1 to 5. It saturates at 2^64 - 1.

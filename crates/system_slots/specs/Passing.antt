@@ -1,19 +1,23 @@
 -- A network's pass in a slot.
-use Rattle.std.specs.Prelude.{◌≡◌, ℕ, List, slice_get, length, nat_lt, Option, None, Some, if◌then◌else◌}
+use Rattle.std.specs.Prelude.{◌≡◌, ◌<◌, ℕ, List, slice_get, length, nat_lt, Option, None, Some, if◌then◌else◌}
 use Rattle.es_base.specs.Addressing.{ComesToPlace}
 use Rattle.es_base.specs.Limits.{filter_causes}
 use Rattle.es_base.specs.Settings.{Settings}
 use Rattle.es_base.specs.Tally.{count_in, is_kind}
 use Rattle.es_base.specs.Verdict.{verdict_kinds}
 use Rattle.link_core.specs.Counted.{shown}
+use Rattle.link_core.specs.Past.{number_given_up}
 use Rattle.network_calls.specs.Calls.{count_calls}
 use Rattle.receiver.specs.declared.receiver.Reply.{Reply}
 use Rattle.network_calls.specs.Passes.{KnownNet, System, calls_with}
-use Rattle.live_system.specs.Pass.{KnownLink}
+use Rattle.live_system.specs.Checked.{latest_of}
+use Rattle.live_system.specs.Pass.{KnownLink, Visits}
 use Rattle.live_system.specs.System.{IsPassOf, Replies, keeping_no_frame}
 use Rattle.receiver_slots.specs.Codes.{done, no_kind, no_place, not_open}
+use Rattle.receiver_slots.specs.Health.{link_health_reply_of}
 use Rattle.receiver_slots.specs.Replies.{frame_reply_of}
 use Rattle.receiver_slots.specs.declared.told.replies.FrameReply.{FrameReply}
+use Rattle.receiver_slots.specs.declared.told.replies.LinkHealthReply.{LinkHealthReply}
 
 -- the pass of one network, and the system that it is of
 pub record Passing : Type 0 where
@@ -42,6 +46,25 @@ Receives None new now octets told = ⊥
 abbrev pub ComesToLink : Option Passing → List ℕ → Type 0
 ComesToLink None octets = ⊥
 ComesToLink (Some now) octets = (place : ℕ) × ComesToPlace now.system.config octets place
+
+-- ---- health
+
+-- of the link at this place: the latest frame that the pass gave it; the number of its frames, and the groups of pieces
+-- given up, at one moment of the call, in which nothing changed
+-- rule: EMB-41
+pub record TellsLinkHealthOf (now : Passing) (link : ℕ) (told : LinkHealthReply) : Type 0 where
+  pub on : KnownLink
+  pub there : slice_get now.pass.links link ≡ Some on
+  pub visits : Visits on (λ found left. (left ≡ found) × (told ≡ link_health_reply_of (latest_of on.calls) (shown (length found.core.past)) (shown (number_given_up found.core.settings found.core.past))))
+
+abbrev pub TellsLinkHealth : Option Passing → ℕ → LinkHealthReply → Type 0
+TellsLinkHealth None link told = ⊥
+TellsLinkHealth (Some now) link told = TellsLinkHealthOf now link told
+
+-- a pass that is open, at a link that there is
+abbrev pub IsPlaceOfPass : Option Passing → ℕ → Type 0
+IsPlaceOfPass None link = ⊥
+IsPlaceOfPass (Some now) link = link < length now.system.config.links
 
 -- ---- counts
 

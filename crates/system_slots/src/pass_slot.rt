@@ -1,11 +1,11 @@
 //! A slot for a network's pass.
 ghost use Rattle.std.specs.Prelude.{◌≡◌, ◌<◌, ◌↔◌, ◌⊎◌, is_none, None, Some};
-ghost use Rattle.receiver_slots.specs.Codes.{busy, done, not_open};
-ghost use Rattle.system_slots.specs.Passing.{ComesToLink, TellsFiltered, CountsFrames, Passing as Seen, Receives, count_code, filtered_code};
+ghost use Rattle.receiver_slots.specs.Codes.{busy, done, no_place, not_open};
+ghost use Rattle.system_slots.specs.Passing.{ComesToLink, TellsFiltered, TellsLinkHealth, CountsFrames, IsPlaceOfPass, Passing as Seen, Receives, count_code, filtered_code};
 
 use crate::passing::Passing;
 use receiver_slots::codes::{BUSY, DONE, NO_KIND, NO_PLACE, NOT_OPEN};
-use receiver_slots::{FrameReply, cause_of, kind_of};
+use receiver_slots::{FrameReply, LinkHealthReply, cause_of, kind_of};
 use std::marker::Model;
 
 /// The pass of one network, by which its thread gives frames to the system; or none.
@@ -83,6 +83,30 @@ impl PassSlot {
             return NO_PLACE;
         };
         *count = passing.pass.count(settings.vl(), kind.number());
+        DONE
+    }
+
+    /// Tells, of the link at this place, when its latest frame came on the pass's network, and the number of its frames
+    /// and of partial datagrams given up, of both networks. BUSY while the other network's thread has the link.
+    pub fn health(&mut self, link: usize, reply: &mut LinkHealthReply) -> u32
+        ensures open { (result ≡ not_open) ↔ (self.old ≡ None) }
+        ensures place { result ≡ no_place → IsPlaceOfPass self.old link → ⊥ }
+        ensures told { result ≡ done → TellsLinkHealth self.old link reply.new }
+        ensures busy { result ≡ busy → IsPlaceOfPass self.old link }
+        ensures kept { self.new ≡ self.old }
+        ensures same { 0 < result → reply.new ≡ reply.old }
+        ensures codes { (result ≡ done) ⊎ ((result ≡ not_open) ⊎ ((result ≡ no_place) ⊎ (result ≡ busy))) }
+    {
+        let Some(passing) = &mut self.passing else {
+            return NOT_OPEN;
+        };
+        if link >= passing.system.config().links().len() {
+            return NO_PLACE;
+        }
+        let Some(told) = passing.try_health(link) else {
+            return BUSY;
+        };
+        *reply = told;
         DONE
     }
 

@@ -1,9 +1,9 @@
 //! A network's pass, with its system.
-ghost use Rattle.std.specs.Prelude.{◌≡◌, IfNone, IfSome, Some};
-ghost use Rattle.system_slots.specs.Passing.{ComesToLink, ReceivesBy};
+ghost use Rattle.std.specs.Prelude.{◌≡◌, ◌<◌, IfNone, IfSome, Some, length};
+ghost use Rattle.system_slots.specs.Passing.{ComesToLink, ReceivesBy, TellsLinkHealthOf};
 
 use live_system::{LiveSystem, NetPass};
-use receiver_slots::{FrameReply, frame_reply_of};
+use receiver_slots::{FrameReply, LinkHealthReply, frame_reply_of, link_health_reply_of};
 use std::alloc::Global;
 use std::marker::Model;
 use std::sync::Arc;
@@ -36,5 +36,16 @@ impl Passing {
     {
         let reply = self.system.try_receive(&mut self.pass, now, frame)?;
         Some(frame_reply_of(reply))
+    }
+
+    /// What the link at this place tells. None while the other network's thread has it.
+    pub fn try_health(&mut self, link: usize) -> Option<LinkHealthReply>
+        requires { link < length self.old.system.config.links }
+        ensures same { self.new ≡ self.old }
+        ensures some { IfSome result (λ told. TellsLinkHealthOf self.old link told) }
+    {
+        let latest = self.system.latest(&self.pass, link);
+        let health = self.system.try_health(&mut self.pass, link)?;
+        Some(link_health_reply_of(latest, health.received, health.given_up))
     }
 }

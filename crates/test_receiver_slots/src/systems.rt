@@ -4,7 +4,7 @@ use receiver_slots::codes::{
     ALREADY_OPEN, DONE, FAULTY, NO_KIND, NO_NAME, NO_NETWORK, NO_PLACE, NONE_LEFT, NOT_OPEN,
     OUT_OF_RANGE,
 };
-use receiver_slots::{FrameReply, PlaceReply, PortReply, ReaderSlot, TakerSlot};
+use receiver_slots::{FrameReply, LinkHealthReply, PlaceReply, PortReply, ReaderSlot, TakerSlot};
 use std::alloc::Global;
 use std::process::Abort;
 use system_slots::{PassSlot, SystemSlot, hand_pass};
@@ -101,6 +101,37 @@ fn check_counts(rt: &impl Abort, a: &PassSlot, b: &PassSlot) {
     assert!(rt; filtered(a, 0) == (NO_KIND, 99) && filtered(a, 6) == (NO_KIND, 99));
 }
 
+/// How a link is by a pass, and what is answered.
+fn health(pass: &mut PassSlot, link: usize) -> (u32, LinkHealthReply) {
+    let mut health = LinkHealthReply {
+        came: 9,
+        latest: 9,
+        received: 9,
+        given_up: 9,
+    };
+    let code = pass.health(link, &mut health);
+    (code, health)
+}
+
+/// Each pass knows when the latest frame came on its own network, and both how many came.
+fn check_health(rt: &impl Abort, a: &mut PassSlot, b: &mut PassSlot) {
+    let mut wanted = LinkHealthReply {
+        came: 1,
+        latest: 1000,
+        received: 3,
+        given_up: 0,
+    };
+    assert!(rt; health(a, 0) == (DONE, wanted));
+    wanted.latest = 2000;
+    assert!(rt; health(b, 0) == (DONE, wanted));
+    (wanted.came, wanted.latest, wanted.received) = (0, 0, 0);
+    assert!(rt; health(a, 1) == (DONE, wanted) && health(b, 1) == (DONE, wanted));
+    let (code, same) = health(a, 2);
+    assert!(rt; code == NO_PLACE && same.came == 9 && same.given_up == 9);
+    let (code, same) = health(&mut PassSlot::new(), 0);
+    assert!(rt; code == NOT_OPEN && same.latest == 9 && same.received == 9);
+}
+
 /// A reader finds the sample, and the taker the message.
 fn check_ends(rt: &impl Abort, system: &mut SystemSlot) {
     let (mut pos, mut other) = (ReaderSlot::new(), ReaderSlot::new());
@@ -128,10 +159,11 @@ fn check_frames(rt: &impl Abort, alloc: Global) {
     } = opened(rt, alloc);
     check_verdicts(rt, alloc, &mut a, &mut b);
     check_counts(rt, &a, &b);
+    check_health(rt, &mut a, &mut b);
     check_ends(rt, &mut system);
 }
 
-// rule: EMB-25, EMB-26, EMB-27
+// rule: EMB-25, EMB-26, EMB-27, EMB-41, EMB-42
 #[test]
 fn what_becomes_of_a_frame_is_told_by_its_pass(rt: HostRuntime) {
     check_frames(&rt, rt.alloc());

@@ -9,4 +9,4 @@ links-preserved c =
     let place = c.links.settings-index in
     let settings = c.settings-item.result in
     let longer : take (place + 1) links ≡ take place links ++ settings ∷ [] = take_more links place settings c.links-test.true ∙ ap (λ s. take place links ++ s ∷ []) (sym c.settings-item.is) in
-    rw (longer, c.in_ok-push.ensures.items) (new_checks_push (take place links) c.links.checks.items settings c.new.result c.links.invariant (rw c.window.ensures.value at c.new.ensures.sequence))
+    rw (longer, c.in_ok-push.ensures.items) (new_checks_push (take place links) c.links.checks.items settings c.new.result c.links.invariant (rw c.window.ensures.value at c.new.ensures.sequence, c.new.ensures.latest))

@@ -41,6 +41,7 @@ frames-preserved c =
     let more = tests_push (index_at c.args.places.now) c.args.checks.now.items c.frames.checks.items (take at row) (take at c.frames.passed) e c.check.result old c.note.new.self was.told there (record {
       passes = λ window numbers is. rw (← c.frame_in-number.ensures, ← frame.sequence_number_is) (c.check.ensures window numbers is);
       notes = λ window numbers is. rw (← c.frame_in-number.ensures, ← frame.sequence_number_is) (c.note.ensures.sequence window numbers is);
+      last = c.note.ensures.latest;
     }) in
     record {
       room = length-set c.frames.passed at c.check.result ∙ was.room;

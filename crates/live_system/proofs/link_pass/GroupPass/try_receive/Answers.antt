@@ -73,7 +73,7 @@ invariant_of-self-2 c =
     let called = calls_after s.net s.pass _ s.counts.items c.self.invariant.0 _ visit c.args.index c.args.now octets answer done c.index_mut-2.result.now c.add.new.self was one in (
       group_after s.net s.pass _ s.counts.items c.self.invariant.0 _ visit c.args.index c.args.now octets answer done c.index_mut-2.result.now c.add.new.self was one,
       checked_call _ _ s.checks.items c.args.index called.0 c.args.now octets answer.1 c.index_mut.result.now c.note.new.self c.self.invariant.1 called.2 there
-          (λ window numbers is. rw (← c.args.frame.now.sequence_number_is) (c.note.ensures.sequence window numbers is)),
+          (λ window numbers is. rw (← c.args.frame.now.sequence_number_is) (c.note.ensures.sequence window numbers is)) c.note.ensures.latest,
     )
 
 pub returns-clause-calls : goal.returns-clause-calls
