@@ -25,11 +25,6 @@ set_next n [] m d low = absurd (omega (arith, low))
 set_next zero (w ∷ ws) m d low = refl
 set_next (suc n) (w ∷ ws) m d low = ap (λ (l : List BufferWriter). with_published w m ∷ l) (set_next n ws m d (omega (arith, low)))
 
-pub count_first : (n : ℕ) (ws : List BufferWriter) (m : Message) → length (first_published n ws m) ≡ length ws
-count_first zero ws m = refl
-count_first (suc n) [] m = refl
-count_first (suc n) (w ∷ ws) m = ap suc (count_first n ws m)
-
 pub all_first : (ws : List BufferWriter) (m : Message) → first_published (length ws) ws m ≡ map (λ (w : BufferWriter). with_published w m) ws
 all_first [] m = refl
 all_first (w ∷ ws) m = ap (λ (l : List BufferWriter). with_published w m ∷ l) (all_first ws m)

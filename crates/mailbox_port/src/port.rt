@@ -23,19 +23,23 @@ pub struct Mailbox {
 /// message, in order, and the steps at each mailbox.
 #[derive(Drop)]
 pub struct PortWriter {
-    writers: Vec<Writer>,
+    /// Writer of the first mailbox, in place: each port has a reader, and a port with one reader publishes through one
+    /// block less.
+    first: Writer,
+    others: Vec<Writer>,
     longest: usize,
     count: u64,
 }
 
 impl Model for PortWriter {
+    ghost use Rattle.std.specs.Prelude.{◌∷◌};
     ghost use Rattle.mailbox_port.specs.Port.{AreAlike, PortEnd, port_end};
 
     ghost Value = { PortEnd };
 
-    ghost view = { λ p. port_end p.writers.items p.longest };
+    ghost view = { λ p. port_end (p.first ∷ p.others.items) p.longest };
 
-    ghost invariant = { λ p. AreAlike p.writers.items p.longest p.count };
+    ghost invariant = { λ p. AreAlike (p.first ∷ p.others.items) p.longest p.count };
 }
 
 /// Opens a port with a mailbox for each of its readers, for messages of up to `longest` octets. All memory is taken
@@ -49,15 +53,18 @@ pub fn open_mailboxes(
     ensures mailboxes { IfOk result (λ ends. ends.1.items ≡ new_mailboxes ends.0.buffers longest) }
 {
     let readers = readers.get();
-    let mut writers = Vec::with_capacity(alloc, readers)?;
+    let mut others = Vec::with_capacity(alloc, readers - 1)?;
     let mut mailboxes = Vec::with_capacity(alloc, readers)?;
-    for place in 0..readers {
+    let (first, reader) = open_buffer(alloc, longest)?;
+    mailboxes.push(Mailbox { reader, place: 0 })?;
+    for place in 1..readers {
         let (writer, reader) = open_buffer(alloc, longest)?;
-        writers.push(writer)?;
+        others.push(writer)?;
         mailboxes.push(Mailbox { reader, place })?;
     }
     let port = PortWriter {
-        writers,
+        first,
+        others,
         longest,
         count: 0,
     };
@@ -88,8 +95,9 @@ impl PortWriter {
         ensures number { result ≡ length self.new.published }
         ensures published { self.new ≡ port_with self.old (message time octets.now) }
     {
-        for place in 0..self.writers.len() {
-            self.writers[place].publish(time, octets);
+        self.first.publish(time, octets);
+        for place in 0..self.others.len() {
+            self.others[place].publish(time, octets);
         }
         self.count += 1;
         self.count
@@ -102,6 +110,10 @@ impl PortWriter {
         ensures writer { self.new ≡ self.old }
         ensures before { StartsWith self.old.published mailbox.old.reader.known }
     {
-        meet(&mut self.writers[mailbox.place], &mut mailbox.reader);
+        if mailbox.place == 0 {
+            meet(&mut self.first, &mut mailbox.reader);
+        } else {
+            meet(&mut self.others[mailbox.place - 1], &mut mailbox.reader);
+        }
     }
 }
