@@ -1,5 +1,5 @@
 //! Long runs of hexadecimal digits, decoded 32 at a time, without a branch for each.
-ghost use Rattle.std.specs.Prelude.{◌≡◌, ℕ, ◌+◌, ◌-◌, ◌*◌, ◌%◌, ◌<◌, ◌≤◌, ◌⊎◌, ◌↔◌, slice_index, IsTrue, IfOk, IfErr, Ok, Err, MatchResult, true, false, length};
+ghost use Rattle.std.specs.Prelude.{◌≡◌, ℕ, ◌+◌, ◌-◌, ◌*◌, ◌%◌, ◌<◌, ◌≤◌, ◌⊎◌, ◌↔◌, slice_index, IfOk, IfErr, Ok, Err, MatchResult, true, false, length};
 ghost use Rattle.hex.specs.Hex.{decode_of};
 ghost use Rattle.hex.specs.declared.error.FromHexError.TheVariants.{OddLength, OutOfMemory};
 ghost use Rattle.hex_trace.specs.Digits.{digit_value, octet_of_pair, octet_by, least_mark, IsPairAt, IsMark, AreMarks};
@@ -78,7 +78,9 @@ fn decode_blocks(digits: &[u8], octets: &mut [u8]) -> bool
     }
     let last = octets.len() - BLOCK;
     let marks = decode_block(digits, octets, last);
-    are_marks(smaller(least, marks))
+    let least = smaller(least, marks);
+    // All are marks of digits.
+    least.simd_lt(u8x32::splat(MARK)).to_bitmask() == 0
 }
 
 /// Decodes the block of octets that begins at `at`, and returns the marks of its digits.
@@ -133,14 +135,6 @@ fn smaller(first: u8x32, second: u8x32) -> u8x32
     ensures { AreMarks result ↔ (AreMarks first × AreMarks second) }
 {
     first.simd_min(second)
-}
-
-/// Whether all are marks of digits.
-#[inline(always)]
-fn are_marks(marks: u8x32) -> bool
-    ensures { IsTrue result ↔ AreMarks marks }
-{
-    marks.simd_lt(u8x32::splat(MARK)).to_bitmask() == 0
 }
 
 /// The same for few octets, a pair at a time.

@@ -113,7 +113,7 @@ impl Frames {
         ensures { option_map lent_as result ≡ slice_get self.now 0 }
     {
         match self.blocks.front() {
-            Some(block) => frame_at(block, self.at),
+            Some(block) => block.get(self.at),
             None => None,
         }
     }
@@ -140,11 +140,4 @@ fn open_block(alloc: Global) -> Result<OctetBlock, Memory>
     ensures { IfOk result (λ block. block.items ≡ []) }
 {
     OctetBlock::with_room(alloc, MANY, FULL + MOST_OCTETS)
-}
-
-/// The frame at this place of a block. None if there are fewer.
-fn frame_at(block: &OctetBlock, place: usize) -> Option<LentFrame<'_>>
-    ensures { option_map lent_as result ≡ slice_get (frames_of_block block.now) place }
-{
-    block.get(place)
 }

@@ -5,7 +5,7 @@
 #![tactic(auto)]
 
 ghost use Rattle.std.specs.Prelude.{◌≡◌, ℕ, List, [], ◌∷◌};
-ghost use Rattle.link_rules.specs.Integrity.{next_number, is_among_next, latest, may_follow};
+ghost use Rattle.link_rules.specs.Integrity.{is_among_next, latest, may_follow};
 ghost use Rattle.integrity_check.specs.Kept.{StandsFor};
 
 use std::marker::Model;
@@ -75,13 +75,7 @@ fn is_among_next(window: u8, before: u8, sequence_number: u8) -> bool
     if window == 0 {
         return false;
     }
-    let next = next_number(before);
+    // 1 after 255, since 0 means a sender's reset.
+    let next = if before == 255 { 1 } else { before + 1 };
     sequence_number == next || is_among_next(window - 1, next, sequence_number)
-}
-
-/// The next sequence number: 1 after 255, since 0 means a sender's reset.
-fn next_number(before: u8) -> u8
-    ensures { result ≡ next_number before }
-{
-    if before == 255 { 1 } else { before + 1 }
 }

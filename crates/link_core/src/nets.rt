@@ -38,8 +38,8 @@ impl NetStates {
             a.net ≡ net → sequence_number_of a.frame ≡ sequence_number → result ≡ passes o past a }
     {
         match net {
-            Net::A => self.a.check(sequence_number),
-            Net::B => self.b.check(sequence_number),
+            Net::A => self.a.sequence.check(sequence_number),
+            Net::B => self.b.sequence.check(sequence_number),
         }
     }
 

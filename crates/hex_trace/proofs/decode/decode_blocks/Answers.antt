@@ -1,5 +1,6 @@
 use Rattle.std.proofs.Common.{◌≡◌, ◌+◌, ◌-◌, ◌*◌, ◌≤◌, length, arith, rules}
 use Rattle.hex_trace.proofs.Decoded.{decoded, more_marks, more_octets, no_marks}
+use Rattle.hex_trace.proofs.Marks.{marks_tested}
 use Rattle.hex_trace.proofs.decode.decode_blocks.Goals as goal
 
 pub whole-init : goal.whole-init
@@ -32,7 +33,8 @@ returns c =
     let no_gap : at ≤ count = search rules in
     let within : count ≤ length octets = search rules in
     let end : length octets ≡ at + 16 = omega (arith, block.length, many, c.requires.block) in
-    let marks = more_marks digits c.whole.least c.decode_block-marks-2.result c.smaller.result count at (length octets) no_gap within end c.smaller.ensures c.whole.invariant.marks block.marks in
-    decoded c.are_marks.result digits octets (omega (arith, c.whole.invariant.pairs, block.length))
-    (λ fine. marks.0 (c.are_marks.ensures.0 fine), λ pairs. c.are_marks.ensures.1 (marks.1 pairs))
+    let marks = more_marks digits c.whole.least c.decode_block-marks-2.result c.smaller-least-2.result count at (length octets) no_gap within end c.smaller-least-2.ensures c.whole.invariant.marks block.marks in
+    let tested = marks_tested c.smaller-least-2.result (search rules) in
+    decoded _ digits octets (omega (arith, c.whole.invariant.pairs, block.length))
+    (λ fine. marks.0 (tested.0 fine), λ pairs. tested.1 (marks.1 pairs))
     (more_octets digits c.whole.octets octets count at (length octets) no_gap end c.whole.invariant.octets block.before block.octets)
