@@ -43,7 +43,8 @@ def test_an_example_that_no_test_has_is_told(tree, file, old, new):
     assert status == 1 and f"{CODE}:{EXAMPLE}: an example whose lines stand in no test\n" in told, told
 
 
-@pytest.mark.parametrize("file, old, new, told", [
+# Links that lead nowhere.
+LINKS = [
     ("docs/RECEIVER.md", "(DELIVERY.md)", "(DELIVER.md)", "the link to DELIVER.md leads nowhere"),
     ("docs/RECEIVER.md", "(DELIVERY.md)", "(../../DELIVERY.md)", "the link to ../../DELIVERY.md leads nowhere"),
     ("docs/FORMATS.md", "#how-to-choose-skewmax", "#how-to-choose-skew", "the link to DELIVERY.md#how-to-choose-skew leads to no heading"),
@@ -54,13 +55,10 @@ def test_an_example_that_no_test_has_is_told(tree, file, old, new):
     ("docs/made/TRACEABILITY.md", "](../DELIVERY.md#", "](DELIVERY.md#", "leads nowhere"),
     ("docs/made/TRACEABILITY.md", "](../DELIVERY.md#", "](../DELIVERY.md#how-", "leads to no heading"),
     ("docs/made/PROMISES.md", "`visit`", "[`visit`](Lock::visit)", "the link to Lock::visit leads nowhere"),
-])
-def test_a_link_that_leads_nowhere_is_told(tree, file, old, new, told):
-    status, found = checked(tree, file, old, new)
-    assert status == 1 and told in found, found
+]
 
-
-@pytest.mark.parametrize("file, old, new, told", [
+# Words that aren't explained, or have two meanings.
+WORDS = [
     ("README.md", "*gate*", "gate", "gate isn't explained where it first stands"),
     ("README.md", "*wrong bodies*", "wrong bodies", "wrong bodies isn't explained where it first stands"),
     ("README.md", "# Yelunnavi\n", "# Yelunnavi\n\nThe gate passes.\n", "gate isn't explained where it first stands"),
@@ -79,30 +77,27 @@ def test_a_link_that_leads_nowhere_is_told(tree, file, old, new, told):
     ("docs/PROVED.md", "a second player, in C", "an independent player in C", "one author wrote the players"),
     ("docs/RECEIVER.md", "The pieces that are held", "The pieces that wait", "pieces are held"),
     ("CHANGELOG.md", "`YELUNNAVI_ABI` was 5 with it", "it had a number", "passes over YELUNNAVI_ABI 5"),
-    ("examples/c/yelunnavi.h", "YELUNNAVI_ABI 6", "YELUNNAVI_ABI 7", "passes over YELUNNAVI_ABI 7"),
-])
-def test_a_word_that_is_not_explained_or_has_two_meanings_is_told(tree, file, old, new, told):
-    status, found = checked(tree, file, old, new)
-    assert status == 1 and told in found, found
+    ("examples/c/yelunnavi.h", "YELUNNAVI_ABI 7", "YELUNNAVI_ABI 8", "passes over YELUNNAVI_ABI 8"),
+]
 
-
-@pytest.mark.parametrize("file, old, new, told", [
+# What a new user meets otherwise.
+MET_OTHERWISE = [
     ("README.md", "`ar`", "an archiver", "`ar` isn't named, which a build wants"),
     ("CONTRIBUTING.md", "Python from 3.11", "Python", "Python from 3.11 isn't named, which a build wants"),
     ("README.md", "(CONTRIBUTING.md#what-a-machine-needs)", "(CONTRIBUTING.md)", "no link to CONTRIBUTING.md#what-a-machine-needs"),
     ("afdx_play", "    exit 3\n", "    exit 2\n", "afdx_play:1: status 2"),
     ("afdx_play", r"^\+?0*", "^0*", "afdx_play:1: status 2"),
     ("docs/FORMATS.md", "`config not read`", "`config isn't read`", "and in FORMATS None"),
-])
-def test_what_a_new_user_meets_otherwise_is_told(tree, file, old, new, told):
-    status, found = checked(tree, file, old, new)
-    assert status == 1 and told in found, found
+]
 
-
-@pytest.mark.parametrize("file, old, new, told", [
+# Memory that pages say otherwise.
+MEMORY = [
     ("docs/PERF.md", ", with one reader 5,", ", with one reader 6,", "octets with eight readers and one, by EMBEDDING"),
-])
-def test_memory_that_pages_say_otherwise_is_told(tree, file, old, new, told):
+]
+
+
+@pytest.mark.parametrize("file, old, new, told", [*LINKS, *WORDS, *MET_OTHERWISE, *MEMORY])
+def test_a_page_that_says_something_wrong_is_told(tree, file, old, new, told):
     status, found = checked(tree, file, old, new)
     assert status == 1 and told in found, found
 

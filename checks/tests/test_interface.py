@@ -1,4 +1,5 @@
 """The faces of the library for C: checks/interface finds one difference that is planted in a copy."""
+import re
 import shutil
 import subprocess
 
@@ -13,6 +14,9 @@ SOURCES = [*faces.CALLS, *HANDLES, faces.HELD, faces.REPLIES, faces.CODES, faces
            *faces.BOUNDS]
 READ = [*SOURCES, C, WORDS, RUST, ADA, faces.PYTHON, faces.BODY_OF_ADA, *faces.MEMORY_OF_C, faces.MEMORY_OF_RUST,
         faces.ABI, faces.CHANGES, faces.RELEASED]
+# The number of the interface, and the one after it.
+NUMBER = int(re.search(r"^#define YELUNNAVI_ABI (\d+)$", (ROOT / C).read_text(encoding="ascii"), re.M)[1])
+NEXT = NUMBER + 1
 
 # A file, what stands there, what is planted in its place where it stands first, and what is told of it.
 PLANTED = [
@@ -124,17 +128,17 @@ PLANTED = [
      "number Fault_Too_Many: 8; in the source: 10"),
     (faces.REPLIES, "(Some(_), None) => 1", "(Some(_), None) => 3", "number Level::LINK: 1; in the source: 3"),
     (faces.BOUNDS[0], "MOST_LINKS: usize = 64", "MOST_LINKS: usize = 65", "number Most_Links: 64; in the source: 65"),
-    (C, "#define YELUNNAVI_ABI 6", "#define YELUNNAVI_ABI 1", "number YELUNNAVI_ABI: 1; in the source: 6"),
-    (RUST, "pub const ABI: u32 = 6;", "pub const ABI: u32 = 1;", "number ABI: 1; in the source: 6"),
-    (ADA, "   Abi : constant Unsigned_32 := 6;\n", "", "no number Abi"),
-    (CALLS, "pub const ABI: u32 = 6;", "pub const ABI: u32 = 1;", "number YELUNNAVI_ABI: 6; in the source: 1"),
+    (C, f"#define YELUNNAVI_ABI {NUMBER}", "#define YELUNNAVI_ABI 1", f"number YELUNNAVI_ABI: 1; in the source: {NUMBER}"),
+    (RUST, f"pub const ABI: u32 = {NUMBER};", "pub const ABI: u32 = 1;", f"number ABI: 1; in the source: {NUMBER}"),
+    (ADA, f"   Abi : constant Unsigned_32 := {NUMBER};\n", "", "no number Abi"),
+    (CALLS, f"pub const ABI: u32 = {NUMBER};", "pub const ABI: u32 = 1;", f"number YELUNNAVI_ABI: {NUMBER}; in the source: 1"),
     # the number of the interface
-    (faces.ABI, "abi = 6", "abi = 7", f"{faces.ABI}: the interface has the number 7; in the source: 6"),
-    (faces.CHANGES, "`YELUNNAVI_ABI` is 6.", "`YELUNNAVI_ABI` is 7.", f"{faces.CHANGES}: the interface has the number 7"),
-    (CALLS, "pub const ABI: u32 = 6;", "pub const ABI: u32 = 7;", f"{faces.ABI}: the interface has the number 6; in the source: 7"),
-    *((faces.VERDICTS, "13 => Some(VerdictKind::Exhausted)", "14 => Some(VerdictKind::Exhausted)", f"{place}: the interface isn't that of the number 6")
+    (faces.ABI, f"abi = {NUMBER}", f"abi = {NEXT}", f"{faces.ABI}: the interface has the number {NEXT}; in the source: {NUMBER}"),
+    (faces.CHANGES, f"`YELUNNAVI_ABI` is {NUMBER}.", f"`YELUNNAVI_ABI` is {NEXT}.", f"{faces.CHANGES}: the interface has the number {NEXT}"),
+    (CALLS, f"pub const ABI: u32 = {NUMBER};", f"pub const ABI: u32 = {NEXT};", f"{faces.ABI}: the interface has the number {NUMBER}; in the source: {NEXT}"),
+    *((faces.VERDICTS, "13 => Some(VerdictKind::Exhausted)", "14 => Some(VerdictKind::Exhausted)", f"{place}: the interface isn't that of the number {NUMBER}")
       for place in (CALLS, faces.ABI, C, RUST, ADA, faces.CHANGES)),
-    (faces.CODES, "TOO_SHORT: u32 = 13", "TOO_SHORT: u32 = 14", f"{C}: the interface isn't that of the number 6"),
+    (faces.CODES, "TOO_SHORT: u32 = 13", "TOO_SHORT: u32 = 14", f"{C}: the interface isn't that of the number {NUMBER}"),
     # words
     (WORDS, 'word = "checksum";', 'word = "sum";', "word of HeaderFault::CHECKSUM: 'sum'; in the source: 'checksum'"),
     (WORDS, "    case YELUNNAVI_VERDICT_QUEUED: word = \"queued\"; break;\n", "", "no word of VerdictKind::QUEUED"),
@@ -155,16 +159,24 @@ PLANTED = [
 ]
 
 
-def checked(tree):
-    return subprocess.run([ROOT / "checks" / "interface", "--tree", tree], capture_output=True, text=True, timeout=60)
+def checked(tree, *words):
+    return subprocess.run([ROOT / "checks" / "interface", "--tree", tree, *words], capture_output=True, text=True, timeout=60)
+
+
+@pytest.fixture(scope="session")
+def released(tmp_path_factory):
+    """A copy whose interface is that of a release."""
+    tree = tmp_path_factory.mktemp("released")
+    for name in READ:
+        (tree / name).parent.mkdir(parents=True, exist_ok=True)
+        shutil.copy(ROOT / name, tree / name)
+    checked(tree, "--released")
+    return tree
 
 
 @pytest.fixture
-def copy(tmp_path):
-    for name in READ:
-        (tmp_path / name).parent.mkdir(parents=True, exist_ok=True)
-        shutil.copy(ROOT / name, tmp_path / name)
-    return tmp_path
+def copy(released, tmp_path):
+    return shutil.copytree(released, tmp_path, dirs_exist_ok=True)
 
 
 def test_the_faces_are_those_of_the_source(copy):
