@@ -1,7 +1,7 @@
 /* drive < SCRIPT: what the library for C answers to the calls of a script, a line each: the code, and what was told with
    DONE. Octets are in hexadecimal, `-` if there are none. Each buffer has just the room that the call is told, and was
    filled with 0xa5. Ends stand in slots by number. At the end a line says how many blocks of memory weren't given back.
-   `open_each` opens a text with each of its requests for memory refused, one at a time, and then with none. With SYSTEM the
+   `open_each` and `open_table_each` open with each request for memory refused, one at a time, and then with none. With SYSTEM the
    calls are those of a system and of both its passes. With COUNTED callgrind writes what each call took, by the call's word. */
 #include "yelunnavi.h"
 #include <inttypes.h>
@@ -63,14 +63,15 @@ void rattle_dealloc(void *at) {
 /* ---- the script */
 
 /* The script, and where its next word begins. */
-static char *script;
+static char *whole, *script;
 
 static void read_script(void) {
     size_t len = 0, room = 1 << 20;
-    script = malloc(room);
-    for (size_t more; (more = fread(script + len, 1, room - len - 1, stdin)) > 0;)
-        if ((len += more) + 1 == room) script = realloc(script, room *= 2);
-    script[len] = 0;
+    whole = malloc(room);
+    for (size_t more; (more = fread(whole + len, 1, room - len - 1, stdin)) > 0;)
+        if ((len += more) + 1 == room) whole = realloc(whole, room *= 2);
+    whole[len] = 0;
+    script = whole;
 }
 
 /* The next word, which ends where the next space was; null at the end. */
@@ -162,9 +163,11 @@ static struct yelunnavi_port_row port_row(void) {
     return row;
 }
 
-static void open_table(void) {
+/* As `open_each` if `each`, else once. */
+static void open_table(bool each) {
     static const uint8_t constant[4] = {3};
     struct yelunnavi_fault fault;
+    uint32_t answer = YELUNNAVI_DONE;
     size_t readers_each = number(), links_len = number();
     struct yelunnavi_link_row *links = calloc(links_len + 1, sizeof *links);
     for (size_t k = 0; k < links_len; k++) {
@@ -175,8 +178,16 @@ static void open_table(void) {
     struct yelunnavi_port_row *ports = calloc(ports_len + 1, sizeof *ports);
     for (size_t k = 0; k < ports_len; k++) ports[k] = port_row();
     may_ask = true;
-    code(yelunnavi_receiver_open_table(&receiver, constant, links, links_len, ports, ports_len, readers_each, &fault));
+    for (uint64_t request = 1; each && !refused; request++) {
+        yelunnavi_receiver_close(&receiver);
+        refused = request;
+        answer = yelunnavi_receiver_open_table(&receiver, constant, links, links_len, ports, ports_len, readers_each, &fault);
+    }
+    refused = 0;
+    if (!each)
+        answer = COUNT(yelunnavi_receiver_open_table(&receiver, constant, links, links_len, ports, ports_len, readers_each, &fault));
     may_ask = false;
+    show_code(answer);
     free(links), free(ports);
 }
 
@@ -318,7 +329,8 @@ static void close_it(const char *name) {
 
 static void call(const char *name) {
     if (!strcmp(name, "open")) open_it();
-    else if (!strcmp(name, "open_table")) open_table();
+    else if (!strcmp(name, "open_table")) open_table(false);
+    else if (!strcmp(name, "open_table_each")) open_table(true);
     else if (!strcmp(name, "open_each")) open_each();
     else if (!strcmp(name, "receive")) receive();
     else if (!strcmp(name, "hand_reader")) hand(true);
@@ -358,5 +370,6 @@ int main(void) {
     for (int k = 0; k < SLOTS; k++) yelunnavi_reader_close(&readers[k]), yelunnavi_queue_close(&queues[k]);
     yelunnavi_receiver_close(&receiver);
     printf("%ld blocks kept\n", blocks);
+    free(whole);
     return 0;
 }

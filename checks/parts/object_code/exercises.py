@@ -6,6 +6,7 @@ from parts import fuzz_cases
 from parts.c_programs import POOL, ROOFS, compiled_part, of_examples, scripts_of, under
 from parts.driven import ENOUGH, hexed
 from parts.fuzz_cases import Case
+from parts.object_code import shapes
 from parts.object_code.counted import FIXED
 from parts.object_code.decimals import decimals
 from parts.object_code.names import lookups
@@ -56,7 +57,7 @@ def openings(given):
         yield from (f"open 1 {hexed(text)}", "close")
     for text in (*good_texts(), *islice(texts(given), None, None, given.texts_for_each)):
         yield from (f"open_each 2 {hexed(text)}", "close")
-    yield from CLOSED
+    yield from (*shapes.openings(), *CLOSED)
 
 
 def by_chance(given):
