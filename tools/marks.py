@@ -12,7 +12,7 @@ LIBRARY = ["receiver_c", "system_c"]
 HERE = "x86_64-unknown-linux-gnu"
 # The C compiler of each target.
 TARGETS = {HERE: "cc", "aarch64-unknown-linux-gnu": "aarch64-linux-gnu-gcc"}
-HEADERS = [ROOT / "examples" / "c" / name for name in ("yelunnavi.h", "yelunnavi_words.h")]
+HEADERS = [ROOT / "examples" / "c" / name for name in ("yelunnavi.h", "yelunnavi_words.h", "yelunnavi_table.h")]
 HEAP = ROOT / "tools" / "heap.c"
 SUPPRESSIONS = sorted((ROOT / "tools" / "suppressions").iterdir())
 # The shared object's name for linkers. That for loaders has the number of the interface after it.

@@ -90,7 +90,7 @@ def test_a_library_without_a_shared_object(compiler, told, tmp_path, monkeypatch
     interface.add_interface(Product("library"), tmp_path)
     assert sorted(path.name for path in tmp_path.iterdir()) == \
         ["drd.supp", "heap.c", "helgrind.supp", "tsan.supp", "yelunnavi-with-malloc.pc", "yelunnavi.h", "yelunnavi.pc",
-         "yelunnaviConfig.cmake", "yelunnaviConfigVersion.cmake", "yelunnavi_words.h"]
+         "yelunnaviConfig.cmake", "yelunnaviConfigVersion.cmake", "yelunnavi_table.h", "yelunnavi_words.h"]
     found = capfd.readouterr().err
     assert told in found and f"so there is no shared object for {HERE}" in found
 

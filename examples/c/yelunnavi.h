@@ -32,8 +32,8 @@
    its passes: frames of different links, filtered frames, counts and the ends of ports never meet.
 
    MEMORY. yelunnavi_receiver_open and .._open_table, and those of a system, ask for memory, by rattle_alloc, rattle_realloc and
-   rattle_dealloc below; .._close give some back. No other call asks for any or gives any back. docs/EMBEDDING.md has what they
-   ask for, by links, ports, readers and queues. A program that has no such functions compiles heap.c, which lies beside the
+   rattle_dealloc below; .._close give some back. No other call asks for any or gives any back. yelunnavi_table.h tells how much
+   an opening of a table asks for; docs/EMBEDDING.md has it by links, ports, readers and queues. A program that has no such functions compiles heap.c, which lies beside the
    library: it has them by malloc. Beside these three the library needs memcpy, memmove and memset, and nothing else: no
    operating system, no C library's start-up. It never prints, never ends the process, and has no state of its own outside of
    the rooms and of what it asked for.
@@ -81,7 +81,8 @@
    - Arrival times and the `now` of reads and holds are of one clock.
    - The three functions for memory do what is said there.
 
-   MISRA C:2012, by cppcheck's addon. Of this header and yelunnavi_words.h it finds, in a program that uses no more:
+   MISRA C:2012, by cppcheck's addon. Of this header, yelunnavi_words.h and yelunnavi_table.h it finds, in a program
+   that uses no more:
    - Rule 2.3: the type that a compiler of another machine refuses is used by nobody.
    - Rule 2.4: an enum's tag is used by nobody, since calls pass and tell its numbers as uint32_t.
    - Rule 2.5: a macro that the program doesn't use.
@@ -385,7 +386,7 @@ struct yelunnavi_port_row {
     uint32_t max;      /* the longest message: up to 1,471 of a sampling port, 8,192 of a queuing port */
     uint64_t limit;    /* the refresh period, up to 1,000,000,000; or the depth of the queue, 1 to 64 messages */
     size_t name_len;   /* how many octets its name has, 1 to 16 */
-    uint8_t name[16];  /* of a-z 0-9 _ -, at the beginning */
+    uint8_t name[16];  /* of a-z 0-9 _ -, at the beginning. YELUNNAVI_NAME of yelunnavi_table.h makes both fields of a literal */
     uint32_t readers;    /* of a sampling port: how many readers it gets, 1 to 8; 0: as many as the opening is told. Above 8 in any
                             row, of a queue too, is OUT_OF_RANGE before any other fault, and its row isn't told */
 };
