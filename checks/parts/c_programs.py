@@ -89,5 +89,5 @@ def scripts_of(given, cases):
 
 
 def under(roof, scripts):
-    """A system tells no health."""
+    """What a system has of them: its passes tell health by a call of their own."""
     return scripts if roof == "receiver" else [(name, script.without(*OF_RECEIVERS)) for name, script in scripts]
