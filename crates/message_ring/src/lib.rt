@@ -13,9 +13,9 @@
 //! assert_eq!(rt; &out[..], &b"abc"[..]);
 //! ```
 //!
-//! A message stands in a slot of its own from its put to its taking. The two words between the ends count what was put
-//! and what was taken. Of the free slots those octets are used first that came back last, so a deep queue that is emptied
-//! in time goes through little memory. [`laws`] says what follows at every moment.
+//! A message stands in a slot of its own from its put to its taking. Two words between the ends count what was put and
+//! what was taken. A queue that the putter finds empty begins again at its first slot, which a third word tells: so a deep
+//! queue that is emptied in time goes through little memory. [`laws`] says what follows at every moment.
 #![tactic(auto)]
 
 pub mod laws;
@@ -58,11 +58,8 @@ pub struct RingPutter {
     count: u64,
     // Number of those that it doesn't know to be taken.
     waits: usize,
-    // How many slots behind its next one that slot stands which came back last, of those whose octets it didn't use
-    // since. 0: none does.
-    apart: usize,
-    // Octets of two slots change places through it. It has none between calls.
-    spare: Vec<u8>,
+    // Slot in which message number 0 is, as the word between the ends says.
+    start: usize,
 }
 
 impl Model for RingPutter {
@@ -76,7 +73,7 @@ impl Model for RingPutter {
 
     ghost view = { λ p. known_by p.right.table_id (putter_in p.right.me.0) };
 
-    ghost invariant = { λ p. (p.right.table_id ≡ (arc_value p.table).table.shared.table_id) × KeepsPut p.right.me p.depth p.max p.next p.count p.waits p.apart };
+    ghost invariant = { λ p. (p.right.table_id ≡ (arc_value p.table).table.shared.table_id) × KeepsPut p.right.me p.depth p.max p.next p.count p.waits p.start };
 }
 
 /// The end that takes messages. Contracts see what it knows: the whole taken list, and that part of the
@@ -93,6 +90,8 @@ pub struct RingTaker {
     count: u64,
     // Number of those that it knows to be put and didn't take.
     waits: usize,
+    // Slot in which message number 0 is, as it read last.
+    start: usize,
 }
 
 impl Model for RingTaker {
@@ -106,7 +105,7 @@ impl Model for RingTaker {
 
     ghost view = { λ t. known_by t.right.table_id (taker_in t.right.me.0) };
 
-    ghost invariant = { λ t. (t.right.table_id ≡ (arc_value t.table).table.shared.table_id) × KeepsTaken t.right.me t.depth t.max t.next t.count t.waits };
+    ghost invariant = { λ t. (t.right.table_id ≡ (arc_value t.table).table.shared.table_id) × KeepsTaken t.right.me t.depth t.max t.next t.count t.waits t.start };
 }
 
 /// Empty slots, each with room for a message of `max` octets.
@@ -144,8 +143,7 @@ pub fn open_ring(
         next: 0,
         count: 0,
         waits: 0,
-        apart: 0,
-        spare: Vec::new(alloc),
+        start: 0,
     };
     let taker = RingTaker {
         table: again,
@@ -155,6 +153,7 @@ pub fn open_ring(
         next: 0,
         count: 0,
         waits: 0,
+        start: 0,
     };
     Ok((putter, taker))
 }
@@ -175,9 +174,28 @@ pub fn meet(putter: &mut RingPutter, taker: &mut RingTaker)
     let waits = putter.count.wrapping_sub(taker.count) as usize;
     putter.waits = waits;
     taker.waits = waits;
+    let on = slots_between(taker.start, putter.start, putter.depth);
+    taker.next = slot_after(taker.next, on, taker.depth);
+    taker.start = putter.start;
 }
 
-/// The slot so many behind this one: that of the message so many after its own.
+/// Whoever puts or takes has no more slots of the beginning to go through before a queue that is empty begins again.
+const FIRST_SLOTS: usize = 4;
+
+/// How many slots the second one is after the first, round and round.
+fn slots_between(first: usize, second: usize, depth: usize) -> usize
+    requires { (first < depth) × (second < depth) × (depth ≤ deepest_queue) }
+    ensures few { result ≤ depth }
+    ensures on { (number : ℕ) → slot_for depth (first + number + result) ≡ slot_for depth (second + number) }
+{
+    if first <= second {
+        second - first
+    } else {
+        second + depth - first
+    }
+}
+
+/// The slot so many after this one: that of the message so many after its own.
 fn slot_after(slot: usize, many: usize, depth: usize) -> usize
     requires { (slot < depth) × (many ≤ depth) × (depth ≤ deepest_queue) }
     ensures { (number : ℕ) → slot ≡ slot_for depth number → result ≡ slot_for depth (number + many) }
@@ -224,8 +242,35 @@ impl RingPutter {
     {
         let taken = self.table.look_taken(&mut self.right);
         self.waits = self.count.wrapping_sub(taken) as usize;
-        self.apart = (self.depth - self.waits).saturating_sub(1);
+        if self.waits == 0 && FIRST_SLOTS <= self.next {
+            self.begin_again();
+        }
         self.waits
+    }
+
+    /// The next message comes into the first slot, for none waits: that one is in the caches.
+    fn begin_again(&mut self)
+        requires { length self.old.put ≡ length self.old.taken }
+        ensures { self.new ≡ self.old }
+    {
+        let on = self.depth - self.next;
+        let start = slot_after(self.start, on, self.depth);
+        self.table.start(&mut self.right, start as u64);
+        self.start = start;
+        self.next = slot_after(self.next, on, self.depth);
+    }
+
+    /// Looks what the other end took, if at least so many messages wait as far as this end knows, or if it used its first
+    /// slots and would begin again at these. Once at most.
+    pub fn look_ahead(&mut self, least: usize)
+        ensures end { self.new ≡ record self.old { taken = self.new.taken; looks = self.new.looks } }
+        ensures told { BeginsWith self.new.taken self.old.taken }
+        ensures once { (self.old.looks ≤ self.new.looks) × (self.new.looks ≤ self.old.looks + 1) }
+        ensures looked { least + length self.old.taken ≤ length self.old.put → self.new.looks ≡ self.old.looks + 1 }
+    {
+        if least <= self.waits || FIRST_SLOTS <= self.next {
+            let _waits = self.waiting();
+        }
     }
 
     /// Number of messages that were put and that this end doesn't know to be taken: it makes no look, so no fewer than
@@ -245,27 +290,12 @@ impl RingPutter {
         ensures depth { length self.new.put ≤ length self.new.taken + self.old.depth }
         ensures looks { self.new.looks ≡ self.old.looks }
     {
-        self.warm_next();
         let count = self.count.wrapping_add(1);
         self.table
             .put(&mut self.right, self.next, count, time, octets);
         self.count = count;
         self.next = slot_after(self.next, 1, self.depth);
         self.waits += 1;
-        self.apart = self.apart.saturating_sub(1);
-    }
-
-    /// The next message gets the octets that came back last, of those that it knows to be back: they are in the caches.
-    fn warm_next(&mut self)
-        ensures { self.new ≡ self.old }
-    {
-        if self.apart == 0 {
-            return;
-        }
-        let later = slot_after(self.next, self.apart, self.depth);
-        self.table
-            .swap(&mut self.right, self.next, later, &mut self.spare);
-        self.apart -= 1;
     }
 }
 
@@ -311,7 +341,14 @@ impl RingTaker {
         }
         let put = self.table.look_put(&mut self.right);
         self.waits = put.wrapping_sub(self.count) as usize;
-        0 < self.waits
+        if self.waits == 0 {
+            return false;
+        }
+        let start = self.table.read_start(&mut self.right) as usize;
+        let on = slots_between(self.start, start, self.depth);
+        self.next = slot_after(self.next, on, self.depth);
+        self.start = start;
+        true
     }
 
     /// Takes the oldest message, which it knows to be put.

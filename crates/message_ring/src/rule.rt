@@ -24,10 +24,10 @@ pub struct QueueView {
     pub max: u64,
     /// Its looks at the other end's word: a putter's all, a taker's by which it found no message.
     pub looks: u64,
-    /// Number of the message whose slot came back last, of those whose octets weren't used since. A putter's alone.
-    pub warm: u64,
-    /// Whether it has that slot, and the one of its next message, so that their octets change places.
-    pub swaps: bool,
+    /// Slot of message number 0, from which those of all others follow. A putter says it, a taker reads it.
+    pub start: u64,
+    /// Whether a taker read `start` since it learned of the messages that it knows.
+    pub sure: bool,
 }
 
 /// Knowledge of a seat.
@@ -42,7 +42,8 @@ pub enum SeatView {
     Spent,
 }
 
-/// A message stands in its slot from its put to its taking. The two words count what was put and what was taken.
+/// A message stands in its slot from its put to its taking. Two words count what was put and what was taken; the third
+/// says in which slot number 0 is.
 pub struct InSlots;
 
 impl TableRule<Slot, SeatView, Size> for InSlots {

@@ -3,7 +3,6 @@ ghost use Rattle.std.specs.Prelude.{◌≡◌, ◌≤◌, length, take, drop};
 ghost use Rattle.std.specs.Vec.{vec_capacity};
 
 use crate::Taken;
-use std::mem;
 
 /// A slot of a queue, with room for its longest message, which is reserved and not written before a message comes. It has
 /// the message that was put there last.
@@ -34,14 +33,6 @@ impl Slot {
         self.time = time;
         self.octets.clear();
         self.octets.extend_from_slice(octets).unwrap();
-    }
-
-    /// Its room and this one change places, with what is in them.
-    pub(crate) fn swap_octets(&mut self, octets: &mut Vec<u8>)
-        ensures slot { self.new.octets ≡ octets.old }
-        ensures octets { octets.new ≡ self.old.octets }
-    {
-        mem::swap(&mut self.octets, octets);
     }
 
     /// Copies its message's octets to the beginning of `out`. It stays as it is.

@@ -72,8 +72,8 @@ impl CountingPutter {
         self.putter.has_room()
     }
 
-    /// Puts a message at the end of the queue, and counts what waits then. It looks what was taken only if more may wait
-    /// than ever, and once at most.
+    /// Puts a message at the end of the queue, and counts what waits then. Before, it looks what was taken if more may wait
+    /// than ever, or if a queue that is empty would begin again at its first slot; once at most.
     // rule: EMB-7
     pub(crate) fn put(&mut self, time: u64, octets: &[u8])
         requires short { length octets.now ≤ self.old.known.queue.max }
@@ -83,10 +83,9 @@ impl CountingPutter {
         ensures greatest { self.new.greatest ≡ max self.old.greatest (length self.new.known.put - length self.new.known.taken) }
         ensures looks { (self.old.known.looks ≤ self.new.known.looks) × (self.new.known.looks ≤ self.old.known.looks + 1) }
     {
+        self.putter.look_ahead(self.greatest);
         self.putter.put(time, octets);
-        if self.greatest < self.putter.known_waiting() {
-            self.greatest = self.greatest.max(self.putter.waiting());
-        }
+        self.greatest = self.greatest.max(self.putter.known_waiting());
     }
 
     /// Synchronizes the two ends of one queue: each then knows at least what the other did. Nothing else changes.

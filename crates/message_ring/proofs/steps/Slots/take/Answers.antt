@@ -7,7 +7,7 @@ use Rattle.message_ring.proofs.Turns.{take_enters_at}
 use Rattle.message_ring.proofs.steps.Slots.take.Goals as goal
 
 pub load-requires : goal.load-requires
-load-requires c = let may = c.requires.seat in (search rules, search rules, take_enters_at _ _ _ _ may.seat may.outside may.more)
+load-requires c = let may = c.requires.seat in (search rules, search rules, take_enters_at _ _ _ _ may.seat may.outside may.more may.sure)
 
 pub slot_mut-requires : goal.slot_mut-requires
 slot_mut-requires c = let t = c.load.ensures.2 in (search rules, (t.0, there _ _ _ _ _ (ap (λ (m : QueueSeat). m.1) t.1) c.requires.seat.next_is))
