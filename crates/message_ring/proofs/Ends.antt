@@ -1,7 +1,7 @@
 -- What the ends keep after a put and a take.
 use Rattle.std.proofs.Common.{◌≡◌, ◌∙◌, ap, sym, refl, subst, ℕ, ◌+◌, ◌-◌, ◌<◌, ◌%◌, [], ◌∷◌, ◌++◌, length, length-append, arith}
-use Rattle.es_base.specs.declared.event.Message.{Message}
-use Rattle.es_base.specs.Queue.{BeginsWith}
+use Rattle.message_ring.specs.declared.rule.QueuedMessage.{QueuedMessage as Message}
+use Rattle.message_ring.specs.Queue.{BeginsWith}
 use Rattle.message_ring.specs.Rule.{slot_for}
 use Rattle.message_ring.specs.declared.rule.SeatView.TheVariants.{Puts, Takes}
 use Rattle.message_ring.specs.Plays.{QueueSeat, putter_in, puts_one, taker_in, takes_one}
