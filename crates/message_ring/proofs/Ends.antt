@@ -1,9 +1,9 @@
 -- What the ends keep after a put and a take.
 use Rattle.std.proofs.Common.{◌≡◌, ◌∙◌, ap, sym, refl, subst, ℕ, ◌+◌, ◌-◌, ◌<◌, ◌≤◌, ◌%◌, [], ◌∷◌, ◌++◌, length, length-append, arith}
 use Rattle.std.proofs.Math.Nat.{mod-add-mod, mod-eq_of_lt, mod-lt}
-use Rattle.es_base.specs.declared.event.Message.{Message}
+use Rattle.message_ring.specs.declared.rule.QueuedMessage.{QueuedMessage as Message}
 use Rattle.es_base.specs.Limits.{deepest_queue}
-use Rattle.es_base.specs.Queue.{BeginsWith}
+use Rattle.message_ring.specs.Queue.{BeginsWith}
 use Rattle.message_ring.specs.Rule.{slot_for, wrapped}
 use Rattle.message_ring.specs.declared.rule.QueueView.{QueueView}
 use Rattle.message_ring.specs.declared.rule.SeatView.TheVariants.{Puts, Takes}
@@ -90,18 +90,18 @@ put_met me me' t depth max next count waits waits' start keeps met is are =
       count_is = keeps.count_is;
     })
 
-pub take_met : (me me' : QueueSeat) (p : QueueView) (depth max next next' count waits waits' start start' on : ℕ) → KeepsTaken me depth max next count waits start → AreMet p (taker_in me.0)
+pub take_met : (me me' : QueueSeat) (p : QueueView) (depth max next next' count waits waits' start start' : ℕ) → KeepsTaken me depth max next count waits start → AreMet p (taker_in me.0)
     → me' ≡ (Takes (told_put (taker_in me.0) p), me.1) → p.depth ≡ depth → start' ≡ p.start → start' < depth → waits' + length (taker_in me.0).taken ≡ length p.put
-    → IsAfter depth next on next' → ((number : ℕ) → slot_for depth (start + number + on) ≡ slot_for depth (start' + number))
+    → ((number : ℕ) → next ≡ slot_for depth (start + number) → next' ≡ slot_for depth (start' + number))
     → KeepsTaken me' depth max next' count waits' start'
-take_met me me' p depth max next next' count waits waits' start start' on keeps met is same start_is within are to between =
+take_met me me' p depth max next next' count waits waits' start start' keeps met is same start_is within are to =
     let t = taker_in me.0 in
     let k = keeps.keeps in
     let depth_is = k.depth_is in
     let was = k.start_is in
     let few = met.few in
     let here : next ≡ slot_for depth (start + length t.taken) = keeps.next_is ∙ (λ i. slot_for (depth_is i) (sym was i + length t.taken)) in
-    let there : next' ≡ slot_for depth (start' + length t.taken) = to (start + length t.taken) here ∙ between (length t.taken) in
+    let there : next' ≡ slot_for depth (start' + length t.taken) = to (length t.taken) here in
     let whole : me' ≡ (Takes (told_put t p), []) = is ∙ ap (λ (m : QueueSeat). (Takes (told_put t p), m.1)) keeps.seat in
     subst (λ (y : QueueSeat). KeepsTaken y depth max next' count waits' start') (sym whole) (record {
       seat = refl;

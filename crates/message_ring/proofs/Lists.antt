@@ -5,8 +5,8 @@ use Rattle.std.proofs.lemmas.List.{append_assoc, append-nil, length-append, nil_
 use Rattle.std.proofs.lemmas.Bool.{cases_lt}
 use Rattle.std.proofs.Math.Nat.{add-mod_right, mod-add-mod, mod-eq_of_lt, mod-lt}
 use Rattle.atomic_table.proofs.Lists.{one_turn}
-use Rattle.es_base.specs.declared.event.Message.{Message}
-use Rattle.es_base.specs.Queue.{BeginsWith}
+use Rattle.message_ring.specs.declared.rule.QueuedMessage.{QueuedMessage as Message}
+use Rattle.message_ring.specs.Queue.{BeginsWith}
 use Rattle.message_ring.specs.Rule.{slot_for}
 
 -- ---- lists that begin others

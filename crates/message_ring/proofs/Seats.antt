@@ -3,11 +3,11 @@ use Rattle.std.proofs.Common.{◌≡◌, ◌∙◌, ap, sym, refl, subst, arith,
 use Rattle.std.specs.List.{slice_get}
 use Rattle.std.specs.Vec.{vec_capacity}
 use Rattle.atomic_table.specs.Table.{rest}
-use Rattle.es_base.specs.declared.event.Message.{Message}
+use Rattle.message_ring.specs.declared.rule.QueuedMessage.{QueuedMessage as Message}
 use Rattle.message_ring.specs.declared.slot.Slot.{Slot}
 use Rattle.message_ring.specs.declared.rule.SeatView.{SeatView}
 use Rattle.message_ring.specs.declared.rule.SeatView.TheVariants.{Puts, Takes}
-use Rattle.message_ring.specs.Queue.{message}
+use Rattle.message_ring.specs.Queue.{queued}
 use Rattle.message_ring.specs.Rule.{IsRoomy, in_slot, slot_of}
 use Rattle.message_ring.specs.Plays.{QueueSeat, putter_in, putter_puts, puts_one, taker_in, taker_takes, takes_one, with_slot_taken}
 use Rattle.message_ring.specs.Ends.{MayPutNext, MayTakeNext}
@@ -38,15 +38,15 @@ pub put_may_go : (slots id n count len : ℕ) (me me1 : QueueSeat) (slot written
 put_may_go slots id n count len me me1 slot written may is roomy =
     put_goes_at slots id _ (with_slot_taken (putter_in me.0)) written count (seat_with me1 _ n _ slot written is may.next_is) may.count_is roomy refl
 
-pub put_done : (n count len : ℕ) (me me1 me2 : QueueSeat) (slot written : Slot) (time : ℕ) (octets : List ℕ) → MayPutNext me n count len
+pub put_done : (n count len : ℕ) (me me1 me2 : QueueSeat) (slot written : Slot) (time : ℕ) (octets : List ℕ) (lost : ℕ) → MayPutNext me n count len
     → me1 ≡ (Puts (with_slot_taken (putter_in me.0)), (slot_of (putter_in me.0) (length (putter_in me.0).put), slot) ∷ [])
-    → putter_puts (me1.0, (n, written) ∷ rest me1.1) count me2 → written.time ≡ time → written.octets.items ≡ octets
-    → me2 ≡ (Puts (puts_one (putter_in me.0) (message time octets)), [])
-put_done n count len me me1 me2 slot written time octets may is told time_is octets_are =
+    → putter_puts (me1.0, (n, written) ∷ rest me1.1) count me2 → written.time ≡ time → written.octets.items ≡ octets → written.lost ≡ lost
+    → me2 ≡ (Puts (puts_one (putter_in me.0) (queued time octets lost)), [])
+put_done n count len me me1 me2 slot written time octets lost may is told time_is octets_are lost_is =
     let seat = seat_with me1 _ n _ slot written is may.next_is in
     told _ written (ap (λ (m : QueueSeat). m.1) seat)
     ∙ ap (λ (m : QueueSeat). (Puts (puts_one (putter_in m.0) (in_slot written)), [])) seat
-    ∙ (λ i. (Puts (puts_one (putter_in me.0) (message (time_is i) (octets_are i))), []))
+    ∙ (λ i. (Puts (puts_one (putter_in me.0) (queued (time_is i) (octets_are i) (lost_is i))), []))
 
 pub take_may_go : (slots id n count room : ℕ) (me me1 : QueueSeat) (slot read : Slot) → MayTakeNext me n count room
     → me1 ≡ (Takes (with_slot_taken (taker_in me.0)), (slot_of (taker_in me.0) (length (taker_in me.0).taken), slot) ∷ []) → IsRoomy (taker_in me.0).max slot

@@ -13,15 +13,15 @@ use lib.ListN.{get_elem?}
 use Rattle.atomic_table.specs.Table as table
 use Rattle.atomic_table.specs.Table.{chain, keeps, takes, gives, Allows, Valid}
 use Rattle.atomic_table.proofs.Lists.{at_set, set_here, set_else}
-use Rattle.es_base.specs.declared.event.Message.{Message}
-use Rattle.es_base.specs.Queue.{BeginsWith}
+use Rattle.message_ring.specs.declared.rule.QueuedMessage.{QueuedMessage as Message}
+use Rattle.message_ring.specs.Queue.{BeginsWith}
 use Rattle.es_base.proofs.Elements.{slice_get-push}
 use Rattle.message_ring.specs.declared.slot.Slot.{Slot}
 use Rattle.message_ring.specs.declared.rule.QueueView.{QueueView}
 use Rattle.message_ring.specs.declared.rule.SeatView.{SeatView}
 use Rattle.message_ring.specs.declared.rule.SeatView.TheVariants.{Puts, Takes, Meets, Spent}
 use Rattle.message_ring.specs.Rule.{IsInPlace, IsRoomy, KeptQueue, KnowsItsQueue, LawfulQueue, in_slot, slot_for, slot_of, wrapped}
-use Rattle.message_ring.specs.Plays.{QueueSeat, ends_learn, putter_enters, putter_looks, putter_puts, putter_starts, puts_one, sees_none, sees_put, sees_start, sees_taken, started, taker_enters, taker_looks, taker_reads_start, taker_takes, takes_one, told_put, told_taken, with_slot_taken}
+use Rattle.message_ring.specs.Plays.{QueueSeat, ends_learn, putter_enters, putter_looks, putter_puts, putter_starts, puts_one, sees_none, sees_put, sees_start, sees_taken, started, counts_put, taker_counts, taker_enters, taker_looks, taker_reads_start, taker_takes, takes_one, told_put, told_taken, with_slot_taken}
 use Rattle.message_ring.specs.Ends.{IsOutside}
 use Rattle.message_ring.proofs.Lists.{around, begins_get, begins_length, begins_same, begins_trans, next_of, one_slot, push_other}
 
@@ -466,6 +466,22 @@ module _ (slots id : ℕ) where
 
   pub start_is_read_at : (me : QueueSeat) (t : QueueView) → me.0 ≡ Takes t → IsOutside t → May me 2 (λ n. n) (taker_reads_start me)
   start_is_read_at me t is outside = subst (λ (y : SeatView). May (y, me.1) 2 (λ n. n) (taker_reads_start (y, me.1))) (sym is) (start_is_read t me.1 outside)
+
+  counts : (t : QueueView) (c : List (ℕ × Slot)) → IsOutside t → May (Takes t, c) 0 (λ n. n) (taker_counts (Takes t, c))
+  counts t c outside s k _ mine _ =
+      let l = taker_lawful s k id t mine in
+      let p = k.putter in
+      let depth : t.depth ≡ p.depth = l.size.0 in
+      let few = l.few in (
+        Takes (counts_put t p.put),
+        keeps,
+        tt,
+        taker_turns s k id t mine s.words _ _ _ (set-get_or s.words 0 0) (known_put_keeps s.words s.homes p t l p.put (t.looks + 1) t.start false (begins_same p.put) l.put outside (λ h _. not_both false h refl)),
+        (p.put, refl, ap (λ (ws : List ℕ). get_or ws 0 0) l.words_are, l.put, begins_trans t.taken t.put p.put l.taken l.put, omega (arith, few, depth)),
+      )
+
+  pub counts_at : (me : QueueSeat) (t : QueueView) → me.0 ≡ Takes t → IsOutside t → May me 0 (λ n. n) (taker_counts me)
+  counts_at me t is outside = subst (λ (y : SeatView). May (y, me.1) 0 (λ n. n) (taker_counts (y, me.1))) (sym is) (counts t me.1 outside)
 
   learn : (p t : QueueView) (c : List (ℕ × Slot)) → IsOutside t → May (Meets p t, c) 0 (λ n. n) (ends_learn (Meets p t, c))
   learn p t c outside s k _ mine _ =

@@ -1,8 +1,8 @@
 -- What each step tells its seat.
 use Rattle.std.specs.Prelude.{◌≡◌, ℕ, ◌+◌, ◌<◌, ◌≤◌, true, false, List, [], ◌∷◌, ◌++◌, length, slice_get, Some}
 use Rattle.atomic_table.specs.Table.{Me}
-use Rattle.es_base.specs.declared.event.Message.{Message}
-use Rattle.es_base.specs.Queue.{BeginsWith}
+use Rattle.message_ring.specs.declared.rule.QueuedMessage.{QueuedMessage}
+use Rattle.message_ring.specs.Queue.{BeginsWith}
 use Rattle.message_ring.specs.Rule.{IsRoomy, in_slot, slot_of, view_at_first, wrapped}
 use Rattle.message_ring.specs.declared.slot.Slot.{Slot}
 use Rattle.message_ring.specs.declared.rule.QueueView.{QueueView}
@@ -29,11 +29,11 @@ with_slot_taken view = record view { has = true }
 
 -- ---- the putter
 
-abbrev pub puts_one : QueueView → Message → QueueView
+abbrev pub puts_one : QueueView → QueuedMessage → QueueView
 puts_one putter message = record putter { put = putter.put ++ message ∷ []; has = false }
 
 -- one look more, by which it knows these to be taken
-abbrev pub sees_taken : QueueView → List Message → QueueView
+abbrev pub sees_taken : QueueView → List QueuedMessage → QueueView
 sees_taken putter taken = record putter { taken = taken; looks = putter.looks + 1 }
 
 -- it took the slot of its next message
@@ -49,7 +49,7 @@ putter_puts me found me' = (number : ℕ) (slot : Slot) → me.1 ≡ (number, sl
 -- it loaded the taker's word
 -- rule: PORT-17
 abbrev pub putter_looks : QueueSeat → ℕ → QueueSeat → Type 0
-putter_looks me found me' = (taken : List Message) × (me' ≡ (Puts (sees_taken (putter_in me.0) taken), me.1)) × (found ≡ wrapped (length taken))
+putter_looks me found me' = (taken : List QueuedMessage) × (me' ≡ (Puts (sees_taken (putter_in me.0) taken), me.1)) × (found ≡ wrapped (length taken))
     × BeginsWith taken (putter_in me.0).taken × BeginsWith (putter_in me.0).put taken × (length (putter_in me.0).put ≤ length taken + (putter_in me.0).depth)
 
 -- number 0 is in this slot
@@ -63,11 +63,11 @@ putter_starts me start me' = me' ≡ (Puts (started (putter_in me.0) start), [])
 
 -- ---- the taker
 
-abbrev pub takes_one : QueueView → Message → QueueView
+abbrev pub takes_one : QueueView → QueuedMessage → QueueView
 takes_one taker message = record taker { taken = taker.taken ++ message ∷ []; has = false }
 
 -- it knows these to be put, and has yet to read where number 0 is
-abbrev pub sees_put : QueueView → List Message → QueueView
+abbrev pub sees_put : QueueView → List QueuedMessage → QueueView
 sees_put taker put = record taker { put = put; sure = false }
 
 -- it knows where number 0 is
@@ -77,6 +77,10 @@ sees_start taker start = record taker { start = start; sure = true }
 -- one look more, by which it found no message
 abbrev pub sees_none : QueueView → QueueView
 sees_none taker = record taker { looks = taker.looks + 1 }
+
+-- one look more, by which it knows these to be put, and has yet to read where number 0 is
+abbrev pub counts_put : QueueView → List QueuedMessage → QueueView
+counts_put taker put = record taker { put = put; looks = taker.looks + 1; sure = false }
 
 -- it took the slot of its next message, which has that message
 -- rule: PORT-11
@@ -92,7 +96,7 @@ taker_takes me found me' = (number : ℕ) (slot : Slot) → me.1 ≡ (number, sl
 -- it loaded the putter's word: all messages that were put are taken, or more were put than it took
 -- rule: PORT-11
 abbrev pub taker_looks : QueueSeat → ℕ → QueueSeat → Type 0
-taker_looks me found me' = (put : List Message) × (me'.1 ≡ me.1) × (found ≡ wrapped (length put)) × BeginsWith put (taker_in me.0).put × BeginsWith put (taker_in me.0).taken
+taker_looks me found me' = (put : List QueuedMessage) × (me'.1 ≡ me.1) × (found ≡ wrapped (length put)) × BeginsWith put (taker_in me.0).put × BeginsWith put (taker_in me.0).taken
     × (length put ≤ length (taker_in me.0).taken + (taker_in me.0).depth) × (length put ≡ length (taker_in me.0).taken → me'.0 ≡ Takes (sees_none (taker_in me.0)))
     × (length (taker_in me.0).taken < length put → me'.0 ≡ Takes (sees_put (taker_in me.0) put))
 
@@ -100,6 +104,11 @@ taker_looks me found me' = (put : List Message) × (me'.1 ≡ me.1) × (found �
 -- rule: PORT-11
 abbrev pub taker_reads_start : QueueSeat → ℕ → QueueSeat → Type 0
 taker_reads_start me found me' = (me' ≡ (Takes (sees_start (taker_in me.0) found), me.1)) × (found < (taker_in me.0).depth)
+
+-- it loaded the putter's word to count what waits
+abbrev pub taker_counts : QueueSeat → ℕ → QueueSeat → Type 0
+taker_counts me found me' = (put : List QueuedMessage) × (me' ≡ (Takes (counts_put (taker_in me.0) put), me.1)) × (found ≡ wrapped (length put))
+    × BeginsWith put (taker_in me.0).put × BeginsWith put (taker_in me.0).taken × (length put ≤ length (taker_in me.0).taken + (taker_in me.0).depth)
 
 -- ---- the opening: the two are parted. It counts no look
 
@@ -114,7 +123,7 @@ putter_left view = Spent
 -- ---- a meeting: the putter's seat joins the taker's, both learn what the other did, and they are parted again. It
 -- counts no look
 
-abbrev pub told_taken : QueueView → List Message → QueueView
+abbrev pub told_taken : QueueView → List QueuedMessage → QueueView
 told_taken putter taken = record putter { taken = taken }
 
 abbrev pub views_met : SeatView → SeatView → SeatView

@@ -7,18 +7,17 @@ use mathlib.Core.Option as maybe
 use mathlib.Core.Option.{some}
 use lib.ListN.{get_elem?}
 use Rattle.atomic_table.specs.Table as table
-use Rattle.es_base.specs.declared.event.Message.{Message}
+use Rattle.message_ring.specs.declared.rule.QueuedMessage.{QueuedMessage}
 use Rattle.es_base.specs.Limits.{deepest_queue}
-use Rattle.es_base.specs.Queue.{BeginsWith}
-use Rattle.message_ring.specs.Queue.{message}
+use Rattle.message_ring.specs.Queue.{BeginsWith, queued}
 use Rattle.message_ring.specs.declared.slot.Slot.{Slot}
 use Rattle.message_ring.specs.declared.rule.QueueView.{QueueView}
 use Rattle.message_ring.specs.declared.rule.SeatView.{SeatView}
 use Rattle.message_ring.specs.declared.rule.SeatView.TheVariants.{Puts, Takes, Meets, Spent}
 
--- the message in a slot
-abbrev pub in_slot : Slot → Message
-in_slot slot = message slot.time slot.octets.items
+-- the message in a slot, with the number of those lost right before it
+abbrev pub in_slot : Slot → QueuedMessage
+in_slot slot = queued slot.time slot.octets.items slot.lost
 
 -- room for this many octets, with no more in it
 abbrev pub HoldsUpTo : ℕ → Vec ℕ Global → Type 0
@@ -47,7 +46,7 @@ pub record IsInPlace (homes : List (maybe.Option Slot)) (putter : QueueView) (nu
   pub slot : Slot
   pub home : get_elem? homes (slot_of putter number) ≡ some (some slot)
   pub room : IsRoomy putter.max slot
-  pub message : (put : Message) → slice_get putter.put number ≡ Some put → in_slot slot ≡ put
+  pub message : (put : QueuedMessage) → slice_get putter.put number ≡ Some put → in_slot slot ≡ put
 
 -- What the putter and the taker know is true of the words and of the slots that no end has. No more messages wait than
 -- the queue holds, and the slots of these and of the free ones are at home, but for those that an end has: the putter

@@ -6,10 +6,10 @@
 //! let (mut putter, mut taker) = open_ring(rt.alloc(), 1, 3)?;
 //! ..
 //! assert!(rt; putter.has_room());
-//! putter.put(5, b"abc");
+//! putter.put(5, b"abc", 0);
 //! assert!(rt; !putter.has_room());
 //! meet(&mut putter, &mut taker);
-//! assert_eq!(rt; taker.take(&mut out), Some(Taken { time: 5, len: 3 }));
+//! assert_eq!(rt; taker.take(&mut out), Some(Taken { time: 5, len: 3, lost: 0 }));
 //! assert_eq!(rt; &out[..], &b"abc"[..]);
 //! ```
 //!
@@ -25,8 +25,7 @@ mod steps;
 
 ghost use Rattle.std.specs.Prelude.{◌≡◌, ◌+◌, ◌<◌, ◌≤◌, ℕ, length, take, drop, slice_get, Some, IfOk, IfSome, IfNone, IsSome, IsTrue, IsFalse};
 ghost use Rattle.es_base.specs.Limits.{deepest_queue, longest_queued};
-ghost use Rattle.es_base.specs.Queue.{BeginsWith};
-ghost use Rattle.message_ring.specs.Queue.{IsFullByLook, LooksForRoom, SeemsEmpty, SeemsFull, after_look, message, opened_ring, ring_with_put, ring_with_taken};
+ghost use Rattle.message_ring.specs.Queue.{BeginsWith, IsFullByLook, LooksForRoom, SeemsEmpty, SeemsFull, after_look, opened_ring, queued, ring_with_put, ring_with_taken};
 ghost use Rattle.message_ring.specs.Ends.{AreRoomy};
 ghost use Rattle.message_ring.specs.Rule.{slot_for};
 
@@ -37,11 +36,15 @@ use std::alloc::{AllocError, Global};
 use std::marker::Model;
 use std::sync::Arc;
 
-/// A taken message: its arrival time, and its length in `out`.
+/// A taken message.
 #[derive(Debug, Clone, Copy, PartialEq, Eq)]
 pub struct Taken {
+    /// Arrival time, in microseconds.
     pub time: u64,
+    /// Length in `out`, in octets.
     pub len: usize,
+    /// Number of messages lost right before it, as its putter said.
+    pub lost: u64,
 }
 
 /// The end that puts messages. Contracts see what it knows: the whole put list, and that part of the
@@ -115,7 +118,11 @@ fn empty_slots(alloc: Global, depth: usize, max: usize) -> Result<Vec<Slot>, All
     let mut slots = Vec::with_capacity(alloc, depth)?;
     'slots: for _ in 0..depth {
         let octets = Vec::with_capacity(alloc, max)?;
-        slots.push(Slot { time: 0, octets })?;
+        slots.push(Slot {
+            time: 0,
+            lost: 0,
+            octets,
+        })?;
     }
     Ok(slots)
 }
@@ -174,25 +181,24 @@ pub fn meet(putter: &mut RingPutter, taker: &mut RingTaker)
     let waits = putter.count.wrapping_sub(taker.count) as usize;
     putter.waits = waits;
     taker.waits = waits;
-    let on = slots_between(taker.start, putter.start, putter.depth);
-    taker.next = slot_after(taker.next, on, taker.depth);
+    taker.next = slot_with_start(taker.next, taker.start, putter.start, taker.depth);
     taker.start = putter.start;
 }
 
 /// Whoever puts or takes has no more slots of the beginning to go through before a queue that is empty begins again.
 const FIRST_SLOTS: usize = 4;
 
-/// How many slots the second one is after the first, round and round.
-fn slots_between(first: usize, second: usize, depth: usize) -> usize
-    requires { (first < depth) × (second < depth) × (depth ≤ deepest_queue) }
-    ensures few { result ≤ depth }
-    ensures on { (number : ℕ) → slot_for depth (first + number + result) ≡ slot_for depth (second + number) }
+/// The slot of a message, whose slot was this, once number 0 is in another one.
+fn slot_with_start(slot: usize, old: usize, new: usize, depth: usize) -> usize
+    requires { (slot < depth) × (old < depth) × (new < depth) × (depth ≤ deepest_queue) }
+    ensures { (number : ℕ) → slot ≡ slot_for depth (old + number) → result ≡ slot_for depth (new + number) }
 {
-    if first <= second {
-        second - first
+    let on = if old <= new {
+        new - old
     } else {
-        second + depth - first
-    }
+        new + depth - old
+    };
+    slot_after(slot, on, depth)
 }
 
 /// The slot so many after this one: that of the message so many after its own.
@@ -281,18 +287,19 @@ impl RingPutter {
         self.waits
     }
 
-    /// Puts a message at the end of the queue, of which this end knows that it has room. It makes no look.
-    pub fn put(&mut self, time: u64, octets: &[u8])
+    /// Puts a message at the end of the queue, of which this end knows that it has room; `lost` messages were lost right
+    /// before it. It makes no look.
+    pub fn put(&mut self, time: u64, octets: &[u8], lost: u64)
         requires short { length octets.now ≤ self.old.queue.max }
         requires room { length self.old.put < length self.old.taken + self.old.depth }
-        ensures put { self.new ≡ ring_with_put self.old (message time octets.now) self.new.taken self.new.looks }
+        ensures put { self.new ≡ ring_with_put self.old (queued time octets.now lost) self.new.taken self.new.looks }
         ensures told { BeginsWith self.new.taken self.old.taken }
         ensures depth { length self.new.put ≤ length self.new.taken + self.old.depth }
         ensures looks { self.new.looks ≡ self.old.looks }
     {
         let count = self.count.wrapping_add(1);
         self.table
-            .put(&mut self.right, self.next, count, time, octets);
+            .put(&mut self.right, self.next, count, time, octets, lost);
         self.count = count;
         self.next = slot_after(self.next, 1, self.depth);
         self.waits += 1;
@@ -311,7 +318,7 @@ impl RingTaker {
     /// end took all messages that it knows to be put.
     pub fn take(&mut self, out: &mut [u8]) -> Option<Taken>
         requires { self.old.queue.max ≤ length out.old }
-        ensures some { IfSome result (λ got. (got.len ≤ self.old.queue.max) × (self.new ≡ ring_with_taken self.old (message got.time (take got.len out.new)) self.new.put)) }
+        ensures some { IfSome result (λ got. (got.len ≤ self.old.queue.max) × (self.new ≡ ring_with_taken self.old (queued got.time (take got.len out.new) got.lost) self.new.put)) }
         ensures rest { IfSome result (λ got. drop got.len out.new ≡ drop got.len out.old) }
         ensures told { BeginsWith self.new.put self.old.put }
         ensures begins { BeginsWith self.new.put self.new.taken }
@@ -319,13 +326,31 @@ impl RingTaker {
         ensures seems_empty { IfNone result (SeemsEmpty self.old) }
         ensures next_is_known { length self.old.taken < length self.old.put → IsSome result }
         ensures next { IfSome result (λ got. length self.old.taken < length self.old.put →
-            slice_get self.old.put (length self.old.taken) ≡ Some (message got.time (take got.len out.new))) }
+            slice_get self.old.put (length self.old.taken) ≡ Some (queued got.time (take got.len out.new) got.lost)) }
     {
         if self.has_next() {
             Some(self.take_next(out))
         } else {
             None
         }
+    }
+
+    /// Number of waiting messages: those put that this end didn't take, after it looked in this call what was put.
+    // rule: EMB-10
+    pub fn waiting(&mut self) -> usize
+        ensures end { self.new ≡ record self.old { put = self.new.put; looks = self.new.looks } }
+        ensures told { BeginsWith self.new.put self.old.put }
+        ensures begins { BeginsWith self.new.put self.new.taken }
+        ensures count { result + length self.new.taken ≡ length self.new.put }
+        ensures depth { result ≤ self.new.depth }
+        ensures looked { self.new.looks ≡ self.old.looks + 1 }
+    {
+        let put = self.table.count_put(&mut self.right);
+        self.waits = put.wrapping_sub(self.count) as usize;
+        let start = self.table.read_start(&mut self.right) as usize;
+        self.next = slot_with_start(self.next, self.start, start, self.depth);
+        self.start = start;
+        self.waits
     }
 
     /// Whether it knows a message to take. False: after it looked in this call. It looks only if it knows of none
@@ -345,8 +370,7 @@ impl RingTaker {
             return false;
         }
         let start = self.table.read_start(&mut self.right) as usize;
-        let on = slots_between(self.start, start, self.depth);
-        self.next = slot_after(self.next, on, self.depth);
+        self.next = slot_with_start(self.next, self.start, start, self.depth);
         self.start = start;
         true
     }
@@ -355,8 +379,8 @@ impl RingTaker {
     fn take_next(&mut self, out: &mut [u8]) -> Taken
         requires room { self.old.queue.max ≤ length out.old }
         requires more { length self.old.taken < length self.old.put }
-        ensures taken { self.new ≡ ring_with_taken self.old (message result.time (take result.len out.new)) self.old.put }
-        ensures next { slice_get self.old.put (length self.old.taken) ≡ Some (message result.time (take result.len out.new)) }
+        ensures taken { self.new ≡ ring_with_taken self.old (queued result.time (take result.len out.new) result.lost) self.old.put }
+        ensures next { slice_get self.old.put (length self.old.taken) ≡ Some (queued result.time (take result.len out.new) result.lost) }
         ensures short { result.len ≤ self.old.queue.max }
         ensures rest { drop result.len out.new ≡ drop result.len out.old }
         ensures begins { BeginsWith self.new.put self.new.taken }

@@ -12,17 +12,25 @@ pub struct Size {
     pub max: usize,
 }
 
+/// A message in a queue.
+pub struct QueuedMessage {
+    pub message: Message,
+    /// Number of messages lost right before it: refused since the message before it was put.
+    pub lost: u64,
+}
+
 /// Knowledge of an end's seat.
 pub struct QueueView {
     /// The messages that it knows to be put: a putter all, a taker the first of them.
-    pub put: LinkedList<Message>,
+    pub put: LinkedList<QueuedMessage>,
     /// The messages that it knows to be taken: a taker all, a putter the first of them.
-    pub taken: LinkedList<Message>,
+    pub taken: LinkedList<QueuedMessage>,
     /// Whether it has the slot of its next message.
     pub has: bool,
     pub depth: u64,
     pub max: u64,
-    /// Its looks at the other end's word: a putter's all, a taker's by which it found no message.
+    /// Its looks at the other end's word: a putter's all, a taker's by which it found no message, and
+    /// those by which it counted what waits.
     pub looks: u64,
     /// Slot of message number 0, from which those of all others follow. A putter says it, a taker reads it.
     pub start: u64,

@@ -2,9 +2,9 @@
 //! make no step, and no load, but those of the calls here.
 ghost use Rattle.std.specs.Prelude.{◌≡◌, ◌<◌, false, ◌≤◌, [], drop, length, slice_get, take, IfOk, Some};
 ghost use Rattle.es_base.specs.Limits.{deepest_queue};
-ghost use Rattle.message_ring.specs.Queue.{message};
+ghost use Rattle.message_ring.specs.Queue.{queued};
 ghost use Rattle.message_ring.specs.Rule.{view_at_first};
-ghost use Rattle.message_ring.specs.Plays.{AreMet, ends_learn, putter_enters, putter_in, putter_left, putter_looks, putter_puts, putter_starts, puts_one, sees_start, started, taker_enters, taker_in, taker_looks, taker_parted, taker_reads_start, taker_takes, takes_one, told_put, told_taken, views_met};
+ghost use Rattle.message_ring.specs.Plays.{AreMet, ends_learn, putter_enters, putter_in, putter_left, putter_looks, putter_puts, putter_starts, puts_one, sees_start, started, taker_counts, taker_enters, taker_in, taker_looks, taker_parted, taker_reads_start, taker_takes, takes_one, told_put, told_taken, views_met};
 ghost use Rattle.message_ring.specs.Ends.{AreRoomy, MayPutNext, MayStart, MayTakeNext};
 ghost use Rattle.message_ring.specs.declared.rule.SeatView.TheVariants.{Puts, Spent, Takes};
 
@@ -86,6 +86,12 @@ impl Play<Slot, SeatView> for TakerReadsStart {
     ghost then = { λ _. taker_reads_start };
 }
 
+struct TakerCounts;
+
+impl Play<Slot, SeatView> for TakerCounts {
+    ghost then = { λ _. taker_counts };
+}
+
 struct Lend;
 
 impl Split<SeatView> for Lend {
@@ -140,15 +146,23 @@ pub(crate) fn open(
 impl Slots {
     /// Puts a message, in place: its slot is taken by a load of the putter's own word, and given back by a store of it,
     /// which is then this. It is no look.
-    pub(crate) fn put(&self, right: &mut Right, slot: usize, count: u64, time: u64, octets: &[u8])
+    pub(crate) fn put(
+        &self,
+        right: &mut Right,
+        slot: usize,
+        count: u64,
+        time: u64,
+        octets: &[u8],
+        lost: u64,
+    )
         requires table { right.old.table_id ≡ self.now.table.shared.table_id }
         requires seat { MayPutNext right.old.me slot count (length octets.now) }
         ensures table { right.new.table_id ≡ right.old.table_id }
-        ensures put { right.new.me ≡ (Puts (puts_one (putter_in right.old.me.0) (message time octets.now)), []) }
+        ensures put { right.new.me ≡ (Puts (puts_one (putter_in right.old.me.0) (queued time octets.now lost)), []) }
     {
         let shared = &self.table.shared;
         shared.load::<PutterEnters>(right, PUT);
-        right.slot_mut(shared, slot).write(time, octets);
+        right.slot_mut(shared, slot).write(time, octets, lost);
         shared.store::<PutterPuts>(right, PUT, count);
     }
 
@@ -178,8 +192,8 @@ impl Slots {
         requires table { right.old.table_id ≡ self.now.table.shared.table_id }
         requires seat { MayTakeNext right.old.me slot count (length out.old) }
         ensures table { right.new.table_id ≡ right.old.table_id }
-        ensures taken { right.new.me ≡ (Takes (takes_one (taker_in right.old.me.0) (message result.time (take result.len out.new))), []) }
-        ensures next { slice_get (taker_in right.old.me.0).put (length (taker_in right.old.me.0).taken) ≡ Some (message result.time (take result.len out.new)) }
+        ensures taken { right.new.me ≡ (Takes (takes_one (taker_in right.old.me.0) (queued result.time (take result.len out.new) result.lost)), []) }
+        ensures next { slice_get (taker_in right.old.me.0).put (length (taker_in right.old.me.0).taken) ≡ Some (queued result.time (take result.len out.new) result.lost) }
         ensures short { result.len ≤ (taker_in right.old.me.0).max }
         ensures rest { drop result.len out.new ≡ drop result.len out.old }
         ensures len { length out.new ≡ length out.old }
@@ -210,6 +224,16 @@ impl Slots {
         ensures within { result < (taker_in right.old.me.0).depth }
     {
         self.table.shared.load::<TakerReadsStart>(right, START)
+    }
+
+    /// Number of messages that were put, modulo 2^64: one load of the putter's word, by which the taker counts what waits.
+    pub(crate) fn count_put(&self, right: &mut Right) -> u64
+        requires table { right.old.table_id ≡ self.now.table.shared.table_id }
+        requires taker { (right.old.me.0 ≡ Takes (taker_in right.old.me.0)) × ((taker_in right.old.me.0).has ≡ false) }
+        ensures table { right.new.table_id ≡ right.old.table_id }
+        ensures counted { taker_counts right.old.me result right.new.me }
+    {
+        self.table.shared.load::<TakerCounts>(right, PUT)
     }
 
     /// Joins the putter's right with the taker's, by which each knows what the other did, and parts them again.

@@ -1,7 +1,7 @@
 use Rattle.std.proofs.Common.{◌∷◌, ◌++◌, [], ◌<◌, ◌∙◌, length, subst, sym}
 use Rattle.std.proofs.lemmas.Option.{same_Some}
-use Rattle.es_base.specs.declared.event.Message.{Message}
-use Rattle.es_base.specs.Queue.{BeginsWith}
+use Rattle.message_ring.specs.declared.rule.QueuedMessage.{QueuedMessage as Message}
+use Rattle.message_ring.specs.Queue.{BeginsWith}
 use Rattle.message_ring.specs.Queue.{Known}
 use Rattle.message_ring.specs.Plays.{QueueSeat, taker_in}
 use Rattle.message_ring.proofs.Ends.{take_keeps}
