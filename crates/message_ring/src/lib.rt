@@ -347,9 +347,9 @@ impl RingTaker {
     {
         let put = self.table.count_put(&mut self.right);
         self.waits = put.wrapping_sub(self.count) as usize;
-        let start = self.table.read_start(&mut self.right) as usize;
-        self.next = slot_with_start(self.next, self.start, start, self.depth);
-        self.start = start;
+        let first_slot = self.table.read_start(&mut self.right) as usize;
+        self.next = slot_with_start(self.next, self.start, first_slot, self.depth);
+        self.start = first_slot;
         self.waits
     }
 

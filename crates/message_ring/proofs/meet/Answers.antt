@@ -1,8 +1,7 @@
-use Rattle.std.proofs.Common.{◌≡◌, ◌+◌, ◌∙◌, ℕ, [], ap, arith, rules, subst, sym}
+use Rattle.std.proofs.Common.{◌≡◌, ◌∙◌, [], ap, arith, rules, sym}
 use Rattle.std.proofs.lemmas.List.{append-nil}
 use Rattle.message_ring.specs.Queue.{Known}
 use Rattle.message_ring.specs.Plays.{QueueSeat, putter_in}
-use Rattle.message_ring.specs.Rule.{slot_for}
 use Rattle.message_ring.proofs.Ends.{put_met, take_met, waits_by_counts}
 use Rattle.message_ring.proofs.Lists.{begins_length}
 use Rattle.message_ring.proofs.meet.Goals as goal
@@ -24,11 +23,8 @@ invariant_of-taker c =
     let most = p.keeps.most in
     let within = p.keeps.within in
     let same : c.putter.inside.depth ≡ c.taker.inside.depth = search rules in
-    let are = waits_by_counts _ _ _ _ _ p.count_is c.taker.invariant.1.count_is (begins_length _ _ met.all) met.few (omega (arith, depth, most)) in (
-      c.meet.ensures.table.1 ∙ c.taker.invariant.0,
-      take_met _ _ _ _ _ _ _ _ _ _ _ _ _ c.taker.invariant.1 met c.meet.ensures.taker (depth ∙ same) p.keeps.start_is (omega (arith, within, same)) are c.slot_after-taker-inside.ensures
-          (λ number. subst (λ (d : ℕ). slot_for d (c.taker.inside.start + number + c.slots_between-on.result) ≡ slot_for d (c.putter.inside.start + number)) same (c.slots_between-on.ensures.on number)),
-    )
+    let are = waits_by_counts _ _ _ _ _ p.count_is c.taker.invariant.1.count_is (begins_length _ _ met.all) met.few (omega (arith, depth, most)) in
+    (c.meet.ensures.table.1 ∙ c.taker.invariant.0, take_met _ _ _ _ _ _ _ _ _ _ _ _ c.taker.invariant.1 met c.meet.ensures.taker (depth ∙ same) p.keeps.start_is (omega (arith, within, same)) are c.slot_with_start-taker-inside.ensures)
 
 pub returns-clause-told : goal.returns-clause-told
 returns-clause-told c =
