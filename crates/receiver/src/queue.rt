@@ -85,7 +85,7 @@ impl CountingPutter {
 
     /// Puts a message at the end of the queue, with the number of those lost since the one before, and counts what waits
     /// then. Before, it looks what was taken if more may wait than ever, or if a queue that is empty would begin again at
-    /// its first slot; once at most.
+    /// its first slot; once at most. The greatest number rises only by such a look.
     // rule: EMB-7
     pub(crate) fn put(&mut self, time: u64, octets: &[u8])
         requires short { length octets.now ≤ self.old.known.queue.max }
@@ -95,6 +95,7 @@ impl CountingPutter {
         ensures lost { self.new.lost ≡ 0 }
         ensures greatest { self.new.greatest ≡ max self.old.greatest (length self.new.known.put - length self.new.known.taken) }
         ensures looks { (self.old.known.looks ≤ self.new.known.looks) × (self.new.known.looks ≤ self.old.known.looks + 1) }
+        ensures risen { self.old.greatest < self.new.greatest → self.new.known.looks ≡ self.old.known.looks + 1 }
     {
         self.putter.look_ahead(self.greatest);
         self.putter.put(time, octets, self.lost);
