@@ -1,5 +1,5 @@
 -- What is told of a port's queue is told of the port that the system's configuration has there.
-use Rattle.std.proofs.Common.{◌≡◌, ◌∙◌, ap, sym, ℕ, Bool, false, true, List, Option, None, Some}
+use Rattle.std.proofs.Common.{◌≡◌, ◌∙◌, ap, sym, ℕ, false, List, Option, None, Some}
 use Rattle.std.specs.List.{slice_get}
 use Rattle.std.proofs.lemmas.Option.{same_Some}
 use Rattle.es_base.specs.declared.event.Message.{Message}
@@ -37,10 +37,10 @@ told_of port None messages queues is = is
 told_of port (Some outlet) messages queues is = told_as port.kind outlet messages queues is
 
 -- of a port that queues a fill level is told
-pub is_told : (system : System) (pass : KnownNet KnownLink) (place : ℕ) (settings : Settings) (no : PortNo) (port : Port) → IsPassOf system pass
-    → slice_get system.config.links place ≡ Some settings → slice_get settings.ports no.0 ≡ Some port → is_sampling port.kind ≡ false → VisitsAt pass.links place (TellsOfQueue no None) → ⊥
-is_told system pass place settings no port own there port_there queues visits =
+pub is_told : (system : System) (pass : KnownNet KnownLink) (place : ℕ) (settings : Settings) (number : PortNo) (port : Port) → IsPassOf system pass
+    → slice_get system.config.links place ≡ Some settings → slice_get settings.ports number.0 ≡ Some port → is_sampling port.kind ≡ false → VisitsAt pass.links place (TellsOfQueue number None) → ⊥
+is_told system pass place settings number port own there port_there queues visits =
     let left = visits.2.left in
-    let same : left.core.settings ≡ settings = ap (λ (c : _). c.settings) visits.2.does.stays.core ∙ settings_of_found system pass place settings (TellsOfQueue no None) own there visits in
-    let here : slice_get left.core.settings.ports no.0 ≡ Some port = ap (λ (s : Settings). slice_get s.ports no.0) same ∙ port_there in
-    told_of port (slice_get left.outlets no.0) (deliveries_of left no) queues (rw here at visits.2.does.fill)
+    let same : left.core.settings ≡ settings = ap (λ (c : _). c.settings) visits.2.does.stays.core ∙ settings_of_found system pass place settings (TellsOfQueue number None) own there visits in
+    let here : slice_get left.core.settings.ports number.0 ≡ Some port = ap (λ (s : Settings). slice_get s.ports number.0) same ∙ port_there in
+    told_of port (slice_get left.outlets number.0) (deliveries_of left number) queues (rw here at visits.2.does.fill)

@@ -10,7 +10,7 @@ use Rattle.live_system.specs.Calls.{LiveLink}
 -- The fill level of the queue of this port, as the visit left it, by one look at what was taken; none if there is no such
 -- queue. The link's past is as it was, and no outlet was given anything.
 -- rule: EMB-43
-pub record TellsOfQueue (port : PortNo) (fill : Option Fill) (found left : LiveLink) : Type 0 where
+pub record TellsOfQueue (port : PortNo) (told : Option Fill) (found left : LiveLink) : Type 0 where
   pub stays : LinkStays GivesPort found left
-  pub fill : IsFillAt left port fill
+  pub fill : IsFillAt left port told
   pub looked : LooksAt (slice_get found.outlets port.0) (slice_get left.outlets port.0)

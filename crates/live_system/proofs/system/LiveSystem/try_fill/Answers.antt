@@ -1,5 +1,4 @@
-use Rattle.std.proofs.Common.{◌≡◌, ◌<◌, Option, Some, length, rules}
-use Rattle.std.specs.List.{slice_get}
+use Rattle.std.proofs.Common.{◌<◌, Option, length, rules}
 use Rattle.es_base.proofs.Elements.{there}
 use Rattle.network_calls.proofs.Rows.{below, beside}
 use Rattle.live_system.specs.Groups.{ids_in, is_any, links_of_groups}
