@@ -285,13 +285,13 @@ static void health(void) {
         printf(" %" PRIu32 " %" PRIu32 " %" PRIu64 " %" PRIu64 " %" PRIu64, told.came_a, told.came_b, told.latest_a, told.latest_b,
                told.given_up);
 }
+#endif
 
 static void fill(void) {
     struct yelunnavi_fill told;
     size_t link = number();
     if (code(yelunnavi_receiver_fill(&receiver, link, number(), &told))) printf(" %zu %zu", told.waiting, told.greatest);
 }
-#endif
 
 static void links(void) {
     size_t told;
@@ -347,8 +347,8 @@ static void call(const char *name) {
     else if (!strcmp(name, "filtered")) filtered();
 #ifndef SYSTEM
     else if (!strcmp(name, "health")) health();
-    else if (!strcmp(name, "fill")) fill();
 #endif
+    else if (!strcmp(name, "fill")) fill();
     else if (!strcmp(name, "links")) links();
     else if (!strcmp(name, "link")) tell_link();
     else if (!strcmp(name, "port")) tell_port();

@@ -1,7 +1,7 @@
 /* stack CONFIG A B: how many octets of stack each call of the library takes, the most that was seen, as lines of a name and a
    number: of openings, of this configuration, of the largest one, of those with a fault at their end, and of texts that are
    nested as deep as they may be; of each frame of two traces, by the kind of its verdict; of all other calls, after the frames.
-   With SYSTEM the calls are those of a system and of both its passes, which tell neither health nor fill.
+   With SYSTEM the calls are those of a system and of both its passes, but for those of health and fill.
    A call runs on a stack that was painted before, and what it has written to is counted, less what a call that does nothing
    writes to. */
 #define _XOPEN_SOURCE 700

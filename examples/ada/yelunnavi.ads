@@ -12,7 +12,7 @@ package Yelunnavi is
    type Queue is limited record Room : System.Address; end record with Convention => C;
 
    --  The number of this interface: raised with each change of a struct, a call or a number. Library_Abi has the library's.
-   Abi : constant Unsigned_32 := 7;
+   Abi : constant Unsigned_32 := 8;
 
    subtype Code is Unsigned_32;
    Done : constant Code := 0;
@@ -239,6 +239,8 @@ package Yelunnavi is
      with Import, Convention => C, External_Name => "yelunnavi_pass_count";
    function Health (H : in out Pass; Link : size_t; Reply : in out Link_Health_Reply) return Code
      with Import, Convention => C, External_Name => "yelunnavi_pass_health";
+   function Fill (H : in out Pass; Link, Port : size_t; Reply : in out Fill_Reply) return Code
+     with Import, Convention => C, External_Name => "yelunnavi_pass_fill";
    function Filtered (H : in out Pass; Cause : Unsigned_32; Count : in out Unsigned_64) return Code
      with Import, Convention => C, External_Name => "yelunnavi_pass_filtered";
    procedure Close (H : in out Pass) with Import, Convention => C, External_Name => "yelunnavi_pass_close";

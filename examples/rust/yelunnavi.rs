@@ -113,7 +113,7 @@ impl Key {
 }
 
 /// The number of this interface: raised with each change of a struct, a call or a number.
-pub const ABI: u32 = 7;
+pub const ABI: u32 = 8;
 pub const MOST_LINKS: usize = 64;
 /// Of a link.
 pub const MOST_PORTS: usize = 32;
@@ -249,6 +249,7 @@ calls! {
     yelunnavi_pass_receive(h: *mut Handle, now: u64, frame: *const u8, len: usize, reply: *mut Verdict) -> Code;
     yelunnavi_pass_count(h: *mut Handle, link: usize, kind: VerdictKind, count: *mut u64) -> Code;
     yelunnavi_pass_health(h: *mut Handle, link: usize, reply: *mut LinkHealth) -> Code;
+    yelunnavi_pass_fill(h: *mut Handle, link: usize, port: usize, reply: *mut Fill) -> Code;
     yelunnavi_pass_filtered(h: *mut Handle, cause: FilterCause, count: *mut u64) -> Code;
     yelunnavi_pass_close(h: *mut Handle);
     yelunnavi_reader_read(h: *mut Handle, now: u64, out: *mut u8, len: usize, reply: *mut Read) -> Code;
@@ -463,6 +464,11 @@ impl Pass<'_> {
     /// How the link at this place is. BUSY: the thread of the other network has it just now.
     pub fn health(&mut self, link: usize) -> Result<LinkHealth, Code> {
         told(|reply| unsafe { yelunnavi_pass_health(&mut self.handle, link, reply) })
+    }
+
+    /// How full the queue of a port is. NONE_LEFT if it samples. BUSY: the thread of the other network has its link just now.
+    pub fn fill(&mut self, link: usize, port: usize) -> Result<Fill, Code> {
+        told(|reply| unsafe { yelunnavi_pass_fill(&mut self.handle, link, port, reply) })
     }
 
     pub fn filtered(&mut self, cause: FilterCause) -> Result<u64, Code> {

@@ -45,7 +45,7 @@ use slot_handles::receiver_handle::ReceiverHandle;
 use slot_handles::taker_handle::TakerHandle;
 
 /// The number of the interface: raised with each change of a struct, a call or a number.
-pub const ABI: u32 = 7;
+pub const ABI: u32 = 8;
 
 /// The number of the interface of this library. A program compares it with that of the header that it was compiled
 /// with.
