@@ -9,7 +9,14 @@
 //! putter.put(5, b"abc", 0);
 //! assert!(rt; !putter.has_room());
 //! meet(&mut putter, &mut taker);
-//! assert_eq!(rt; taker.take(&mut out), Some(Taken { time: 5, len: 3, lost: 0 }));
+//! assert_eq!(rt;
+//!     taker.take(&mut out),
+//!     Some(Taken {
+//!         time: 5,
+//!         len: 3,
+//!         lost: 0
+//!     })
+//! );
 //! assert_eq!(rt; &out[..], &b"abc"[..]);
 //! ```
 //!

@@ -25,7 +25,7 @@ use Rattle.link_rules.specs.Outcome as way
 use Rattle.link_rules.specs.Run.{decided, decided_at, settled}
 use Rattle.receiver.specs.Link.{Ported, TellsLosses, losses_of, lost_since_of, ported}
 use Rattle.receiver.specs.Losses.{is_overflow, since_these}
-use Rattle.receiver.specs.Outlet.{AreCounted, HasSpaceForLent, IsCounted, IsCountedAt, LoseNothing, LosesAt, with_answer}
+use Rattle.receiver.specs.Outlet.{CountsPut, HasSpaceForLent, CountsAsked, CountsAskedAt, LoseNothing, LostAt, with_answer}
 use Rattle.receiver.proofs.Frames.{IsLent}
 use Rattle.receiver.proofs.Refusals.{NeverOverflows, only_queues_overflow}
 
@@ -76,15 +76,15 @@ module _ {P : Type 0} (loses : P → List ℕ → ℕ → Type 0) where
   one_changed : (old : List P) (at : ℕ) (before after : P) (losses losses' : ℕ → List ℕ) (since since' : ℕ → ℕ) → slice_get old at ≡ Some before
       → (loses before (losses at) (since at) → loses after (losses' at) (since' at))
       → ((place : ℕ) → (place ≡ at → ⊥) → (losses' place ≡ losses place) × (since' place ≡ since place))
-      → ((place : ℕ) → LosesAt loses (slice_get old place) (losses place) (since place))
-      → (place : ℕ) → LosesAt loses (slice_get (slice_set old at after) place) (losses' place) (since' place)
+      → ((place : ℕ) → LostAt loses (slice_get old place) (losses place) (since place))
+      → (place : ℕ) → LostAt loses (slice_get (slice_set old at after) place) (losses' place) (since' place)
   one_changed old at before after losses losses' since since' there goes others has place =
       let within : at < length old = slice_get_within old at before there in
       let was : loses before (losses at) (since at) = rw there at (has at) in
-      let mine : LosesAt loses (slice_get (slice_set old at after) at) (losses' at) (since' at) = rw (slice_get-set_same old at after within) (goes was) in
+      let mine : LostAt loses (slice_get (slice_set old at after) at) (losses' at) (since' at) = rw (slice_get-set_same old at after within) (goes was) in
       ⊎_elim
       (λ (same : place ≡ at).
-      let Q : ℕ → Type 0 = λ q. LosesAt loses (slice_get (slice_set old at after) q) (losses' q) (since' q) in
+      let Q : ℕ → Type 0 = λ q. LostAt loses (slice_get (slice_set old at after) q) (losses' q) (since' q) in
       subst Q (sym same) mine)
       (λ (other : place ≡ at → ⊥). let are = others place other in rw (slice_get-set_other old at place after other, are.0, are.1) (has place))
       (cases_eq place at)
@@ -99,14 +99,14 @@ module _ {P : Type 0} (loses : P → List ℕ → ℕ → Type 0) where
       (keeps (losses_of link (port_no at)) (lost_since_of link (port_no at))) (λ p other. (refl, refl)) has
 
   -- the outlet that was asked counted its answer
-  asked_counts : (old mid : List P) (decision : Decision) (room : Bool) (losses : ℕ → List ℕ) (since : ℕ → ℕ) → IsCounted loses old mid decision room
-      → ((place : ℕ) → LosesAt loses (slice_get old place) (losses place) (since place))
-      → (place : ℕ) → LosesAt loses (slice_get mid place) (losses place) (asked_at decision room (port_no place) (since place))
+  asked_counts : (old mid : List P) (decision : Decision) (room : Bool) (losses : ℕ → List ℕ) (since : ℕ → ℕ) → CountsAsked loses old mid decision room
+      → ((place : ℕ) → LostAt loses (slice_get old place) (losses place) (since place))
+      → (place : ℕ) → LostAt loses (slice_get mid place) (losses place) (asked_at decision room (port_no place) (since place))
   asked_counts old mid (Final verdict) room losses since is has place = rw is (has place)
   asked_counts old mid (ByQueue port) room losses since is has place = go (slice_get old port.0) refl is
     where
-      go : (found : Option P) → slice_get old port.0 ≡ found → IsCountedAt loses old mid port found room
-          → LosesAt loses (slice_get mid place) (losses place) (if port.0 == place then with_answer room (since place) else since place)
+      go : (found : Option P) → slice_get old port.0 ≡ found → CountsAskedAt loses old mid port found room
+          → LostAt loses (slice_get mid place) (losses place) (if port.0 == place then with_answer room (since place) else since place)
       go None there counted = rw (counted.1, counted.0, same_if (port.0 == place) (since place)) (has place)
       go (Some before) there counted =
           let mine : loses before (losses port.0) (since port.0) → loses counted.0 (losses port.0) (if port.0 == port.0 then with_answer room (since port.0) else since port.0) =
@@ -117,9 +117,9 @@ module _ {P : Type 0} (loses : P → List ℕ → ℕ → Type 0) where
 
   module _ (shows : Port → P → List Message → Type 0) (has_space : P → Type 0) where
     -- the outlet that was given a payload has what was lost before
-    put_counts : (mid new : List P) (time : ℕ) (payload : Option Lent) (losses : ℕ → List ℕ) (since : ℕ → ℕ) → AreCounted loses mid new payload → HasSpaceForLent shows has_space mid payload
-        → ((place : ℕ) → LosesAt loses (slice_get mid place) (losses place) (since place))
-        → (place : ℕ) → LosesAt loses (slice_get new place) (losses place ++ map (λ (m : Message). since place) (messages_for (port_no place) time payload))
+    put_counts : (mid new : List P) (time : ℕ) (payload : Option Lent) (losses : ℕ → List ℕ) (since : ℕ → ℕ) → CountsPut loses mid new payload → HasSpaceForLent shows has_space mid payload
+        → ((place : ℕ) → LostAt loses (slice_get mid place) (losses place) (since place))
+        → (place : ℕ) → LostAt loses (slice_get new place) (losses place ++ map (λ (m : Message). since place) (messages_for (port_no place) time payload))
         (since_these (messages_for (port_no place) time payload) (since place))
     put_counts mid new time None losses since is space has place = rw (is, append-nil (losses place)) (has place)
     put_counts mid new time (Some lent) losses since is space has place =
@@ -135,8 +135,8 @@ module _ {P : Type 0} (loses : P → List ℕ → ℕ → Type 0) where
 
     -- the link after one more frame
     pub tells_more : (old new : Ported P) (mid : List P) (a : Arrival) (room : Bool) (verdict : Verdict) (payload : Option Lent)
-        → IsCounted loses old.outlets mid (decision_after old.core.settings old.core.past a) room → IsLent old.core new.core a room verdict payload
-        → AreCounted loses mid new.outlets payload → HasSpaceForLent shows has_space mid payload → TellsLosses loses old → TellsLosses loses new
+        → CountsAsked loses old.outlets mid (decision_after old.core.settings old.core.past a) room → IsLent old.core new.core a room verdict payload
+        → CountsPut loses mid new.outlets payload → HasSpaceForLent shows has_space mid payload → TellsLosses loses old → TellsLosses loses new
     tells_more old new mid a room verdict payload counted lent put space has = rw lent.core (λ place.
         let o = old.core.settings in
         let past = old.core.past in
@@ -147,13 +147,13 @@ module _ {P : Type 0} (loses : P → List ℕ → ℕ → Type 0) where
         let is = told (outcome_after o past a) (number_delivered o past) room a.time port lost (only_queues_overflow o past a) in
         let after = put_counts mid new.outlets a.time payload (λ p. losses_of old (port_no p)) (λ p. asked_at decision room (port_no p) (lost_since_of old (port_no p))) put space
         (asked_counts old.outlets mid decision room (λ p. losses_of old (port_no p)) (λ p. lost_since_of old (port_no p)) counted has) place in
-        let told_these : LosesAt loses (slice_get new.outlets place) (losses_of old port ++ map (λ (m : Message). asked_at decision room port lost) these) (since_these these (asked_at decision room port lost)) =
+        let told_these : LostAt loses (slice_get new.outlets place) (losses_of old port ++ map (λ (m : Message). asked_at decision room port lost) these) (since_these these (asked_at decision room port lost)) =
         rw (← lent.message port) at after in
         rw lent.becomes (rw (is.before, is.since) at told_these))
 
     -- where nobody was asked, nothing was counted
     pub nobody_counts : (old : Ported P) (a : Arrival) (verdict : Verdict) → kept_away (outcome_after old.core.settings old.core.past a) ≡ Some verdict
-        → IsCounted loses old.outlets old.outlets (decision_after old.core.settings old.core.past a) true
+        → CountsAsked loses old.outlets old.outlets (decision_after old.core.settings old.core.past a) true
     nobody_counts old a verdict away = rw (sym (away_decided (outcome_after old.core.settings old.core.past a) verdict (number_delivered old.core.settings old.core.past) away)) refl
 
   -- ---- the opening

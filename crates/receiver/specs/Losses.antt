@@ -27,7 +27,7 @@ since_these [] lost = lost
 since_these (message ∷ messages) lost = 0
 
 -- number of messages for a port that overflowed since the latest delivery to it
--- rule: PORT-9
+-- rule: PORT-19
 abbrev pub lost_since : Settings → List Event → PortNo → ℕ
 lost_since settings [] port = 0
 lost_since settings (e ∷ past) port =
@@ -35,7 +35,7 @@ lost_since settings (e ∷ past) port =
     else since_these (delivered_by settings past e port) (lost_since settings past port)
 
 -- for each delivery to a port, in order, the number of messages for it that overflowed after the delivery before
--- rule: PORT-9
+-- rule: PORT-19
 abbrev pub losses : Settings → List Event → PortNo → List ℕ
 losses settings [] port = []
 losses settings (e ∷ past) port =

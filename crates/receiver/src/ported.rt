@@ -7,7 +7,7 @@ ghost use Rattle.es_base.specs.Past.{arrived};
 ghost use Rattle.link_rules.specs.Integrity.{passes};
 ghost use Rattle.link_core.specs.Counted.{port_no, shown};
 ghost use Rattle.link_core.specs.Past.{number_given_up};
-ghost use Rattle.receiver.specs.Outlet.{IsAnswer, IsCounted, IsRefusal, LoseNothing, reads_by};
+ghost use Rattle.receiver.specs.Outlet.{IsAnswer, CountsAsked, IsRefusal, LoseNothing, reads_by};
 ghost use Rattle.receiver.specs.Ends.{ArePortsOpened};
 ghost use Rattle.receiver.specs.Link.{IsNewLink, IsPorted, OverflowsIfRefused, Takes, TakesIfKnown, TellsLosses};
 
@@ -126,7 +126,7 @@ impl<P: Outlet> PortedLink<P> {
 fn room_in<P: Outlet>(outlets: &mut Vec<P>, decision: Decision) -> bool
     ensures answer { IsAnswer P.shows P.has_space P.gives P.answers outlets.old.items outlets.new.items decision result }
     ensures refused { IsFalse result → IsRefusal P.refuses outlets.old.items outlets.new.items decision }
-    ensures counted { IsCounted P.loses outlets.old.items outlets.new.items decision result }
+    ensures counted { CountsAsked P.loses outlets.old.items outlets.new.items decision result }
 {
     match decision {
         Decision::Final(_) => true,

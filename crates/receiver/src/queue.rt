@@ -63,7 +63,7 @@ impl CountingPutter {
     /// Whether there is room for one more message; it stays, whatever the other end does. False: after it looked in this
     /// call, as many messages as the queue holds were put that this end doesn't know to be taken. If it knows of room
     /// before the call the answer is true, and it doesn't look. It counts a refusal.
-    // rule: PORT-9
+    // rule: PORT-19
     pub(crate) fn has_room(&mut self) -> bool
         ensures end { self.new ≡ record self.old { known = record self.old.known { taken = self.new.known.taken; looks = self.new.known.looks }; lost = self.new.lost } }
         ensures told { BeginsWith self.new.known.taken self.old.known.taken }
@@ -86,7 +86,7 @@ impl CountingPutter {
     /// Puts a message at the end of the queue, with the number of those lost since the one before, and counts what waits
     /// then. Before, it looks what was taken if more may wait than ever, or if a queue that is empty would begin again at
     /// its first slot; once at most. The greatest number rises only by such a look.
-    // rule: EMB-7
+    // rule: EMB-7, PORT-19
     pub(crate) fn put(&mut self, time: u64, octets: &[u8])
         requires short { length octets.now ≤ self.old.known.queue.max }
         requires room { length self.old.known.put < length self.old.known.taken + self.old.known.depth }

@@ -7,7 +7,7 @@ use Rattle.es_base.specs.Past.{arrived}
 use Rattle.link_core.specs.Link.{arrival_in, outcome_after}
 use Rattle.link_core.specs.Seen.{kept_away}
 use Rattle.receiver.specs.Link.{Ported, Takes, TellsLosses, ported}
-use Rattle.receiver.specs.Outlet.{AreCounted, ArePut, HasSpaceForLent}
+use Rattle.receiver.specs.Outlet.{CountsPut, ArePut, HasSpaceForLent}
 use Rattle.receiver.proofs.Frames.{IsAsked, IsLent, has_its_place, if_refused, may_be_refused, takes_it, with_room}
 use Rattle.receiver.proofs.Losses.{nobody_counts, tells_more}
 use Rattle.receiver.proofs.Turned.{nobody_asked, none_refused, nothing_lent}
@@ -147,7 +147,7 @@ put g c = elim c.match-taken.branch [
 ]
 
 -- which counts it
-counted : (g : given.Over) (c : Joined-taken g) → AreCounted g.P.Outlet.loses c.room_in-room.new.outlets.items c.match-taken.self-inside.1.1.1.0.items c.take-taken.result.payload
+counted : (g : given.Over) (c : Joined-taken g) → CountsPut g.P.Outlet.loses c.room_in-room.new.outlets.items c.match-taken.self-inside.1.1.1.0.items c.take-taken.result.payload
 counted g c = elim c.match-taken.branch [
   | in-Some-payload w ↦
       let mid = c.room_in-room.new.outlets.items in
@@ -160,7 +160,7 @@ counted g c = elim c.match-taken.branch [
 ]
 
 -- and the link knows what was lost
-tells : (g : given.Over) (c : After-take-taken g) (outlets : List g.row.P.Denot) → AreCounted g.P.Outlet.loses c.room_in-room.new.outlets.items outlets c.take-taken.result.payload
+tells : (g : given.Over) (c : After-take-taken g) (outlets : List g.row.P.Denot) → CountsPut g.P.Outlet.loses c.room_in-room.new.outlets.items outlets c.take-taken.result.payload
     → TellsLosses g.P.Outlet.loses (ported c.take-taken.follows.lender-at-none outlets c.saturating_add-self-inside.result)
 tells g c outlets counts =
     let o = g.P.Outlet in
