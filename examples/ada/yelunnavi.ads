@@ -123,7 +123,9 @@ package Yelunnavi is
       Kind, Cause : Unsigned_32; Link : size_t; Vl, Port : Unsigned_32; Place, Number : Unsigned_64;
    end record with Convention => C;
    type Read_Reply is record Found, Valid : Unsigned_32; Number, Time : Unsigned_64; Length : size_t; end record with Convention => C;
-   type Take_Reply is record Found : Unsigned_32; Time : Unsigned_64; Length : size_t; end record with Convention => C;
+   type Take_Reply is record
+      Found : Unsigned_32; Time : Unsigned_64; Length : size_t; Lost : Unsigned_64;
+   end record with Convention => C;
    type Link_Reply is record
       Vl, Redundancy : Unsigned_32; Skew_Max, Reassembly : Unsigned_64; Window : Unsigned_32; Ports : size_t;
    end record with Convention => C;
@@ -262,6 +264,8 @@ package Yelunnavi is
 
    function Take (H : in out Queue; Into : in out Octets; Length : size_t; Reply : in out Take_Reply) return Code
      with Import, Convention => C, External_Name => "yelunnavi_queue_take";
+   function Waiting (H : in out Queue; Waiting : in out size_t) return Code
+     with Import, Convention => C, External_Name => "yelunnavi_queue_waiting";
    function Longest (H : in out Queue; Max : in out size_t) return Code
      with Import, Convention => C, External_Name => "yelunnavi_queue_longest";
    procedure Close (H : in out Queue) with Import, Convention => C, External_Name => "yelunnavi_queue_close";

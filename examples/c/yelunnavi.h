@@ -609,11 +609,16 @@ struct yelunnavi_taken {
     uint32_t found; /* 0: there was nothing to take. 1: a message */
     uint64_t time;  /* when it came */
     size_t len;     /* how many octets it has */
+    uint64_t lost;  /* how many messages overflowed since the one before it was put */
 };
 
 /* Takes the oldest message: it stands whole at the beginning of `out`, and what follows is as it was. NOT_OPEN; TOO_SHORT if
-   `len` is less than the port's longest message, and then nothing is taken. */
+   `len` is less than the port's longest message, and then nothing is taken. What overflowed is told with the next message
+   that was put, so of the last losses nothing is told before one comes. */
 uint32_t yelunnavi_queue_take(struct yelunnavi_queue *h, uint8_t *out, size_t len, struct yelunnavi_taken *reply);
+
+/* Tells how many messages wait: put and not taken. NOT_OPEN. */
+uint32_t yelunnavi_queue_waiting(struct yelunnavi_queue *h, size_t *waiting);
 
 /* Tells the longest message of the port. NOT_OPEN. */
 uint32_t yelunnavi_queue_longest(struct yelunnavi_queue *h, size_t *max);

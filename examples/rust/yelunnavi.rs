@@ -147,7 +147,7 @@ replies! {
     /// What a read or a hold found.
     Read { found: u32, valid: u32, number: u64, time: u64, len: usize }
     /// What was taken of a queue.
-    Taken { found: u32, time: u64, len: usize }
+    Taken { found: u32, time: u64, len: usize, lost: u64 }
     /// The settings of a link, its times in microseconds. `redundancy` is 1 if redundancy management is on, else 0.
     Link { vl: u32, redundancy: u32, skew_max: u64, reassembly: u64, window: u32, ports: usize }
     /// How a link is: whether a frame came on each network, 1 or 0, when the latest did, in microseconds, and how many
@@ -260,6 +260,7 @@ calls! {
     yelunnavi_reader_limits(h: *mut Handle, reply: *mut Limits) -> Code;
     yelunnavi_reader_close(h: *mut Handle);
     yelunnavi_queue_take(h: *mut Handle, out: *mut u8, len: usize, reply: *mut Taken) -> Code;
+    yelunnavi_queue_waiting(h: *mut Handle, waiting: *mut usize) -> Code;
     yelunnavi_queue_longest(h: *mut Handle, max: *mut usize) -> Code;
     yelunnavi_queue_close(h: *mut Handle);
 }
@@ -508,9 +509,14 @@ impl Reader<'_> {
 }
 
 impl Queue<'_> {
-    /// Takes the oldest message; `out` has to be as long as the port's longest one.
+    /// Takes the oldest message, and tells how many overflowed right before it; `out` has to be as long as the port's longest one.
     pub fn take(&mut self, out: &mut [u8]) -> Result<Taken, Code> {
         told(|reply| unsafe { yelunnavi_queue_take(&mut self.handle, out.as_mut_ptr(), out.len(), reply) })
+    }
+
+    /// How many messages wait.
+    pub fn waiting(&mut self) -> Result<usize, Code> {
+        told(|waiting| unsafe { yelunnavi_queue_waiting(&mut self.handle, waiting) })
     }
 
     pub fn longest(&mut self) -> Result<usize, Code> {
