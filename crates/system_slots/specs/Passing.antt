@@ -81,8 +81,8 @@ abbrev pub pass_fill_code : Option Passing → ℕ → ℕ → ℕ
 pass_fill_code None link port = not_open
 pass_fill_code (Some now) link port = settings_queue_code (slice_get now.system.config.links link) port
 
--- the code of a call that is BUSY while the other network's thread has the link, and else this: only in the place of
--- DONE is it BUSY
+-- the code of a call that may find its link taken by the other network's thread: this one, or BUSY in the place of DONE
+-- rule: EMB-44
 abbrev pub IsCodeOrBusy : ℕ → ℕ → Type 0
 IsCodeOrBusy code result = (result ≡ code) ⊎ ((code ≡ done) × (result ≡ busy))
 
