@@ -12,7 +12,7 @@ use Rattle.message_ring.specs.declared.slot.Slot.{Slot}
 use Rattle.message_ring.specs.declared.rule.QueueView.{QueueView}
 use Rattle.message_ring.specs.declared.rule.SeatView.{SeatView}
 use Rattle.message_ring.specs.declared.rule.SeatView.TheVariants.{Puts, Takes, Meets, Spent}
-use Rattle.message_ring.specs.Rule.{IsRoomy, KnowsItsQueue, KeptQueue, slot_of, view_at_first}
+use Rattle.message_ring.specs.Rule.{IsRoomy, KnowsItsQueue, KeptQueue, slot_of_number, view_at_first}
 use Rattle.message_ring.specs.Plays.{views_met, taker_parted, putter_left}
 use Rattle.message_ring.specs.Ends.{AreRoomy}
 use Rattle.message_ring.proofs.Lists.{begins_same}
@@ -49,9 +49,9 @@ opens_at depth max slots some_slot most are = let first = view_at_first depth ma
     putting = λ h. absurd (cc);
     taking = λ h. absurd (cc);
     places = λ number from to not_put not_taken.
-        let less : slot_of first number < depth = mod-lt (0 + number) some_slot in
+        let less : slot_of_number first number < depth = mod-lt (0 + number) some_slot in
         let count = are.0 in
-        let place = roomy_at max slots are.1 (slot_of first number) (omega (arith, less, count)) in
+        let place = roomy_at max slots are.1 (slot_of_number first number) (omega (arith, less, count)) in
         record { slot = place.0; home = place.1; room = place.2; message = λ message at. absurd (cc) };
   };
   seats = λ j u e. let t = first_only (Meets first first) u j e in

@@ -8,7 +8,7 @@ use Rattle.message_ring.specs.declared.slot.Slot.{Slot}
 use Rattle.message_ring.specs.declared.rule.SeatView.{SeatView}
 use Rattle.message_ring.specs.declared.rule.SeatView.TheVariants.{Puts, Takes}
 use Rattle.message_ring.specs.Queue.{queued}
-use Rattle.message_ring.specs.Rule.{IsRoomy, in_slot, slot_of}
+use Rattle.message_ring.specs.Rule.{IsRoomy, in_slot, slot_of_number}
 use Rattle.message_ring.specs.Plays.{QueueSeat, putter_in, putter_puts, puts_one, taker_in, taker_takes, takes_one, with_slot_taken}
 use Rattle.message_ring.specs.Ends.{MayPutNext, MayTakeNext}
 use Rattle.message_ring.proofs.Turns.{May, put_goes_at, take_goes_at}
@@ -33,13 +33,13 @@ roomy_with max slot before written octets roomy same more are short =
     (omega (arith, enough, more), subst (λ (l : List ℕ). length l ≤ max) (sym are) short)
 
 pub put_may_go : (slots id n count len : ℕ) (me me1 : QueueSeat) (slot written : Slot) → MayPutNext me n count len
-    → me1 ≡ (Puts (with_slot_taken (putter_in me.0)), (slot_of (putter_in me.0) (length (putter_in me.0).put), slot) ∷ []) → IsRoomy (putter_in me.0).max written
+    → me1 ≡ (Puts (with_slot_taken (putter_in me.0)), (slot_of_number (putter_in me.0) (length (putter_in me.0).put), slot) ∷ []) → IsRoomy (putter_in me.0).max written
     → May slots id (me1.0, (n, written) ∷ rest me1.1) 0 (λ _. count) (λ found. putter_puts (me1.0, (n, written) ∷ rest me1.1) count)
 put_may_go slots id n count len me me1 slot written may is roomy =
     put_goes_at slots id _ (with_slot_taken (putter_in me.0)) written count (seat_with me1 _ n _ slot written is may.next_is) may.count_is roomy refl
 
 pub put_done : (n count len : ℕ) (me me1 me2 : QueueSeat) (slot written : Slot) (time : ℕ) (octets : List ℕ) (lost : ℕ) → MayPutNext me n count len
-    → me1 ≡ (Puts (with_slot_taken (putter_in me.0)), (slot_of (putter_in me.0) (length (putter_in me.0).put), slot) ∷ [])
+    → me1 ≡ (Puts (with_slot_taken (putter_in me.0)), (slot_of_number (putter_in me.0) (length (putter_in me.0).put), slot) ∷ [])
     → putter_puts (me1.0, (n, written) ∷ rest me1.1) count me2 → written.time ≡ time → written.octets.items ≡ octets → written.lost ≡ lost
     → me2 ≡ (Puts (puts_one (putter_in me.0) (queued time octets lost)), [])
 put_done n count len me me1 me2 slot written time octets lost may is told time_is octets_are lost_is =
@@ -49,7 +49,7 @@ put_done n count len me me1 me2 slot written time octets lost may is told time_i
     ∙ (λ i. (Puts (puts_one (putter_in me.0) (queued (time_is i) (octets_are i) (lost_is i))), []))
 
 pub take_may_go : (slots id n count room : ℕ) (me me1 : QueueSeat) (slot read : Slot) → MayTakeNext me n count room
-    → me1 ≡ (Takes (with_slot_taken (taker_in me.0)), (slot_of (taker_in me.0) (length (taker_in me.0).taken), slot) ∷ []) → IsRoomy (taker_in me.0).max slot
+    → me1 ≡ (Takes (with_slot_taken (taker_in me.0)), (slot_of_number (taker_in me.0) (length (taker_in me.0).taken), slot) ∷ []) → IsRoomy (taker_in me.0).max slot
     → slice_get (taker_in me.0).put (length (taker_in me.0).taken) ≡ Some (in_slot slot) → read ≡ slot
     → May slots id (me1.0, (n, read) ∷ rest me1.1) 1 (λ _. count) (λ found. taker_takes (me1.0, (n, read) ∷ rest me1.1) count)
 take_may_go slots id n count room me me1 slot read may is roomy next same =
@@ -57,7 +57,7 @@ take_may_go slots id n count room me me1 slot read may is roomy next same =
     (subst (IsRoomy (taker_in me.0).max) (sym same) roomy) refl (next ∙ ap (λ (s : Slot). Some (in_slot s)) (sym same))
 
 pub take_done : (n count room : ℕ) (me me1 me2 : QueueSeat) (slot read : Slot) (m : Message) → MayTakeNext me n count room
-    → me1 ≡ (Takes (with_slot_taken (taker_in me.0)), (slot_of (taker_in me.0) (length (taker_in me.0).taken), slot) ∷ [])
+    → me1 ≡ (Takes (with_slot_taken (taker_in me.0)), (slot_of_number (taker_in me.0) (length (taker_in me.0).taken), slot) ∷ [])
     → taker_takes (me1.0, (n, read) ∷ rest me1.1) count me2 → in_slot read ≡ m → me2 ≡ (Takes (takes_one (taker_in me.0) m), [])
 take_done n count room me me1 me2 slot read m may is told message_is =
     let seat = seat_with me1 _ n _ slot read is may.next_is in

@@ -20,7 +20,7 @@ use Rattle.message_ring.specs.declared.slot.Slot.{Slot}
 use Rattle.message_ring.specs.declared.rule.QueueView.{QueueView}
 use Rattle.message_ring.specs.declared.rule.SeatView.{SeatView}
 use Rattle.message_ring.specs.declared.rule.SeatView.TheVariants.{Puts, Takes, Meets, Spent}
-use Rattle.message_ring.specs.Rule.{IsInPlace, IsRoomy, KeptQueue, KnowsItsQueue, LawfulQueue, in_slot, slot_for, slot_of, wrapped}
+use Rattle.message_ring.specs.Rule.{IsInPlace, IsRoomy, KeptQueue, KnowsItsQueue, LawfulQueue, in_slot, slot_for, slot_of_number, wrapped}
 use Rattle.message_ring.specs.Plays.{QueueSeat, ends_learn, putter_enters, putter_looks, putter_puts, putter_starts, puts_one, sees_none, sees_put, sees_start, sees_taken, started, counts_put, taker_counts, taker_enters, taker_looks, taker_reads_start, taker_takes, takes_one, told_put, told_taken, with_slot_taken}
 use Rattle.message_ring.specs.Ends.{IsOutside}
 use Rattle.message_ring.proofs.Lists.{around, begins_get, begins_length, begins_same, begins_trans, next_of, one_slot, push_other}
@@ -38,10 +38,10 @@ not_both b t f = absurd (cc)
 
 -- a slot of another number changed
 stays : (hs : Homes) (p : QueueView) (low changed number : ℕ) (x : maybe.Option Slot) → low ≤ changed → changed < low + p.depth → low ≤ number → number < low + p.depth → number ≢ changed
-    → IsInPlace hs p number → IsInPlace (set hs (slot_of p changed) x) p number
+    → IsInPlace hs p number → IsInPlace (set hs (slot_of_number p changed) x) p number
 stays hs p low changed number x from to from' to' ne is = record {
   slot = is.slot;
-  home = set_else hs (slot_of p changed) (slot_of p number) x (λ e. ne (one_slot p.start low p.depth number changed from' to' from to e)) ∙ is.home;
+  home = set_else hs (slot_of_number p changed) (slot_of_number p number) x (λ e. ne (one_slot p.start low p.depth number changed from' to' from to e)) ∙ is.home;
   room = is.room;
   message = is.message;
 }
@@ -54,7 +54,7 @@ module _ (ws : List ℕ) (hs : Homes) (p t : QueueView) (l : LawfulQueue ws hs p
   still : (changed number : ℕ) (x : maybe.Option Slot) (put taken : List Message) (has : Bool) (looks : ℕ)
       → length t.taken ≤ changed → changed < length t.taken + p.depth → length t.taken ≤ number → number < length t.taken + p.depth → number ≢ changed
       → ((message : Message) → slice_get put number ≡ Some message → slice_get p.put number ≡ Some message)
-      → IsInPlace hs p number → IsInPlace (set hs (slot_of p changed) x) (record p { put = put; taken = taken; has = has; looks = looks }) number
+      → IsInPlace hs p number → IsInPlace (set hs (slot_of_number p changed) x) (record p { put = put; taken = taken; has = has; looks = looks }) number
   still changed number x put taken has looks low high low' high' ne here is = let s = stays hs p (length t.taken) changed number x low high low' high' ne is in record {
     slot = s.slot;
     home = s.home;
@@ -62,10 +62,10 @@ module _ (ws : List ℕ) (hs : Homes) (p t : QueueView) (l : LawfulQueue ws hs p
     message = λ message at. s.message message (here message at);
   }
 
-  below : (number : ℕ) → slot_of p number < length hs
-  below number = let less : slot_of p number < p.depth = mod-lt (p.start + number) l.some_slot in let c = l.count in omega (arith, less, c)
+  below : (number : ℕ) → slot_of_number p number < length hs
+  below number = let less : slot_of_number p number < p.depth = mod-lt (p.start + number) l.some_slot in let c = l.count in omega (arith, less, c)
 
-  pub putter_enters_keeps : length p.put < length p.taken + p.depth → LawfulQueue ws (set hs (slot_of p (length p.put)) none) (with_slot_taken p) t
+  pub putter_enters_keeps : length p.put < length p.taken + p.depth → LawfulQueue ws (set hs (slot_of_number p (length p.put)) none) (with_slot_taken p) t
   putter_enters_keeps room =
       let known = begins_length p.taken t.taken l.known in
       let low = taken_put in
@@ -90,13 +90,13 @@ module _ (ws : List ℕ) (hs : Homes) (p t : QueueView) (l : LawfulQueue ws hs p
       }
 
   pub puts_keeps : (slot : Slot) → IsRoomy p.max slot → p.has ≡ true
-      → LawfulQueue (wrapped (length p.put + 1) ∷ wrapped (length t.taken) ∷ p.start ∷ []) (set hs (slot_of p (length p.put)) (some slot)) (puts_one p (in_slot slot)) t
+      → LawfulQueue (wrapped (length p.put + 1) ∷ wrapped (length t.taken) ∷ p.start ∷ []) (set hs (slot_of_number p (length p.put)) (some slot)) (puts_one p (in_slot slot)) t
   puts_keeps slot roomy entered =
       let low = taken_put in
       let high = l.putting entered in
       let all : List Message = p.put ++ in_slot slot ∷ [] in
       let long : length all ≡ length p.put + 1 = length-append p.put (in_slot slot ∷ []) in
-      let hs' = set hs (slot_of p (length p.put)) (some slot) in
+      let hs' = set hs (slot_of_number p (length p.put)) (some slot) in
       record {
         words_are = ap (λ (n : ℕ). wrapped n ∷ wrapped (length t.taken) ∷ p.start ∷ []) (sym long);
         some_slot = l.some_slot;
@@ -114,7 +114,7 @@ module _ (ws : List ℕ) (hs : Homes) (p t : QueueView) (l : LawfulQueue ws hs p
         places = λ number from to not_put not_taken. dite (ℕ_discrete number (length p.put))
             (λ (e : number ≡ length p.put). record {
               slot = slot;
-              home = subst (λ (n : ℕ). get_elem? hs' (slot_of p n) ≡ some (some slot)) (sym e) (set_here hs _ (some slot) (below (length p.put)));
+              home = subst (λ (n : ℕ). get_elem? hs' (slot_of_number p n) ≡ some (some slot)) (sym e) (set_here hs _ (some slot) (below (length p.put)));
               room = roomy;
               message = λ message at. same_Some (in_slot slot) message (sym (ap (slice_get all) e ∙ slice_get-push p.put (in_slot slot)) ∙ at);
             })
@@ -156,7 +156,7 @@ module _ (ws : List ℕ) (hs : Homes) (p t : QueueView) (l : LawfulQueue ws hs p
             };
       }
 
-  pub taker_enters_keeps : length t.taken < length t.put → t.sure ≡ true → LawfulQueue ws (set hs (slot_of p (length t.taken)) none) p (with_slot_taken t)
+  pub taker_enters_keeps : length t.taken < length t.put → t.sure ≡ true → LawfulQueue ws (set hs (slot_of_number p (length t.taken)) none) p (with_slot_taken t)
   taker_enters_keeps more sure =
       let some_slot = l.some_slot in
       record {
@@ -179,7 +179,7 @@ module _ (ws : List ℕ) (hs : Homes) (p t : QueueView) (l : LawfulQueue ws hs p
       }
 
   pub takes_keeps : (slot : Slot) → IsRoomy p.max slot → t.has ≡ true → slice_get t.put (length t.taken) ≡ Some (in_slot slot)
-      → LawfulQueue (wrapped (length p.put) ∷ wrapped (length t.taken + 1) ∷ p.start ∷ []) (set hs (slot_of p (length t.taken)) (some slot)) p (takes_one t (in_slot slot))
+      → LawfulQueue (wrapped (length p.put) ∷ wrapped (length t.taken + 1) ∷ p.start ∷ []) (set hs (slot_of_number p (length t.taken)) (some slot)) p (takes_one t (in_slot slot))
   takes_keeps slot roomy entered is =
       let some_slot = l.some_slot in
       let few = l.few in
@@ -187,7 +187,7 @@ module _ (ws : List ℕ) (hs : Homes) (p t : QueueView) (l : LawfulQueue ws hs p
       let long : length all ≡ length t.taken + 1 = length-append t.taken (in_slot slot ∷ []) in
       let next = next_of t.taken t.put l.taken (l.taking entered).0 in
       let same : next.0 ≡ in_slot slot = same_Some next.0 (in_slot slot) (sym next.1 ∙ is) in
-      let hs' = set hs (slot_of p (length t.taken)) (some slot) in
+      let hs' = set hs (slot_of_number p (length t.taken)) (some slot) in
       record {
         words_are = ap (λ (n : ℕ). wrapped (length p.put) ∷ wrapped n ∷ p.start ∷ []) (sym long);
         some_slot = l.some_slot;
@@ -209,7 +209,7 @@ module _ (ws : List ℕ) (hs : Homes) (p t : QueueView) (l : LawfulQueue ws hs p
             (λ (past : length t.taken + p.depth ≤ number).
             let e : number ≡ length t.taken + p.depth = omega (arith, past, to, long) in
             let on : p.start + number ≡ p.start + length t.taken + p.depth = omega (arith, e) in
-            let around : slot_of p number ≡ slot_of p (length t.taken) = ap (slot_for p.depth) on ∙ add-mod_right (p.start + length t.taken) p.depth in
+            let around : slot_of_number p number ≡ slot_of_number p (length t.taken) = ap (slot_for p.depth) on ∙ add-mod_right (p.start + length t.taken) p.depth in
             record {
               slot = slot;
               home = subst (λ (n : ℕ). get_elem? hs' n ≡ some (some slot)) (sym around) (set_here hs _ (some slot) (below (length t.taken)));
@@ -326,7 +326,7 @@ module _ (slots id : ℕ) where
       let place = l.places (length p.put) (taken_put s.words s.homes p k.taker l) (omega (arith, room, known)) (λ h. not_both p.has h outside)
       (λ h e. let more = (l.taking h).0 in let long = begins_length k.taker.put p.put l.put in absurd (omega (arith, more, long, e))) in (
         Puts (with_slot_taken p),
-        takes (slot_of p (length p.put)) place.slot,
+        takes (slot_of_number p (length p.put)) place.slot,
         place.home,
         putter_turns s k id p mine s.words _ _ _ (set-get_or s.words 0 0) (putter_enters_keeps s.words s.homes p k.taker l room),
         (place.slot, refl, place.room),
@@ -336,7 +336,7 @@ module _ (slots id : ℕ) where
   put_enters_at me p is outside room = subst (λ (y : QueueSeat). May y 0 (λ n. n) (putter_enters y)) (sym is) (put_enters p outside room)
 
   put_goes : (p : QueueView) (slot : Slot) → IsRoomy p.max slot → p.has ≡ true
-      → May (Puts p, (slot_of p (length p.put), slot) ∷ []) 0 (λ _. wrapped (length p.put + 1)) (λ found. putter_puts (Puts p, (slot_of p (length p.put), slot) ∷ []) (wrapped (length p.put + 1)))
+      → May (Puts p, (slot_of_number p (length p.put), slot) ∷ []) 0 (λ _. wrapped (length p.put + 1)) (λ found. putter_puts (Puts p, (slot_of_number p (length p.put), slot) ∷ []) (wrapped (length p.put + 1)))
   put_goes p slot roomy entered s k _ mine _ =
       let l = putter_lawful s k id p mine in (
         Puts (puts_one p (in_slot slot)),
@@ -346,11 +346,11 @@ module _ (slots id : ℕ) where
         λ number other is. ap (λ (c : List (ℕ × Slot)). (Puts (puts_one p (message_of slot c)), [])) is,
       )
 
-  pub put_goes_at : (me : QueueSeat) (p : QueueView) (slot : Slot) (count : ℕ) → me ≡ (Puts p, (slot_of p (length p.put), slot) ∷ []) → count ≡ wrapped (length p.put + 1) → IsRoomy p.max slot → p.has ≡ true
+  pub put_goes_at : (me : QueueSeat) (p : QueueView) (slot : Slot) (count : ℕ) → me ≡ (Puts p, (slot_of_number p (length p.put), slot) ∷ []) → count ≡ wrapped (length p.put + 1) → IsRoomy p.max slot → p.has ≡ true
       → May me 0 (λ _. count) (λ found. putter_puts me count)
   put_goes_at me p slot count is count_is roomy entered =
       subst (λ (y : QueueSeat). May y 0 (λ _. count) (λ found. putter_puts y count)) (sym is)
-      (subst (λ (n : ℕ). May (Puts p, (slot_of p (length p.put), slot) ∷ []) 0 (λ _. n) (λ found. putter_puts (Puts p, (slot_of p (length p.put), slot) ∷ []) n)) (sym count_is) (put_goes p slot roomy entered))
+      (subst (λ (n : ℕ). May (Puts p, (slot_of_number p (length p.put), slot) ∷ []) 0 (λ _. n) (λ found. putter_puts (Puts p, (slot_of_number p (length p.put), slot) ∷ []) n)) (sym count_is) (put_goes p slot roomy entered))
 
   start_goes : (p : QueueView) (start : ℕ) → IsOutside p → length p.put ≡ length p.taken → start < p.depth → May (Puts p, []) 2 (λ _. start) (λ found. putter_starts (Puts p, []) start)
   start_goes p start outside empty within s k _ mine _ =
@@ -380,7 +380,7 @@ module _ (slots id : ℕ) where
   put_looks_at me p is = subst (λ (y : SeatView). May (y, me.1) 1 (λ n. n) (putter_looks (y, me.1))) (sym is) (put_looks p me.1)
 
   -- where the taker knows the slot of its next message to be
-  slot_is : (p t : QueueView) (ws : List ℕ) (hs : Homes) → LawfulQueue ws hs p t → t.sure ≡ true → length t.taken < length t.put → slot_of t (length t.taken) ≡ slot_of p (length t.taken)
+  slot_is : (p t : QueueView) (ws : List ℕ) (hs : Homes) → LawfulQueue ws hs p t → t.sure ≡ true → length t.taken < length t.put → slot_of_number t (length t.taken) ≡ slot_of_number p (length t.taken)
   slot_is p t ws hs l sure more = λ i. slot_for (l.size.0 i) (l.start sure more i + length t.taken)
 
   take_enters : (t : QueueView) → IsOutside t → length t.taken < length t.put → t.sure ≡ true → May (Takes t, []) 1 (λ n. n) (taker_enters (Takes t, []))
@@ -393,7 +393,7 @@ module _ (slots id : ℕ) where
       let next = next_of t.taken t.put l.taken more in
       let is : in_slot place.slot ≡ next.0 = place.message next.0 (begins_get t.put k.putter.put (length t.taken) next.0 l.put next.1) in (
         Takes (with_slot_taken t),
-        takes (slot_of t (length t.taken)) place.slot,
+        takes (slot_of_number t (length t.taken)) place.slot,
         subst (λ (n : ℕ). get_elem? s.homes n ≡ some (some place.slot)) (sym is_slot) place.home,
         taker_turns s k id t mine s.words _ _ _ (set-get_or s.words 1 0)
             (subst (λ (n : ℕ). LawfulQueue s.words (set s.homes n none) k.putter (with_slot_taken t)) (sym is_slot) (taker_enters_keeps s.words s.homes k.putter t l more sure)),
@@ -404,7 +404,7 @@ module _ (slots id : ℕ) where
   take_enters_at me t is outside more sure = subst (λ (y : QueueSeat). May y 1 (λ n. n) (taker_enters y)) (sym is) (take_enters t outside more sure)
 
   take_goes : (t : QueueView) (slot : Slot) → IsRoomy t.max slot → t.has ≡ true → slice_get t.put (length t.taken) ≡ Some (in_slot slot)
-      → May (Takes t, (slot_of t (length t.taken), slot) ∷ []) 1 (λ _. wrapped (length t.taken + 1)) (λ found. taker_takes (Takes t, (slot_of t (length t.taken), slot) ∷ []) (wrapped (length t.taken + 1)))
+      → May (Takes t, (slot_of_number t (length t.taken), slot) ∷ []) 1 (λ _. wrapped (length t.taken + 1)) (λ found. taker_takes (Takes t, (slot_of_number t (length t.taken), slot) ∷ []) (wrapped (length t.taken + 1)))
   take_goes t slot roomy entered next s k _ mine _ =
       let l = taker_lawful s k id t mine in
       let is_slot = slot_is k.putter t s.words s.homes l (l.taking entered).1 (l.taking entered).0 in (
@@ -417,11 +417,11 @@ module _ (slots id : ℕ) where
         λ number other is. ap (λ (c : List (ℕ × Slot)). (Takes (takes_one t (message_of slot c)), [])) is,
       )
 
-  pub take_goes_at : (me : QueueSeat) (t : QueueView) (slot : Slot) (count : ℕ) → me ≡ (Takes t, (slot_of t (length t.taken), slot) ∷ []) → count ≡ wrapped (length t.taken + 1) → IsRoomy t.max slot → t.has ≡ true
+  pub take_goes_at : (me : QueueSeat) (t : QueueView) (slot : Slot) (count : ℕ) → me ≡ (Takes t, (slot_of_number t (length t.taken), slot) ∷ []) → count ≡ wrapped (length t.taken + 1) → IsRoomy t.max slot → t.has ≡ true
       → slice_get t.put (length t.taken) ≡ Some (in_slot slot) → May me 1 (λ _. count) (λ found. taker_takes me count)
   take_goes_at me t slot count is count_is roomy entered next =
       subst (λ (y : QueueSeat). May y 1 (λ _. count) (λ found. taker_takes y count)) (sym is)
-      (subst (λ (n : ℕ). May (Takes t, (slot_of t (length t.taken), slot) ∷ []) 1 (λ _. n) (λ found. taker_takes (Takes t, (slot_of t (length t.taken), slot) ∷ []) n)) (sym count_is) (take_goes t slot roomy entered next))
+      (subst (λ (n : ℕ). May (Takes t, (slot_of_number t (length t.taken), slot) ∷ []) 1 (λ _. n) (λ found. taker_takes (Takes t, (slot_of_number t (length t.taken), slot) ∷ []) n)) (sym count_is) (take_goes t slot roomy entered next))
 
   take_looks : (t : QueueView) (c : List (ℕ × Slot)) → IsOutside t → May (Takes t, c) 0 (λ n. n) (taker_looks (Takes t, c))
   take_looks t c outside s k _ mine _ =

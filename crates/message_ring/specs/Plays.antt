@@ -3,7 +3,7 @@ use Rattle.std.specs.Prelude.{◌≡◌, ℕ, ◌+◌, ◌<◌, ◌≤◌, true,
 use Rattle.atomic_table.specs.Table.{Me}
 use Rattle.message_ring.specs.declared.rule.QueuedMessage.{QueuedMessage}
 use Rattle.message_ring.specs.Queue.{BeginsWith}
-use Rattle.message_ring.specs.Rule.{IsRoomy, in_slot, slot_of, view_at_first, wrapped}
+use Rattle.message_ring.specs.Rule.{IsRoomy, in_slot, slot_of_number, view_at_first, wrapped}
 use Rattle.message_ring.specs.declared.slot.Slot.{Slot}
 use Rattle.message_ring.specs.declared.rule.QueueView.{QueueView}
 use Rattle.message_ring.specs.declared.rule.SeatView.{SeatView}
@@ -38,7 +38,7 @@ sees_taken putter taken = record putter { taken = taken; looks = putter.looks + 
 
 -- it took the slot of its next message
 abbrev pub putter_enters : QueueSeat → ℕ → QueueSeat → Type 0
-putter_enters me found me' = (slot : Slot) × (me' ≡ (Puts (with_slot_taken (putter_in me.0)), (slot_of (putter_in me.0) (length (putter_in me.0).put), slot) ∷ []))
+putter_enters me found me' = (slot : Slot) × (me' ≡ (Puts (with_slot_taken (putter_in me.0)), (slot_of_number (putter_in me.0) (length (putter_in me.0).put), slot) ∷ []))
     × IsRoomy (putter_in me.0).max slot
 
 -- it gave its slot home, with the message that is in it
@@ -85,7 +85,7 @@ counts_put taker put = record taker { put = put; looks = taker.looks + 1; sure =
 -- it took the slot of its next message, which has that message
 -- rule: PORT-11
 abbrev pub taker_enters : QueueSeat → ℕ → QueueSeat → Type 0
-taker_enters me found me' = (slot : Slot) × (me' ≡ (Takes (with_slot_taken (taker_in me.0)), (slot_of (taker_in me.0) (length (taker_in me.0).taken), slot) ∷ []))
+taker_enters me found me' = (slot : Slot) × (me' ≡ (Takes (with_slot_taken (taker_in me.0)), (slot_of_number (taker_in me.0) (length (taker_in me.0).taken), slot) ∷ []))
     × IsRoomy (taker_in me.0).max slot × (slice_get (taker_in me.0).put (length (taker_in me.0).taken) ≡ Some (in_slot slot))
 
 -- it gave its slot home, whose message is taken then

@@ -37,14 +37,14 @@ slot_for depth many = many % depth
 
 -- the slot of the message with this number, by where an end knows number 0 to be
 -- rule: PORT-11
-abbrev pub slot_of : QueueView → ℕ → ℕ
-slot_of end number = slot_for end.depth (end.start + number)
+abbrev pub slot_of_number : QueueView → ℕ → ℕ
+slot_of_number end number = slot_for end.depth (end.start + number)
 
 -- the slot of this number is at home, with room, and has the message of this number if that was put
 -- rule: PORT-10, PORT-11
 pub record IsInPlace (homes : List (maybe.Option Slot)) (putter : QueueView) (number : ℕ) : Type 0 where
   pub slot : Slot
-  pub home : get_elem? homes (slot_of putter number) ≡ some (some slot)
+  pub home : get_elem? homes (slot_of_number putter number) ≡ some (some slot)
   pub room : IsRoomy putter.max slot
   pub message : (put : QueuedMessage) → slice_get putter.put number ≡ Some put → in_slot slot ≡ put
 
