@@ -119,7 +119,7 @@ static void of_no_room_to_take(uint8_t *out) {
     WANT(DONE, yelunnavi_receiver_receive(&receiver, YELUNNAVI_A, 2000, NO_OCTETS, sizeof NO_OCTETS, &verdict));
     if (verdict.kind != YELUNNAVI_VERDICT_QUEUED || verdict.port != 2) exit(27);
     WANT(DONE, yelunnavi_queue_waiting(&queue, &waiting));
-    if (waiting != 1) exit(98);
+    if (waiting != 1) exit(31);
     WANT(DONE, yelunnavi_queue_take(&queue, out, 0, &taken));
     if (taken.found != 1 || taken.time != 2000 || taken.len != 0) exit(28);
     yelunnavi_queue_close(&queue);
