@@ -110,12 +110,16 @@ static void of_no_room_to_read(uint8_t *out) {
 static void of_no_room_to_take(uint8_t *out) {
     struct yelunnavi_verdict verdict;
     struct yelunnavi_taken taken;
+    size_t waiting;
     WANT(NOT_OPEN, yelunnavi_queue_take(&queue, out, 0, &taken));
+    WANT(NOT_OPEN, yelunnavi_queue_waiting(&queue, &waiting));
     WANT(DONE, yelunnavi_receiver_hand_queue(&receiver, &queue, TEXT("ack")));
     WANT(DONE, yelunnavi_queue_take(&queue, out, 0, &taken));
     if (taken.found != 0) exit(26);
     WANT(DONE, yelunnavi_receiver_receive(&receiver, YELUNNAVI_A, 2000, NO_OCTETS, sizeof NO_OCTETS, &verdict));
     if (verdict.kind != YELUNNAVI_VERDICT_QUEUED || verdict.port != 2) exit(27);
+    WANT(DONE, yelunnavi_queue_waiting(&queue, &waiting));
+    if (waiting != 1) exit(31);
     WANT(DONE, yelunnavi_queue_take(&queue, out, 0, &taken));
     if (taken.found != 1 || taken.time != 2000 || taken.len != 0) exit(28);
     yelunnavi_queue_close(&queue);
@@ -264,9 +268,10 @@ static void want_no_reader(struct yelunnavi_reader *h) {
 
 static void want_no_queue(struct yelunnavi_queue *h) {
     struct yelunnavi_taken taken;
-    size_t max;
+    size_t max, waiting;
     uint8_t out[8];
     WANT(NOT_MADE, yelunnavi_queue_take(h, out, sizeof out, &taken));
+    WANT(NOT_MADE, yelunnavi_queue_waiting(h, &waiting));
     WANT(NOT_MADE, yelunnavi_queue_longest(h, &max));
     yelunnavi_queue_close(h);
 }

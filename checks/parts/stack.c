@@ -104,6 +104,7 @@ static void release(void) { code = yelunnavi_reader_release(&reader); }
 static void tell_limits(void) { code = yelunnavi_reader_limits(&reader, &limits); }
 static void close_reader(void) { yelunnavi_reader_close(&reader); }
 static void take(void) { code = yelunnavi_queue_take(&queue, out, sizeof out, &taken); }
+static void tell_waiting(void) { code = yelunnavi_queue_waiting(&queue, &longest); }
 static void tell_longest(void) { code = yelunnavi_queue_longest(&queue, &longest); }
 static void close_queue(void) { yelunnavi_queue_close(&queue); }
 
@@ -217,7 +218,7 @@ static void of_a_reader(void) {
 
 static void of_a_queue(void) {
     if (yelunnavi_queue_init(&queue, end_rooms[at_port], sizeof end_rooms[0]) != YELUNNAVI_DONE) exit(9);
-    call("hand_queue", hand_queue), call("longest", tell_longest);
+    call("hand_queue", hand_queue), call("longest", tell_longest), call("waiting", tell_waiting);
     do call("take", take); while (taken.found);
     call("close_queue", close_queue);
 }
