@@ -5,7 +5,7 @@ ghost use Rattle.system_slots.specs.Passing.{ComesToLink, IsCodeOrBusy, Receives
 
 use es_base::{PortKind, PortNo};
 use live_system::{LiveSystem, NetPass};
-use receiver_slots::codes::{BUSY, NONE_LEFT, NO_PLACE};
+use receiver_slots::codes::{BUSY, NO_PLACE, NONE_LEFT};
 use receiver_slots::{
     FillReply, FrameReply, LinkHealthReply, fill_reply_of, frame_reply_of, link_health_reply_of,
 };
@@ -71,7 +71,10 @@ impl Passing {
         if let PortKind::Sampling { refresh: _ } = settings.kind() {
             return Err(NONE_LEFT);
         }
-        match self.system.try_fill(&mut self.pass, link, PortNo(port as u8)) {
+        match self
+            .system
+            .try_fill(&mut self.pass, link, PortNo(port as u8))
+        {
             None => Err(BUSY),
             Some(Some(fill)) => Ok(fill_reply_of(fill)),
             Some(None) => unreachable!(),

@@ -65,4 +65,4 @@ returns-clause-code c =
     (elim c.match-try_fill.branch [
       | in-None w ↦ rw w.result-is (inr (is_done, refl))
       | in-Some-Some w ↦ rw w.result-is (inl (sym is_done))
-      ])
+    ])
