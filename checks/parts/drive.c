@@ -255,9 +255,14 @@ static void take(void) {
     size_t slot = number(), len = number();
     uint8_t *out = buffer(len);
     if (code(yelunnavi_queue_take(&queues[slot], out, len, &told)))
-        printf(" %" PRIu32 " %" PRIu64 " %zu", told.found, told.time, told.len);
+        printf(" %" PRIu32 " %" PRIu64 " %zu %" PRIu64, told.found, told.time, told.len, told.lost);
     show(out, len);
     free(out);
+}
+
+static void waiting(void) {
+    size_t count;
+    if (code(yelunnavi_queue_waiting(&queues[number()], &count))) printf(" %zu", count);
 }
 
 static void longest(void) {
@@ -343,6 +348,7 @@ static void call(const char *name) {
     else if (!strcmp(name, "limits")) limits();
     else if (!strcmp(name, "take")) take();
     else if (!strcmp(name, "longest")) longest();
+    else if (!strcmp(name, "waiting")) waiting();
     else if (!strcmp(name, "count")) count();
     else if (!strcmp(name, "filtered")) filtered();
 #ifndef SYSTEM
