@@ -1,5 +1,5 @@
-/* A queue that is full, and then found empty in the midst of its slots: it begins again at the first one, and hands out its
-   messages in order. And what it says of the messages that it lost. */
+/* A queue that is found empty in the midst of its slots, after it was full and before: it begins again at the first one, and
+   hands out its messages in order. And what it says of the messages that it lost. */
 #ifndef DEEP_QUEUE_H
 #define DEEP_QUEUE_H
 #include "wanted.h"
@@ -47,5 +47,9 @@ static void of_a_queue_that_begins_again(struct yelunnavi_queue *queue, give_fra
     give_messages(give, 21, 21, YELUNNAVI_VERDICT_QUEUED);
     take_messages(queue, 13, 17, 0);
     take_messages(queue, 21, 21, 3);
+    for (uint8_t number = 22; number < 32; number++) {
+        give_messages(give, number, number, YELUNNAVI_VERDICT_QUEUED);
+        take_messages(queue, number, number, 0);
+    }
 }
 #endif
