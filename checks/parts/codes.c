@@ -2,7 +2,7 @@
    memory refused answers NO_MEMORY, for each N, and gives everything back; a port has as many readers as the opening was told,
    and one that holds a message holds nobody up; a null pointer with a length of 0 does what another one does. Fails with the line
    of the first call that answers something else, or with a status. */
-#include "deep_queue.h"
+#include "merged_pieces.h"
 #include "memory.h"
 #include "wanted.h"
 #include <string.h>
@@ -146,6 +146,13 @@ static void of_a_deep_queue(void) {
     yelunnavi_queue_close(&queue);
     yelunnavi_receiver_close(&receiver);
     if (blocks) exit(32);
+}
+
+static void of_pieces(void) {
+    struct yelunnavi_fault fault;
+    WANT(DONE, yelunnavi_receiver_open(&receiver, TEXT(WITH_DEEP), 1, &fault));
+    of_merged_pieces(give);
+    yelunnavi_receiver_close(&receiver);
 }
 
 static void of_the_receiver(void) {
@@ -465,6 +472,7 @@ int main(void) {
     of_no_octets(some, some);
     of_no_octets(NULL, NULL);
     of_a_deep_queue();
+    of_pieces();
     of_the_receiver();
     of_the_ends();
     of_a_hold();

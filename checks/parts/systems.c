@@ -2,7 +2,7 @@
    opening with its Nth request for memory refused answers NO_MEMORY, for each N, and gives everything back; passes and ends outlive
    the system, and the last of them gives its memory back. A pass that is given a frame, or tells a fill, while the other one copies a message of that
    link finds BUSY. Two threads that give frames of one link at once find it now and then, and no frame is lost or taken twice. Fails with the line of the first call that answers something else, or with a status. */
-#include "deep_queue.h"
+#include "merged_pieces.h"
 #include "memory.h"
 #include "wanted.h"
 #include <pthread.h>
@@ -259,6 +259,14 @@ static void of_a_deep_queue(void) {
     if (blocks) exit(36);
 }
 
+static void of_pieces(void) {
+    WANT(DONE, yelunnavi_system_open(&both, TEXT(WITH_DEEP), 1, &fault));
+    WANT(DONE, yelunnavi_system_hand_pass(&both, YELUNNAVI_A, &passes[0]));
+    of_merged_pieces(give);
+    yelunnavi_pass_close(&passes[0]);
+    yelunnavi_system_close(&both);
+}
+
 int main(void) {
     if (yelunnavi_abi() != YELUNNAVI_ABI) return 2;
     WANT(DONE, yelunnavi_system_init(&both, rooms[0], sizeof rooms[0]));
@@ -272,5 +280,6 @@ int main(void) {
     of_a_link_in_use();
     of_two_threads();
     of_a_deep_queue();
+    of_pieces();
     return 0;
 }
