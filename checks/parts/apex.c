@@ -66,11 +66,20 @@ static void of_empty_ports(void) {
     WANT(INVALID_PARAM, RECEIVE_QUEUING_MESSAGE(3, 0, out, &len, &answer));
 }
 
-static void receive(uint8_t number) {
+static uint32_t kind_of(uint8_t number) {
     struct yelunnavi_verdict reply;
     frame[59] = number;
     if (yelunnavi_receiver_receive(&receiver, YELUNNAVI_A, now, frame, sizeof frame, &reply) != YELUNNAVI_DONE) exit(6);
-    if (reply.kind != YELUNNAVI_VERDICT_SAMPLED && reply.kind != YELUNNAVI_VERDICT_QUEUED) exit(7);
+    return reply.kind;
+}
+
+static void receive(uint8_t number) {
+    uint32_t kind = kind_of(number);
+    if (kind != YELUNNAVI_VERDICT_SAMPLED && kind != YELUNNAVI_VERDICT_QUEUED) exit(7);
+}
+
+static void lose(uint8_t number) {
+    if (kind_of(number) != YELUNNAVI_VERDICT_OVERFLOW) exit(19);
 }
 
 static void of_messages(void) {
@@ -94,6 +103,26 @@ static void of_messages(void) {
     WANT(NOT_AVAILABLE, RECEIVE_QUEUING_MESSAGE(nav, 0, out, &len, &answer));
 }
 
+/* Two messages fill the queue, and two overflow: the next one that is put tells it, and no other. */
+static void of_overflow(void) {
+    QUEUING_PORT_STATUS_TYPE status;
+    MESSAGE_SIZE_TYPE len = 0;
+    receive(2);
+    receive(3);
+    lose(4);
+    lose(5);
+    WANT(NO_ERROR, GET_QUEUING_PORT_STATUS(nav, &status, &answer));
+    if (status.NB_MESSAGE != 2) exit(17);
+    WANT(NO_ERROR, RECEIVE_QUEUING_MESSAGE(nav, 0, out, &len, &answer));
+    receive(6);
+    WANT(NO_ERROR, RECEIVE_QUEUING_MESSAGE(nav, 0, out, &len, &answer));
+    WANT(INVALID_CONFIG, RECEIVE_QUEUING_MESSAGE(nav, 0, out, &len, &answer));
+    if (len != 17) exit(18);
+    receive(7);
+    WANT(NO_ERROR, RECEIVE_QUEUING_MESSAGE(nav, 0, out, &len, &answer));
+    WANT(NOT_AVAILABLE, RECEIVE_QUEUING_MESSAGE(nav, 0, out, &len, &answer));
+}
+
 static void of_status(void) {
     SAMPLING_PORT_STATUS_TYPE sampling;
     QUEUING_PORT_STATUS_TYPE queuing;
@@ -101,7 +130,7 @@ static void of_status(void) {
     if (sampling.REFRESH_PERIOD != 20000000 || sampling.MAX_MESSAGE_SIZE != 1471 || sampling.PORT_DIRECTION != DESTINATION
         || sampling.LAST_MSG_VALIDITY != INVALID) exit(11);
     WANT(NO_ERROR, GET_QUEUING_PORT_STATUS(nav, &queuing, &answer));
-    if (queuing.MAX_NB_MESSAGE != 2 || queuing.MAX_MESSAGE_SIZE != 64 || queuing.PORT_DIRECTION != DESTINATION) exit(12);
+    if (queuing.NB_MESSAGE != 0 || queuing.MAX_NB_MESSAGE != 2 || queuing.MAX_MESSAGE_SIZE != 64 || queuing.PORT_DIRECTION != DESTINATION) exit(12);
     WANT(INVALID_PARAM, GET_SAMPLING_PORT_STATUS(nav, &sampling, &answer));
     WANT(INVALID_PARAM, GET_QUEUING_PORT_STATUS(pos, &queuing, &answer));
 }
@@ -115,6 +144,7 @@ int main(void) {
     of_creating();
     of_empty_ports();
     of_messages();
+    of_overflow();
     of_status();
     return 0;
 }

@@ -12,7 +12,7 @@ from parts.rare_frames import rare_script
 PROFILES = ("sampling", "queuing", "fragments", "mixed")
 POOL = "-DPOOL_OCTETS=268435456u"
 # What checks/parts/drive.c and stack.c call, and what a receiver alone has of it.
-OF_RECEIVERS = ("health", "fill")
+OF_RECEIVERS = ("health",)
 ROOFS = {"receiver": [], "system, by one thread": ["-DSYSTEM"]}
 
 

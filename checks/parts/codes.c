@@ -2,6 +2,7 @@
    memory refused answers NO_MEMORY, for each N, and gives everything back; a port has as many readers as the opening was told,
    and one that holds a message holds nobody up; a null pointer with a length of 0 does what another one does. Fails with the line
    of the first call that answers something else, or with a status. */
+#include "merged_pieces.h"
 #include "memory.h"
 #include "wanted.h"
 #include <string.h>
@@ -9,10 +10,6 @@
 /* With a port for messages of no octets. */
 static const char WITH_ACK[] = LINK_17
     "[[link.port]]\nname = \"ack\"\nkind = \"queuing\"\naddress = \"224.224.0.17\"\nudp = 5003\nmax = 0\ndepth = 2\n";
-/* A message of no octets for `ack`, the next frame of the link. */
-static const uint8_t NO_OCTETS[60] = {3, 0, 0, 0, 0, 17, 2, 0, 0, 0, 1, 32, 8, 0, 69, 0, 0, 28, 0, 2, 0, 0, 1, 17, 205, 220, 10, 1, 1, 1,
-    224, 224, 0, 17, 19, 137, 19, 139, 0, 8, 0, 0, [59] = 1};
-
 static uint64_t rooms[4][64];
 static struct yelunnavi_receiver receiver;
 static struct yelunnavi_reader reader, other;
@@ -110,12 +107,16 @@ static void of_no_room_to_read(uint8_t *out) {
 static void of_no_room_to_take(uint8_t *out) {
     struct yelunnavi_verdict verdict;
     struct yelunnavi_taken taken;
+    size_t waiting;
     WANT(NOT_OPEN, yelunnavi_queue_take(&queue, out, 0, &taken));
+    WANT(NOT_OPEN, yelunnavi_queue_waiting(&queue, &waiting));
     WANT(DONE, yelunnavi_receiver_hand_queue(&receiver, &queue, TEXT("ack")));
     WANT(DONE, yelunnavi_queue_take(&queue, out, 0, &taken));
     if (taken.found != 0) exit(26);
     WANT(DONE, yelunnavi_receiver_receive(&receiver, YELUNNAVI_A, 2000, NO_OCTETS, sizeof NO_OCTETS, &verdict));
     if (verdict.kind != YELUNNAVI_VERDICT_QUEUED || verdict.port != 2) exit(27);
+    WANT(DONE, yelunnavi_queue_waiting(&queue, &waiting));
+    if (waiting != 1) exit(31);
     WANT(DONE, yelunnavi_queue_take(&queue, out, 0, &taken));
     if (taken.found != 1 || taken.time != 2000 || taken.len != 0) exit(28);
     yelunnavi_queue_close(&queue);
@@ -131,6 +132,27 @@ static void of_no_octets(const uint8_t *in, uint8_t *out) {
     of_no_room_to_take(out);
     yelunnavi_receiver_close(&receiver);
     if (blocks) exit(29);
+}
+
+static uint32_t give(uint64_t time, const uint8_t *frame, size_t len, struct yelunnavi_verdict *verdict) {
+    return yelunnavi_receiver_receive(&receiver, YELUNNAVI_A, time, frame, len, verdict);
+}
+
+static void of_a_deep_queue(void) {
+    struct yelunnavi_fault fault;
+    WANT(DONE, yelunnavi_receiver_open(&receiver, TEXT(WITH_DEEP), 1, &fault));
+    WANT(DONE, yelunnavi_receiver_hand_queue(&receiver, &queue, TEXT("deep")));
+    of_a_queue_that_begins_again(&queue, give);
+    yelunnavi_queue_close(&queue);
+    yelunnavi_receiver_close(&receiver);
+    if (blocks) exit(32);
+}
+
+static void of_pieces(void) {
+    struct yelunnavi_fault fault;
+    WANT(DONE, yelunnavi_receiver_open(&receiver, TEXT(WITH_DEEP), 1, &fault));
+    of_merged_pieces(give);
+    yelunnavi_receiver_close(&receiver);
 }
 
 static void of_the_receiver(void) {
@@ -264,9 +286,10 @@ static void want_no_reader(struct yelunnavi_reader *h) {
 
 static void want_no_queue(struct yelunnavi_queue *h) {
     struct yelunnavi_taken taken;
-    size_t max;
+    size_t max, waiting;
     uint8_t out[8];
     WANT(NOT_MADE, yelunnavi_queue_take(h, out, sizeof out, &taken));
+    WANT(NOT_MADE, yelunnavi_queue_waiting(h, &waiting));
     WANT(NOT_MADE, yelunnavi_queue_longest(h, &max));
     yelunnavi_queue_close(h);
 }
@@ -448,6 +471,8 @@ int main(void) {
     of_readers(YELUNNAVI_MOST_READERS);
     of_no_octets(some, some);
     of_no_octets(NULL, NULL);
+    of_a_deep_queue();
+    of_pieces();
     of_the_receiver();
     of_the_ends();
     of_a_hold();

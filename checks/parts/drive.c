@@ -255,9 +255,14 @@ static void take(void) {
     size_t slot = number(), len = number();
     uint8_t *out = buffer(len);
     if (code(yelunnavi_queue_take(&queues[slot], out, len, &told)))
-        printf(" %" PRIu32 " %" PRIu64 " %zu", told.found, told.time, told.len);
+        printf(" %" PRIu32 " %" PRIu64 " %zu %" PRIu64, told.found, told.time, told.len, told.lost);
     show(out, len);
     free(out);
+}
+
+static void waiting(void) {
+    size_t count;
+    if (code(yelunnavi_queue_waiting(&queues[number()], &count))) printf(" %zu", count);
 }
 
 static void longest(void) {
@@ -285,13 +290,13 @@ static void health(void) {
         printf(" %" PRIu32 " %" PRIu32 " %" PRIu64 " %" PRIu64 " %" PRIu64, told.came_a, told.came_b, told.latest_a, told.latest_b,
                told.given_up);
 }
+#endif
 
 static void fill(void) {
     struct yelunnavi_fill told;
     size_t link = number();
     if (code(yelunnavi_receiver_fill(&receiver, link, number(), &told))) printf(" %zu %zu", told.waiting, told.greatest);
 }
-#endif
 
 static void links(void) {
     size_t told;
@@ -343,12 +348,13 @@ static void call(const char *name) {
     else if (!strcmp(name, "limits")) limits();
     else if (!strcmp(name, "take")) take();
     else if (!strcmp(name, "longest")) longest();
+    else if (!strcmp(name, "waiting")) waiting();
     else if (!strcmp(name, "count")) count();
     else if (!strcmp(name, "filtered")) filtered();
 #ifndef SYSTEM
     else if (!strcmp(name, "health")) health();
-    else if (!strcmp(name, "fill")) fill();
 #endif
+    else if (!strcmp(name, "fill")) fill();
     else if (!strcmp(name, "links")) links();
     else if (!strcmp(name, "link")) tell_link();
     else if (!strcmp(name, "port")) tell_port();

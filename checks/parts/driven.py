@@ -79,7 +79,7 @@ class Script:
     def between(self):
         ends = [self.read] * 4 + [self.hold, self.hold, self.copy, self.octets, self.release, self.take, self.take, self.take]
         return [*ends, self.hand_reader, self.hand_queue, self.count, self.filtered, self.health, self.fill, self.limits,
-                self.longest, self.place, self.chance_of_closing]
+                self.longest, self.waiting, self.place, self.chance_of_closing]
 
     # ---- the receiver
 
@@ -196,6 +196,10 @@ class Script:
         port = self.queues[slot].port
         length = self.r.choice([ENOUGH, port.max if port else 0, self.length()])
         self.call(self.queues[slot].take(length), "take", slot, length)
+
+    def waiting(self):
+        slot = self.open_slot(self.queues)
+        self.call(self.queues[slot].count_waiting(), "waiting", slot)
 
     def longest(self):
         slot = self.open_slot(self.queues)

@@ -45,6 +45,7 @@ class Port:
         self.max = (1471 if self.samples else 8192) if settings.max is None else settings.max
         self.refresh, self.depth = settings.refresh, settings.depth
         self.newest, self.waiting, self.greatest, self.count, self.left = None, [], 0, 0, 0
+        self.lost = 0  # since a message was put
 
     def deliver(self, time, octets):
         """The kind of the verdict, and the message's number."""
@@ -53,8 +54,10 @@ class Port:
             self.newest = Message(self.count, time, octets)
             return SAMPLED, self.count
         if len(self.waiting) == self.depth:
+            self.lost += 1
             return OVERFLOW, 0
-        self.waiting.append(Message(0, time, octets))
+        self.waiting.append((Message(0, time, octets), self.lost))
+        self.lost = 0
         self.greatest = max(self.greatest, len(self.waiting))
         return QUEUED, 0
 
@@ -223,9 +226,12 @@ class Queue:
         if self.port is None or length < self.port.max:
             return NOT_OPEN if self.port is None else TOO_SHORT, filled(b"", length)
         if not self.port.waiting:
-            return DONE, 0, 0, 0, filled(b"", length)
-        message = self.port.waiting.pop(0)
-        return DONE, 1, message.time, len(message.octets), filled(message.octets, length)
+            return DONE, 0, 0, 0, 0, filled(b"", length)
+        message, lost = self.port.waiting.pop(0)
+        return DONE, 1, message.time, len(message.octets), lost, filled(message.octets, length)
+
+    def count_waiting(self):
+        return (NOT_OPEN,) if self.port is None else (DONE, len(self.port.waiting))
 
     def longest(self):
         return (NOT_OPEN,) if self.port is None else (DONE, self.port.max)

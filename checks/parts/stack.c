@@ -1,7 +1,7 @@
 /* stack CONFIG A B: how many octets of stack each call of the library takes, the most that was seen, as lines of a name and a
    number: of openings, of this configuration, of the largest one, of those with a fault at their end, and of texts that are
    nested as deep as they may be; of each frame of two traces, by the kind of its verdict; of all other calls, after the frames.
-   With SYSTEM the calls are those of a system and of both its passes, which tell neither health nor fill.
+   With SYSTEM the calls are those of a system and of both its passes, but for those of health and fill.
    A call runs on a stack that was painted before, and what it has written to is counted, less what a call that does nothing
    writes to. */
 #define _XOPEN_SOURCE 700
@@ -104,6 +104,7 @@ static void release(void) { code = yelunnavi_reader_release(&reader); }
 static void tell_limits(void) { code = yelunnavi_reader_limits(&reader, &limits); }
 static void close_reader(void) { yelunnavi_reader_close(&reader); }
 static void take(void) { code = yelunnavi_queue_take(&queue, out, sizeof out, &taken); }
+static void tell_waiting(void) { code = yelunnavi_queue_waiting(&queue, &longest); }
 static void tell_longest(void) { code = yelunnavi_queue_longest(&queue, &longest); }
 static void close_queue(void) { yelunnavi_queue_close(&queue); }
 
@@ -217,7 +218,7 @@ static void of_a_reader(void) {
 
 static void of_a_queue(void) {
     if (yelunnavi_queue_init(&queue, end_rooms[at_port], sizeof end_rooms[0]) != YELUNNAVI_DONE) exit(9);
-    call("hand_queue", hand_queue), call("longest", tell_longest);
+    call("hand_queue", hand_queue), call("longest", tell_longest), call("waiting", tell_waiting);
     do call("take", take); while (taken.found);
     call("close_queue", close_queue);
 }

@@ -1,7 +1,8 @@
 /* The answers of a system and of its passes (examples/c/yelunnavi.h, BUSY): each comes from the library where the header says so; an
    opening with its Nth request for memory refused answers NO_MEMORY, for each N, and gives everything back; passes and ends outlive
-   the system, and the last of them gives its memory back. A pass that is given a frame while the other one copies a message of that
+   the system, and the last of them gives its memory back. A pass that is given a frame, or tells a fill, while the other one copies a message of that
    link finds BUSY. Two threads that give frames of one link at once find it now and then, and no frame is lost or taken twice. Fails with the line of the first call that answers something else, or with a status. */
+#include "merged_pieces.h"
 #include "memory.h"
 #include "wanted.h"
 #include <pthread.h>
@@ -55,11 +56,13 @@ static void want_no_system(struct yelunnavi_system *h) {
 static void want_no_pass(struct yelunnavi_pass *h) {
     struct yelunnavi_verdict told;
     struct yelunnavi_link_health health;
+    struct yelunnavi_fill fill;
     uint64_t count;
     WANT(NOT_MADE, yelunnavi_pass_receive(h, 0, FRAME, sizeof FRAME, &told));
     WANT(NOT_MADE, yelunnavi_pass_count(h, 0, YELUNNAVI_VERDICT_SAMPLED, &count));
     WANT(NOT_MADE, yelunnavi_pass_filtered(h, YELUNNAVI_FILTER_TOO_SHORT, &count));
     WANT(NOT_MADE, yelunnavi_pass_health(h, 0, &health));
+    WANT(NOT_MADE, yelunnavi_pass_fill(h, 0, 1, &fill));
     yelunnavi_pass_close(h);
 }
 
@@ -89,10 +92,12 @@ static void of_rooms(void) {
 static void of_passes(void) {
     struct yelunnavi_verdict told;
     struct yelunnavi_link_health health;
+    struct yelunnavi_fill fill;
     uint64_t count = 77;
     WANT(NOT_OPEN, yelunnavi_system_hand_pass(&both, YELUNNAVI_A, &passes[0]));
     WANT(NOT_OPEN, yelunnavi_pass_receive(&passes[0], 0, FRAME, sizeof FRAME, &told));
     WANT(NOT_OPEN, yelunnavi_pass_health(&passes[0], 0, &health));
+    WANT(NOT_OPEN, yelunnavi_pass_fill(&passes[0], 0, 1, &fill));
     WANT(FAULTY, yelunnavi_system_open(&both, TEXT("[[link]]\nvl = 1\nskew_max_us = -1"), 1, &fault));
     if (fault.fault != YELUNNAVI_FAULT_RANGE || fault.key != YELUNNAVI_KEY_SKEW_MAX_US || fault.line != 3) exit(15);
     WANT(DONE, yelunnavi_system_open(&both, TEXT(CONFIG), 1, &fault));
@@ -118,6 +123,11 @@ static void of_passes(void) {
     WANT(DONE, yelunnavi_pass_health(&passes[1], 0, &health));
     if (health.came != 1 || health.latest != 1000 || health.received != 2 || health.given_up != 0) exit(29);
     WANT(NO_PLACE, yelunnavi_pass_health(&passes[1], 1, &health));
+    WANT(DONE, yelunnavi_pass_fill(&passes[1], 0, 1, &fill));
+    if (fill.waiting != 0 || fill.greatest != 0) exit(34);
+    WANT(NONE_LEFT, yelunnavi_pass_fill(&passes[1], 0, 0, &fill));
+    WANT(NO_PLACE, yelunnavi_pass_fill(&passes[1], 0, 2, &fill));
+    WANT(NO_PLACE, yelunnavi_pass_fill(&passes[1], 1, 0, &fill));
 }
 
 /* Passes and ends outlive the system, and each other. */
@@ -164,8 +174,12 @@ void *memmove(void *to, const void *from, size_t octets) {
 
 static void find_busy(void) {
     struct yelunnavi_verdict told = {.kind = 77};
+    struct yelunnavi_fill fill = {.waiting = 77, .greatest = 77};
     WANT(BUSY, yelunnavi_pass_receive(&passes[1], 1000, FRAME, sizeof FRAME, &told));
     if (told.kind != 77) exit(31);
+    WANT(BUSY, yelunnavi_pass_fill(&passes[1], 0, 1, &fill));
+    if (fill.waiting != 77 || fill.greatest != 77) exit(35);
+    WANT(NONE_LEFT, yelunnavi_pass_fill(&passes[1], 0, 0, &fill));
 }
 
 static void of_a_link_in_use(void) {
@@ -230,6 +244,29 @@ static void of_two_threads(void) {
     if (blocks) exit(30);
 }
 
+static uint32_t give(uint64_t time, const uint8_t *frame, size_t len, struct yelunnavi_verdict *verdict) {
+    return yelunnavi_pass_receive(&passes[0], time, frame, len, verdict);
+}
+
+static void of_a_deep_queue(void) {
+    WANT(DONE, yelunnavi_system_open(&both, TEXT(WITH_DEEP), 1, &fault));
+    WANT(DONE, yelunnavi_system_hand_pass(&both, YELUNNAVI_A, &passes[0]));
+    WANT(DONE, yelunnavi_system_hand_queue(&both, &queue, TEXT("deep")));
+    of_a_queue_that_begins_again(&queue, give);
+    yelunnavi_queue_close(&queue);
+    yelunnavi_pass_close(&passes[0]);
+    yelunnavi_system_close(&both);
+    if (blocks) exit(36);
+}
+
+static void of_pieces(void) {
+    WANT(DONE, yelunnavi_system_open(&both, TEXT(WITH_DEEP), 1, &fault));
+    WANT(DONE, yelunnavi_system_hand_pass(&both, YELUNNAVI_A, &passes[0]));
+    of_merged_pieces(give);
+    yelunnavi_pass_close(&passes[0]);
+    yelunnavi_system_close(&both);
+}
+
 int main(void) {
     if (yelunnavi_abi() != YELUNNAVI_ABI) return 2;
     WANT(DONE, yelunnavi_system_init(&both, rooms[0], sizeof rooms[0]));
@@ -242,5 +279,7 @@ int main(void) {
     of_a_closed_system();
     of_a_link_in_use();
     of_two_threads();
+    of_a_deep_queue();
+    of_pieces();
     return 0;
 }

@@ -38,7 +38,7 @@ PLANTED = [
      "    pub time: u64,\n    pub number: u64,", "struct ReadReply"),
     # what the Python binding takes apart itself
     (faces.PYTHON, '"IINIIQQ"', '"IINIIQ"', "struct FrameReply"),
-    (faces.PYTHON, '"IQN"', '"QIN"', "struct TakeReply"),
+    (faces.PYTHON, '"IQNQ"', '"QINQ"', "struct TakeReply"),
     (faces.PYTHON, "kind, cause, link, vl, port, place, number = VERDICT(", "kind, cause, link, port, vl, place, number = VERDICT(", "struct FrameReply"),
     (faces.PYTHON, "found, valid, number, time, length = READ(", "found, valid, time, number, length = READ(", "struct ReadReply"),
     (faces.REPLIES, "to take. 1: a message.\n    pub found: u32,", "to take. 1: a message.\n    pub found: u64,", f"{faces.PYTHON}: struct TakeReply"),

@@ -12,7 +12,7 @@ package Yelunnavi is
    type Queue is limited record Room : System.Address; end record with Convention => C;
 
    --  The number of this interface: raised with each change of a struct, a call or a number. Library_Abi has the library's.
-   Abi : constant Unsigned_32 := 7;
+   Abi : constant Unsigned_32 := 8;
 
    subtype Code is Unsigned_32;
    Done : constant Code := 0;
@@ -123,7 +123,9 @@ package Yelunnavi is
       Kind, Cause : Unsigned_32; Link : size_t; Vl, Port : Unsigned_32; Place, Number : Unsigned_64;
    end record with Convention => C;
    type Read_Reply is record Found, Valid : Unsigned_32; Number, Time : Unsigned_64; Length : size_t; end record with Convention => C;
-   type Take_Reply is record Found : Unsigned_32; Time : Unsigned_64; Length : size_t; end record with Convention => C;
+   type Take_Reply is record
+      Found : Unsigned_32; Time : Unsigned_64; Length : size_t; Lost : Unsigned_64;
+   end record with Convention => C;
    type Link_Reply is record
       Vl, Redundancy : Unsigned_32; Skew_Max, Reassembly : Unsigned_64; Window : Unsigned_32; Ports : size_t;
    end record with Convention => C;
@@ -239,6 +241,8 @@ package Yelunnavi is
      with Import, Convention => C, External_Name => "yelunnavi_pass_count";
    function Health (H : in out Pass; Link : size_t; Reply : in out Link_Health_Reply) return Code
      with Import, Convention => C, External_Name => "yelunnavi_pass_health";
+   function Fill (H : in out Pass; Link, Port : size_t; Reply : in out Fill_Reply) return Code
+     with Import, Convention => C, External_Name => "yelunnavi_pass_fill";
    function Filtered (H : in out Pass; Cause : Unsigned_32; Count : in out Unsigned_64) return Code
      with Import, Convention => C, External_Name => "yelunnavi_pass_filtered";
    procedure Close (H : in out Pass) with Import, Convention => C, External_Name => "yelunnavi_pass_close";
@@ -260,6 +264,8 @@ package Yelunnavi is
 
    function Take (H : in out Queue; Into : in out Octets; Length : size_t; Reply : in out Take_Reply) return Code
      with Import, Convention => C, External_Name => "yelunnavi_queue_take";
+   function Waiting (H : in out Queue; Waiting : in out size_t) return Code
+     with Import, Convention => C, External_Name => "yelunnavi_queue_waiting";
    function Longest (H : in out Queue; Max : in out size_t) return Code
      with Import, Convention => C, External_Name => "yelunnavi_queue_longest";
    procedure Close (H : in out Queue) with Import, Convention => C, External_Name => "yelunnavi_queue_close";

@@ -1,7 +1,8 @@
 /* The names of ARINC 653 Part 1 over yelunnavi.h, an example: the ports of one partition, in a table of the file that includes
    this. CREATE_.. calls the receiver, so a partition creates its ports before the task that receives begins; what it reads and
    receives afterwards is its own thread's. The program has apex_now, the clock of the arrival times. Otherwise than in ARINC
-   653: a TIME_OUT isn't waited for, an overflow isn't told, and a status has neither NB_MESSAGE nor WAITING_PROCESSES. */
+   653: a TIME_OUT isn't waited for, an overflow is told with the next message that was put, and not before, and a status has no
+   WAITING_PROCESSES. */
 #ifndef ARINC653_H
 #define ARINC653_H
 #include "yelunnavi.h"
@@ -28,7 +29,7 @@ typedef struct {
     VALIDITY_TYPE LAST_MSG_VALIDITY;
 } SAMPLING_PORT_STATUS_TYPE;
 typedef struct {
-    MESSAGE_RANGE_TYPE MAX_NB_MESSAGE;
+    MESSAGE_RANGE_TYPE NB_MESSAGE, MAX_NB_MESSAGE;
     MESSAGE_SIZE_TYPE MAX_MESSAGE_SIZE;
     PORT_DIRECTION_TYPE PORT_DIRECTION;
 } QUEUING_PORT_STATUS_TYPE;
@@ -101,6 +102,7 @@ static inline void READ_SAMPLING_MESSAGE(SAMPLING_PORT_ID_TYPE id, MESSAGE_ADDR_
     *validity = port->validity = found.valid ? VALID : INVALID;
 }
 
+/* INVALID_CONFIG: a message was received, and the queue overflowed right before it was put. */
 static inline void RECEIVE_QUEUING_MESSAGE(QUEUING_PORT_ID_TYPE id, SYSTEM_TIME_TYPE time_out, MESSAGE_ADDR_TYPE message,
                                            MESSAGE_SIZE_TYPE *len, RETURN_CODE_TYPE *answer) {
     struct apex_port *port = apex_port_of(id, YELUNNAVI_SERVICE_QUEUING);
@@ -109,7 +111,7 @@ static inline void RECEIVE_QUEUING_MESSAGE(QUEUING_PORT_ID_TYPE id, SYSTEM_TIME_
     *answer = INVALID_PARAM;
     if (!port) return;
     if (yelunnavi_queue_take(&port->queue, message, port->port.max, &taken) != YELUNNAVI_DONE) return;
-    *answer = taken.found ? NO_ERROR : NOT_AVAILABLE;
+    *answer = !taken.found ? NOT_AVAILABLE : taken.lost ? INVALID_CONFIG : NO_ERROR;
     *len = APEX_AS(MESSAGE_SIZE_TYPE, taken.len);
 }
 
@@ -124,9 +126,12 @@ static inline void GET_SAMPLING_PORT_STATUS(SAMPLING_PORT_ID_TYPE id, SAMPLING_P
 }
 
 static inline void GET_QUEUING_PORT_STATUS(QUEUING_PORT_ID_TYPE id, QUEUING_PORT_STATUS_TYPE *status, RETURN_CODE_TYPE *answer) {
-    const struct apex_port *port = apex_port_of(id, YELUNNAVI_SERVICE_QUEUING);
-    *answer = port ? NO_ERROR : INVALID_PARAM;
-    if (!port) return;
+    struct apex_port *port = apex_port_of(id, YELUNNAVI_SERVICE_QUEUING);
+    size_t waiting;
+    *answer = INVALID_PARAM;
+    if (!port || yelunnavi_queue_waiting(&port->queue, &waiting) != YELUNNAVI_DONE) return;
+    *answer = NO_ERROR;
+    status->NB_MESSAGE = APEX_AS(MESSAGE_RANGE_TYPE, waiting);
     status->MAX_NB_MESSAGE = APEX_AS(MESSAGE_RANGE_TYPE, port->port.limit);
     status->MAX_MESSAGE_SIZE = APEX_AS(MESSAGE_SIZE_TYPE, port->port.max);
     status->PORT_DIRECTION = DESTINATION;

@@ -117,7 +117,7 @@ extern "C" {
 typedef char yelunnavi_is_of_64_bits[((sizeof(size_t) == 8U) && (sizeof(void *) == 8U)) ? 1 : -1];
 
 /* The number of this interface: raised with each change of a struct, a call or a number. */
-#define YELUNNAVI_ABI 7
+#define YELUNNAVI_ABI 8
 
 /* The release of this header; one between two releases has that of the first. */
 #define YELUNNAVI_VERSION "0.4.0"
@@ -497,8 +497,8 @@ uint32_t yelunnavi_receiver_hand_reader(struct yelunnavi_receiver *h, struct yel
 uint32_t yelunnavi_receiver_hand_queue(struct yelunnavi_receiver *h, struct yelunnavi_queue *to, const uint8_t *name, size_t len);
 
 /* ---- a system: a receiver for two threads, one a network. It keeps no frame either, and its links, ports, verdicts and limits
-   are those of a receiver: the same frames in the same order come to the same. Its passes tell how a link is, and no
-   fill: that needs a look at the link, which the thread of the other network may have just then. See BUSY above */
+   are those of a receiver: the same frames in the same order come to the same. Its passes tell how a link is and how
+   full a queue is: that needs a look at the link, which the thread of the other network may have just then. See BUSY above */
 
 /* Opens the system of a configuration: as yelunnavi_receiver_open, and with its answers. */
 uint32_t yelunnavi_system_open(struct yelunnavi_system *h, const uint8_t *text, size_t len, size_t readers, struct yelunnavi_fault *fault);
@@ -546,6 +546,10 @@ struct yelunnavi_link_health {
 /* Tells how the link at this place is: what is of both networks, as it was at one moment of the call. The pass of the other network
    tells of the latest there. NOT_OPEN, NO_PLACE; BUSY, and then nothing is told: see BUSY above. */
 uint32_t yelunnavi_pass_health(struct yelunnavi_pass *h, size_t link, struct yelunnavi_link_health *reply);
+
+/* Tells how full the queue of this port of a link is, as yelunnavi_receiver_fill does, and each pass the same. NOT_OPEN, NO_PLACE;
+   NONE_LEFT: the port samples; BUSY, and then nothing is told: see BUSY above. */
+uint32_t yelunnavi_pass_fill(struct yelunnavi_pass *h, size_t link, size_t port, struct yelunnavi_fill *reply);
 
 /* Tells how many frames were filtered on the network of the pass for this cause. NOT_OPEN, NO_KIND. */
 uint32_t yelunnavi_pass_filtered(struct yelunnavi_pass *h, uint32_t cause, uint64_t *count);
@@ -605,11 +609,16 @@ struct yelunnavi_taken {
     uint32_t found; /* 0: there was nothing to take. 1: a message */
     uint64_t time;  /* when it came */
     size_t len;     /* how many octets it has */
+    uint64_t lost;  /* how many messages overflowed since the one before it was put */
 };
 
 /* Takes the oldest message: it stands whole at the beginning of `out`, and what follows is as it was. NOT_OPEN; TOO_SHORT if
-   `len` is less than the port's longest message, and then nothing is taken. */
+   `len` is less than the port's longest message, and then nothing is taken. What overflowed is told with the next message
+   that was put, so of the last losses nothing is told before one comes. */
 uint32_t yelunnavi_queue_take(struct yelunnavi_queue *h, uint8_t *out, size_t len, struct yelunnavi_taken *reply);
+
+/* Tells how many messages wait: put and not taken. NOT_OPEN. */
+uint32_t yelunnavi_queue_waiting(struct yelunnavi_queue *h, size_t *waiting);
 
 /* Tells the longest message of the port. NOT_OPEN. */
 uint32_t yelunnavi_queue_longest(struct yelunnavi_queue *h, size_t *max);

@@ -90,13 +90,13 @@ static inline void yelunnavi_add_port(struct yelunnavi_memory *memory, const str
         if (port->readers != 0U) {
             count = port->readers;
         }
-        memory->stays += 280U + (count * (376U + (3U * octets)));
-        memory->asked += 328U + (count * (632U + (3U * octets)));
+        memory->stays += 272U + (count * (376U + (3U * octets)));
+        memory->asked += 320U + (count * (632U + (3U * octets)));
         memory->requests += 2U + (count * 4U) + ((octets == 0U) ? 0U : (count * 3U)) + ((count == 1U) ? 0U : 1U);
     } else {
         const size_t depth = port->limit;
-        memory->stays += 400U + (depth * (32U + octets));
-        memory->asked += 448U + (depth * (64U + octets));
+        memory->stays += 400U + (depth * (40U + octets));
+        memory->asked += 448U + (depth * (80U + octets));
         memory->requests += 4U + ((octets == 0U) ? 0U : depth);
     }
 }

@@ -113,7 +113,7 @@ impl Key {
 }
 
 /// The number of this interface: raised with each change of a struct, a call or a number.
-pub const ABI: u32 = 7;
+pub const ABI: u32 = 8;
 pub const MOST_LINKS: usize = 64;
 /// Of a link.
 pub const MOST_PORTS: usize = 32;
@@ -147,7 +147,7 @@ replies! {
     /// What a read or a hold found.
     Read { found: u32, valid: u32, number: u64, time: u64, len: usize }
     /// What was taken of a queue.
-    Taken { found: u32, time: u64, len: usize }
+    Taken { found: u32, time: u64, len: usize, lost: u64 }
     /// The settings of a link, its times in microseconds. `redundancy` is 1 if redundancy management is on, else 0.
     Link { vl: u32, redundancy: u32, skew_max: u64, reassembly: u64, window: u32, ports: usize }
     /// How a link is: whether a frame came on each network, 1 or 0, when the latest did, in microseconds, and how many
@@ -249,6 +249,7 @@ calls! {
     yelunnavi_pass_receive(h: *mut Handle, now: u64, frame: *const u8, len: usize, reply: *mut Verdict) -> Code;
     yelunnavi_pass_count(h: *mut Handle, link: usize, kind: VerdictKind, count: *mut u64) -> Code;
     yelunnavi_pass_health(h: *mut Handle, link: usize, reply: *mut LinkHealth) -> Code;
+    yelunnavi_pass_fill(h: *mut Handle, link: usize, port: usize, reply: *mut Fill) -> Code;
     yelunnavi_pass_filtered(h: *mut Handle, cause: FilterCause, count: *mut u64) -> Code;
     yelunnavi_pass_close(h: *mut Handle);
     yelunnavi_reader_read(h: *mut Handle, now: u64, out: *mut u8, len: usize, reply: *mut Read) -> Code;
@@ -259,6 +260,7 @@ calls! {
     yelunnavi_reader_limits(h: *mut Handle, reply: *mut Limits) -> Code;
     yelunnavi_reader_close(h: *mut Handle);
     yelunnavi_queue_take(h: *mut Handle, out: *mut u8, len: usize, reply: *mut Taken) -> Code;
+    yelunnavi_queue_waiting(h: *mut Handle, waiting: *mut usize) -> Code;
     yelunnavi_queue_longest(h: *mut Handle, max: *mut usize) -> Code;
     yelunnavi_queue_close(h: *mut Handle);
 }
@@ -465,6 +467,11 @@ impl Pass<'_> {
         told(|reply| unsafe { yelunnavi_pass_health(&mut self.handle, link, reply) })
     }
 
+    /// How full the queue of a port is. NONE_LEFT if it samples. BUSY: the thread of the other network has its link just now.
+    pub fn fill(&mut self, link: usize, port: usize) -> Result<Fill, Code> {
+        told(|reply| unsafe { yelunnavi_pass_fill(&mut self.handle, link, port, reply) })
+    }
+
     pub fn filtered(&mut self, cause: FilterCause) -> Result<u64, Code> {
         told(|count| unsafe { yelunnavi_pass_filtered(&mut self.handle, cause, count) })
     }
@@ -502,9 +509,14 @@ impl Reader<'_> {
 }
 
 impl Queue<'_> {
-    /// Takes the oldest message; `out` has to be as long as the port's longest one.
+    /// Takes the oldest message, and tells how many overflowed right before it; `out` has to be as long as the port's longest one.
     pub fn take(&mut self, out: &mut [u8]) -> Result<Taken, Code> {
         told(|reply| unsafe { yelunnavi_queue_take(&mut self.handle, out.as_mut_ptr(), out.len(), reply) })
+    }
+
+    /// How many messages wait.
+    pub fn waiting(&mut self) -> Result<usize, Code> {
+        told(|waiting| unsafe { yelunnavi_queue_waiting(&mut self.handle, waiting) })
     }
 
     pub fn longest(&mut self) -> Result<usize, Code> {

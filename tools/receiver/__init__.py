@@ -7,7 +7,7 @@
         reply.words                                     # "vl 17 0 sampled pos 1", as the player writes it
         reply.kind, reply.vl, reply.place, reply.port   # "sampled", 17, 0, "pos"
         receiver.reader("pos").read(1500)               # Read(number=1, time=1000, valid=True, octets=b"..")
-        receiver.taker("nav").take()                    # Taken(time, octets), or None if nothing waits
+        receiver.taker("nav").take()                    # Taken(time, octets, lost), or None if nothing waits
         receiver.counts()                               # {(17, "A"): {"sampled": 1, ..}, .., (None, "A"): {..}}
 
 Nothing is decided here: numbers become words, and lengths octets. `ConfigFault` says what is wrong with a configuration and

@@ -11,7 +11,7 @@ NETWORKS = "AB"
 made = tuple.__new__  # a named tuple by one call
 # The fields of struct yelunnavi_verdict, yelunnavi_taken and yelunnavi_read, which are read at each call, laid as in C: I is a
 # uint32_t, Q a uint64_t, N a size_t. checks/interface compares them.
-VERDICT, TAKEN, READ = (struct.Struct(fields).unpack_from for fields in ("IINIIQQ", "IQN", "IIQQN"))
+VERDICT, TAKEN, READ = (struct.Struct(fields).unpack_from for fields in ("IINIIQQ", "IQNQ", "IIQQN"))
 ABOUT = struct.calcsize("IINII")  # octets of a verdict, up to its place
 
 
@@ -98,9 +98,10 @@ class Read(NamedTuple):
 
 
 class Taken(NamedTuple):
-    """A message that was taken."""
+    """A message that was taken, and how many overflowed right before it."""
     time: int
     octets: bytes
+    lost: int = 0
 
 
 class Slot:
@@ -303,9 +304,14 @@ class Taker(End):
         super().__init__(receiver, name, "taken")
         self.take_call = self.found("take")
 
+    @property
+    def waiting(self):
+        """How many messages wait."""
+        return self.answer("size_t", "waiting")[0]
+
     def take(self):
         """The oldest message that waits; None if there is none."""
         if code := self.take_call(self.handle, self.out, self.size, self.told):
             raise Refused(code)
-        found, time, length = TAKEN(self.told_octets)
-        return Taken(time, self.octets[:length]) if found else None
+        found, time, length, lost = TAKEN(self.told_octets)
+        return Taken(time, self.octets[:length], lost) if found else None

@@ -3,8 +3,9 @@ from verdict_words import KINDS
 
 OF_ENDS = {"read": "reader_read", "hold": "reader_hold", "octets": "reader_octets", "copy": "reader_copy",
            "release": "reader_release", "limits": "reader_limits", "take": "queue_take", "longest": "queue_longest",
+           "waiting": "queue_waiting",
            "close_reader": "reader_close", "close_queue": "queue_close"}
-OF_PASSES = ("receive", "count", "filtered")
+OF_PASSES = ("receive", "count", "filtered", "fill")
 FILTERED = "filtered"
 
 

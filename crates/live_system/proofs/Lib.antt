@@ -17,6 +17,7 @@ pub mod Knowing
 pub mod Telling
 pub mod Turns
 pub mod Entries
+pub mod Fills
 pub mod Checks
 pub mod InTurn
 pub mod Parts

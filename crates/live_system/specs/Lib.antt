@@ -2,6 +2,7 @@ pub mod Burst
 pub mod Calls
 pub mod Checked
 pub mod Chunk
+pub mod Fill
 pub mod Groups
 pub mod Health
 pub mod Meetings

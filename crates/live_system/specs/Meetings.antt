@@ -1,11 +1,11 @@
 -- Ends of ports meet them, under the lock of their link.
-use Rattle.std.specs.Prelude.{◌≡◌, ◌≢◌, ◌≤◌, ◌+◌, ℕ, List, [], length, slice_get, Some}
+use Rattle.std.specs.Prelude.{◌≡◌, ◌≢◌, ◌≤◌, ◌+◌, ℕ, List, [], length, map, slice_get, Some}
 use Rattle.es_base.specs.declared.place.PortNo.{PortNo}
 use Rattle.mailbox_port.specs.Reads.{PortReader, told}
-use Rattle.es_base.specs.Queue.{BeginsWith}
-use Rattle.message_ring.specs.Queue.{Known}
+use Rattle.link_core.specs.Counted.{shown}
+use Rattle.message_ring.specs.Queue.{BeginsWith, Known, losses_in, messages_in}
 use Rattle.receiver.specs.declared.port.PortOutlet.{PortOutlet}
-use Rattle.receiver.specs.Link.{deliveries_of}
+use Rattle.receiver.specs.Link.{deliveries_of, losses_of}
 use Rattle.receiver.specs.Meetings.{HasOutletAt}
 use Rattle.receiver.specs.Outlet.{GivesAt}
 use Rattle.receiver.specs.Port.{GivesPort, HasMetPort, HasMetQueue}
@@ -30,8 +30,8 @@ pub record MeetsReader (port : PortNo) (before after : PortReader) (old new : Li
   pub met : HasOutletAt new port (λ outlet. HasMetPort outlet after)
   pub known : after.mailbox.reader.known ≡ deliveries_of old port
 
--- The end that takes of this port's queue met it: it knows all messages that were delivered to the port, and the queue
--- all that it took. Each outlet is the same still and was given nothing, and nothing else changed.
+-- The end that takes of this port's queue met it: it knows all messages that were delivered to the port, and how many
+-- overflowed right before each, and the queue all that it took. Each outlet is the same still and was given nothing, and nothing else changed.
 -- rule: PORT-18
 pub record MeetsTaker (port : PortNo) (before after : Known) (old new : LiveLink) : Type 0 where
   pub core : new.core ≡ old.core
@@ -43,4 +43,5 @@ pub record MeetsTaker (port : PortNo) (before after : Known) (old new : LiveLink
   pub begins : BeginsWith after.put after.taken
   pub held : length after.put ≤ length after.taken + before.depth
   pub met : HasOutletAt new port (λ outlet. HasMetQueue outlet after)
-  pub put : after.put ≡ deliveries_of old port
+  pub put : messages_in after.put ≡ deliveries_of old port
+  pub losses : losses_in after.put ≡ map shown (losses_of old port)

@@ -37,7 +37,7 @@ use Rattle.live_system.specs.System.{AreOfNewLinks, IsPassOf, Replies, keeping_n
 pub data Step : Type 0 where
   -- a frame of these octets came at this time, and this was replied
   received : ℕ → List ℕ → Reply → Step
-  -- an end of a port met it, which changes no pass
+  -- an end of a port met it, or its link or its queue was asked: which changes no pass
   met : Step
 
 -- one call of a network's pass, as its contract has it

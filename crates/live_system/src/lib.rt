@@ -20,6 +20,7 @@ mod burst;
 mod chunk;
 mod crossing;
 mod cut;
+mod fill;
 mod group;
 mod health;
 pub mod laws;
@@ -39,7 +40,8 @@ pub use net_pass::NetPass;
 pub use network_calls::{Call, PassCounts};
 pub use opened::Opened;
 pub use receiver::{
-    LinkEnds, MailboxReader, PartitionEnd, PortOutlet, PortedLink, ReaderCount, Reply, RingTaker,
+    Fill, LinkEnds, MailboxReader, PartitionEnd, PortOutlet, PortedLink, ReaderCount, Reply,
+    RingTaker,
 };
 pub use settled::Settled;
 pub use system::LiveSystem;

@@ -23,6 +23,7 @@ ghost use Rattle.link_core.specs.declared.net_checks.NetChecks.{NetChecks as Che
 ghost use Rattle.live_system.specs.Burst.{StandTogetherAt, most_in_row};
 ghost use Rattle.live_system.specs.Checked.{AreChecked, AreStanding, TestsEach, latest_of};
 ghost use Rattle.live_system.specs.Calls.{LiveLink, as_opened};
+ghost use Rattle.live_system.specs.Fill.{TellsOfQueue};
 ghost use Rattle.live_system.specs.Groups.{AreLetGo, AreNewCounts, HasLinkAt, IsGroup, KnowsAt, calls_shown, count_shown, ids_of, is_any, known_links, no_calls_on_any, under};
 ghost use Rattle.live_system.specs.Health.{TellsOfLink};
 ghost use Rattle.live_system.specs.Meetings.{MeetsReader, MeetsTaker, VisitsAt};
@@ -31,6 +32,7 @@ ghost use Rattle.live_system.specs.Rows.{AreForLinks, CallsEach, IsApart, KnowsF
 ghost use Rattle.live_system.specs.System.{CallsAt, KnowLinks, keeping_no_frame};
 
 use crate::cut::LinkPlace;
+use crate::fill::fill_at;
 use crate::group::Group;
 use crate::health::{LinkHealth, health_at};
 use crate::meetings::{meet_reader, meet_taker};
@@ -41,7 +43,7 @@ use link_core::NetChecks;
 use link_lock::{Lock, Opened, PassOf};
 use network_calls::{LinkCounts, counts_on};
 use receiver::{
-    LinkEnds, MailboxReader, PartitionEnd, PortOutlet, PortedLink, Readers, Reply, RingTaker,
+    Fill, LinkEnds, MailboxReader, PartitionEnd, PortOutlet, PortedLink, Readers, Reply, RingTaker,
 };
 use std::alloc::Global;
 use std::marker::Model;
@@ -285,6 +287,28 @@ impl GroupPass {
             { health_at(group, index) },
         )?;
         Some(health)
+    }
+
+    /// Fill level of the queue of a port of the link at this index of the group, by a look in this call, if nobody has
+    /// the group at this moment. `None` if the other network has a link of it. Waits for nobody.
+    pub(crate) fn try_fill(
+        &mut self,
+        lock: &Lock<Group>,
+        index: usize,
+        port: PortNo,
+    ) -> Option<Option<Fill>>
+        requires { KnowsAt self.old lock.now index is_any }
+        ensures pass { self.new ≡ self.old }
+        ensures fill { IfSome result (λ fill. VisitsAt self.old index (λ found left. TellsOfQueue port fill found left)) }
+    {
+        let fill = lock.try_visit(
+            &mut self.pass,
+            move |group: &mut Group| -> Option<Fill>
+                requires { HasLinkAt group.old index is_any }
+                ensures { DoesAt (λ found left. TellsOfQueue port result found left) group.old index group.new }
+            { fill_at(group, index, port) },
+        )?;
+        Some(fill)
     }
 
     /// Ends the lock of a group, whose passes these are, and adds its links and what both passes counted on them, each

@@ -3,10 +3,10 @@ use Rattle.std.proofs.Common.{◌≡◌, ◌≢◌, ◌∙◌, ap, sym, refl, �
 use Rattle.std.specs.List.{slice_get}
 use Rattle.std.proofs.lemmas.List.{append_assoc, append-nil, length-append, nil_from_length}
 use Rattle.std.proofs.lemmas.Bool.{cases_lt}
-use Rattle.std.proofs.Math.Nat.{add-mod_right, mod-add-mod, mod-eq_of_lt}
+use Rattle.std.proofs.Math.Nat.{add-mod_right, mod-add-mod, mod-eq_of_lt, mod-lt}
 use Rattle.atomic_table.proofs.Lists.{one_turn}
-use Rattle.es_base.specs.declared.event.Message.{Message}
-use Rattle.es_base.specs.Queue.{BeginsWith}
+use Rattle.message_ring.specs.declared.rule.QueuedMessage.{QueuedMessage as Message}
+use Rattle.message_ring.specs.Queue.{BeginsWith}
 use Rattle.message_ring.specs.Rule.{slot_for}
 
 -- ---- lists that begin others
@@ -62,11 +62,21 @@ push_other (z ∷ xs) x (suc n) y ne is = push_other xs x n y (λ e. ne (ap suc 
 -- ---- slots
 
 -- two numbers less than the depth apart, in one slot, are one number
-pub one_slot : (from depth a b : ℕ) → from ≤ a → a < from + depth → from ≤ b → b < from + depth → slot_for depth a ≡ slot_for depth b → a ≡ b
-one_slot from depth a b low high low' high' same =
-    ⊎_elim (λ (less : a < b). one_turn a b depth (omega (arith, less)) (omega (arith, low, high')) same)
-    (λ (more : b ≤ a). sym (one_turn b a depth more (omega (arith, low', high)) (sym same)))
+pub one_slot : (start from depth a b : ℕ) → from ≤ a → a < from + depth → from ≤ b → b < from + depth → slot_for depth (start + a) ≡ slot_for depth (start + b) → a ≡ b
+one_slot start from depth a b low high low' high' same =
+    ⊎_elim (λ (less : a < b). let e = one_turn (start + a) (start + b) depth (omega (arith, less)) (omega (arith, low, high')) same in omega (arith, e))
+    (λ (more : b ≤ a). let e = one_turn (start + b) (start + a) depth (omega (arith, more)) (omega (arith, low', high)) (sym same) in omega (arith, e))
     (cases_lt a b)
+
+-- wherever number 0 is, a number not below `low` has the slot that another had, which is less than the depth above `low`
+pub around : (depth start start' low number : ℕ) → start < depth → 0 < depth → low ≤ number
+    → (other : ℕ) × (low ≤ other) × (other < low + depth) × (slot_for depth (start + other) ≡ slot_for depth (start' + number))
+around depth start start' low number within some above =
+    let on = start' + (number - low) + (depth - start) in
+    let less : slot_for depth on < depth = mod-lt on some in
+    let first : start + (low + slot_for depth on) ≡ slot_for depth on + (start + low) = omega arith in
+    let whole : on + (start + low) ≡ start' + number + depth = omega (arith, within, above) in
+    (low + slot_for depth on, omega arith, omega (arith, less), ap (slot_for depth) first ∙ mod-add-mod on depth (start + low) ∙ ap (slot_for depth) whole ∙ add-mod_right (start' + number) depth)
 
 pub slot_next : (depth number many : ℕ) → slot_for depth number + many < depth → slot_for depth (number + many) ≡ slot_for depth number + many
 slot_next depth number many less = sym (mod-add-mod number depth many) ∙ mod-eq_of_lt less

@@ -1,5 +1,5 @@
 -- The opening of a queue, and how seats are parted and joined.
-use Rattle.std.proofs.Common.{◌≡◌, ◌≢◌, ◌≤◌, ℕ, zero, suc, ◌<◌, ◌⊎◌, inl, inr, ⊎_elim, List, [], ◌∷◌, ◌++◌, length, map, set, sym, refl, ap, ◌∙◌, subst, arith, length-set}
+use Rattle.std.proofs.Common.{◌≡◌, ◌≢◌, ◌≤◌, ◌+◌, ℕ, zero, suc, ◌<◌, ◌⊎◌, inl, inr, ⊎_elim, List, [], ◌∷◌, ◌++◌, length, map, set, sym, refl, ap, ◌∙◌, subst, arith, length-set}
 use Rattle.std.proofs.lemmas.List.{length-map}
 use Rattle.std.proofs.Math.Nat.{mod-lt}
 use mathlib.Core.Option.{some, some-injective, some-ne-none}
@@ -12,7 +12,7 @@ use Rattle.message_ring.specs.declared.slot.Slot.{Slot}
 use Rattle.message_ring.specs.declared.rule.QueueView.{QueueView}
 use Rattle.message_ring.specs.declared.rule.SeatView.{SeatView}
 use Rattle.message_ring.specs.declared.rule.SeatView.TheVariants.{Puts, Takes, Meets, Spent}
-use Rattle.message_ring.specs.Rule.{IsRoomy, KnowsItsQueue, KeptQueue, slot_for, view_at_first}
+use Rattle.message_ring.specs.Rule.{IsRoomy, KnowsItsQueue, KeptQueue, slot_of_number, view_at_first}
 use Rattle.message_ring.specs.Plays.{views_met, taker_parted, putter_left}
 use Rattle.message_ring.specs.Ends.{AreRoomy}
 use Rattle.message_ring.proofs.Lists.{begins_same}
@@ -28,7 +28,7 @@ roomy_at max (x ∷ xs) all zero less = (x, refl, all 0 x (omega arith))
 roomy_at max (x ∷ xs) all (suc n) less = roomy_at max xs (λ k d low. all (suc k) d (omega (arith, low))) n (omega (arith, less))
 
 pub opens_at : (depth max : ℕ) (slots : List Slot) → 0 < depth → depth ≤ deepest_queue → AreRoomy depth max slots
-    → KeptQueue (opening (0 ∷ 0 ∷ []) slots (Meets (view_at_first depth max) (view_at_first depth max)))
+    → KeptQueue (opening (0 ∷ 0 ∷ 0 ∷ []) slots (Meets (view_at_first depth max) (view_at_first depth max)))
 opens_at depth max slots some_slot most are = let first = view_at_first depth max in record {
   putter = first;
   taker = first;
@@ -38,19 +38,20 @@ opens_at depth max slots some_slot most are = let first = view_at_first depth ma
     words_are = refl;
     some_slot = some_slot;
     most = most;
+    begins = some_slot;
     count = length-map slots some ∙ are.0;
     size = (refl, refl);
     few = omega arith;
     put = begins_same [];
     taken = begins_same [];
     known = begins_same [];
+    start = λ _ _. refl;
     putting = λ h. absurd (cc);
-    swapping = λ h. absurd (cc);
     taking = λ h. absurd (cc);
-    places = λ number from to not_put not_swapped not_taken.
-        let less : slot_for depth number < depth = mod-lt number some_slot in
+    places = λ number from to not_put not_taken.
+        let less : slot_of_number first number < depth = mod-lt (0 + number) some_slot in
         let count = are.0 in
-        let place = roomy_at max slots are.1 (slot_for depth number) (omega (arith, less, count)) in
+        let place = roomy_at max slots are.1 (slot_of_number first number) (omega (arith, less, count)) in
         record { slot = place.0; home = place.1; room = place.2; message = λ message at. absurd (cc) };
   };
   seats = λ j u e. let t = first_only (Meets first first) u j e in

@@ -2,17 +2,15 @@
 use Rattle.std.proofs.Common.{◌≡◌, ◌∙◌, ap, sym, refl, subst, arith, ◌≤◌, ℕ, List, [], ◌∷◌, length, get_or, Some}
 use Rattle.std.specs.List.{slice_get}
 use Rattle.std.specs.Vec.{vec_capacity}
-use Rattle.std.specs.declared.alloc.Global.{Global}
-use Rattle.std.specs.declared.vec.Vec.{Vec}
-use Rattle.atomic_table.specs.Table.{rest, turned}
-use Rattle.es_base.specs.declared.event.Message.{Message}
+use Rattle.atomic_table.specs.Table.{rest}
+use Rattle.message_ring.specs.declared.rule.QueuedMessage.{QueuedMessage as Message}
 use Rattle.message_ring.specs.declared.slot.Slot.{Slot}
 use Rattle.message_ring.specs.declared.rule.SeatView.{SeatView}
 use Rattle.message_ring.specs.declared.rule.SeatView.TheVariants.{Puts, Takes}
-use Rattle.message_ring.specs.Queue.{message}
-use Rattle.message_ring.specs.Rule.{IsRoomy, in_slot, slot_for}
+use Rattle.message_ring.specs.Queue.{queued}
+use Rattle.message_ring.specs.Rule.{IsRoomy, in_slot, slot_of_number}
 use Rattle.message_ring.specs.Plays.{QueueSeat, putter_in, putter_puts, puts_one, taker_in, taker_takes, takes_one, with_slot_taken}
-use Rattle.message_ring.specs.Ends.{AreSwapped, MayPutNext, MayTakeNext}
+use Rattle.message_ring.specs.Ends.{MayPutNext, MayTakeNext}
 use Rattle.message_ring.proofs.Turns.{May, put_goes_at, take_goes_at}
 
 -- the slot is there to be written or read
@@ -27,21 +25,6 @@ first_is xs later n number a slot is is' = ap (λ (l : List (ℕ × Slot)). (get
 pub seat_with : (me : QueueSeat) (view : SeatView) (n number : ℕ) (slot written : Slot) → me ≡ (view, (number, slot) ∷ []) → n ≡ number → ◌≡◌ {A = QueueSeat} (me.0, (n, written) ∷ rest me.1) (view, (number, written) ∷ [])
 seat_with me view n number slot written is same = λ i. ((is i).0, (same i, written) ∷ rest (is i).1)
 
--- the octets of the first slot changed places with these
-pub swapped : (me me' : QueueSeat) (view : SeatView) (n number : ℕ) (slot : Slot) (later : List (ℕ × Slot)) (before after : Vec ℕ Global) → me ≡ (view, (number, slot) ∷ later) → n ≡ number
-    → (w : AreSwapped me me' n before after) → (me' ≡ (view, (number, w.slot') ∷ later)) × (after ≡ slot.octets)
-swapped me me' view n number slot later before after is same w = (
-  w.seat' ∙ (λ i. ((is i).0, (same i, w.slot') ∷ rest (is i).1)),
-  w.out ∙ ap (λ (s : Slot). s.octets) (first_is me.1 later n number w.slot slot w.seat (ap (λ (m : QueueSeat). m.1) is)),
-)
-
--- and then the other slot came to the front
-pub swapped_turned : (me me' me2 : QueueSeat) (view : SeatView) (n number number2 : ℕ) (slot slot2 : Slot) (before after : Vec ℕ Global) → me ≡ (view, (number, slot) ∷ (number2, slot2) ∷ []) → n ≡ number
-    → (w : AreSwapped me me' n before after) → me2 ≡ (me'.0, turned me'.1) → (me2 ≡ (view, (number2, slot2) ∷ (number, w.slot') ∷ [])) × (after ≡ slot.octets)
-swapped_turned me me' me2 view n number number2 slot slot2 before after is same w is2 =
-    let to = swapped me me' view n number slot ((number2, slot2) ∷ []) before after is same w in
-    (is2 ∙ ap (λ (m : QueueSeat). (m.0, turned m.1)) to.0, to.1)
-
 -- the slot has room still with the message that was written into it
 pub roomy_with : (max : ℕ) (slot before written : Slot) (octets : List ℕ) → IsRoomy max slot → before ≡ slot → vec_capacity before.octets ≤ vec_capacity written.octets
     → written.octets.items ≡ octets → length octets ≤ max → IsRoomy max written
@@ -50,23 +33,23 @@ roomy_with max slot before written octets roomy same more are short =
     (omega (arith, enough, more), subst (λ (l : List ℕ). length l ≤ max) (sym are) short)
 
 pub put_may_go : (slots id n count len : ℕ) (me me1 : QueueSeat) (slot written : Slot) → MayPutNext me n count len
-    → me1 ≡ (Puts (with_slot_taken (putter_in me.0)), (slot_for (putter_in me.0).depth (length (putter_in me.0).put), slot) ∷ []) → IsRoomy (putter_in me.0).max written
+    → me1 ≡ (Puts (with_slot_taken (putter_in me.0)), (slot_of_number (putter_in me.0) (length (putter_in me.0).put), slot) ∷ []) → IsRoomy (putter_in me.0).max written
     → May slots id (me1.0, (n, written) ∷ rest me1.1) 0 (λ _. count) (λ found. putter_puts (me1.0, (n, written) ∷ rest me1.1) count)
 put_may_go slots id n count len me me1 slot written may is roomy =
-    put_goes_at slots id _ (with_slot_taken (putter_in me.0)) written count (seat_with me1 _ n _ slot written is may.next_is) may.count_is roomy refl may.outside.1
+    put_goes_at slots id _ (with_slot_taken (putter_in me.0)) written count (seat_with me1 _ n _ slot written is may.next_is) may.count_is roomy refl
 
-pub put_done : (n count len : ℕ) (me me1 me2 : QueueSeat) (slot written : Slot) (time : ℕ) (octets : List ℕ) → MayPutNext me n count len
-    → me1 ≡ (Puts (with_slot_taken (putter_in me.0)), (slot_for (putter_in me.0).depth (length (putter_in me.0).put), slot) ∷ [])
-    → putter_puts (me1.0, (n, written) ∷ rest me1.1) count me2 → written.time ≡ time → written.octets.items ≡ octets
-    → me2 ≡ (Puts (puts_one (putter_in me.0) (message time octets)), [])
-put_done n count len me me1 me2 slot written time octets may is told time_is octets_are =
+pub put_done : (n count len : ℕ) (me me1 me2 : QueueSeat) (slot written : Slot) (time : ℕ) (octets : List ℕ) (lost : ℕ) → MayPutNext me n count len
+    → me1 ≡ (Puts (with_slot_taken (putter_in me.0)), (slot_of_number (putter_in me.0) (length (putter_in me.0).put), slot) ∷ [])
+    → putter_puts (me1.0, (n, written) ∷ rest me1.1) count me2 → written.time ≡ time → written.octets.items ≡ octets → written.lost ≡ lost
+    → me2 ≡ (Puts (puts_one (putter_in me.0) (queued time octets lost)), [])
+put_done n count len me me1 me2 slot written time octets lost may is told time_is octets_are lost_is =
     let seat = seat_with me1 _ n _ slot written is may.next_is in
     told _ written (ap (λ (m : QueueSeat). m.1) seat)
     ∙ ap (λ (m : QueueSeat). (Puts (puts_one (putter_in m.0) (in_slot written)), [])) seat
-    ∙ (λ i. (Puts (puts_one (putter_in me.0) (message (time_is i) (octets_are i))), []))
+    ∙ (λ i. (Puts (puts_one (putter_in me.0) (queued (time_is i) (octets_are i) (lost_is i))), []))
 
 pub take_may_go : (slots id n count room : ℕ) (me me1 : QueueSeat) (slot read : Slot) → MayTakeNext me n count room
-    → me1 ≡ (Takes (with_slot_taken (taker_in me.0)), (slot_for (taker_in me.0).depth (length (taker_in me.0).taken), slot) ∷ []) → IsRoomy (taker_in me.0).max slot
+    → me1 ≡ (Takes (with_slot_taken (taker_in me.0)), (slot_of_number (taker_in me.0) (length (taker_in me.0).taken), slot) ∷ []) → IsRoomy (taker_in me.0).max slot
     → slice_get (taker_in me.0).put (length (taker_in me.0).taken) ≡ Some (in_slot slot) → read ≡ slot
     → May slots id (me1.0, (n, read) ∷ rest me1.1) 1 (λ _. count) (λ found. taker_takes (me1.0, (n, read) ∷ rest me1.1) count)
 take_may_go slots id n count room me me1 slot read may is roomy next same =
@@ -74,7 +57,7 @@ take_may_go slots id n count room me me1 slot read may is roomy next same =
     (subst (IsRoomy (taker_in me.0).max) (sym same) roomy) refl (next ∙ ap (λ (s : Slot). Some (in_slot s)) (sym same))
 
 pub take_done : (n count room : ℕ) (me me1 me2 : QueueSeat) (slot read : Slot) (m : Message) → MayTakeNext me n count room
-    → me1 ≡ (Takes (with_slot_taken (taker_in me.0)), (slot_for (taker_in me.0).depth (length (taker_in me.0).taken), slot) ∷ [])
+    → me1 ≡ (Takes (with_slot_taken (taker_in me.0)), (slot_of_number (taker_in me.0) (length (taker_in me.0).taken), slot) ∷ [])
     → taker_takes (me1.0, (n, read) ∷ rest me1.1) count me2 → in_slot read ≡ m → me2 ≡ (Takes (takes_one (taker_in me.0) m), [])
 take_done n count room me me1 me2 slot read m may is told message_is =
     let seat = seat_with me1 _ n _ slot read is may.next_is in

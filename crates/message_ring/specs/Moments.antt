@@ -3,7 +3,7 @@ use Rattle.std.specs.Prelude.{◌≡◌, ℕ, List, slice_index}
 use mathlib.Core.Option.{some}
 use lib.ListN.{get_elem?}
 use Rattle.atomic_table.specs.Table as table
-use Rattle.es_base.specs.declared.event.Message.{Message}
+use Rattle.message_ring.specs.declared.rule.QueuedMessage.{QueuedMessage}
 use Rattle.message_ring.specs.declared.slot.Slot.{Slot}
 use Rattle.message_ring.specs.declared.rule.QueueView.{QueueView}
 use Rattle.message_ring.specs.declared.rule.SeatView.{SeatView}
@@ -20,14 +20,14 @@ abbrev pub SeatHas : QueueState → ℕ → SeatView → Type 0
 SeatHas s seat view = get_elem? s.views seat ≡ some view
 
 -- the putter has put these messages
-pub record HavePut (s : QueueState) (messages : List Message) : Type 0 where
+pub record HavePut (s : QueueState) (messages : List QueuedMessage) : Type 0 where
   pub seat : ℕ
   pub putter : QueueView
   pub knows : SeatHas s seat (Puts putter)
   pub all : messages ≡ putter.put
 
 -- the taker has taken these messages
-pub record HaveTaken (s : QueueState) (messages : List Message) : Type 0 where
+pub record HaveTaken (s : QueueState) (messages : List QueuedMessage) : Type 0 where
   pub seat : ℕ
   pub taker : QueueView
   pub knows : SeatHas s seat (Takes taker)

@@ -1,7 +1,7 @@
 //! What holds of a running queue in every state that keeps the rule of its slots, and so at every moment, whatever its
 //! two threads do. Each law is a function without work: its contract is the statement.
 ghost use Rattle.std.specs.Prelude.{◌≡◌, List};
-ghost use Rattle.es_base.specs.declared.event.Message.{Message};
+ghost use Rattle.message_ring.specs.declared.rule.QueuedMessage.{QueuedMessage};
 ghost use Rattle.message_ring.specs.Moments.{HavePut, HaveTaken, PutterLooked, QueueState, TakerLooked};
 ghost use Rattle.message_ring.specs.Plays.{QueueSeat, putter_in, taker_in};
 ghost use Rattle.message_ring.specs.Rule.{KeptQueue};
@@ -10,7 +10,7 @@ ghost use Rattle.message_ring.specs.Rule.{KeptQueue};
 /// only if it was full then.
 // rule: PORT-17, EMB-7
 pub fn a_look_tells_all_that_is_taken()
-    ensures { (s : QueueState) (taken : List Message) (before after : QueueSeat) →
+    ensures { (s : QueueState) (taken : List QueuedMessage) (before after : QueueSeat) →
         KeptQueue s → HaveTaken s taken → PutterLooked s before after → (putter_in after.0).taken ≡ taken }
 {}
 
@@ -18,6 +18,6 @@ pub fn a_look_tells_all_that_is_taken()
 /// it took all that were put then.
 // rule: PORT-11, EMB-10
 pub fn a_look_tells_all_that_is_put()
-    ensures { (s : QueueState) (put : List Message) (before after : QueueSeat) →
+    ensures { (s : QueueState) (put : List QueuedMessage) (before after : QueueSeat) →
         KeptQueue s → HavePut s put → TakerLooked s before after → (taker_in after.0).put ≡ put }
 {}

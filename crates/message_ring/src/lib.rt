@@ -6,16 +6,23 @@
 //! let (mut putter, mut taker) = open_ring(rt.alloc(), 1, 3)?;
 //! ..
 //! assert!(rt; putter.has_room());
-//! putter.put(5, b"abc");
+//! putter.put(5, b"abc", 0);
 //! assert!(rt; !putter.has_room());
 //! meet(&mut putter, &mut taker);
-//! assert_eq!(rt; taker.take(&mut out), Some(Taken { time: 5, len: 3 }));
+//! assert_eq!(rt;
+//!     taker.take(&mut out),
+//!     Some(Taken {
+//!         time: 5,
+//!         len: 3,
+//!         lost: 0
+//!     })
+//! );
 //! assert_eq!(rt; &out[..], &b"abc"[..]);
 //! ```
 //!
-//! A message stands in a slot of its own from its put to its taking. The two words between the ends count what was put
-//! and what was taken. Of the free slots those octets are used first that came back last, so a deep queue that is emptied
-//! in time goes through little memory. [`laws`] says what follows at every moment.
+//! A message stands in a slot of its own from its put to its taking. Two words between the ends count what was put and
+//! what was taken. A queue that the putter finds empty begins again at its first slot, which a third word tells: so a deep
+//! queue that is emptied in time goes through little memory. [`laws`] says what follows at every moment.
 #![tactic(auto)]
 
 pub mod laws;
@@ -25,8 +32,7 @@ mod steps;
 
 ghost use Rattle.std.specs.Prelude.{◌≡◌, ◌+◌, ◌<◌, ◌≤◌, ℕ, length, take, drop, slice_get, Some, IfOk, IfSome, IfNone, IsSome, IsTrue, IsFalse};
 ghost use Rattle.es_base.specs.Limits.{deepest_queue, longest_queued};
-ghost use Rattle.es_base.specs.Queue.{BeginsWith};
-ghost use Rattle.message_ring.specs.Queue.{IsFullByLook, LooksForRoom, SeemsEmpty, SeemsFull, after_look, message, opened_ring, ring_with_put, ring_with_taken};
+ghost use Rattle.message_ring.specs.Queue.{BeginsWith, IsFullByLook, LooksForRoom, SeemsEmpty, SeemsFull, after_look, opened_ring, queued, ring_with_put, ring_with_taken};
 ghost use Rattle.message_ring.specs.Ends.{AreRoomy};
 ghost use Rattle.message_ring.specs.Rule.{slot_for};
 
@@ -37,11 +43,15 @@ use std::alloc::{AllocError, Global};
 use std::marker::Model;
 use std::sync::Arc;
 
-/// A taken message: its arrival time, and its length in `out`.
+/// A taken message.
 #[derive(Debug, Clone, Copy, PartialEq, Eq)]
 pub struct Taken {
+    /// Arrival time, in microseconds.
     pub time: u64,
+    /// Length in `out`, in octets.
     pub len: usize,
+    /// Number of messages lost right before it, as its putter said.
+    pub lost: u64,
 }
 
 /// The end that puts messages. Contracts see what it knows: the whole put list, and that part of the
@@ -58,11 +68,8 @@ pub struct RingPutter {
     count: u64,
     // Number of those that it doesn't know to be taken.
     waits: usize,
-    // How many slots behind its next one that slot stands which came back last, of those whose octets it didn't use
-    // since. 0: none does.
-    apart: usize,
-    // Octets of two slots change places through it. It has none between calls.
-    spare: Vec<u8>,
+    // Slot in which message number 0 is, as the word between the ends says.
+    start: usize,
 }
 
 impl Model for RingPutter {
@@ -76,7 +83,7 @@ impl Model for RingPutter {
 
     ghost view = { λ p. known_by p.right.table_id (putter_in p.right.me.0) };
 
-    ghost invariant = { λ p. (p.right.table_id ≡ (arc_value p.table).table.shared.table_id) × KeepsPut p.right.me p.depth p.max p.next p.count p.waits p.apart };
+    ghost invariant = { λ p. (p.right.table_id ≡ (arc_value p.table).table.shared.table_id) × KeepsPut p.right.me p.depth p.max p.next p.count p.waits p.start };
 }
 
 /// The end that takes messages. Contracts see what it knows: the whole taken list, and that part of the
@@ -93,6 +100,8 @@ pub struct RingTaker {
     count: u64,
     // Number of those that it knows to be put and didn't take.
     waits: usize,
+    // Slot in which message number 0 is, as it read last.
+    start: usize,
 }
 
 impl Model for RingTaker {
@@ -106,7 +115,7 @@ impl Model for RingTaker {
 
     ghost view = { λ t. known_by t.right.table_id (taker_in t.right.me.0) };
 
-    ghost invariant = { λ t. (t.right.table_id ≡ (arc_value t.table).table.shared.table_id) × KeepsTaken t.right.me t.depth t.max t.next t.count t.waits };
+    ghost invariant = { λ t. (t.right.table_id ≡ (arc_value t.table).table.shared.table_id) × KeepsTaken t.right.me t.depth t.max t.next t.count t.waits t.start };
 }
 
 /// Empty slots, each with room for a message of `max` octets.
@@ -116,7 +125,11 @@ fn empty_slots(alloc: Global, depth: usize, max: usize) -> Result<Vec<Slot>, All
     let mut slots = Vec::with_capacity(alloc, depth)?;
     'slots: for _ in 0..depth {
         let octets = Vec::with_capacity(alloc, max)?;
-        slots.push(Slot { time: 0, octets })?;
+        slots.push(Slot {
+            time: 0,
+            lost: 0,
+            octets,
+        })?;
     }
     Ok(slots)
 }
@@ -144,8 +157,7 @@ pub fn open_ring(
         next: 0,
         count: 0,
         waits: 0,
-        apart: 0,
-        spare: Vec::new(alloc),
+        start: 0,
     };
     let taker = RingTaker {
         table: again,
@@ -155,6 +167,7 @@ pub fn open_ring(
         next: 0,
         count: 0,
         waits: 0,
+        start: 0,
     };
     Ok((putter, taker))
 }
@@ -175,9 +188,27 @@ pub fn meet(putter: &mut RingPutter, taker: &mut RingTaker)
     let waits = putter.count.wrapping_sub(taker.count) as usize;
     putter.waits = waits;
     taker.waits = waits;
+    taker.next = slot_with_start(taker.next, taker.start, putter.start, taker.depth);
+    taker.start = putter.start;
 }
 
-/// The slot so many behind this one: that of the message so many after its own.
+/// Whoever puts or takes has no more slots of the beginning to go through before a queue that is empty begins again.
+const FIRST_SLOTS: usize = 4;
+
+/// The slot of a message, whose slot was this, once number 0 is in another one.
+fn slot_with_start(slot: usize, old: usize, new: usize, depth: usize) -> usize
+    requires { (slot < depth) × (old < depth) × (new < depth) × (depth ≤ deepest_queue) }
+    ensures { (number : ℕ) → slot ≡ slot_for depth (old + number) → result ≡ slot_for depth (new + number) }
+{
+    let on = if old <= new {
+        new - old
+    } else {
+        new + depth - old
+    };
+    slot_after(slot, on, depth)
+}
+
+/// The slot so many after this one: that of the message so many after its own.
 fn slot_after(slot: usize, many: usize, depth: usize) -> usize
     requires { (slot < depth) × (many ≤ depth) × (depth ≤ deepest_queue) }
     ensures { (number : ℕ) → slot ≡ slot_for depth number → result ≡ slot_for depth (number + many) }
@@ -224,8 +255,35 @@ impl RingPutter {
     {
         let taken = self.table.look_taken(&mut self.right);
         self.waits = self.count.wrapping_sub(taken) as usize;
-        self.apart = (self.depth - self.waits).saturating_sub(1);
+        if self.waits == 0 && FIRST_SLOTS <= self.next {
+            self.begin_again();
+        }
         self.waits
+    }
+
+    /// The next message comes into the first slot, for none waits: that one is in the caches.
+    fn begin_again(&mut self)
+        requires { length self.old.put ≡ length self.old.taken }
+        ensures { self.new ≡ self.old }
+    {
+        let on = self.depth - self.next;
+        let start = slot_after(self.start, on, self.depth);
+        self.table.start(&mut self.right, start as u64);
+        self.start = start;
+        self.next = slot_after(self.next, on, self.depth);
+    }
+
+    /// Looks what the other end took, if at least so many messages wait as far as this end knows, or if it used its first
+    /// slots and would begin again at these. Once at most.
+    pub fn look_ahead(&mut self, least: usize)
+        ensures end { self.new ≡ record self.old { taken = self.new.taken; looks = self.new.looks } }
+        ensures told { BeginsWith self.new.taken self.old.taken }
+        ensures once { (self.old.looks ≤ self.new.looks) × (self.new.looks ≤ self.old.looks + 1) }
+        ensures looked { least + length self.old.taken ≤ length self.old.put → self.new.looks ≡ self.old.looks + 1 }
+    {
+        if least <= self.waits || FIRST_SLOTS <= self.next {
+            let _waits = self.waiting();
+        }
     }
 
     /// Number of messages that were put and that this end doesn't know to be taken: it makes no look, so no fewer than
@@ -236,36 +294,22 @@ impl RingPutter {
         self.waits
     }
 
-    /// Puts a message at the end of the queue, of which this end knows that it has room. It makes no look.
-    pub fn put(&mut self, time: u64, octets: &[u8])
+    /// Puts a message at the end of the queue, of which this end knows that it has room; `lost` messages were lost right
+    /// before it. It makes no look.
+    pub fn put(&mut self, time: u64, octets: &[u8], lost: u64)
         requires short { length octets.now ≤ self.old.queue.max }
         requires room { length self.old.put < length self.old.taken + self.old.depth }
-        ensures put { self.new ≡ ring_with_put self.old (message time octets.now) self.new.taken self.new.looks }
+        ensures put { self.new ≡ ring_with_put self.old (queued time octets.now lost) self.new.taken self.new.looks }
         ensures told { BeginsWith self.new.taken self.old.taken }
         ensures depth { length self.new.put ≤ length self.new.taken + self.old.depth }
         ensures looks { self.new.looks ≡ self.old.looks }
     {
-        self.warm_next();
         let count = self.count.wrapping_add(1);
         self.table
-            .put(&mut self.right, self.next, count, time, octets);
+            .put(&mut self.right, self.next, count, time, octets, lost);
         self.count = count;
         self.next = slot_after(self.next, 1, self.depth);
         self.waits += 1;
-        self.apart = self.apart.saturating_sub(1);
-    }
-
-    /// The next message gets the octets that came back last, of those that it knows to be back: they are in the caches.
-    fn warm_next(&mut self)
-        ensures { self.new ≡ self.old }
-    {
-        if self.apart == 0 {
-            return;
-        }
-        let later = slot_after(self.next, self.apart, self.depth);
-        self.table
-            .swap(&mut self.right, self.next, later, &mut self.spare);
-        self.apart -= 1;
     }
 }
 
@@ -281,7 +325,7 @@ impl RingTaker {
     /// end took all messages that it knows to be put.
     pub fn take(&mut self, out: &mut [u8]) -> Option<Taken>
         requires { self.old.queue.max ≤ length out.old }
-        ensures some { IfSome result (λ got. (got.len ≤ self.old.queue.max) × (self.new ≡ ring_with_taken self.old (message got.time (take got.len out.new)) self.new.put)) }
+        ensures some { IfSome result (λ got. (got.len ≤ self.old.queue.max) × (self.new ≡ ring_with_taken self.old (queued got.time (take got.len out.new) got.lost) self.new.put)) }
         ensures rest { IfSome result (λ got. drop got.len out.new ≡ drop got.len out.old) }
         ensures told { BeginsWith self.new.put self.old.put }
         ensures begins { BeginsWith self.new.put self.new.taken }
@@ -289,13 +333,31 @@ impl RingTaker {
         ensures seems_empty { IfNone result (SeemsEmpty self.old) }
         ensures next_is_known { length self.old.taken < length self.old.put → IsSome result }
         ensures next { IfSome result (λ got. length self.old.taken < length self.old.put →
-            slice_get self.old.put (length self.old.taken) ≡ Some (message got.time (take got.len out.new))) }
+            slice_get self.old.put (length self.old.taken) ≡ Some (queued got.time (take got.len out.new) got.lost)) }
     {
         if self.has_next() {
             Some(self.take_next(out))
         } else {
             None
         }
+    }
+
+    /// Number of waiting messages: those put that this end didn't take, after it looked in this call what was put.
+    // rule: EMB-10
+    pub fn waiting(&mut self) -> usize
+        ensures end { self.new ≡ record self.old { put = self.new.put; looks = self.new.looks } }
+        ensures told { BeginsWith self.new.put self.old.put }
+        ensures begins { BeginsWith self.new.put self.new.taken }
+        ensures count { result + length self.new.taken ≡ length self.new.put }
+        ensures depth { result ≤ self.new.depth }
+        ensures looked { self.new.looks ≡ self.old.looks + 1 }
+    {
+        let put = self.table.count_put(&mut self.right);
+        self.waits = put.wrapping_sub(self.count) as usize;
+        let first_slot = self.table.read_start(&mut self.right) as usize;
+        self.next = slot_with_start(self.next, self.start, first_slot, self.depth);
+        self.start = first_slot;
+        self.waits
     }
 
     /// Whether it knows a message to take. False: after it looked in this call. It looks only if it knows of none
@@ -311,15 +373,21 @@ impl RingTaker {
         }
         let put = self.table.look_put(&mut self.right);
         self.waits = put.wrapping_sub(self.count) as usize;
-        0 < self.waits
+        if self.waits == 0 {
+            return false;
+        }
+        let start = self.table.read_start(&mut self.right) as usize;
+        self.next = slot_with_start(self.next, self.start, start, self.depth);
+        self.start = start;
+        true
     }
 
     /// Takes the oldest message, which it knows to be put.
     fn take_next(&mut self, out: &mut [u8]) -> Taken
         requires room { self.old.queue.max ≤ length out.old }
         requires more { length self.old.taken < length self.old.put }
-        ensures taken { self.new ≡ ring_with_taken self.old (message result.time (take result.len out.new)) self.old.put }
-        ensures next { slice_get self.old.put (length self.old.taken) ≡ Some (message result.time (take result.len out.new)) }
+        ensures taken { self.new ≡ ring_with_taken self.old (queued result.time (take result.len out.new) result.lost) self.old.put }
+        ensures next { slice_get self.old.put (length self.old.taken) ≡ Some (queued result.time (take result.len out.new) result.lost) }
         ensures short { result.len ≤ self.old.queue.max }
         ensures rest { drop result.len out.new ≡ drop result.len out.old }
         ensures begins { BeginsWith self.new.put self.new.taken }

@@ -12,22 +12,30 @@ pub struct Size {
     pub max: usize,
 }
 
+/// A message in a queue.
+pub struct QueuedMessage {
+    pub message: Message,
+    /// Number of messages lost right before it: refused since the message before it was put.
+    pub lost: u64,
+}
+
 /// Knowledge of an end's seat.
 pub struct QueueView {
     /// The messages that it knows to be put: a putter all, a taker the first of them.
-    pub put: LinkedList<Message>,
+    pub put: LinkedList<QueuedMessage>,
     /// The messages that it knows to be taken: a taker all, a putter the first of them.
-    pub taken: LinkedList<Message>,
+    pub taken: LinkedList<QueuedMessage>,
     /// Whether it has the slot of its next message.
     pub has: bool,
     pub depth: u64,
     pub max: u64,
-    /// Its looks at the other end's word: a putter's all, a taker's by which it found no message.
+    /// Its looks at the other end's word: a putter's all, a taker's by which it found no message, and
+    /// those by which it counted what waits.
     pub looks: u64,
-    /// Number of the message whose slot came back last, of those whose octets weren't used since. A putter's alone.
-    pub warm: u64,
-    /// Whether it has that slot, and the one of its next message, so that their octets change places.
-    pub swaps: bool,
+    /// Slot of message number 0, from which those of all others follow. A putter says it, a taker reads it.
+    pub start: u64,
+    /// Whether a taker read `start` since it learned of the messages that it knows.
+    pub sure: bool,
 }
 
 /// Knowledge of a seat.
@@ -42,7 +50,8 @@ pub enum SeatView {
     Spent,
 }
 
-/// A message stands in its slot from its put to its taking. The two words count what was put and what was taken.
+/// A message stands in its slot from its put to its taking. Two words count what was put and what was taken; the third
+/// says in which slot number 0 is.
 pub struct InSlots;
 
 impl TableRule<Slot, SeatView, Size> for InSlots {

@@ -3,13 +3,13 @@ ghost use Rattle.std.specs.Prelude.{◌≡◌, ◌≤◌, length, take, drop};
 ghost use Rattle.std.specs.Vec.{vec_capacity};
 
 use crate::Taken;
-use std::mem;
 
 /// A slot of a queue, with room for its longest message, which is reserved and not written before a message comes. It has
 /// the message that was put there last.
 #[derive(Drop)]
 pub struct Slot {
     pub(crate) time: u64,
+    pub(crate) lost: u64,
     pub(crate) octets: Vec<u8>,
 }
 
@@ -24,24 +24,18 @@ fn write_over(out: &mut [u8], octets: &[u8])
 }
 
 impl Slot {
-    /// Writes a message into it, in place of the one before.
-    pub(crate) fn write(&mut self, time: u64, octets: &[u8])
+    /// Writes a message into it, in place of the one before. So many were lost right before it.
+    pub(crate) fn write(&mut self, time: u64, octets: &[u8], lost: u64)
         requires { length octets.now ≤ vec_capacity self.old.octets }
         ensures time { self.new.time ≡ time }
+        ensures lost { self.new.lost ≡ lost }
         ensures octets { self.new.octets.items ≡ octets.now }
         ensures room { vec_capacity self.old.octets ≤ vec_capacity self.new.octets }
     {
         self.time = time;
+        self.lost = lost;
         self.octets.clear();
         self.octets.extend_from_slice(octets).unwrap();
-    }
-
-    /// Its room and this one change places, with what is in them.
-    pub(crate) fn swap_octets(&mut self, octets: &mut Vec<u8>)
-        ensures slot { self.new.octets ≡ octets.old }
-        ensures octets { octets.new ≡ self.old.octets }
-    {
-        mem::swap(&mut self.octets, octets);
     }
 
     /// Copies its message's octets to the beginning of `out`. It stays as it is.
@@ -49,6 +43,7 @@ impl Slot {
         requires { length self.old.octets.items ≤ length out.old }
         ensures slot { self.new ≡ self.old }
         ensures time { result.time ≡ self.old.time }
+        ensures lost { result.lost ≡ self.old.lost }
         ensures octets { take result.len out.new ≡ self.old.octets.items }
         ensures short { result.len ≤ length self.old.octets.items }
         ensures rest { drop result.len out.new ≡ drop result.len out.old }
@@ -58,6 +53,7 @@ impl Slot {
         Taken {
             time: self.time,
             len: self.octets.len(),
+            lost: self.lost,
         }
     }
 }

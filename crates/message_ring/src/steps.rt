@@ -2,10 +2,10 @@
 //! make no step, and no load, but those of the calls here.
 ghost use Rattle.std.specs.Prelude.{◌≡◌, ◌<◌, false, ◌≤◌, [], drop, length, slice_get, take, IfOk, Some};
 ghost use Rattle.es_base.specs.Limits.{deepest_queue};
-ghost use Rattle.message_ring.specs.Queue.{message};
+ghost use Rattle.message_ring.specs.Queue.{queued};
 ghost use Rattle.message_ring.specs.Rule.{view_at_first};
-ghost use Rattle.message_ring.specs.Plays.{AreMet, ends_learn, putter_enters, putter_gives_both, putter_in, putter_left, putter_looks, putter_puts, putter_takes_both, puts_one, sees_put, taker_enters, taker_in, taker_looks, taker_parted, taker_takes, takes_one, told_taken, views_met, warmed};
-ghost use Rattle.message_ring.specs.Ends.{AreRoomy, AreSwapped, HasFirst, MayPutNext, MaySwap, MayTakeNext};
+ghost use Rattle.message_ring.specs.Plays.{AreMet, ends_learn, putter_enters, putter_in, putter_left, putter_looks, putter_puts, putter_starts, puts_one, sees_start, started, taker_counts, taker_enters, taker_in, taker_looks, taker_parted, taker_reads_start, taker_takes, takes_one, told_put, told_taken, views_met};
+ghost use Rattle.message_ring.specs.Ends.{AreRoomy, MayPutNext, MayStart, MayTakeNext};
 ghost use Rattle.message_ring.specs.declared.rule.SeatView.TheVariants.{Puts, Spent, Takes};
 
 use crate::Taken;
@@ -14,16 +14,19 @@ use crate::slot::Slot;
 use atomic_table::{Join, Play, Split, Table};
 use std::alloc::{AllocError, Global};
 
-/// Word of the table that counts what was put, and the one that counts what was taken.
+/// Word of the table that counts what was put, the one that counts what was taken, and the one that says in which slot
+/// message number 0 is.
 const PUT: usize = 0;
 
 const TAKEN: usize = 1;
 
-/// The slots of a queue, and the two words.
+const START: usize = 2;
+
+/// The slots of a queue, and the three words.
 #[derive(Drop)]
 pub(crate) struct Slots {
     table: Table<Slot, SeatView, Size, InSlots, Global>,
-    ghost words: { table.shared.table_id.words ≡ 2 },
+    ghost words: { table.shared.table_id.words ≡ 3 },
 }
 
 /// The first seat is parted into the taker's and the putter's.
@@ -47,16 +50,10 @@ impl Play<Slot, SeatView> for PutterPuts {
     ghost then = { λ _. putter_puts };
 }
 
-struct PutterTakesBoth;
+struct PutterStarts;
 
-impl Play<Slot, SeatView> for PutterTakesBoth {
-    ghost then = { λ _. putter_takes_both };
-}
-
-struct PutterGivesBoth;
-
-impl Play<Slot, SeatView> for PutterGivesBoth {
-    ghost then = { λ _. putter_gives_both };
+impl Play<Slot, SeatView> for PutterStarts {
+    ghost then = { λ _. putter_starts };
 }
 
 struct PutterLooks;
@@ -81,6 +78,18 @@ struct TakerLooks;
 
 impl Play<Slot, SeatView> for TakerLooks {
     ghost then = { λ _. taker_looks };
+}
+
+struct TakerReadsStart;
+
+impl Play<Slot, SeatView> for TakerReadsStart {
+    ghost then = { λ _. taker_reads_start };
+}
+
+struct TakerCounts;
+
+impl Play<Slot, SeatView> for TakerCounts {
+    ghost then = { λ _. taker_counts };
 }
 
 struct Lend;
@@ -126,7 +135,7 @@ pub(crate) fn open(
     ensures taker { IfOk result (λ t. t.2.me ≡ (Takes (view_at_first depth max), [])) }
 {
     let size = Size { depth, max };
-    let (table, mut taker) = match Table::new(alloc, &[0u64, 0], slots, &size) {
+    let (table, mut taker) = match Table::new(alloc, &[0u64, 0, 0], slots, &size) {
         Ok(made) => made,
         Err(_) => return Err(AllocError),
     };
@@ -137,50 +146,40 @@ pub(crate) fn open(
 impl Slots {
     /// Puts a message, in place: its slot is taken by a load of the putter's own word, and given back by a store of it,
     /// which is then this. It is no look.
-    pub(crate) fn put(&self, right: &mut Right, slot: usize, count: u64, time: u64, octets: &[u8])
+    pub(crate) fn put(
+        &self,
+        right: &mut Right,
+        slot: usize,
+        count: u64,
+        time: u64,
+        octets: &[u8],
+        lost: u64,
+    )
         requires table { right.old.table_id ≡ self.now.table.shared.table_id }
         requires seat { MayPutNext right.old.me slot count (length octets.now) }
         ensures table { right.new.table_id ≡ right.old.table_id }
-        ensures put { right.new.me ≡ (Puts (puts_one (putter_in right.old.me.0) (message time octets.now)), []) }
+        ensures put { right.new.me ≡ (Puts (puts_one (putter_in right.old.me.0) (queued time octets.now lost)), []) }
     {
         let shared = &self.table.shared;
         shared.load::<PutterEnters>(right, PUT);
-        right.slot_mut(shared, slot).write(time, octets);
+        right.slot_mut(shared, slot).write(time, octets, lost);
         shared.store::<PutterPuts>(right, PUT, count);
     }
 
-    /// The octets of the slot of the next message, and of one that came back later, change places, so that those are used
-    /// first which were used last. Both are free. They are taken and given back by loads of the putter's own word, and it
-    /// is no look. `spare` has no octets to keep.
-    pub(crate) fn swap(&self, right: &mut Right, next: usize, later: usize, spare: &mut Vec<u8>)
+    /// Says anew in which slot message number 0 is, while no message waits: one store of that word. It is no look.
+    pub(crate) fn start(&self, right: &mut Right, start: u64)
         requires table { right.old.table_id ≡ self.now.table.shared.table_id }
-        requires seat { MaySwap right.old.me next later }
+        requires seat { MayStart right.old.me start }
         ensures table { right.new.table_id ≡ right.old.table_id }
-        ensures warmed { right.new.me ≡ (Puts (warmed (putter_in right.old.me.0)), []) }
+        ensures started { right.new.me ≡ (Puts (started (putter_in right.old.me.0) start), []) }
     {
-        self.table.shared.load::<PutterTakesBoth>(right, PUT);
-        self.swap_first(right, later, spare);
-        right.turn();
-        self.swap_first(right, next, spare);
-        right.turn();
-        self.swap_first(right, later, spare);
-        self.table.shared.load::<PutterGivesBoth>(right, PUT);
-    }
-
-    /// The octets of the slot that the seat has first, and these, change places.
-    fn swap_first(&self, right: &mut Right, slot: usize, octets: &mut Vec<u8>)
-        requires table { right.old.table_id ≡ self.now.table.shared.table_id }
-        requires seat { HasFirst right.old.me slot }
-        ensures table { right.new.table_id ≡ right.old.table_id }
-        ensures swapped { AreSwapped right.old.me right.new.me slot octets.old octets.new }
-    {
-        right.slot_mut(&self.table.shared, slot).swap_octets(octets);
+        self.table.shared.store::<PutterStarts>(right, START, start);
     }
 
     /// Number of messages that were taken, modulo 2^64: one load of the taker's word.
     pub(crate) fn look_taken(&self, right: &mut Right) -> u64
         requires table { right.old.table_id ≡ self.now.table.shared.table_id }
-        requires putter { (right.old.me.0 ≡ Puts (putter_in right.old.me.0)) × ((putter_in right.old.me.0).swaps ≡ false) }
+        requires putter { right.old.me.0 ≡ Puts (putter_in right.old.me.0) }
         ensures table { right.new.table_id ≡ right.old.table_id }
         ensures looked { putter_looks right.old.me result right.new.me }
     {
@@ -193,8 +192,8 @@ impl Slots {
         requires table { right.old.table_id ≡ self.now.table.shared.table_id }
         requires seat { MayTakeNext right.old.me slot count (length out.old) }
         ensures table { right.new.table_id ≡ right.old.table_id }
-        ensures taken { right.new.me ≡ (Takes (takes_one (taker_in right.old.me.0) (message result.time (take result.len out.new))), []) }
-        ensures next { slice_get (taker_in right.old.me.0).put (length (taker_in right.old.me.0).taken) ≡ Some (message result.time (take result.len out.new)) }
+        ensures taken { right.new.me ≡ (Takes (takes_one (taker_in right.old.me.0) (queued result.time (take result.len out.new) result.lost)), []) }
+        ensures next { slice_get (taker_in right.old.me.0).put (length (taker_in right.old.me.0).taken) ≡ Some (queued result.time (take result.len out.new) result.lost) }
         ensures short { result.len ≤ (taker_in right.old.me.0).max }
         ensures rest { drop result.len out.new ≡ drop result.len out.old }
         ensures len { length out.new ≡ length out.old }
@@ -209,21 +208,42 @@ impl Slots {
     /// Number of messages that were put, modulo 2^64: one load of the putter's word.
     pub(crate) fn look_put(&self, right: &mut Right) -> u64
         requires table { right.old.table_id ≡ self.now.table.shared.table_id }
-        requires taker { right.old.me.0 ≡ Takes (taker_in right.old.me.0) }
+        requires taker { (right.old.me.0 ≡ Takes (taker_in right.old.me.0)) × ((taker_in right.old.me.0).has ≡ false) }
         ensures table { right.new.table_id ≡ right.old.table_id }
         ensures looked { taker_looks right.old.me result right.new.me }
     {
         self.table.shared.load::<TakerLooks>(right, PUT)
     }
 
+    /// The slot in which message number 0 is: one load of that word.
+    pub(crate) fn read_start(&self, right: &mut Right) -> u64
+        requires table { right.old.table_id ≡ self.now.table.shared.table_id }
+        requires taker { (right.old.me.0 ≡ Takes (taker_in right.old.me.0)) × ((taker_in right.old.me.0).has ≡ false) }
+        ensures table { right.new.table_id ≡ right.old.table_id }
+        ensures read { right.new.me ≡ (Takes (sees_start (taker_in right.old.me.0) result), right.old.me.1) }
+        ensures within { result < (taker_in right.old.me.0).depth }
+    {
+        self.table.shared.load::<TakerReadsStart>(right, START)
+    }
+
+    /// Number of messages that were put, modulo 2^64: one load of the putter's word, by which the taker counts what waits.
+    pub(crate) fn count_put(&self, right: &mut Right) -> u64
+        requires table { right.old.table_id ≡ self.now.table.shared.table_id }
+        requires taker { (right.old.me.0 ≡ Takes (taker_in right.old.me.0)) × ((taker_in right.old.me.0).has ≡ false) }
+        ensures table { right.new.table_id ≡ right.old.table_id }
+        ensures counted { taker_counts right.old.me result right.new.me }
+    {
+        self.table.shared.load::<TakerCounts>(right, PUT)
+    }
+
     /// Joins the putter's right with the taker's, by which each knows what the other did, and parts them again.
     pub(crate) fn meet(&self, putter: &mut Right, taker: &mut Right)
         requires table { (putter.old.table_id ≡ self.now.table.shared.table_id) × (taker.old.table_id ≡ self.now.table.shared.table_id) }
         requires putter { putter.old.me.0 ≡ Puts (putter_in putter.old.me.0) }
-        requires taker { taker.old.me.0 ≡ Takes (taker_in taker.old.me.0) }
+        requires taker { (taker.old.me.0 ≡ Takes (taker_in taker.old.me.0)) × ((taker_in taker.old.me.0).has ≡ false) }
         ensures table { (putter.new.table_id ≡ putter.old.table_id) × (taker.new.table_id ≡ taker.old.table_id) }
         ensures putter { putter.new.me ≡ (Puts (told_taken (putter_in putter.old.me.0) (taker_in taker.old.me.0).taken), putter.old.me.1) }
-        ensures taker { taker.new.me ≡ (Takes (sees_put (taker_in taker.old.me.0) (putter_in putter.old.me.0).put), taker.old.me.1) }
+        ensures taker { taker.new.me ≡ (Takes (told_put (taker_in taker.old.me.0) (putter_in putter.old.me.0)), taker.old.me.1) }
         ensures met { AreMet (putter_in putter.old.me.0) (taker_in taker.old.me.0) }
     {
         let shared = &self.table.shared;

@@ -1,9 +1,11 @@
 -- How full the queue of a port is, by what its outlet shows.
-use Rattle.std.proofs.Common.{◌∙◌, ap, ℕ, List, length, Option, None, Some, arith, refl}
+use Rattle.std.proofs.Common.{◌≡◌, ◌∙◌, ap, sym, ℕ, List, length, Option, None, Some, arith, refl}
+use Rattle.std.proofs.lemmas.List.{length-map}
 use Rattle.es_base.specs.declared.event.Message.{Message}
 use Rattle.es_base.specs.declared.port.PortKind.{PortKind}
 use Rattle.es_base.specs.declared.port.PortKind.TheVariants.{Sampling, Queuing}
 use Rattle.es_base.specs.Port.{Port}
+use Rattle.message_ring.specs.declared.rule.QueuedMessage.{QueuedMessage}
 use Rattle.receiver.specs.declared.port.PortOutlet.{PortOutlet}
 use Rattle.receiver.specs.declared.port.PortOutlet.TheVariants as outlets
 use Rattle.receiver.specs.declared.queue.Fill.{Fill}
@@ -14,7 +16,7 @@ use Rattle.receiver.specs.Fill.{IsFillAs, IsFillOfPort}
 filled_as : (kind : PortKind) (max : ℕ) (outlet : PortOutlet) (messages : List Message) (fill : Option Fill) → ShowsAs kind max outlet messages → HasFill outlet fill → IsFillAs kind outlet messages fill
 filled_as (Sampling refresh) max (outlets.Sampling writer) messages fill shows is = is
 filled_as (Queuing depth) max (outlets.Queuing queue) messages (Some fill) shows is =
-    let put = ap (λ (l : List Message). length l) shows.0 in
+    let put : length queue.known.put ≡ length messages = sym (length-map queue.known.put (λ (m : QueuedMessage). m.message)) ∙ ap (λ (l : List Message). length l) shows.0 in
     let few = is.1 in
     ((shows.0, is.0 ∙ put, is.2, is.3), omega (arith, few, shows.1))
 filled_as (Queuing depth) max (outlets.Queuing queue) messages None shows is = absurd is

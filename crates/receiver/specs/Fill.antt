@@ -5,6 +5,8 @@ use Rattle.es_base.specs.declared.place.PortNo.{PortNo}
 use Rattle.es_base.specs.declared.port.PortKind.{PortKind}
 use Rattle.es_base.specs.declared.port.PortKind.TheVariants.{Sampling, Queuing}
 use Rattle.es_base.specs.Port.{Port}
+use Rattle.message_ring.specs.Queue.{messages_in}
+use Rattle.message_ring.specs.declared.rule.QueuedMessage.{QueuedMessage}
 use Rattle.receiver.specs.declared.port.PortOutlet.{PortOutlet}
 use Rattle.receiver.specs.declared.port.PortOutlet.TheVariants as outlets
 use Rattle.receiver.specs.declared.queue.Fill.{Fill}
@@ -16,7 +18,7 @@ use Rattle.receiver.specs.Queue.{CountedQueue, IsGreatest}
 -- greatest number that waited
 abbrev pub IsFillOf : PortOutlet → List Message → Fill → Type 0
 IsFillOf (outlets.Queuing queue) messages fill =
-    (queue.known.put ≡ messages) × (fill.waiting + length queue.known.taken ≡ length messages)
+    (messages_in queue.known.put ≡ messages) × (fill.waiting + length queue.known.taken ≡ length messages)
     × (fill.greatest ≡ queue.greatest) × IsGreatest queue.known fill.greatest
 IsFillOf (outlets.Sampling writer) messages fill = ⊥
 
@@ -59,7 +61,7 @@ abbrev pub IsFoundFull : Ported PortOutlet → Ported PortOutlet → PortNo → 
 IsFoundFull old new port =
     (before : CountedQueue) × (after : CountedQueue) × (slice_get old.outlets port.0 ≡ Some (outlets.Queuing before))
     × (slice_get new.outlets port.0 ≡ Some (outlets.Queuing after)) × (after.known.looks ≡ before.known.looks + 1)
-    × ((held : List Message) × (length held ≡ after.known.depth) × (deliveries_of new port ≡ after.known.taken ++ held))
+    × ((held : List QueuedMessage) × (length held ≡ after.known.depth) × (deliveries_of new port ≡ messages_in (after.known.taken ++ held)))
 
 -- of the link that there may be
 -- rule: EMB-7

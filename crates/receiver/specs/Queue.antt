@@ -2,14 +2,15 @@
 use Rattle.std.specs.Prelude.{◌≡◌, ◌≤◌, ℕ, ◌+◌, ◌-◌, List, [], ◌∷◌, length, max}
 use Rattle.message_ring.specs.Queue.{Known, QueueId, opened_ring}
 
--- what the end that puts knows, and the greatest number of messages that waited
+-- what the end that puts knows, the greatest number of messages that waited, and how many were lost since one was put
 pub record CountedQueue : Type 0 where
   pub known : Known
   pub greatest : ℕ
+  pub lost : ℕ
 
 -- a new queue, which holds up to so many messages
 abbrev pub new_queue : QueueId → ℕ → CountedQueue
-new_queue queue depth = record { known = opened_ring queue depth; greatest = 0 }
+new_queue queue depth = record { known = opened_ring queue depth; greatest = 0; lost = 0 }
 
 -- What always holds of the greatest number: no more wait, no more were put, and the queue holds as many.
 -- rule: EMB-7

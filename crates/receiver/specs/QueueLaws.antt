@@ -1,7 +1,6 @@
 -- What waited in a queue, counted over messages that were put one after another.
 use Rattle.std.proofs.Common.{◌≡◌, ◌∙◌, ap, sym, refl, ℕ, suc, ◌+◌, ◌-◌, ◌≤◌, max, List, [], ◌∷◌, ◌++◌, length, arith}
 use Rattle.std.proofs.lemmas.List.{length-append}
-use Rattle.es_base.specs.declared.event.Message.{Message}
 use Rattle.receiver.specs.Queue.{CountedQueue, CountsWaiting, RiseFrom, greatest_after}
 
 rise_lower : (lower low high : ℕ) (numbers : List ℕ) → lower ≤ low → RiseFrom low high numbers → RiseFrom lower high numbers
@@ -22,13 +21,13 @@ greatest_join greatest put (taken ∷ later) then =
 pub counts_none : (queue : CountedQueue) → CountsWaiting queue queue 0
 counts_none queue = record { taken = []; each = refl; rising = omega arith; greatest = refl }
 
-pub counts_join : (x y z : CountedQueue) (first then : List Message) → y.known.put ≡ x.known.put ++ first → CountsWaiting x y (length first) → CountsWaiting y z (length then) → CountsWaiting x z (length (first ++ then))
+pub counts_join : {A : Type 0} (x y z : CountedQueue) (first then : List A) → length y.known.put ≡ length x.known.put + length first → CountsWaiting x y (length first) → CountsWaiting y z (length then) → CountsWaiting x z (length (first ++ then))
 counts_join x y z first then put xy yz =
     let both = length-append xy.taken yz.taken in
     let all = length-append first then in
     let each_first = xy.each in
     let each_then = yz.each in
-    let now : length y.known.put ≡ length x.known.put + length xy.taken = ap (λ (l : List Message). length l) put ∙ length-append x.known.put first ∙ ap (λ (n : ℕ). length x.known.put + n) (sym xy.each) in
+    let now : length y.known.put ≡ length x.known.put + length xy.taken = put ∙ ap (λ (n : ℕ). length x.known.put + n) (sym xy.each) in
     record {
       taken = xy.taken ++ yz.taken;
       each = omega (arith, both, all, each_first, each_then);

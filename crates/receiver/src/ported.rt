@@ -7,9 +7,9 @@ ghost use Rattle.es_base.specs.Past.{arrived};
 ghost use Rattle.link_rules.specs.Integrity.{passes};
 ghost use Rattle.link_core.specs.Counted.{port_no, shown};
 ghost use Rattle.link_core.specs.Past.{number_given_up};
-ghost use Rattle.receiver.specs.Outlet.{IsAnswer, IsRefusal, reads_by};
+ghost use Rattle.receiver.specs.Outlet.{IsAnswer, CountsAsked, IsRefusal, LoseNothing, reads_by};
 ghost use Rattle.receiver.specs.Ends.{ArePortsOpened};
-ghost use Rattle.receiver.specs.Link.{IsNewLink, IsPorted, OverflowsIfRefused, Takes, TakesIfKnown};
+ghost use Rattle.receiver.specs.Link.{IsNewLink, IsPorted, OverflowsIfRefused, Takes, TakesIfKnown, TellsLosses};
 
 use crate::ends::PortEnd;
 use crate::outlet::Outlet;
@@ -33,13 +33,13 @@ pub struct PortedLink<P: Outlet> {
 }
 
 impl<P: Outlet> Model for PortedLink<P> {
-    ghost use Rattle.receiver.specs.Link.{Ported, IsPorted, ported};
+    ghost use Rattle.receiver.specs.Link.{Ported, IsPorted, TellsLosses, ported};
 
     ghost Value = { Ported P };
 
     ghost view = { λ l. ported l.core l.outlets.items l.received };
 
-    ghost invariant = { λ l. IsPorted P.shows (ported l.core l.outlets.items l.received) };
+    ghost invariant = { λ l. IsPorted P.shows (ported l.core l.outlets.items l.received) × TellsLosses P.loses (ported l.core l.outlets.items l.received) };
 }
 
 impl<P: Outlet> PortedLink<P> {
@@ -69,6 +69,7 @@ impl<P: Outlet> PortedLink<P> {
     pub fn settings(&self) -> &LinkSettings
         ensures value { result.now ≡ self.now.core.settings }
         ensures past { IsPorted P.shows self.now }
+        ensures losses { TellsLosses P.loses self.now }
     {
         self.core.settings()
     }
@@ -84,6 +85,7 @@ impl<P: Outlet> PortedLink<P> {
     pub fn outlet(&self, port: PortNo) -> Option<&P>
         ensures outlet { option_copied result ≡ slice_get self.now.outlets port.0 }
         ensures past { IsPorted P.shows self.now }
+        ensures losses { TellsLosses P.loses self.now }
     {
         self.outlets.get(port.0 as usize)
     }
@@ -104,6 +106,7 @@ impl<P: Outlet> PortedLink<P> {
         ensures takes { Takes P.shows P.gives P.answers self.old self.new (arrived net now frame.now.whole.now) self.old.received result }
         ensures known { TakesIfKnown P.has_space self.old self.new (arrived net now frame.now.whole.now) result }
         ensures refused { OverflowsIfRefused P.refuses self.old self.new (arrived net now frame.now.whole.now) result }
+        ensures losses { TellsLosses P.loses self.new }
     {
         self.received = self.received.saturating_add(1);
         if let Some(verdict) = self.core.turn_away(net, passed, now, frame) {
@@ -123,6 +126,7 @@ impl<P: Outlet> PortedLink<P> {
 fn room_in<P: Outlet>(outlets: &mut Vec<P>, decision: Decision) -> bool
     ensures answer { IsAnswer P.shows P.has_space P.gives P.answers outlets.old.items outlets.new.items decision result }
     ensures refused { IsFalse result → IsRefusal P.refuses outlets.old.items outlets.new.items decision }
+    ensures counted { CountsAsked P.loses outlets.old.items outlets.new.items decision result }
 {
     match decision {
         Decision::Final(_) => true,
@@ -140,7 +144,8 @@ fn open_outlets<P: Outlet, R: Readers>(
     readers: &R,
 ) -> Result<(Vec<P>, Vec<PortEnd<P::End>>), Memory>
     requires { length ports.now ≤ most_ports }
-    ensures { IfOk result (λ opened. ArePortsOpened P.shows (reads_by P.reads (R.count readers.now)) 0 ports.now opened.0.items opened.1.items) }
+    ensures ports { IfOk result (λ opened. ArePortsOpened P.shows (reads_by P.reads (R.count readers.now)) 0 ports.now opened.0.items opened.1.items) }
+    ensures none_lost { IfOk result (λ opened. LoseNothing P.loses opened.0.items) }
 {
     let mut outlets = Vec::with_capacity(alloc, ports.len())?;
     let mut ends = Vec::with_capacity(alloc, ports.len())?;

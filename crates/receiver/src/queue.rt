@@ -1,8 +1,8 @@
-//! The end of a port's queue that puts messages, which counts those that wait.
+//! The end of a port's queue that puts messages, which counts those that wait and those that were lost.
 ghost use Rattle.std.specs.Prelude.{◌≡◌, ◌+◌, ◌-◌, ◌<◌, ◌≤◌, IfOk, IsFalse, IsTrue, length, max};
 ghost use Rattle.es_base.specs.Limits.{deepest_queue, longest_queued};
-ghost use Rattle.es_base.specs.Queue.{BeginsWith};
-ghost use Rattle.message_ring.specs.Queue.{IsFullByLook, LooksForRoom, SeemsFull, message, ring_with_put};
+ghost use Rattle.es_base.specs.Tally.{one_more};
+ghost use Rattle.message_ring.specs.Queue.{BeginsWith, IsFullByLook, LooksForRoom, SeemsFull, queued, ring_with_put};
 ghost use Rattle.receiver.specs.Queue.{IsGreatest, new_queue};
 
 use es_base::Memory;
@@ -19,11 +19,14 @@ pub struct Fill {
     pub greatest: usize,
 }
 
-/// The end of a queue that puts messages, and knows the greatest number that waited.
+/// The end of a queue that puts messages, and knows the greatest number that waited and how many were lost since one was
+/// put.
 #[derive(Drop)]
 pub struct CountingPutter {
     putter: RingPutter,
     greatest: usize,
+    // Messages refused since one was put. It saturates at 2^64 - 1.
+    lost: u64,
 }
 
 impl Model for CountingPutter {
@@ -31,7 +34,7 @@ impl Model for CountingPutter {
 
     ghost Value = { CountedQueue };
 
-    ghost view = { λ q. record { known = q.putter; greatest = q.greatest } };
+    ghost view = { λ q. record { known = q.putter; greatest = q.greatest; lost = q.lost } };
 
     ghost invariant = { λ q. IsGreatest q.putter q.greatest };
 }
@@ -52,16 +55,20 @@ impl CountingPutter {
         let counting = CountingPutter {
             putter,
             greatest: 0,
+            lost: 0,
         };
         Ok((counting, taker))
     }
 
     /// Whether there is room for one more message; it stays, whatever the other end does. False: after it looked in this
     /// call, as many messages as the queue holds were put that this end doesn't know to be taken. If it knows of room
-    /// before the call the answer is true, and it doesn't look.
+    /// before the call the answer is true, and it doesn't look. It counts a refusal.
+    // rule: PORT-19
     pub(crate) fn has_room(&mut self) -> bool
-        ensures end { self.new ≡ record self.old { known = record self.old.known { taken = self.new.known.taken; looks = self.new.known.looks } } }
+        ensures end { self.new ≡ record self.old { known = record self.old.known { taken = self.new.known.taken; looks = self.new.known.looks }; lost = self.new.lost } }
         ensures told { BeginsWith self.new.known.taken self.old.known.taken }
+        ensures kept { IsTrue result → self.new.lost ≡ self.old.lost }
+        ensures counted { IsFalse result → self.new.lost ≡ one_more self.old.lost }
         ensures room { IsTrue result → length self.new.known.put < length self.new.known.taken + self.new.known.depth }
         ensures full { IsFalse result → SeemsFull self.new.known }
         ensures full_before { IsFalse result → SeemsFull self.old.known }
@@ -69,24 +76,31 @@ impl CountingPutter {
         ensures looked { LooksForRoom self.old.known self.new.known }
         ensures refused { IsFalse result → IsFullByLook self.old.known self.new.known }
     {
-        self.putter.has_room()
+        let room = self.putter.has_room();
+        if !room {
+            self.lost = self.lost.saturating_add(1);
+        }
+        room
     }
 
-    /// Puts a message at the end of the queue, and counts what waits then. It looks what was taken only if more may wait
-    /// than ever, and once at most.
-    // rule: EMB-7
+    /// Puts a message at the end of the queue, with the number of those lost since the one before, and counts what waits
+    /// then. Before, it looks what was taken if more may wait than ever, or if a queue that is empty would begin again at
+    /// its first slot; once at most. The greatest number rises only by such a look.
+    // rule: EMB-7, PORT-19
     pub(crate) fn put(&mut self, time: u64, octets: &[u8])
         requires short { length octets.now ≤ self.old.known.queue.max }
         requires room { length self.old.known.put < length self.old.known.taken + self.old.known.depth }
-        ensures end { self.new.known ≡ ring_with_put self.old.known (message time octets.now) self.new.known.taken self.new.known.looks }
+        ensures end { self.new.known ≡ ring_with_put self.old.known (queued time octets.now self.old.lost) self.new.known.taken self.new.known.looks }
         ensures told { BeginsWith self.new.known.taken self.old.known.taken }
+        ensures lost { self.new.lost ≡ 0 }
         ensures greatest { self.new.greatest ≡ max self.old.greatest (length self.new.known.put - length self.new.known.taken) }
         ensures looks { (self.old.known.looks ≤ self.new.known.looks) × (self.new.known.looks ≤ self.old.known.looks + 1) }
+        ensures risen { self.old.greatest < self.new.greatest → self.new.known.looks ≡ self.old.known.looks + 1 }
     {
-        self.putter.put(time, octets);
-        if self.greatest < self.putter.known_waiting() {
-            self.greatest = self.greatest.max(self.putter.waiting());
-        }
+        self.putter.look_ahead(self.greatest);
+        self.putter.put(time, octets, self.lost);
+        self.lost = 0;
+        self.greatest = self.greatest.max(self.putter.known_waiting());
     }
 
     /// Synchronizes the two ends of one queue: each then knows at least what the other did. Nothing else changes.

@@ -23,7 +23,7 @@ ghost use Rattle.receiver_slots.specs.Reading.{Copies, DidHold, DidRead, TellsRe
 ghost use Rattle.receiver_slots.specs.Readers.{are_all_counts};
 ghost use Rattle.receiver_slots.specs.Receiving.{CountsFrames, TellsFiltered, HasFault, HasTableFault, IsNewReceiver, Receives, config_of_receiver, count_code, filtered_code, receive_code};
 ghost use Rattle.receiver_slots.specs.Slot.{CountsLinks, HandsOut, Opens, OpensTable, TellsLink, TellsPlace, TellsPort, hand_reader_code, hand_taker_code, link_code, links_code, place_code, port_code};
-ghost use Rattle.receiver_slots.specs.Taking.{DidTake, TellsTaker, take_code, taker_code};
+ghost use Rattle.receiver_slots.specs.Taking.{DidTake, TellsTaker, TellsWaiting, take_code, taker_code};
 ghost use Rattle.receiver_slots.specs.declared.reader_slot.ReaderState.TheVariants.{Closed, Reads};
 ghost use Rattle.slot_handles.specs.contracts.marked.MarkedReceiver.{the_row as receiver_row};
 ghost use Rattle.slot_handles.specs.contracts.marked.MarkedReader.{the_row as reader_row};
@@ -45,7 +45,7 @@ use slot_handles::receiver_handle::ReceiverHandle;
 use slot_handles::taker_handle::TakerHandle;
 
 /// The number of the interface: raised with each change of a struct, a call or a number.
-pub const ABI: u32 = 7;
+pub const ABI: u32 = 8;
 
 /// The number of the interface of this library. A program compares it with that of the header that it was compiled
 /// with.
@@ -544,7 +544,8 @@ pub unsafe extern "C" fn yelunnavi_queue_make(at: *mut u8)
     std::ptr::write(at as *mut MarkedTaker, MarkedTaker::new())
 }
 
-/// Takes the oldest message, if this end knows of one, into the beginning of `out`, and tells its time and length.
+/// Takes the oldest message, if this end knows of one, into the beginning of `out`, and tells its time and length, and
+/// how many messages the queue lost right before it.
 /// `out` has to be as long as the port's longest message, else TOO_SHORT.
 #[unsafe(no_mangle)]
 pub extern "C" fn yelunnavi_queue_take(
@@ -562,6 +563,21 @@ pub extern "C" fn yelunnavi_queue_take(
         return NOT_MADE;
     }
     made.slot.take(out, reply)
+}
+
+/// Tells how many messages wait, after a look in this call.
+#[unsafe(no_mangle)]
+pub extern "C" fn yelunnavi_queue_waiting(h: &mut TakerHandle, waiting: &mut usize) -> u32
+    ensures place { (h.new.at ≡ h.old.at) × (h.new.room.mark ≡ h.old.room.mark) }
+    ensures code { result ≡ if_made taker_mark h.old.room.mark (taker_code h.old.room.slot) }
+    ensures told { result ≡ done → TellsWaiting h.old.room.slot h.new.room.slot waiting.new }
+    ensures same { 0 < result → (h.new.room.slot ≡ h.old.room.slot) × (waiting.new ≡ waiting.old) }
+{
+    let made = h.lend();
+    if made.mark != TAKER {
+        return NOT_MADE;
+    }
+    made.slot.waiting(waiting)
 }
 
 /// Tells the longest message of the port, in octets.

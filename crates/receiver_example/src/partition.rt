@@ -1,6 +1,6 @@
 //! The work of a partition: it has ends of ports, and nothing else of the receiver.
 ghost use Rattle.std.specs.Prelude.{◌≡◌, ◌<◌, IfNone, IfOk, IfSome, IsSome, length, take};
-ghost use Rattle.message_ring.specs.Queue.{SeemsEmpty, after_look, message, ring_with_taken};
+ghost use Rattle.message_ring.specs.Queue.{SeemsEmpty, after_look, queued, ring_with_taken};
 ghost use Rattle.mailbox_port.specs.Reads.{IfMessage, IsRead};
 ghost use Rattle.es_base.specs.Age.{freshness as freshness_at};
 
@@ -48,7 +48,7 @@ impl Partition {
     /// The oldest message of `nav` that wasn't taken. None: by a look in this call.
     pub fn take(&mut self) -> Option<Taken>
         ensures pos { self.new.pos ≡ self.old.pos }
-        ensures some { IfSome result (λ got. self.new.nav ≡ ring_with_taken self.old.nav (message got.time (take got.len self.new.out)) self.new.nav.put) }
+        ensures some { IfSome result (λ got. self.new.nav ≡ ring_with_taken self.old.nav (queued got.time (take got.len self.new.out) got.lost) self.new.nav.put) }
         ensures none { IfNone result (self.new ≡ record self.old { nav = after_look self.old.nav }) }
         ensures seems_empty { IfNone result (SeemsEmpty self.old.nav) }
         ensures next_is_known { length self.old.nav.taken < length self.old.nav.put → IsSome result }

@@ -6,13 +6,13 @@ ghost use Rattle.std.specs.Ptr.{points_to, uninit_at};
 ghost use Rattle.system_c.specs.Made.{made_pass};
 ghost use Rattle.slot_handles.specs.Marks.{after_close, if_made, is_made, pass_mark};
 ghost use Rattle.receiver_slots.specs.Codes.{busy, done, no_place, not_made, not_open};
-ghost use Rattle.system_slots.specs.Passing.{ComesToLink, TellsFiltered, TellsLinkHealth, CountsFrames, IsPlaceOfPass, Receives, count_code, filtered_code};
+ghost use Rattle.system_slots.specs.Passing.{ComesToLink, TellsFillByPass, TellsFiltered, TellsLinkHealth, CountsFrames, IsCodeOrBusy, IsPlaceOfPass, Receives, count_code, filtered_code, pass_fill_code};
 ghost use Rattle.system_c.specs.contracts.marked.MarkedPass.{the_row as pass_row};
 
 use crate::marked::{MarkedPass, PASS};
 use crate::pass_handle::PassHandle;
 use receiver_slots::codes::NOT_MADE;
-use receiver_slots::{FrameReply, LinkHealthReply};
+use receiver_slots::{FillReply, FrameReply, LinkHealthReply};
 
 /// Size of the slot of a network's pass, in octets. The room is aligned to 8.
 #[unsafe(no_mangle)]
@@ -100,6 +100,29 @@ pub extern "C" fn yelunnavi_pass_health(
         return NOT_MADE;
     }
     made.slot.health(link, reply)
+}
+
+/// Tells how full a port's queue is, by the places of its link and of the port in it: how many messages were delivered
+/// and not taken, as far as the system knows after it looked, and the greatest number that waited. NONE_LEFT if the port
+/// samples, and BUSY while the other network's thread has the link.
+#[unsafe(no_mangle)]
+pub extern "C" fn yelunnavi_pass_fill(
+    h: &mut PassHandle,
+    link: usize,
+    port: usize,
+    reply: &mut FillReply,
+) -> u32
+    ensures place { (h.new.at ≡ h.old.at) × (h.new.room.mark ≡ h.old.room.mark) }
+    ensures code { IsCodeOrBusy (if_made pass_mark h.old.room.mark (pass_fill_code h.old.room.slot link port)) result }
+    ensures told { result ≡ done → TellsFillByPass h.old.room.slot link port reply.new }
+    ensures kept { h.new.room.slot ≡ h.old.room.slot }
+    ensures same { 0 < result → reply.new ≡ reply.old }
+{
+    let made = h.lend();
+    if made.mark != PASS {
+        return NOT_MADE;
+    }
+    made.slot.fill(link, port, reply)
 }
 
 /// Tells the number of frames filtered on the pass's network for this cause, 1 to 5. It saturates at 2^64 - 1.

@@ -1,21 +1,24 @@
 -- A network's pass in a slot.
-use Rattle.std.specs.Prelude.{◌≡◌, ◌<◌, ℕ, List, slice_get, length, nat_lt, Option, None, Some, if◌then◌else◌}
+use Rattle.std.specs.Prelude.{◌≡◌, ◌<◌, ◌⊎◌, ℕ, List, slice_get, length, nat_lt, Option, None, Some, if◌then◌else◌}
 use Rattle.es_base.specs.Addressing.{ComesToPlace}
 use Rattle.es_base.specs.Limits.{filter_causes}
 use Rattle.es_base.specs.Settings.{Settings}
 use Rattle.es_base.specs.Tally.{count_in, is_kind}
 use Rattle.es_base.specs.Verdict.{verdict_kinds}
-use Rattle.link_core.specs.Counted.{shown}
+use Rattle.link_core.specs.Counted.{port_no, shown}
 use Rattle.link_core.specs.Past.{number_given_up}
 use Rattle.network_calls.specs.Calls.{count_calls}
 use Rattle.receiver.specs.declared.receiver.Reply.{Reply}
 use Rattle.network_calls.specs.Passes.{KnownNet, System, calls_with}
 use Rattle.live_system.specs.Checked.{latest_of}
+use Rattle.live_system.specs.Fill.{TellsOfQueue}
+use Rattle.live_system.specs.Meetings.{VisitsAt}
 use Rattle.live_system.specs.Pass.{KnownLink, Visits}
 use Rattle.live_system.specs.System.{IsPassOf, Replies, keeping_no_frame}
-use Rattle.receiver_slots.specs.Codes.{done, no_kind, no_place, not_open}
-use Rattle.receiver_slots.specs.Health.{link_health_reply_of}
+use Rattle.receiver_slots.specs.Codes.{busy, done, no_kind, no_place, not_open}
+use Rattle.receiver_slots.specs.Health.{link_health_reply_of, queue_code}
 use Rattle.receiver_slots.specs.Replies.{frame_reply_of}
+use Rattle.receiver_slots.specs.declared.told.replies.FillReply.{FillReply}
 use Rattle.receiver_slots.specs.declared.told.replies.FrameReply.{FrameReply}
 use Rattle.receiver_slots.specs.declared.told.replies.LinkHealthReply.{LinkHealthReply}
 
@@ -65,6 +68,33 @@ TellsLinkHealth (Some now) link told = TellsLinkHealthOf now link told
 abbrev pub IsPlaceOfPass : Option Passing → ℕ → Type 0
 IsPlaceOfPass None link = ⊥
 IsPlaceOfPass (Some now) link = link < length now.system.config.links
+
+-- ---- how full a queue is
+
+-- the code for a port of the link with these settings: one that samples has no queue
+abbrev pub settings_queue_code : Option Settings → ℕ → ℕ
+settings_queue_code None port = no_place
+settings_queue_code (Some settings) port = queue_code (slice_get settings.ports port)
+
+-- the code while nobody has the link
+abbrev pub pass_fill_code : Option Passing → ℕ → ℕ → ℕ
+pass_fill_code None link port = not_open
+pass_fill_code (Some now) link port = settings_queue_code (slice_get now.system.config.links link) port
+
+-- the code of a call that may find its link taken by the other network's thread: this one, or BUSY in the place of DONE
+-- rule: EMB-44
+abbrev pub IsCodeOrBusy : ℕ → ℕ → Type 0
+IsCodeOrBusy code result = (result ≡ code) ⊎ ((code ≡ done) × (result ≡ busy))
+
+-- the fill level of the queue of this port, by a look of its end of the queue in this call
+abbrev pub TellsFillOf : Passing → ℕ → ℕ → FillReply → Type 0
+TellsFillOf now link port told =
+    VisitsAt now.pass.links link (TellsOfQueue (port_no port) (Some (record { waiting = told.waiting; greatest = told.greatest })))
+
+-- rule: EMB-44
+abbrev pub TellsFillByPass : Option Passing → ℕ → ℕ → FillReply → Type 0
+TellsFillByPass None link port told = ⊥
+TellsFillByPass (Some now) link port told = TellsFillOf now link port told
 
 -- ---- counts
 

@@ -1,11 +1,11 @@
 //! A slot for a network's pass.
 ghost use Rattle.std.specs.Prelude.{◌≡◌, ◌<◌, ◌↔◌, ◌⊎◌, is_none, None, Some};
 ghost use Rattle.receiver_slots.specs.Codes.{busy, done, no_place, not_open};
-ghost use Rattle.system_slots.specs.Passing.{ComesToLink, TellsFiltered, TellsLinkHealth, CountsFrames, IsPlaceOfPass, Passing as Seen, Receives, count_code, filtered_code};
+ghost use Rattle.system_slots.specs.Passing.{ComesToLink, TellsFillByPass, TellsFiltered, TellsLinkHealth, CountsFrames, IsCodeOrBusy, IsPlaceOfPass, Passing as Seen, Receives, count_code, filtered_code, pass_fill_code};
 
 use crate::passing::Passing;
 use receiver_slots::codes::{BUSY, DONE, NO_KIND, NO_PLACE, NOT_OPEN};
-use receiver_slots::{FrameReply, LinkHealthReply, cause_of, kind_of};
+use receiver_slots::{FillReply, FrameReply, LinkHealthReply, cause_of, kind_of};
 use std::marker::Model;
 
 /// The pass of one network, by which its thread gives frames to the system; or none.
@@ -108,6 +108,27 @@ impl PassSlot {
         };
         *reply = told;
         DONE
+    }
+
+    /// Tells how full a port's queue is, by the places of its link and of the port in it: how many messages were
+    /// delivered and not taken, as far as the system knows after it looked, and the greatest number that waited.
+    /// NONE_LEFT if the port samples, and BUSY while the other network's thread has the link.
+    pub fn fill(&mut self, link: usize, port: usize, reply: &mut FillReply) -> u32
+        ensures code { IsCodeOrBusy (pass_fill_code self.old link port) result }
+        ensures told { result ≡ done → TellsFillByPass self.old link port reply.new }
+        ensures kept { self.new ≡ self.old }
+        ensures same { 0 < result → reply.new ≡ reply.old }
+    {
+        let Some(passing) = &mut self.passing else {
+            return NOT_OPEN;
+        };
+        match passing.try_fill(link, port) {
+            Ok(told) => {
+                *reply = told;
+                DONE
+            }
+            Err(code) => code,
+        }
     }
 
     /// Tells the number of frames filtered on the pass's network for this cause, 1 to 5. It saturates at 2^64 - 1.

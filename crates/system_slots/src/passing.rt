@@ -1,9 +1,14 @@
 //! A network's pass, with its system.
-ghost use Rattle.std.specs.Prelude.{◌≡◌, ◌<◌, IfNone, IfSome, Some, length};
-ghost use Rattle.system_slots.specs.Passing.{ComesToLink, ReceivesBy, TellsLinkHealthOf};
+ghost use Rattle.std.specs.Prelude.{◌≡◌, ◌<◌, IfErr, IfNone, IfOk, IfSome, Some, length};
+ghost use Rattle.receiver_slots.specs.Handing.{code_of};
+ghost use Rattle.system_slots.specs.Passing.{ComesToLink, IsCodeOrBusy, ReceivesBy, TellsFillOf, TellsLinkHealthOf, pass_fill_code};
 
+use es_base::{PortKind, PortNo};
 use live_system::{LiveSystem, NetPass};
-use receiver_slots::{FrameReply, LinkHealthReply, frame_reply_of, link_health_reply_of};
+use receiver_slots::codes::{BUSY, NO_PLACE, NONE_LEFT};
+use receiver_slots::{
+    FillReply, FrameReply, LinkHealthReply, fill_reply_of, frame_reply_of, link_health_reply_of,
+};
 use std::alloc::Global;
 use std::marker::Model;
 use std::sync::Arc;
@@ -47,5 +52,32 @@ impl Passing {
         let latest = self.system.latest(&self.pass, link);
         let health = self.system.try_health(&mut self.pass, link)?;
         Some(link_health_reply_of(latest, health.received, health.given_up))
+    }
+
+    /// How full a port's queue is, by the places of its link and of the port in it. The error is the code if there is
+    /// no such queue, and BUSY while the other network's thread has the link.
+    pub fn try_fill(&mut self, link: usize, port: usize) -> Result<FillReply, u32>
+        ensures same { self.new ≡ self.old }
+        ensures ok { IfOk result (λ told. TellsFillOf self.old link port told) }
+        ensures code { IsCodeOrBusy (pass_fill_code (Some self.old) link port) (code_of result) }
+        ensures refused { IfErr result (λ code. 0 < code) }
+    {
+        let Some(settings) = self.system.config().links().get(link) else {
+            return Err(NO_PLACE);
+        };
+        let Some(settings) = settings.ports().get(port) else {
+            return Err(NO_PLACE);
+        };
+        if let PortKind::Sampling { refresh: _ } = settings.kind() {
+            return Err(NONE_LEFT);
+        }
+        match self
+            .system
+            .try_fill(&mut self.pass, link, PortNo(port as u8))
+        {
+            None => Err(BUSY),
+            Some(Some(fill)) => Ok(fill_reply_of(fill)),
+            Some(None) => unreachable!(),
+        }
     }
 }

@@ -190,13 +190,28 @@ fn check_ring(rt: &impl Abort, alloc: Global) {
     let mut out = [0; 3];
     mark(rt, alloc);
     assert!(rt; putter.has_room());
-    putter.put(1, &[7, 8, 9]);
+    putter.put(1, &[7, 8, 9], 0);
     assert!(rt; putter.has_room());
-    putter.put(2, &[7]);
+    putter.put(2, &[7], 5);
     assert!(rt; !putter.has_room());
     message_ring::meet(&mut putter, &mut taker);
-    assert!(rt; taker.take(&mut out) == Some(Taken { time: 1, len: 3 }) && out == [7, 8, 9]);
-    assert!(rt; taker.take(&mut out) == Some(Taken { time: 2, len: 1 }));
+    assert!(rt;
+        taker.take(&mut out)
+            == Some(Taken {
+                time: 1,
+                len: 3,
+                lost: 0
+            })
+            && out == [7, 8, 9]
+    );
+    assert!(rt;
+        taker.take(&mut out)
+            == Some(Taken {
+                time: 2,
+                len: 1,
+                lost: 5
+            })
+    );
     assert!(rt; taker.take(&mut out).is_none());
 }
 

@@ -7,6 +7,8 @@ mod bursts;
 #[cfg(test)]
 mod example;
 #[cfg(test)]
+mod fills;
+#[cfg(test)]
 mod frames;
 #[cfg(test)]
 mod meetings;

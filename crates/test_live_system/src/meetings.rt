@@ -67,6 +67,7 @@ fn meet_taker(rt: &(impl Abort + Wait), alloc: Global) {
     let wanted = Taken {
         time: 1000,
         len: 17,
+        lost: 0,
     };
     assert!(rt; taker.take(&mut out) == Some(wanted));
 }

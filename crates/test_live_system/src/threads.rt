@@ -4,15 +4,17 @@ ghost use Rattle.es_base.specs.declared.place.Net.TheVariants.{A, B};
 ghost use Rattle.live_system.specs.System.{IsPassOf};
 
 use crate::bursts::{NOTHING, lent};
+use crate::fills::fill;
 use crate::running::{LINK_17, open};
 use es_base::Net;
-use live_system::{LinkEnds, LiveSystem, NetPass, Opened, PartitionEnd, Reply, Settled};
+use live_system::{Fill, LinkEnds, LiveSystem, NetPass, Opened, PartitionEnd, Reply, Settled};
 use receiver::{MailboxReader, Reading};
 use std::alloc::Global;
 use std::process::Abort;
 use std::sync::Wait;
 use std::thread;
 use std::thread::{Threads, join};
+use test_inputs::rows::NAV;
 use test_inputs::smallest;
 
 /// Number of frames that each network gives. So few that no sequence number is ahead of a later one, however far one
@@ -30,7 +32,8 @@ fn place_of(rt: &impl Abort, reply: Reply) -> u64 {
     }
 }
 
-/// How a thread gives its frames: one by one, and waits for the link of each, or tries until it is free; or in bursts.
+/// How a thread gives its frames: one by one, and waits for the link of each, or tries until it is free, and asks by tries
+/// how full a queue is; or in bursts.
 #[derive(Clone, Copy, PartialEq, Eq)]
 enum How {
     Each,
@@ -58,8 +61,27 @@ fn give_by_tries<R: Wait>(
     unreachable!()
 }
 
+/// Asks how full the queue of `nav` is until nobody has its link: no message came for it.
+fn ask_by_tries<R: Abort + Wait>(rt: &R, system: &LiveSystem, pass: &mut NetPass)
+    requires { IsPassOf system.now pass.old }
+    ensures { IsPassOf system.now pass.new × (pass.new.net ≡ pass.old.net) }
+{
+    let empty = Fill {
+        waiting: 0,
+        greatest: 0,
+    };
+    for _ in rt.forever() {
+        if let Some(told) = fill(rt, system, pass, 0, NAV) {
+            assert!(rt; told == Some(empty));
+            return;
+        }
+        thread::yield_now();
+    }
+    unreachable!()
+}
+
 /// Gives a frame, by tries or not.
-fn give_one<R: Wait>(
+fn give_one<R: Abort + Wait>(
     rt: &R,
     system: &LiveSystem,
     pass: &mut NetPass,
@@ -71,6 +93,7 @@ fn give_one<R: Wait>(
     ensures { IsPassOf system.now pass.new × (pass.new.net ≡ pass.old.net) }
 {
     if how == How::ByTries {
+        ask_by_tries(rt, system, pass);
         give_by_tries(rt, system, pass, now, octets)
     } else {
         system.receive(rt, pass, now, octets)
@@ -285,7 +308,7 @@ fn two_threads_with_bursts_end_as_one_does(rt: HostRuntime) {
     check_ended(&rt, on_two_threads(&rt, rt.alloc(), How::AtOnce));
 }
 
-// rule: CONC-7, EMB-31
+// rule: CONC-7, EMB-31, EMB-43
 #[test]
 fn two_threads_that_try_end_as_one_does(rt: HostRuntime) {
     check_ended(&rt, on_two_threads(&rt, rt.alloc(), How::ByTries));

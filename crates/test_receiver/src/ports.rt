@@ -59,13 +59,18 @@ fn every_reader_of_a_port_reads_the_newest_message(rt: HostRuntime) {
     check_all_read(&rt, rt.alloc());
 }
 
-/// The taker takes the message of this time.
-pub(crate) fn take(rt: &impl Abort, taker: &mut RingTaker, time: u64) {
+/// The taker takes the message of this time, right before which so many were lost.
+fn take_after(rt: &impl Abort, taker: &mut RingTaker, time: u64, lost: u64) {
     let mut out = [0; 8192];
     assert!(rt; taker.max() <= out.len());
     let got = taker.take(&mut out).expect(rt, "a message");
-    assert!(rt; got.time == time && got.len == 17);
+    assert!(rt; got.time == time && got.len == 17 && got.lost == lost);
     assert!(rt; out.starts_with(&OCTETS));
+}
+
+/// The taker takes the message of this time, right before which none was lost.
+pub(crate) fn take(rt: &impl Abort, taker: &mut RingTaker, time: u64) {
+    take_after(rt, taker, time, 0);
 }
 
 /// The taker finds no message.
@@ -99,9 +104,10 @@ fn check_queue(rt: &impl Abort, alloc: Global) {
     take(rt, &mut given.taker, 1000);
     bring(rt, alloc, &mut given, 6, Queued(NAV));
     bring(rt, alloc, &mut given, 7, Overflow(NAV));
-    for time in [2000, 3000, 4000, 6000] {
+    for time in [2000, 3000, 4000] {
         take(rt, &mut given.taker, time);
     }
+    take_after(rt, &mut given.taker, 6000, 1);
     check_empty(rt, &mut given.taker);
     check_count(rt, &given, A, Queued(NAV), 5);
     check_count(rt, &given, A, Overflow(NAV), 2);
@@ -111,4 +117,36 @@ fn check_queue(rt: &impl Abort, alloc: Global) {
 #[test]
 fn a_taker_takes_in_order_and_makes_room(rt: HostRuntime) {
     check_queue(&rt, rt.alloc());
+}
+
+/// The queue of `nav` holds four messages.
+fn check_losses(rt: &impl Abort, alloc: Global) {
+    let mut given = opened(rt, alloc);
+    assert!(rt; given.taker.waiting() == 0);
+    for number in 1..=4 {
+        bring(rt, alloc, &mut given, number, Queued(NAV));
+    }
+    bring(rt, alloc, &mut given, 5, Overflow(NAV));
+    bring(rt, alloc, &mut given, 6, Overflow(NAV));
+    assert!(rt; given.taker.waiting() == 4);
+    take(rt, &mut given.taker, 1000);
+    bring(rt, alloc, &mut given, 7, Queued(NAV));
+    bring(rt, alloc, &mut given, 8, Overflow(NAV));
+    for time in [2000, 3000, 4000] {
+        take(rt, &mut given.taker, time);
+    }
+    take_after(rt, &mut given.taker, 7000, 2);
+    assert!(rt; given.taker.waiting() == 0);
+    bring(rt, alloc, &mut given, 9, Queued(NAV));
+    bring(rt, alloc, &mut given, 10, Queued(NAV));
+    assert!(rt; given.taker.waiting() == 2);
+    take_after(rt, &mut given.taker, 9000, 1);
+    take(rt, &mut given.taker, 10_000);
+    check_empty(rt, &mut given.taker);
+}
+
+// rule: PORT-19, EMB-10
+#[test]
+fn a_taker_is_told_what_was_lost_before_each_message(rt: HostRuntime) {
+    check_losses(&rt, rt.alloc());
 }

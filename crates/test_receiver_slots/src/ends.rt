@@ -162,6 +162,7 @@ pub(crate) fn take(slot: &mut TakerSlot, out: &mut [u8]) -> (u32, TakeReply) {
 fn check_taker_handed(rt: &impl Abort, slot: &mut ReceiverSlot, nav: &mut TakerSlot) {
     let mut out = [0; 8192];
     assert!(rt; take(nav, &mut out).0 == NOT_OPEN && nav.longest(&mut 0) == NOT_OPEN);
+    assert!(rt; nav.waiting(&mut 0) == NOT_OPEN);
     assert!(rt;
         slot.hand_taker(nav, b"pos") == NONE_LEFT && slot.hand_taker(nav, b"na") == NO_NAME
     );
@@ -181,6 +182,8 @@ fn check_takes(rt: &impl Abort, alloc: Global) {
     for number in 1..=2 {
         assert!(rt; bring(rt, alloc, &mut slot, true, number) == QUEUED);
     }
+    let mut waiting = 9;
+    assert!(rt; nav.waiting(&mut waiting) == DONE && waiting == 2);
     let mut short = [0; 8191];
     assert!(rt; take(&mut nav, &mut short).0 == TOO_SHORT);
     for number in 1..=2u64 {
@@ -188,6 +191,7 @@ fn check_takes(rt: &impl Abort, alloc: Global) {
             found: 1,
             time: number * 1000,
             len: 17,
+            lost: 0,
         };
         assert!(rt; take(&mut nav, &mut out) == (DONE, wanted) && out.starts_with(&OCTETS));
     }
@@ -212,8 +216,13 @@ fn check_time(rt: &impl Abort, alloc: Global, time: u64) {
     let sampled = reply(rt, &mut slot, (0, time), &frame(rt, alloc, false, 1)).kind;
     let queued = reply(rt, &mut slot, (0, time), &frame(rt, alloc, true, 2)).kind;
     assert!(rt; sampled == SAMPLED && queued == QUEUED);
-    let (mut out, found, len) = ([0; 8192], 1, 17);
-    let taken = TakeReply { found, time, len };
+    let (mut out, found, len, lost) = ([0; 8192], 1, 17, 0);
+    let taken = TakeReply {
+        found,
+        time,
+        len,
+        lost,
+    };
     assert!(rt; take(&mut nav, &mut out) == (DONE, taken));
     let mut newest = message(1, 1);
     newest.time = time;

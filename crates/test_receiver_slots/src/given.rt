@@ -38,6 +38,7 @@ pub(crate) const NOTHING_TAKEN: TakeReply = TakeReply {
     found: 0,
     time: 0,
     len: 0,
+    lost: 0,
 };
 
 /// A reply that no call gives for a link.

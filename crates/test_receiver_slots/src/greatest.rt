@@ -89,6 +89,7 @@ fn check_taken(rt: &impl Abort, slot: &mut ReceiverSlot, port: u16, name: &[u8])
         found: 1,
         time: time_of(port),
         len: 17,
+        lost: 0,
     };
     let mut out = [0; 17];
     assert!(rt; take(&mut taker, &mut out) == (DONE, wanted), "{port}");

@@ -4,7 +4,9 @@ use receiver_slots::codes::{
     ALREADY_OPEN, DONE, FAULTY, NO_KIND, NO_NAME, NO_NETWORK, NO_PLACE, NONE_LEFT, NOT_OPEN,
     OUT_OF_RANGE,
 };
-use receiver_slots::{FrameReply, LinkHealthReply, PlaceReply, PortReply, ReaderSlot, TakerSlot};
+use receiver_slots::{
+    FillReply, FrameReply, LinkHealthReply, PlaceReply, PortReply, ReaderSlot, TakerSlot,
+};
 use std::alloc::Global;
 use std::process::Abort;
 use system_slots::{PassSlot, SystemSlot, hand_pass};
@@ -167,6 +169,45 @@ fn check_frames(rt: &impl Abort, alloc: Global) {
 #[test]
 fn what_becomes_of_a_frame_is_told_by_its_pass(rt: HostRuntime) {
     check_frames(&rt, rt.alloc());
+}
+
+/// How many messages wait at a port and waited at most by a pass, and what is answered.
+fn fill(pass: &mut PassSlot, link: usize, port: usize) -> (u32, usize, usize) {
+    let mut reply = FillReply {
+        waiting: 99,
+        greatest: 99,
+    };
+    let code = pass.fill(link, port, &mut reply);
+    (code, reply.waiting, reply.greatest)
+}
+
+/// Both passes tell the same of a queue, before a message is taken and after.
+fn check_fill(rt: &impl Abort, alloc: Global) {
+    let Running {
+        mut system,
+        mut a,
+        mut b,
+    } = opened(rt, alloc);
+    let mut nav = TakerSlot::new();
+    assert!(rt; system.hand_taker(&mut nav, b"nav") == DONE);
+    assert!(rt; fill(&mut a, 0, 1) == (DONE, 0, 0));
+    assert!(rt; reply(rt, &mut a, 1000, &frame(rt, alloc, true, 1)).kind == 11);
+    assert!(rt; reply(rt, &mut b, 2000, &frame(rt, alloc, true, 2)).kind == 11);
+    assert!(rt; fill(&mut a, 0, 1) == (DONE, 2, 2) && fill(&mut b, 0, 1) == (DONE, 2, 2));
+    let (mut room, mut taken) = ([0; 8192], NOTHING_TAKEN);
+    assert!(rt; nav.take(&mut room, &mut taken) == DONE && taken.found == 1);
+    assert!(rt; fill(&mut b, 0, 1) == (DONE, 1, 2));
+    assert!(rt; fill(&mut a, 0, 0) == (NONE_LEFT, 99, 99));
+    assert!(rt; fill(&mut a, 0, 2) == (NO_PLACE, 99, 99));
+    assert!(rt; fill(&mut a, 2, 0) == (NO_PLACE, 99, 99));
+    a.close();
+    assert!(rt; fill(&mut a, 0, 1) == (NOT_OPEN, 99, 99));
+}
+
+// rule: EMB-44
+#[test]
+fn each_pass_tells_how_full_a_queue_is(rt: HostRuntime) {
+    check_fill(&rt, rt.alloc());
 }
 
 /// Each network's pass is handed out once.

@@ -52,6 +52,7 @@ fn nothing_taken() -> TakeReply {
         found: 0,
         time: 0,
         len: 0,
+        lost: 0,
     }
 }
 

@@ -3,4 +3,4 @@ use Rattle.message_ring.proofs.Turns.{put_looks_at}
 use Rattle.message_ring.proofs.steps.Slots.look_taken.Goals as goal
 
 pub load-requires : goal.load-requires
-load-requires c = (search rules, search rules, put_looks_at _ _ _ _ c.requires.putter.0 c.requires.putter.1)
+load-requires c = (search rules, search rules, put_looks_at _ _ _ _ c.requires.putter)

@@ -18,4 +18,4 @@ store-requires c =
 
 pub returns-clause-put : goal.returns-clause-put
 returns-clause-put c = let t = c.load.ensures.2 in
-    put_done _ _ _ _ _ _ t.0 c.write.new.self _ _ c.requires.seat t.1 c.store.ensures.2 c.write.ensures.time c.write.ensures.octets
+    put_done _ _ _ _ _ _ t.0 c.write.new.self _ _ _ c.requires.seat t.1 c.store.ensures.2 c.write.ensures.time c.write.ensures.octets c.write.ensures.lost

@@ -1,5 +1,5 @@
 use Rattle.std.proofs.Common.{rules, ap, sym, ◌≡◌, ◌∙◌}
-use Rattle.message_ring.specs.Queue.{message}
+use Rattle.message_ring.specs.Queue.{queued}
 use Rattle.message_ring.specs.Rule.{in_slot}
 use Rattle.message_ring.specs.Plays.{QueueSeat}
 use Rattle.message_ring.proofs.Seats.{first_is, take_done, take_may_go, there}
@@ -7,7 +7,7 @@ use Rattle.message_ring.proofs.Turns.{take_enters_at}
 use Rattle.message_ring.proofs.steps.Slots.take.Goals as goal
 
 pub load-requires : goal.load-requires
-load-requires c = let may = c.requires.seat in (search rules, search rules, take_enters_at _ _ _ _ may.seat may.outside may.more)
+load-requires c = let may = c.requires.seat in (search rules, search rules, take_enters_at _ _ _ _ may.seat may.outside may.more may.sure)
 
 pub slot_mut-requires : goal.slot_mut-requires
 slot_mut-requires c = let t = c.load.ensures.2 in (search rules, (t.0, there _ _ _ _ _ (ap (λ (m : QueueSeat). m.1) t.1) c.requires.seat.next_is))
@@ -22,4 +22,4 @@ pub returns-clause-taken : goal.returns-clause-taken
 returns-clause-taken c =
     let t = c.load.ensures.2 in
     let read = c.read-taken.ensures in
-    take_done _ _ _ _ _ _ t.0 c.read-taken.new.self _ c.requires.seat t.1 c.store.ensures.2 (ap in_slot read.slot ∙ (λ i. message (sym read.time i) (sym read.octets i)))
+    take_done _ _ _ _ _ _ t.0 c.read-taken.new.self _ c.requires.seat t.1 c.store.ensures.2 (ap in_slot read.slot ∙ (λ i. queued (sym read.time i) (sym read.octets i) (sym read.lost i)))

@@ -2,9 +2,10 @@ use Rattle.std.proofs.Common.{◌≡◌, ◌∙◌, ap, sym, refl, [], Some}
 use Rattle.std.specs.List.{slice_get, slice_set}
 use Rattle.std.proofs.lemmas.Option.{slice_get-get_or, slice_get_within}
 use Rattle.receiver.specs.Link.{IsPorted, ported}
-use Rattle.receiver.specs.Port.{AnswersPort, GivesPort, HasSpacePort, ShowsPort}
+use Rattle.receiver.specs.Port.{AnswersPort, GivesPort, HasSpacePort, LosesPort, ShowsPort}
 use Rattle.receiver.specs.PortLaws.{port_stays}
 use Rattle.receiver.proofs.Given.{given_one}
+use Rattle.receiver.proofs.Losses.{still_loses}
 use Rattle.receiver.proofs.Meets.{met}
 use Rattle.receiver.proofs.Fills.{filled_at}
 use Rattle.es_base.proofs.Elements.{slice_get-set_same}
@@ -15,8 +16,10 @@ invariant_of-self-2 c =
     let s = c.self.inside in
     let opened = s.outlets.items in
     let at = c.args.port.0 in
-    let there : slice_get opened at ≡ Some c.in_ok-outlet.outlet.now = slice_get-get_or opened at c.in_ok-outlet.outlet.now (c.in_ok-outlet.ensures.item.3.0) ∙ ap (λ outlet. Some outlet) (sym c.in_ok-outlet.ensures.value) in
-    met s.core opened s.received at c.in_ok-outlet.outlet.now c.fill.new.self there c.fill.ensures.outlet c.self.invariant
+    let there : slice_get opened at ≡ Some c.in_ok-outlet.outlet.now = slice_get-get_or opened at c.in_ok-outlet.outlet.now (c.in_ok-outlet.ensures.item.3.0) ∙ ap (λ outlet. Some outlet) (sym c.in_ok-outlet.ensures.value) in (
+      met s.core opened s.received at c.in_ok-outlet.outlet.now c.fill.new.self there c.fill.ensures.outlet c.self.invariant.0,
+      still_loses LosesPort s.core opened s.received at c.in_ok-outlet.outlet.now c.fill.new.self there c.fill.ensures.losses c.self.invariant.1,
+    )
 
 pub returns-clause-outlets : goal.returns-clause-outlets
 returns-clause-outlets c = λ place.
@@ -33,7 +36,7 @@ returns-clause-fill c =
     let at = c.args.port.0 in
     let there : slice_get opened at ≡ Some c.in_ok-outlet.outlet.now = slice_get-get_or opened at c.in_ok-outlet.outlet.now (c.in_ok-outlet.ensures.item.3.0) ∙ ap (λ outlet. Some outlet) (sym c.in_ok-outlet.ensures.value) in
     let after : IsPorted ShowsPort (ported s.core (slice_set opened at c.fill.new.self) s.received) =
-    met s.core opened s.received at c.in_ok-outlet.outlet.now c.fill.new.self there c.fill.ensures.outlet c.self.invariant in
+    met s.core opened s.received at c.in_ok-outlet.outlet.now c.fill.new.self there c.fill.ensures.outlet c.self.invariant.0 in
     let here = slice_get-set_same opened at c.fill.new.self (slice_get_within opened at c.in_ok-outlet.outlet.now there) in
     rw here (filled_at _ c.fill.new.self _ c.fill.result (rw here at (after.shown at)) c.fill.ensures.fill)
 

@@ -41,4 +41,4 @@ returns-clause-known c =
     let was : slice_get opened at ≡ Some c.requires.0 = rw (← c.self.view_is) at c.requires.1 in
     let there : slice_get opened at ≡ Some c.index_mut.result.now = rw c.index_mut.ensures.value (slice_get-get_or opened at _ (slice_get_within opened at c.requires.0 was)) in
     let here : slice_get opened at ≡ Some c.meet_reader.new.self = rw c.meet_reader.ensures.outlet there in
-    rw (← c.self.view_is) (known _ c.meet_reader.new.self c.meet_reader.new.reader _ (rw here at (c.self.invariant.shown at)) c.meet_reader.ensures.met)
+    rw (← c.self.view_is) (known _ c.meet_reader.new.self c.meet_reader.new.reader _ (rw here at (c.self.invariant.0.shown at)) c.meet_reader.ensures.met)

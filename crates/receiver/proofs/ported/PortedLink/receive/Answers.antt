@@ -6,9 +6,10 @@ use Rattle.es_base.specs.Frame.{link_number_of}
 use Rattle.es_base.specs.Past.{arrived}
 use Rattle.link_core.specs.Link.{arrival_in, outcome_after}
 use Rattle.link_core.specs.Seen.{kept_away}
-use Rattle.receiver.specs.Link.{Ported, Takes, ported}
-use Rattle.receiver.specs.Outlet.{ArePut, HasSpaceForLent}
+use Rattle.receiver.specs.Link.{Ported, Takes, TellsLosses, ported}
+use Rattle.receiver.specs.Outlet.{CountsPut, ArePut, HasSpaceForLent}
 use Rattle.receiver.proofs.Frames.{IsAsked, IsLent, has_its_place, if_refused, may_be_refused, takes_it, with_room}
+use Rattle.receiver.proofs.Losses.{nobody_counts, tells_more}
 use Rattle.receiver.proofs.Turned.{nobody_asked, none_refused, nothing_lent}
 use Rattle.receiver.proofs.ported.PortedLink.receive.Given as given
 use Rattle.receiver.proofs.ported.PortedLink.receive.Goals as goal
@@ -36,10 +37,22 @@ takes_nothing g c =
     let new : Ported _ = ported c.turn_away.new.self c.self.inside.outlets.items c.saturating_add-self-inside.result in
     let a = arrived c.args.net c.args.now c.args.frame.now.whole.now in
     takes_it o.shows o.has_space o.gives o.answers laws.stays laws.adds laws.full laws.joins old new old.outlets a true c.in-Some.verdict None
-    (nobody_asked o.shows o.has_space o.gives o.answers old a c.in-Some.verdict (turned_away g c)) (lent_nothing g c) refl c.self.invariant c.saturating_add-self-inside.ensures
+    (nobody_asked o.shows o.has_space o.gives o.answers old a c.in-Some.verdict (turned_away g c)) (lent_nothing g c) refl c.self.invariant.0 c.saturating_add-self-inside.ensures
+
+tells_nothing : (g : given.Over) (c : goal.In-Some g) → TellsLosses g.P.Outlet.loses (ported c.turn_away.new.self c.self.inside.outlets.items c.saturating_add-self-inside.result)
+tells_nothing g c =
+    let o = g.P.Outlet in
+    let old = ported c.self.inside.core c.self.inside.outlets.items c.self.inside.received in
+    let new : Ported _ = ported c.turn_away.new.self c.self.inside.outlets.items c.saturating_add-self-inside.result in
+    let a = arrived c.args.net c.args.now c.args.frame.now.whole.now in
+    tells_more o.loses o.shows o.has_space old new old.outlets a true c.in-Some.verdict None
+    (nobody_counts o.loses o.shows o.has_space old a c.in-Some.verdict (turned_away g c)) (lent_nothing g c) refl tt c.self.invariant.1
 
 pub invariant_of-self : goal.invariant_of-self
-invariant_of-self g c = (takes_nothing g c).after
+invariant_of-self g c = ((takes_nothing g c).after, tells_nothing g c)
+
+pub returns-in-Some-clause-losses : goal.returns-in-Some-clause-losses
+returns-in-Some-clause-losses g c = tells_nothing g c
 
 pub returns-in-Some-clause-takes : goal.returns-in-Some-clause-takes
 returns-in-Some-clause-takes g c = rw (← c.self.view_is) (takes_nothing g c)
@@ -94,7 +107,7 @@ its_place g c =
     let old = ported c.self.inside.core c.self.inside.outlets.items c.self.inside.received in
     let a = arrived c.args.net c.args.now c.args.frame.now.whole.now in
     has_its_place o.shows o.has_space o.gives o.answers laws.stays laws.adds old c.room_in-room.new.outlets.items c.take-taken.follows.lender-at-none a c.room_in-room.result c.take-taken.result.verdict c.take-taken.result.payload
-    (asked g c) (lent g c) c.self.invariant
+    (asked g c) (lent g c) c.self.invariant.0
 
 pub take-taken-requires-clause-room : goal.take-taken-requires-clause-room
 take-taken-requires-clause-room g c = λ full.
@@ -103,7 +116,7 @@ take-taken-requires-clause-room g c = λ full.
     let a = arrived c.args.net c.args.now c.args.frame.now.whole.now in
     let asked : IsAsked o.shows o.has_space o.gives o.answers old c.room_in-room.new.outlets.items a c.room_in-room.result =
     rw (c.decision.ensures ∙ c.look-step.ensures.step.decided, c.in_default.ensures.same, c.look-step.ensures.received) at c.room_in-room.ensures.answer in
-    rw (c.in_default.ensures.same, c.look-step.ensures.received) (may_be_refused o.shows o.has_space o.gives o.answers g.met.P.Outlet.full old c.room_in-room.new.outlets.items a c.room_in-room.result asked c.self.invariant full)
+    rw (c.in_default.ensures.same, c.look-step.ensures.received) (may_be_refused o.shows o.has_space o.gives o.answers g.met.P.Outlet.full old c.room_in-room.new.outlets.items a c.room_in-room.result asked c.self.invariant.0 full)
 
 pub index_mut-requires : goal.index_mut-requires
 index_mut-requires g c =
@@ -129,9 +142,34 @@ put g c = elim c.match-taken.branch [
       rw (w.self-inside-is, w.in-Some-payload.is)
       (λ before found.
       let there : slice_get mid port ≡ Some w.index_mut.result.now = rw w.index_mut.ensures.value (slice_get-get_or mid port _ (slice_get_within mid port before found)) in
-      (w.put.new.self, rw (same_Some _ _ (sym found ∙ there)) w.put.ensures, refl))
+      (w.put.new.self, rw (same_Some _ _ (sym found ∙ there)) w.put.ensures.given, refl))
   | in_default-payload w ↦ rw (w.self-inside-is, w.in_default-payload.is) refl
 ]
+
+-- which counts it
+counted : (g : given.Over) (c : Joined-taken g) → CountsPut g.P.Outlet.loses c.room_in-room.new.outlets.items c.match-taken.self-inside.1.1.1.0.items c.take-taken.result.payload
+counted g c = elim c.match-taken.branch [
+  | in-Some-payload w ↦
+      let mid = c.room_in-room.new.outlets.items in
+      let port = w.in-Some-payload.lent.port.0 in
+      rw (w.self-inside-is, w.in-Some-payload.is)
+      (λ before found.
+      let there : slice_get mid port ≡ Some w.index_mut.result.now = rw w.index_mut.ensures.value (slice_get-get_or mid port _ (slice_get_within mid port before found)) in
+      (w.put.new.self, rw (same_Some _ _ (sym found ∙ there)) w.put.ensures.counted, refl))
+  | in_default-payload w ↦ rw (w.self-inside-is, w.in_default-payload.is) refl
+]
+
+-- and the link knows what was lost
+tells : (g : given.Over) (c : After-take-taken g) (outlets : List g.row.P.Denot) → CountsPut g.P.Outlet.loses c.room_in-room.new.outlets.items outlets c.take-taken.result.payload
+    → TellsLosses g.P.Outlet.loses (ported c.take-taken.follows.lender-at-none outlets c.saturating_add-self-inside.result)
+tells g c outlets counts =
+    let o = g.P.Outlet in
+    let old = ported c.self.inside.core c.self.inside.outlets.items c.self.inside.received in
+    let new : Ported _ = ported c.take-taken.follows.lender-at-none outlets c.saturating_add-self-inside.result in
+    let a = arrived c.args.net c.args.now c.args.frame.now.whole.now in
+    let answer = rw (c.decision.ensures ∙ c.look-step.ensures.step.decided, c.in_default.ensures.same, c.look-step.ensures.received) at c.room_in-room.ensures.counted in
+    tells_more o.loses o.shows o.has_space old new c.room_in-room.new.outlets.items a c.room_in-room.result c.take-taken.result.verdict c.take-taken.result.payload
+    answer (lent g c) counts (its_place g c) c.self.invariant.1
 
 -- the link took it
 takes : (g : given.Over) (c : After-take-taken g) (outlets : List g.row.P.Denot) → ArePut g.P.Outlet.gives c.room_in-room.new.outlets.items outlets c.args.now c.take-taken.result.payload
@@ -144,12 +182,17 @@ takes g c outlets put =
     let new : Ported _ = ported c.take-taken.follows.lender-at-none outlets c.saturating_add-self-inside.result in
     let a = arrived c.args.net c.args.now c.args.frame.now.whole.now in
     takes_it o.shows o.has_space o.gives o.answers laws.stays laws.adds laws.full laws.joins old new c.room_in-room.new.outlets.items a c.room_in-room.result c.take-taken.result.verdict c.take-taken.result.payload
-    (asked g c) (lent g c) put c.self.invariant c.saturating_add-self-inside.ensures
+    (asked g c) (lent g c) put c.self.invariant.0 c.saturating_add-self-inside.ensures
 
 pub invariant_of-self-2 : goal.invariant_of-self-2
 invariant_of-self-2 g c =
     let at = goal.at.invariant_of-self-2 g c in
-    (takes g at.After-take-taken _ (put g at.Joined-taken)).after
+    ((takes g at.After-take-taken _ (put g at.Joined-taken)).after, tells g at.After-take-taken _ (counted g at.Joined-taken))
+
+pub returns-clause-losses : goal.returns-clause-losses
+returns-clause-losses g c =
+    let at = goal.at.returns-clause-losses g c in
+    tells g at.After-take-taken _ (counted g at.Joined-taken)
 
 pub returns-clause-takes : goal.returns-clause-takes
 returns-clause-takes g c =
