@@ -24,7 +24,7 @@ procedure Frames is
    Fault : Fault_Reply := (0, 0, 0, 0, 0, 0);
    Told : Verdict_Reply := (0, 0, 0, 0, 0, 0, 0);
    Found : Read_Reply := (0, 0, 0, 0, 0);
-   Taken : Take_Reply := (0, 0, 0);
+   Taken : Take_Reply := (0, 0, 0, 0);
    Sample : Octets (0 .. Longest_Sample - 1) := [others => 0];
    Message : Octets (0 .. 63) := [others => 0];
 
