@@ -192,7 +192,7 @@ pub fn meet(putter: &mut RingPutter, taker: &mut RingTaker)
     taker.start = putter.start;
 }
 
-/// Whoever puts or takes has no more slots of the beginning to go through before a queue that is empty begins again.
+/// Number of slots that a queue uses before it begins again at the first one, once it is found empty.
 const FIRST_SLOTS: usize = 4;
 
 /// The slot of a message, whose slot was this, once number 0 is in another one.
