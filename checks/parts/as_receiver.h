@@ -72,6 +72,7 @@ static inline uint32_t both_filtered(struct both *h, uint32_t net, uint32_t caus
 #define yelunnavi_receiver_count both_count
 #define yelunnavi_receiver_filtered both_filtered
 #define yelunnavi_receiver_fill(h, ...) yelunnavi_pass_fill(&(h)->passes[0], __VA_ARGS__)
+#define yelunnavi_receiver_port_counts(h, ...) yelunnavi_pass_port_counts(&(h)->passes[0], __VA_ARGS__)
 #define yelunnavi_receiver_links(h, ...) yelunnavi_system_links(&(h)->system, __VA_ARGS__)
 #define yelunnavi_receiver_link(h, ...) yelunnavi_system_link(&(h)->system, __VA_ARGS__)
 #define yelunnavi_receiver_port(h, ...) yelunnavi_system_port(&(h)->system, __VA_ARGS__)

@@ -251,6 +251,7 @@ static void want_no_receiver(struct yelunnavi_receiver *h) {
     struct yelunnavi_place place;
     struct yelunnavi_health health;
     struct yelunnavi_fill fill;
+    struct yelunnavi_port_counts counts;
     uint8_t name[YELUNNAVI_LONGEST_NAME];
     uint64_t count;
     size_t links;
@@ -261,6 +262,7 @@ static void want_no_receiver(struct yelunnavi_receiver *h) {
     WANT(NOT_MADE, yelunnavi_receiver_filtered(h, YELUNNAVI_A, YELUNNAVI_FILTER_TOO_SHORT, &count));
     WANT(NOT_MADE, yelunnavi_receiver_health(h, 0, &health));
     WANT(NOT_MADE, yelunnavi_receiver_fill(h, 0, 0, &fill));
+    WANT(NOT_MADE, yelunnavi_receiver_port_counts(h, 0, 0, &counts));
     WANT(NOT_MADE, yelunnavi_receiver_links(h, &links));
     WANT(NOT_MADE, yelunnavi_receiver_link(h, 0, &link));
     WANT(NOT_MADE, yelunnavi_receiver_port(h, 0, 0, &port, &name));
@@ -330,6 +332,45 @@ static void of_other_rooms(void) {
         WANT(NOT_MADE, yelunnavi_receiver_hand_queue(&receiver, &queue_of_none, TEXT("nav")));
         if (memcmp(before, room, sizeof room)) exit(24);
     }
+}
+
+/* A handle of zeros has no room: each call answers NOT_MADE, a close does nothing, and an end that would go to one isn't lost. */
+static void of_zeros(void) {
+    struct yelunnavi_receiver no_receiver = {0};
+    struct yelunnavi_reader no_reader = {0};
+    struct yelunnavi_queue no_queue = {0};
+    struct yelunnavi_fault fault;
+    want_no_receiver(&no_receiver), want_no_reader(&no_reader), want_no_queue(&no_queue);
+    WANT(NOT_MADE, yelunnavi_receiver_hand_reader(&no_receiver, &no_reader, TEXT("pos")));
+    WANT(NOT_MADE, yelunnavi_receiver_hand_queue(&no_receiver, &no_queue, TEXT("nav")));
+    WANT(DONE, yelunnavi_receiver_open(&receiver, TEXT(CONFIG), 1, &fault));
+    WANT(NOT_MADE, yelunnavi_receiver_hand_reader(&receiver, &no_reader, TEXT("pos")));
+    WANT(NOT_MADE, yelunnavi_receiver_hand_queue(&receiver, &no_queue, TEXT("nav")));
+    WANT(DONE, yelunnavi_receiver_hand_reader(&receiver, &reader, TEXT("pos")));
+    WANT(DONE, yelunnavi_receiver_hand_queue(&receiver, &queue, TEXT("nav")));
+    yelunnavi_reader_close(&reader), yelunnavi_queue_close(&queue), yelunnavi_receiver_close(&receiver);
+    if (no_receiver.room || no_reader.room || no_queue.room || blocks) exit(33);
+}
+
+/* A text that is checked opens nothing: its faults are an opening's, and a key that means nothing where it stands is told, by its
+   table and its line. With each request for memory refused in turn it answers NO_MEMORY, and keeps none. */
+static void of_checks(void) {
+    struct yelunnavi_fault fault = {77, 77, 77, 77, 77, 77};
+    uint32_t code = YELUNNAVI_NO_MEMORY;
+    for (refused = 1; code == YELUNNAVI_NO_MEMORY; refused++) {
+        requests = 0;
+        code = yelunnavi_check_text(TEXT(CONFIG), &fault);
+        if (blocks || (code == YELUNNAVI_NO_MEMORY && requests < refused)) exit(34);
+    }
+    if (code != YELUNNAVI_DONE || refused < 20 || requests >= refused || fault.fault != 77 || fault.line != 77) exit(35);
+    refused = 0;
+    WANT(FAULTY, yelunnavi_check_text(TEXT("windw = 3\n[[link]]\nvl = 65536\n"), &fault));
+    if (fault.fault != YELUNNAVI_FAULT_RANGE || fault.key != YELUNNAVI_KEY_VL || fault.line != 3) exit(36);
+    WANT(STRAY_KEY, yelunnavi_check_text(TEXT(LINK_17 "dpth = 3\n"), &fault));
+    if (fault.fault || fault.key || fault.level != YELUNNAVI_LEVEL_PORT || fault.link || fault.port != 1 || fault.line != 18) exit(37);
+    WANT(STRAY_KEY, yelunnavi_check_text(TEXT("[[link]]\nvl = 17\nredundency = false\nskew_max_us = 1\nreassembly_us = 1\n"), &fault));
+    if (fault.level != YELUNNAVI_LEVEL_LINK || fault.link || fault.line != 3 || blocks) exit(38);
+    WANT(FAULTY, yelunnavi_check_text(NULL, 0, &fault));
 }
 
 /* ---- the lines of faults */
@@ -420,9 +461,13 @@ static void of_table_faults(void) {
     WANT_FAULT(ports_of[0].limit = 1000000001, 3, RANGE, REFRESH_US, PORT, 0, 0);
     WANT_FAULT(ports_of[1].limit = 65, 3, RANGE, DEPTH, PORT, 0, 1);
     WANT_FAULT(ports_of[1].limit = 0, 3, RANGE, DEPTH, PORT, 0, 1);
+    WANT_FAULT(ports_of[0].readers = 9, 3, RANGE, READERS, PORT, 0, 0);
+    WANT_FAULT(ports_of[0].readers = UINT32_MAX, 3, RANGE, READERS, PORT, 0, 0);
     WANT_FAULT(ports_of[1].udp = 5000, 3, DOUBLE_PORT, NONE, PORT, 0, 1);
     WANT_FAULT(ports_of[2] = PORTS[0], 3, DOUBLE_NAME, NONE, PORT, 1, 0);
     WANT_FAULT(links_of[0].vl = 65536; ports_of[0].udp = 65536, 3, RANGE, VL, LINK, 0, 0);
+    WANT_FAULT(links_of[0].vl = 65536; ports_of[0].readers = 9, 3, RANGE, VL, LINK, 0, 0);
+    WANT_FAULT(ports_of[1].readers = 9; ports_of[2].udp = 65536, 3, RANGE, UDP, PORT, 1, 0);
 }
 
 /* Tables of no link, of 65, and of 64, with each request for memory refused in turn. */
@@ -461,6 +506,8 @@ int main(void) {
     WANT(DONE, yelunnavi_reader_init(&other, rooms[2], sizeof rooms[2]));
     WANT(DONE, yelunnavi_queue_init(&queue, rooms[3], sizeof rooms[3]));
     of_other_rooms();
+    of_zeros();
+    of_checks();
     of_lines();
     of_table_faults();
     of_tables();

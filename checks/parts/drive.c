@@ -292,6 +292,14 @@ static void health(void) {
 }
 #endif
 
+static void port_counts(void) {
+    struct yelunnavi_port_counts told;
+    size_t link = number();
+    if (code(yelunnavi_receiver_port_counts(&receiver, link, number(), &told)))
+        printf(" %" PRIu64 " %" PRIu64 " %" PRIu64 " %" PRIu64 " %" PRIu32 " %" PRIu32 " %" PRIu64, told.delivered, told.overflowed,
+               told.too_long, told.fragmented, told.came, told.net, told.latest);
+}
+
 static void fill(void) {
     struct yelunnavi_fill told;
     size_t link = number();
@@ -355,6 +363,7 @@ static void call(const char *name) {
     else if (!strcmp(name, "health")) health();
 #endif
     else if (!strcmp(name, "fill")) fill();
+    else if (!strcmp(name, "port_counts")) port_counts();
     else if (!strcmp(name, "links")) links();
     else if (!strcmp(name, "link")) tell_link();
     else if (!strcmp(name, "port")) tell_port();

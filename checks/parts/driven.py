@@ -78,7 +78,7 @@ class Script:
 
     def between(self):
         ends = [self.read] * 4 + [self.hold, self.hold, self.copy, self.octets, self.release, self.take, self.take, self.take]
-        return [*ends, self.hand_reader, self.hand_queue, self.count, self.filtered, self.health, self.fill, self.limits,
+        return [*ends, self.hand_reader, self.hand_queue, self.count, self.filtered, self.health, self.fill, self.port_counts, self.limits,
                 self.longest, self.waiting, self.place, self.chance_of_closing]
 
     # ---- the receiver
@@ -142,6 +142,10 @@ class Script:
     def fill(self):
         words = self.r.choice([0, 0, 0, 1, 2, 3, WRONG]), self.r.choice([0, 0, 1, 1, 2, 3, 32, 256, WRONG])
         self.call(self.receiver.fill(*words), "fill", *words)
+
+    def port_counts(self):
+        words = self.r.choice([0, 0, 0, 1, 2, 3, WRONG]), self.r.choice([0, 0, 1, 1, 2, 3, 32, 256, WRONG])
+        self.call(self.receiver.port_counts(*words), "port_counts", *words)
 
     def place(self):
         name = self.name(self.r.random() < 0.5)

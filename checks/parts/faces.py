@@ -14,6 +14,7 @@ from verdict_words import FILTER_CAUSES, HEADER_CAUSES, KINDS, NETWORKS
 CALLS = ("crates/receiver_c/src/lib.rt", *(f"crates/system_c/src/{name}_calls.rt" for name in ("system", "pass")))
 HELD = "crates/receiver_c/src/held_octets.rt"
 REPLIES, CODES, NUMBERS = (f"crates/receiver_slots/src/{name}.rt" for name in ("told/replies", "codes", "told/numbers"))
+PORT_COUNTS = "crates/receiver_slots/src/told/port_counts.rt"
 VERDICTS = "crates/es_base/src/verdict.rt"
 FAULTS, ROWS = "crates/vl_config/src/fault.rt", "crates/vl_config/src/rows.rt"
 # What each key of a configuration may have, in the program's words.
@@ -44,12 +45,13 @@ STRUCTS_OF_C = {
     "TakeReply": "yelunnavi_taken", "LinkReply": "yelunnavi_link", "PortReply": "yelunnavi_port",
     "PlaceReply": "yelunnavi_place", "LimitReply": "yelunnavi_limits", "HeldOctets": "yelunnavi_octets",
     "HealthReply": "yelunnavi_health", "LinkHealthReply": "yelunnavi_link_health", "FillReply": "yelunnavi_fill",
+    "PortCountsReply": "yelunnavi_port_counts",
     "LinkRow": "yelunnavi_link_row", "PortRow": "yelunnavi_port_row",
     **{f"{kind}Handle": f"yelunnavi_{kind.lower()}" for kind in KINDS_OF_HANDLES}, "TakerHandle": "yelunnavi_queue",
 }
 STRUCTS_OF_RUST = {
     "FaultReply": "Fault", "FrameReply": "Verdict", "ReadReply": "Read", "TakeReply": "Taken", "LinkReply": "Link",
-    "HealthReply": "Health", "LinkHealthReply": "LinkHealth", "FillReply": "Fill",
+    "HealthReply": "Health", "LinkHealthReply": "LinkHealth", "FillReply": "Fill", "PortCountsReply": "PortCounts",
     "PortReply": "Port", "PlaceReply": "Place", "LimitReply": "Limits", "LinkRow": "LinkRow", "PortRow": "PortRow", "HeldOctets": "Held",
 }
 STRUCTS_OF_ADA = {"Verdict_Reply": "FrameReply"}
@@ -142,7 +144,7 @@ def of_array(kind):
 
 
 def structs_of_source(tree):
-    text = "".join((tree / path).read_text(encoding="utf-8").split("/// A fault of a table")[0] for path in (REPLIES, ROWS))
+    text = "".join((tree / path).read_text(encoding="utf-8").split("/// A fault of a table")[0] for path in (REPLIES, PORT_COUNTS, ROWS))
     made = {}
     for name, body in re.findall(r"^#\[repr\(C\)\]\n(?:#[^\n]*\n)*pub struct (\w+) \{\n(.*?)^\}", text, re.M | re.S):
         fields = re.findall(r"^    pub (\w+): (\[u8; \d+\]|\w+),$", body, re.M)

@@ -5,7 +5,7 @@ It keeps lists where the library has buffers and marks, and shares no code with 
 from typing import NamedTuple
 
 DONE, NOT_OPEN, ALREADY_OPEN, NO_NETWORK, NO_KIND, NO_PLACE, NO_NAME, NONE_LEFT = 0, 1, 2, 5, 6, 7, 8, 9
-HOLDS_ONE, HOLDS_NONE, OUT_OF_RANGE, TOO_SHORT = 10, 11, 12, 13
+HOLDS_ONE, HOLDS_NONE, OUT_OF_RANGE, TOO_SHORT, FAULTY = 10, 11, 12, 13, 3
 (FILTERED, OUT_OF_SEQUENCE, REDUNDANT, BAD_HEADER, BAD_FRAGMENT, FRAGMENT_HELD, BAD_UDP, NO_PORT, TOO_LONG, FRAGMENTED_SAMPLE,
  SAMPLED, QUEUED, OVERFLOW, EXHAUSTED) = range(14)
 CAUSES, READERS = 5, 8
@@ -46,6 +46,7 @@ class Port:
         self.refresh, self.depth = settings.refresh, settings.depth
         self.newest, self.waiting, self.greatest, self.count, self.left = None, [], 0, 0, 0
         self.lost = 0  # since a message was put
+        self.became, self.brought = dict.fromkeys((SAMPLED, QUEUED, OVERFLOW, TOO_LONG, FRAGMENTED_SAMPLE), 0), None
 
     def deliver(self, time, octets):
         """The kind of the verdict, and the message's number."""
@@ -100,11 +101,11 @@ class Link:
         self.redundancy, self.window = settings.redundancy, settings.window or 2
         self.ports = [Port(port, settings.place) for port in settings.ports]
         self.came, self.latest, self.forwarded, self.groups, self.frames = [None, None], None, None, [], 0
-        self.heard, self.given_up = [None, None], 0
+        self.heard, self.given_up, self.net = [None, None], 0, None
 
     def receive(self, net, now, frame):
         """Kind, cause, place of the port and number of the message."""
-        number, before, self.came[net] = frame[-1], self.came[net], frame[-1]
+        self.net, number, before, self.came[net] = net, frame[-1], self.came[net], frame[-1]
         self.heard[net] = now
         if before is not None and not follows(number, before, self.window):
             return OUT_OF_SEQUENCE, 0, 0, 0
@@ -157,12 +158,17 @@ class Link:
         if place is None:
             return NO_PORT, 0, 0, 0
         port = self.ports[place]
-        if port.samples and is_joined:
-            return FRAGMENTED_SAMPLE, 0, place, 0
-        if length - 8 > port.max:
-            return TOO_LONG, 0, place, 0
-        kind, number = port.deliver(now, octets[8:length])
+        kind, number = self.at_port(port, now, octets[8:length], is_joined)
+        port.became[kind] += 1
+        if kind in (SAMPLED, QUEUED):
+            port.brought = self.net, now
         return kind, 0, place, number
+
+    @staticmethod
+    def at_port(port, now, octets, is_joined):
+        if port.samples and is_joined:
+            return FRAGMENTED_SAMPLE, 0
+        return (TOO_LONG, 0) if len(octets) > port.max else port.deliver(now, octets)
 
 
 def filter_cause(frame, numbers):
@@ -247,9 +253,12 @@ class Receiver:
         """`each` has the readers of ports by their names, where a table says them."""
         if self.links is not None:
             return (ALREADY_OPEN,)
-        if not 1 <= readers <= READERS or any(own > READERS for own in dict(each).values()):
+        if not 1 <= readers <= READERS:
             return (OUT_OF_RANGE,)
-        self.links = [Link(link) for link in settings]
+        links = [Link(link) for link in settings]
+        if any(port.samples and dict(each).get(port.name, 0) > READERS for link in links for port in link.ports):
+            return (FAULTY,)
+        self.links = links
         self.counts, self.filtered_counts = {}, {}
         for port in self.ports():
             port.left = (dict(each).get(port.name) or readers) if port.samples else 1
@@ -307,6 +316,13 @@ class Receiver:
             return (NOT_OPEN if self.links is None else NO_PLACE,)
         port = self.links[link].ports[place]
         return (NONE_LEFT,) if port.samples else (DONE, len(port.waiting), port.greatest)
+
+    def port_counts(self, link, place):
+        if self.links is None or link >= len(self.links) or place >= len(self.links[link].ports):
+            return (NOT_OPEN if self.links is None else NO_PLACE,)
+        port = self.links[link].ports[place]
+        told = port.became[SAMPLED] + port.became[QUEUED], port.became[OVERFLOW], port.became[TOO_LONG], port.became[FRAGMENTED_SAMPLE]
+        return DONE, *told, *((0, 0, 0) if port.brought is None else (1, *port.brought))
 
     def place(self, name):
         if self.links is None:

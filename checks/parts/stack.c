@@ -1,7 +1,7 @@
 /* stack CONFIG A B: how many octets of stack each call of the library takes, the most that was seen, as lines of a name and a
    number: of openings, of this configuration, of the largest one, of those with a fault at their end, and of texts that are
    nested as deep as they may be; of each frame of two traces, by the kind of its verdict; of all other calls, after the frames.
-   With SYSTEM the calls are those of a system and of both its passes, but for those of health and fill.
+   With SYSTEM the calls are those of a system and of both its passes, but for those of health, fill and counts of ports.
    A call runs on a stack that was painted before, and what it has written to is counted, less what a call that does nothing
    writes to. */
 #define _XOPEN_SOURCE 700
@@ -87,7 +87,9 @@ static void tell_filtered(void) { code = yelunnavi_receiver_filtered(&receiver, 
 #ifndef SYSTEM
 static struct yelunnavi_health health_reply;
 static struct yelunnavi_fill fill_reply;
+static struct yelunnavi_port_counts counts_reply;
 static void tell_health(void) { code = yelunnavi_receiver_health(&receiver, at_link, &health_reply); }
+static void tell_port_counts(void) { code = yelunnavi_receiver_port_counts(&receiver, at_link, at_port, &counts_reply); }
 static void tell_fill(void) { code = yelunnavi_receiver_fill(&receiver, at_link, at_port, &fill_reply); }
 #endif
 static void tell_links(void) { code = yelunnavi_receiver_links(&receiver, &links); }
@@ -223,12 +225,12 @@ static void of_a_queue(void) {
     call("close_queue", close_queue);
 }
 
-/* How a link is, and how full each of its queues: before the messages in it are taken. */
+/* How a link is, how full each of its queues, before the messages in it are taken, and what became of each port's messages. */
 static void of_health(void) {
 #ifndef SYSTEM
     call("health", tell_health);
     if (code != YELUNNAVI_DONE) exit(4);
-    for (at_port = 0; at_port < link_reply.ports; at_port++) call("fill", tell_fill);
+    for (at_port = 0; at_port < link_reply.ports; at_port++) call("fill", tell_fill), call("port_counts", tell_port_counts);
 #endif
 }
 

@@ -57,12 +57,14 @@ static void want_no_pass(struct yelunnavi_pass *h) {
     struct yelunnavi_verdict told;
     struct yelunnavi_link_health health;
     struct yelunnavi_fill fill;
+    struct yelunnavi_port_counts counts;
     uint64_t count;
     WANT(NOT_MADE, yelunnavi_pass_receive(h, 0, FRAME, sizeof FRAME, &told));
     WANT(NOT_MADE, yelunnavi_pass_count(h, 0, YELUNNAVI_VERDICT_SAMPLED, &count));
     WANT(NOT_MADE, yelunnavi_pass_filtered(h, YELUNNAVI_FILTER_TOO_SHORT, &count));
     WANT(NOT_MADE, yelunnavi_pass_health(h, 0, &health));
     WANT(NOT_MADE, yelunnavi_pass_fill(h, 0, 1, &fill));
+    WANT(NOT_MADE, yelunnavi_pass_port_counts(h, 0, 1, &counts));
     yelunnavi_pass_close(h);
 }
 
@@ -87,17 +89,41 @@ static void of_rooms(void) {
     yelunnavi_system_close(&both);
 }
 
+/* A handle of zeros has no room: each call answers NOT_MADE, a close does nothing, and what would go to one isn't lost. */
+static void of_zeros(void) {
+    struct yelunnavi_system no_system = {0};
+    struct yelunnavi_pass no_pass = {0};
+    struct yelunnavi_reader no_reader = {0};
+    struct yelunnavi_queue no_queue = {0};
+    want_no_system(&no_system), want_no_pass(&no_pass);
+    WANT(NOT_MADE, yelunnavi_system_hand_pass(&no_system, YELUNNAVI_A, &no_pass));
+    WANT(NOT_MADE, yelunnavi_system_hand_reader(&no_system, &no_reader, TEXT("pos")));
+    WANT(NOT_MADE, yelunnavi_system_hand_queue(&no_system, &no_queue, TEXT("nav")));
+    WANT(DONE, yelunnavi_system_open(&both, TEXT(CONFIG), 1, &fault));
+    WANT(NOT_MADE, yelunnavi_system_hand_pass(&both, YELUNNAVI_A, &no_pass));
+    WANT(NOT_MADE, yelunnavi_system_hand_reader(&both, &no_reader, TEXT("pos")));
+    WANT(NOT_MADE, yelunnavi_system_hand_queue(&both, &no_queue, TEXT("nav")));
+    WANT(DONE, yelunnavi_system_hand_pass(&both, YELUNNAVI_A, &passes[0]));
+    WANT(DONE, yelunnavi_system_hand_reader(&both, &reader, TEXT("pos")));
+    WANT(DONE, yelunnavi_system_hand_queue(&both, &queue, TEXT("nav")));
+    yelunnavi_pass_close(&passes[0]), yelunnavi_reader_close(&reader), yelunnavi_queue_close(&queue);
+    yelunnavi_system_close(&both);
+    if (no_system.room || no_pass.room || no_reader.room || no_queue.room || blocks) exit(37);
+}
+
 /* ---- one thread has both passes */
 
 static void of_passes(void) {
     struct yelunnavi_verdict told;
     struct yelunnavi_link_health health;
     struct yelunnavi_fill fill;
+    struct yelunnavi_port_counts counts;
     uint64_t count = 77;
     WANT(NOT_OPEN, yelunnavi_system_hand_pass(&both, YELUNNAVI_A, &passes[0]));
     WANT(NOT_OPEN, yelunnavi_pass_receive(&passes[0], 0, FRAME, sizeof FRAME, &told));
     WANT(NOT_OPEN, yelunnavi_pass_health(&passes[0], 0, &health));
     WANT(NOT_OPEN, yelunnavi_pass_fill(&passes[0], 0, 1, &fill));
+    WANT(NOT_OPEN, yelunnavi_pass_port_counts(&passes[0], 0, 1, &counts));
     WANT(FAULTY, yelunnavi_system_open(&both, TEXT("[[link]]\nvl = 1\nskew_max_us = -1"), 1, &fault));
     if (fault.fault != YELUNNAVI_FAULT_RANGE || fault.key != YELUNNAVI_KEY_SKEW_MAX_US || fault.line != 3) exit(15);
     WANT(DONE, yelunnavi_system_open(&both, TEXT(CONFIG), 1, &fault));
@@ -128,6 +154,13 @@ static void of_passes(void) {
     WANT(NONE_LEFT, yelunnavi_pass_fill(&passes[1], 0, 0, &fill));
     WANT(NO_PLACE, yelunnavi_pass_fill(&passes[1], 0, 2, &fill));
     WANT(NO_PLACE, yelunnavi_pass_fill(&passes[1], 1, 0, &fill));
+    WANT(DONE, yelunnavi_pass_port_counts(&passes[1], 0, 0, &counts));
+    if (counts.delivered != 1 || counts.overflowed || counts.too_long || counts.fragmented) exit(40);
+    if (counts.came != 1 || counts.net != YELUNNAVI_A || counts.latest != 1000) exit(41);
+    WANT(DONE, yelunnavi_pass_port_counts(&passes[0], 0, 1, &counts));
+    if (counts.delivered || counts.came || counts.latest) exit(42);
+    WANT(NO_PLACE, yelunnavi_pass_port_counts(&passes[1], 0, 2, &counts));
+    WANT(NO_PLACE, yelunnavi_pass_port_counts(&passes[1], 1, 0, &counts));
 }
 
 /* Passes and ends outlive the system, and each other. */
@@ -175,11 +208,15 @@ void *memmove(void *to, const void *from, size_t octets) {
 static void find_busy(void) {
     struct yelunnavi_verdict told = {.kind = 77};
     struct yelunnavi_fill fill = {.waiting = 77, .greatest = 77};
+    struct yelunnavi_port_counts counts = {.delivered = 77};
     WANT(BUSY, yelunnavi_pass_receive(&passes[1], 1000, FRAME, sizeof FRAME, &told));
     if (told.kind != 77) exit(31);
     WANT(BUSY, yelunnavi_pass_fill(&passes[1], 0, 1, &fill));
     if (fill.waiting != 77 || fill.greatest != 77) exit(35);
     WANT(NONE_LEFT, yelunnavi_pass_fill(&passes[1], 0, 0, &fill));
+    WANT(BUSY, yelunnavi_pass_port_counts(&passes[1], 0, 0, &counts));
+    WANT(NO_PLACE, yelunnavi_pass_port_counts(&passes[1], 0, 2, &counts));
+    if (counts.delivered != 77) exit(43);
 }
 
 static void of_a_link_in_use(void) {
@@ -219,6 +256,21 @@ static void *give_all(void *of_pass) {
     return NULL;
 }
 
+/* Once no thread gives frames, each pass tells all at once: none is BUSY. */
+static void of_settled_passes(const uint64_t sampled[2]) {
+    struct yelunnavi_link_health health;
+    struct yelunnavi_port_counts counts;
+    struct yelunnavi_fill fill;
+    for (int net = 0; net < 2; net++) {
+        WANT(DONE, yelunnavi_pass_health(&passes[net], 0, &health));
+        if (health.came != 1 || health.received != 2 * (uint64_t)TURNS || health.given_up) exit(44);
+        WANT(DONE, yelunnavi_pass_port_counts(&passes[net], 0, 0, &counts));
+        if (counts.delivered != sampled[0] + sampled[1] || counts.came != 1 || counts.latest != 10 * (uint64_t)(TURNS - 1)) exit(45);
+        WANT(DONE, yelunnavi_pass_fill(&passes[net], 0, 1, &fill));
+        if (fill.waiting || fill.greatest) exit(46);
+    }
+}
+
 static void of_two_threads(void) {
     pthread_t threads[2];
     uint64_t sampled[2], redundant[2];
@@ -237,6 +289,7 @@ static void of_two_threads(void) {
     if (sampled[0] + sampled[1] != TURNS) exit(28);
     WANT(DONE, yelunnavi_reader_read(&reader, 0, out, sizeof out, &read));
     if (read.number != TURNS) exit(29);
+    of_settled_passes(sampled);
     fprintf(stderr, "of %d frames a network %lu and %lu times BUSY\n", TURNS, again[0], again[1]);
     yelunnavi_reader_close(&reader);
     for (int net = 0; net < 2; net++) yelunnavi_pass_close(&passes[net]);
@@ -274,6 +327,7 @@ int main(void) {
     WANT(DONE, yelunnavi_reader_init(&reader, rooms[3], sizeof rooms[3] / 2));
     WANT(DONE, yelunnavi_queue_init(&queue, rooms[3] + 64, sizeof rooms[3] / 2));
     of_rooms();
+    of_zeros();
     of_memory();
     of_passes();
     of_a_closed_system();

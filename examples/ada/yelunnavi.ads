@@ -12,7 +12,7 @@ package Yelunnavi is
    type Queue is limited record Room : System.Address; end record with Convention => C;
 
    --  The number of this interface: raised with each change of a struct, a call or a number. Library_Abi has the library's.
-   Abi : constant Unsigned_32 := 8;
+   Abi : constant Unsigned_32 := 9;
 
    subtype Code is Unsigned_32;
    Done : constant Code := 0;
@@ -32,6 +32,7 @@ package Yelunnavi is
    Not_Made : constant Code := 14;
    No_Room : constant Code := 15;
    Busy : constant Code := 16;
+   Stray_Key : constant Code := 17;
 
    Network_A : constant Unsigned_32 := 0;
    Network_B : constant Unsigned_32 := 1;
@@ -92,6 +93,7 @@ package Yelunnavi is
    Key_Max : constant Unsigned_32 := 13;
    Key_Refresh_Us : constant Unsigned_32 := 14;
    Key_Depth : constant Unsigned_32 := 15;
+   Key_Readers : constant Unsigned_32 := 16;
 
    Level_Document : constant Unsigned_32 := 0;
    Level_Link : constant Unsigned_32 := 1;
@@ -135,6 +137,9 @@ package Yelunnavi is
    type Link_Health_Reply is record
       Came : Unsigned_32; Latest, Received, Given_Up : Unsigned_64;
    end record with Convention => C;
+   type Port_Counts_Reply is record
+      Delivered, Overflowed, Too_Long, Fragmented : Unsigned_64; Came, Net : Unsigned_32; Latest : Unsigned_64;
+   end record with Convention => C;
    type Fill_Reply is record Waiting, Greatest : size_t; end record with Convention => C;
    type Port_Reply is record
       Service, Address, Udp, Max : Unsigned_32; Limit : Unsigned_64; Name_Length : size_t;
@@ -158,6 +163,8 @@ package Yelunnavi is
    type Port_Rows is array (size_t range <>) of aliased Port_Row with Convention => C;
 
    function Library_Abi return Unsigned_32 with Import, Convention => C, External_Name => "yelunnavi_abi";
+   function Check_Text (Text : Octets; Length : size_t; Fault : in out Fault_Reply) return Code
+     with Import, Convention => C, External_Name => "yelunnavi_check_text";
    function Receiver_Room return size_t with Import, Convention => C, External_Name => "yelunnavi_receiver_room";
    function End_System_Room return size_t with Import, Convention => C, External_Name => "yelunnavi_system_room";
    function Pass_Room return size_t with Import, Convention => C, External_Name => "yelunnavi_pass_room";
@@ -195,6 +202,8 @@ package Yelunnavi is
      with Import, Convention => C, External_Name => "yelunnavi_receiver_filtered";
    function Health (H : in out Receiver; Link : size_t; Reply : in out Health_Reply) return Code
      with Import, Convention => C, External_Name => "yelunnavi_receiver_health";
+   function Port_Counts (H : in out Receiver; Link, Port : size_t; Reply : in out Port_Counts_Reply) return Code
+     with Import, Convention => C, External_Name => "yelunnavi_receiver_port_counts";
    function Fill (H : in out Receiver; Link, Port : size_t; Reply : in out Fill_Reply) return Code
      with Import, Convention => C, External_Name => "yelunnavi_receiver_fill";
    function Links (H : in out Receiver; Links : in out size_t) return Code
@@ -241,6 +250,8 @@ package Yelunnavi is
      with Import, Convention => C, External_Name => "yelunnavi_pass_count";
    function Health (H : in out Pass; Link : size_t; Reply : in out Link_Health_Reply) return Code
      with Import, Convention => C, External_Name => "yelunnavi_pass_health";
+   function Port_Counts (H : in out Pass; Link, Port : size_t; Reply : in out Port_Counts_Reply) return Code
+     with Import, Convention => C, External_Name => "yelunnavi_pass_port_counts";
    function Fill (H : in out Pass; Link, Port : size_t; Reply : in out Fill_Reply) return Code
      with Import, Convention => C, External_Name => "yelunnavi_pass_fill";
    function Filtered (H : in out Pass; Cause : Unsigned_32; Count : in out Unsigned_64) return Code

@@ -12,7 +12,8 @@
                   if (yelunnavi_receiver_init(&receiver, room, sizeof room) != YELUNNAVI_DONE) ...;
 
    A room begins with a mark of the kind of its slot. A call looks at it first: where .._init made no slot of its kind it answers
-   NOT_MADE, or does nothing if it answers no code, and neither reads nor writes the rest of the room.
+   NOT_MADE, or does nothing if it answers no code, and neither reads nor writes the rest of the room. A handle of zeros, as
+   `struct yelunnavi_reader reader = {0};` makes it, has no room: a call answers NOT_MADE, and a close does nothing.
 
    WHO MAY CALL. Each handle may be used by any one thread at a time, and handed on to another. Different handles may be
    used by different threads at once, those of one receiver or of one system too. No call waits for another thread, none blocks,
@@ -33,7 +34,7 @@
 
    MEMORY. yelunnavi_receiver_open and .._open_table, and those of a system, ask for memory, by rattle_alloc, rattle_realloc and
    rattle_dealloc below; .._close give some back. No other call asks for any or gives any back. yelunnavi_table.h tells how much
-   an opening of a table asks for; docs/EMBEDDING.md has it by links, ports, readers and queues. A program that has no such functions compiles heap.c, which lies beside the
+   an opening of a table asks for, and examples/c/memory.c of a text; docs/EMBEDDING.md has it by links, ports, readers and queues. A program that has no such functions compiles heap.c, which lies beside the
    library: it has them by malloc. Beside these three the library needs memcpy, memmove and memset, and nothing else: no
    operating system, no C library's start-up. It never prints, never ends the process, and has no state of its own outside of
    the rooms and of what it asked for.
@@ -54,10 +55,10 @@
    memory goes back with the last of the system and its two passes that is closed, on that thread. An end that is closed
    doesn't come back: a queue fills up then, and overflows for good.
 
-   STACK. An opening takes up to 20 KiB if the text is a configuration with no keys but its own, or is none for a fault that
+   STACK. An opening takes up to 28 KiB if the text is a configuration with no keys but its own, or is none for a fault that
    stands in one of its ports. Other keys whose values are nested take more: 2.6 MB for 80 levels of tables, each by a key of
    80 parts, the most that is read. So a task with a short stack opens no text of a stranger's. An opening of a table takes up to
-   20 KiB, a close up to 4 KiB, and every other call up to 1 KiB. What the program's own functions take comes on top. docs/MEASURED.md has
+   28 KiB, a close up to 4 KiB, and every other call up to 1 KiB. What the program's own functions take comes on top. docs/MEASURED.md has
    the stack of each call, and the sizes of the library's code and data.
 
    REGISTERS. The library uses the vector registers of its processor (SSE2, Advanced SIMD), in a receive and in nearly every
@@ -65,14 +66,14 @@
 
    ANSWERS. Each call but abi, room, make and close answers a code, YELUNNAVI_DONE or why nothing was done. After any other
    code what the call was passed is as it was, but for the fault that FAULTY tells and the handle of an .._init that is refused.
-   NOT_MADE is tested first, and comes of each call but .._init; the calls below don't say so again.
+   NOT_MADE is tested first, and comes of each call but .._init, of a handle of zeros too; the calls below don't say so again.
 
    NULL. A pointer may be null where the length after it is 0.
 
    WHAT NOTHING CHECKS, and what is undefined where it is not kept:
-   - A handle went through .._init, once, before any other call, .._close too: one of zeros has no room to look at. Its room has
-     as many octets as .._init was told, and is of no other handle. The program neither reads, writes nor moves it, nor changes
-     the handle.
+   - A handle went through .._init, once, before any other call, .._close too, or is of zeros: one of other octets is undefined,
+     as a variable that was never set. Its room has as many octets as .._init was told, and is of no other handle. The program
+     neither reads, writes nor moves it, nor changes the handle.
    - One call at a time is made on a handle: no interrupt handler makes another one in its midst. Two threads in one reader may
      write where the receiver's task writes, and into memory that was given back: then no other handle is safe either.
    - No other pointer is null; each reaches as many octets as the length after it says, or its type.
@@ -117,7 +118,7 @@ extern "C" {
 typedef char yelunnavi_is_of_64_bits[((sizeof(size_t) == 8U) && (sizeof(void *) == 8U)) ? 1 : -1];
 
 /* The number of this interface: raised with each change of a struct, a call or a number. */
-#define YELUNNAVI_ABI 8
+#define YELUNNAVI_ABI 9
 
 /* The release of this header; one between two releases has that of the first. */
 #define YELUNNAVI_VERSION "0.4.0"
@@ -144,9 +145,10 @@ enum yelunnavi_code {
     YELUNNAVI_HOLDS_NONE = 11,  /* it holds none */
     YELUNNAVI_OUT_OF_RANGE = 12, /* the message has no such octets, or a sampling port can't have so many readers */
     YELUNNAVI_TOO_SHORT = 13,   /* there may be messages for which there is no room; or the room of a slot is too short */
-    YELUNNAVI_NOT_MADE = 14,    /* the room holds no slot of this kind: none was made there, or one of another kind */
+    YELUNNAVI_NOT_MADE = 14,    /* no slot of this kind was made in the room: none, or one of another kind; or the handle is of zeros */
     YELUNNAVI_NO_ROOM = 15,     /* the room can't hold a slot: it is null, or isn't aligned to 8 */
-    YELUNNAVI_BUSY = 16         /* the thread of the other network has the frame's link just now: see BUSY above */
+    YELUNNAVI_BUSY = 16,        /* the thread of the other network has the frame's link just now: see BUSY above */
+    YELUNNAVI_STRAY_KEY = 17    /* the text has a key that means nothing where it stands, and no fault */
 };
 
 /* The networks. */
@@ -217,7 +219,8 @@ enum yelunnavi_key {
     YELUNNAVI_KEY_UDP = 12,
     YELUNNAVI_KEY_MAX = 13,
     YELUNNAVI_KEY_REFRESH_US = 14,
-    YELUNNAVI_KEY_DEPTH = 15
+    YELUNNAVI_KEY_DEPTH = 15,
+    YELUNNAVI_KEY_READERS = 16 /* of a table alone: the field `readers` of a port's row */
 };
 
 /* What a fault of a configuration is about. */
@@ -360,6 +363,12 @@ struct yelunnavi_fault {
                        without quotes. What else looks like one counts */
 };
 
+/* Reads the configuration of a text as the call below does, and opens nothing. FAULTY, and `fault` says why. STRAY_KEY if that text
+   has no fault, but a key that no table of docs/FORMATS.md has where it stands, as one that is misspelt: an opening ignores it.
+   Then `fault` tells the first table with one by its level, link and port, and the line of the key, or of the table's heading; its
+   `fault` and `key` are 0. NO_MEMORY. All memory that it takes it gives back; its stack is that of an opening. */
+uint32_t yelunnavi_check_text(const uint8_t *text, size_t len, struct yelunnavi_fault *fault);
+
 /* Opens the receiver of a configuration: a TOML text, as docs/FORMATS.md says, `len` octets without a 0 after them. It is
    copied. Each sampling port gets so many readers, 1 to 8. Its messages are copied once for each of them, whether or not it
    was handed out: that takes time in a receive, and memory, so ask for no more than there are partitions that read a port.
@@ -387,13 +396,13 @@ struct yelunnavi_port_row {
     uint64_t limit;    /* the refresh period, up to 1,000,000,000; or the depth of the queue, 1 to 64 messages */
     size_t name_len;   /* how many octets its name has, 1 to 16 */
     uint8_t name[16];  /* of a-z 0-9 _ -, at the beginning. YELUNNAVI_NAME of yelunnavi_table.h makes both fields of a literal */
-    uint32_t readers;    /* of a sampling port: how many readers it gets, 1 to 8; 0: as many as the opening is told. Above 8 in any
-                            row, of a queue too, is OUT_OF_RANGE before any other fault, and its row isn't told */
+    uint32_t readers;  /* of a sampling port: how many readers it gets, 1 to 8; 0: as many as the opening is told. Of another
+                          port it says nothing */
 };
 
 /* Opens the receiver of a table, whose constant field has the 4 octets at `constant`, as the call above opens that of a text:
    with the same limits, answers, faults and places, tested in the same order. A fault has no line. A value that a text can't
-   have is out of range: a `service` or `redundancy` of another number. Ports that belong to no link are too many; if a link has
+   have is out of range: a `service` or `redundancy` of another number, and `readers` above 8, which is tested after `limit`. Ports that belong to no link are too many; if a link has
    more ports than are left, KEY_PORT is missing there. */
 uint32_t yelunnavi_receiver_open_table(struct yelunnavi_receiver *h, const uint8_t *constant,
                                        const struct yelunnavi_link_row *links, size_t links_len,
@@ -439,6 +448,20 @@ struct yelunnavi_health {
 
 /* Tells how the link at this place is. Each of its frames counts as one that came, whatever became of it. NOT_OPEN, NO_PLACE. */
 uint32_t yelunnavi_receiver_health(struct yelunnavi_receiver *h, size_t link, struct yelunnavi_health *reply);
+
+struct yelunnavi_port_counts {
+    uint64_t delivered;  /* how many messages it was given */
+    uint64_t overflowed; /* of a queuing port: how many its queue had no room for */
+    uint64_t too_long;   /* how many were longer than it takes */
+    uint64_t fragmented; /* of a sampling port: how many were joined of fragments */
+    uint32_t came;       /* 1: it was given a message. 0: none */
+    uint32_t net;        /* enum yelunnavi_network: which network brought the newest; 0 if none came */
+    uint64_t latest;     /* when the frame that brought it came, as it was given; 0 if none came */
+};
+
+/* Tells what became of the messages for this port of a link, on both networks: each counts once, by the copy that was
+   forwarded. NOT_OPEN, NO_PLACE. */
+uint32_t yelunnavi_receiver_port_counts(struct yelunnavi_receiver *h, size_t link, size_t port, struct yelunnavi_port_counts *reply);
 
 struct yelunnavi_fill {
     size_t waiting;  /* how many messages wait: those that were delivered and that weren't taken when it was looked */
@@ -547,6 +570,10 @@ struct yelunnavi_link_health {
    tells of the latest there. NOT_OPEN, NO_PLACE; BUSY, and then nothing is told: see BUSY above. */
 uint32_t yelunnavi_pass_health(struct yelunnavi_pass *h, size_t link, struct yelunnavi_link_health *reply);
 
+/* Tells what became of the messages for this port of a link, as yelunnavi_receiver_port_counts does, as it was at one moment of
+   the call, and each pass the same. NOT_OPEN, NO_PLACE; BUSY, and then nothing is told: see BUSY above. */
+uint32_t yelunnavi_pass_port_counts(struct yelunnavi_pass *h, size_t link, size_t port, struct yelunnavi_port_counts *reply);
+
 /* Tells how full the queue of this port of a link is, as yelunnavi_receiver_fill does, and each pass the same. NOT_OPEN, NO_PLACE;
    NONE_LEFT: the port samples; BUSY, and then nothing is told: see BUSY above. */
 uint32_t yelunnavi_pass_fill(struct yelunnavi_pass *h, size_t link, size_t port, struct yelunnavi_fill *reply);
@@ -554,7 +581,8 @@ uint32_t yelunnavi_pass_fill(struct yelunnavi_pass *h, size_t link, size_t port,
 /* Tells how many frames were filtered on the network of the pass for this cause. NOT_OPEN, NO_KIND. */
 uint32_t yelunnavi_pass_filtered(struct yelunnavi_pass *h, uint32_t cause, uint64_t *count);
 
-/* Gives the pass away, if there is one. The frames of its network reach the system no more; the other pass goes on. */
+/* Gives the pass away, if there is one. The frames of its network reach the system no more; the other pass goes on. A program asks
+   a pass what it wants to know before it closes it: once the other network's thread gives no more frames, no call is BUSY. */
 void yelunnavi_pass_close(struct yelunnavi_pass *h);
 
 /* ---- a reader of a sampling port (ARINC 664 Part 7, sampling service) */

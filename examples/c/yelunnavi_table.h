@@ -2,7 +2,7 @@
 
    Octets are as the library asks for them. A program's functions for memory may take more: one that rounds each request up to
    16 octets takes up to 15 more for each. An opening of a text asks for what the opening of its table does, and while it reads
-   the text for more, which it gives back before it opens anything: how much hangs on the text, and isn't told here. */
+   the text for more, which it gives back before it opens anything: how much hangs on the text: memory.c of the examples counts it. */
 #ifndef YELUNNAVI_TABLE_H
 #define YELUNNAVI_TABLE_H
 #include "yelunnavi.h"
@@ -133,7 +133,7 @@ static inline struct yelunnavi_memory yelunnavi_memory_for(const struct yelunnav
 static inline struct yelunnavi_memory yelunnavi_receiver_memory_of_table(const struct yelunnavi_link_row *links, size_t links_len,
                                                                          const struct yelunnavi_port_row *ports, size_t ports_len,
                                                                          size_t readers) {
-    const struct yelunnavi_share share = {67040U, 320U, 0U, 0U, 6U, 8U, 2U};
+    const struct yelunnavi_share share = {68096U, 320U, 0U, 0U, 6U, 8U, 2U};
     return yelunnavi_memory_for(&share, links, links_len, ports, ports_len, readers);
 }
 
@@ -142,7 +142,7 @@ static inline struct yelunnavi_memory yelunnavi_receiver_memory_of_table(const s
 static inline struct yelunnavi_memory yelunnavi_system_memory_of_table(const struct yelunnavi_link_row *links, size_t links_len,
                                                                        const struct yelunnavi_port_row *ports, size_t ports_len,
                                                                        size_t readers) {
-    const struct yelunnavi_share share = {68880U, 552U, 136U, 24U, 14U, 16U, 8U};
+    const struct yelunnavi_share share = {70992U, 552U, 136U, 24U, 14U, 16U, 8U};
     return yelunnavi_memory_for(&share, links, links_len, ports, ports_len, readers);
 }
 

@@ -24,6 +24,7 @@ static inline const char *yelunnavi_code_word(uint32_t code) {
     case YELUNNAVI_NOT_MADE: word = "not-made"; break;
     case YELUNNAVI_NO_ROOM: word = "no-room"; break;
     case YELUNNAVI_BUSY: word = "busy"; break;
+    case YELUNNAVI_STRAY_KEY: word = "stray-key"; break;
     default: break;
     }
     return word;
@@ -134,6 +135,7 @@ static inline const char *yelunnavi_key_word(uint32_t key) {
     case YELUNNAVI_KEY_MAX: word = "max"; break;
     case YELUNNAVI_KEY_REFRESH_US: word = "refresh_us"; break;
     case YELUNNAVI_KEY_DEPTH: word = "depth"; break;
+    case YELUNNAVI_KEY_READERS: word = "readers"; break;
     default: break;
     }
     return word;
@@ -159,6 +161,7 @@ static inline const char *yelunnavi_key_allowed(uint32_t key) {
     case YELUNNAVI_KEY_MAX: word = "an integer from 0 to 1471 of a sampling port, 8192 of a queuing port"; break;
     case YELUNNAVI_KEY_REFRESH_US: word = "an integer from 0 to 1000000000"; break;
     case YELUNNAVI_KEY_DEPTH: word = "an integer from 1 to 64"; break;
+    case YELUNNAVI_KEY_READERS: word = "an integer from 0 to 8"; break;
     default: break;
     }
     return word;

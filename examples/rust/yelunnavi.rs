@@ -34,7 +34,7 @@ numbers! {
         NO_MEMORY = 4 "no-memory", NO_NETWORK = 5 "no-network", NO_KIND = 6 "no-kind", NO_PLACE = 7 "no-place",
         NO_NAME = 8 "no-name", NONE_LEFT = 9 "none-left", HOLDS_ONE = 10 "holds-one", HOLDS_NONE = 11 "holds-none",
         OUT_OF_RANGE = 12 "out-of-range", TOO_SHORT = 13 "too-short", NOT_MADE = 14 "not-made", NO_ROOM = 15 "no-room",
-        BUSY = 16 "busy",
+        BUSY = 16 "busy", STRAY_KEY = 17 "stray-key",
     }
     /// A network.
     Network {
@@ -68,7 +68,7 @@ numbers! {
         NONE = 0 "", CONSTANT = 1 "constant", LINK = 2 "link", VL = 3 "vl", SKEW_MAX_US = 4 "skew_max_us",
         REDUNDANCY = 5 "redundancy", REASSEMBLY_US = 6 "reassembly_us", WINDOW = 7 "window", PORT = 8 "port",
         NAME = 9 "name", KIND = 10 "kind", ADDRESS = 11 "address", UDP = 12 "udp", MAX = 13 "max",
-        REFRESH_US = 14 "refresh_us", DEPTH = 15 "depth",
+        REFRESH_US = 14 "refresh_us", DEPTH = 15 "depth", READERS = 16 "readers",
     }
     /// What a fault of a configuration is about.
     Level {
@@ -107,13 +107,14 @@ impl Key {
             Key::MAX => "an integer from 0 to 1471 of a sampling port, 8192 of a queuing port",
             Key::REFRESH_US => "an integer from 0 to 1000000000",
             Key::DEPTH => "an integer from 1 to 64",
+            Key::READERS => "an integer from 0 to 8",
             _ => "?",
         }
     }
 }
 
 /// The number of this interface: raised with each change of a struct, a call or a number.
-pub const ABI: u32 = 8;
+pub const ABI: u32 = 9;
 pub const MOST_LINKS: usize = 64;
 /// Of a link.
 pub const MOST_PORTS: usize = 32;
@@ -156,6 +157,9 @@ replies! {
     /// How a link is, by the pass of one network: whether a frame came on that, 1 or 0, when the latest did, in microseconds;
     /// of both networks, how many frames came, and how many datagrams of which fragments came were given up.
     LinkHealth { came: u32, latest: u64, received: u64, given_up: u64 }
+    /// What became of the messages for a port: how many were delivered, overflowed, were too long, or were joined of fragments
+    /// where it samples; whether one was delivered, 1 or 0, and which network brought the newest, and when, in microseconds.
+    PortCounts { delivered: u64, overflowed: u64, too_long: u64, fragmented: u64, came: u32, net: u32, latest: u64 }
     /// How full the queue of a port is: how many messages wait, and the greatest number that waited, counted after each
     /// message that was delivered.
     Fill { waiting: usize, greatest: usize }
@@ -212,6 +216,7 @@ macro_rules! calls {
 
 calls! {
     yelunnavi_abi() -> u32;
+    yelunnavi_check_text(text: *const u8, len: usize, fault: *mut Fault) -> Code;
     yelunnavi_receiver_room() -> usize;
     yelunnavi_system_room() -> usize;
     yelunnavi_pass_room() -> usize;
@@ -229,6 +234,7 @@ calls! {
     yelunnavi_receiver_count(h: *mut Handle, link: usize, net: Network, kind: VerdictKind, count: *mut u64) -> Code;
     yelunnavi_receiver_filtered(h: *mut Handle, net: Network, cause: FilterCause, count: *mut u64) -> Code;
     yelunnavi_receiver_health(h: *mut Handle, link: usize, reply: *mut Health) -> Code;
+    yelunnavi_receiver_port_counts(h: *mut Handle, link: usize, port: usize, reply: *mut PortCounts) -> Code;
     yelunnavi_receiver_fill(h: *mut Handle, link: usize, port: usize, reply: *mut Fill) -> Code;
     yelunnavi_receiver_links(h: *mut Handle, links: *mut usize) -> Code;
     yelunnavi_receiver_link(h: *mut Handle, link: usize, reply: *mut Link) -> Code;
@@ -249,6 +255,7 @@ calls! {
     yelunnavi_pass_receive(h: *mut Handle, now: u64, frame: *const u8, len: usize, reply: *mut Verdict) -> Code;
     yelunnavi_pass_count(h: *mut Handle, link: usize, kind: VerdictKind, count: *mut u64) -> Code;
     yelunnavi_pass_health(h: *mut Handle, link: usize, reply: *mut LinkHealth) -> Code;
+    yelunnavi_pass_port_counts(h: *mut Handle, link: usize, port: usize, reply: *mut PortCounts) -> Code;
     yelunnavi_pass_fill(h: *mut Handle, link: usize, port: usize, reply: *mut Fill) -> Code;
     yelunnavi_pass_filtered(h: *mut Handle, cause: FilterCause, count: *mut u64) -> Code;
     yelunnavi_pass_close(h: *mut Handle);
@@ -332,6 +339,13 @@ fn told<T: Default>(call: impl FnOnce(*mut T) -> Code) -> Result<T, Code> {
     answer(call(&mut reply)).map(|()| reply)
 }
 
+/// Whether the configuration of a text has no fault, and no key that means nothing where it stands: else the code, FAULTY or
+/// STRAY_KEY, and where. It opens nothing.
+pub fn check_text(text: &[u8]) -> Result<(), (Code, Fault)> {
+    let mut fault = Fault::default();
+    answer(unsafe { yelunnavi_check_text(text.as_ptr(), text.len(), &mut fault) }).map_err(|code| (code, fault))
+}
+
 impl Receiver<'_> {
     /// Opens the receiver of a configuration, with so many readers of each sampling port, 1 to 8. All memory is taken here.
     pub fn open(&mut self, text: &[u8], readers: usize) -> Result<(), (Code, Fault)> {
@@ -365,6 +379,11 @@ impl Receiver<'_> {
 
     pub fn health(&mut self, link: usize) -> Result<Health, Code> {
         told(|reply| unsafe { yelunnavi_receiver_health(&mut self.handle, link, reply) })
+    }
+
+    /// What became of the messages for a port.
+    pub fn port_counts(&mut self, link: usize, port: usize) -> Result<PortCounts, Code> {
+        told(|reply| unsafe { yelunnavi_receiver_port_counts(&mut self.handle, link, port, reply) })
     }
 
     /// How full the queue of a port is. NONE_LEFT if it samples.
@@ -465,6 +484,11 @@ impl Pass<'_> {
     /// How the link at this place is. BUSY: the thread of the other network has it just now.
     pub fn health(&mut self, link: usize) -> Result<LinkHealth, Code> {
         told(|reply| unsafe { yelunnavi_pass_health(&mut self.handle, link, reply) })
+    }
+
+    /// What became of the messages for a port. BUSY: the thread of the other network has its link just now.
+    pub fn port_counts(&mut self, link: usize, port: usize) -> Result<PortCounts, Code> {
+        told(|reply| unsafe { yelunnavi_pass_port_counts(&mut self.handle, link, port, reply) })
     }
 
     /// How full the queue of a port is. NONE_LEFT if it samples. BUSY: the thread of the other network has its link just now.

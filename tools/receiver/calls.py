@@ -71,6 +71,17 @@ class Health(NamedTuple):
     given_up: int
 
 
+class PortCounts(NamedTuple):
+    """What became of the messages for a port: how many were delivered, overflowed, were too long, or were joined of fragments where
+    it samples; which network brought the newest, and when, in microseconds: None if there is none."""
+    delivered: int
+    overflowed: int
+    too_long: int
+    fragmented: int
+    net: str | None
+    latest: int | None
+
+
 class Fill(NamedTuple):
     """How many messages wait in a queue, and the greatest number that waited, counted after each message that was delivered."""
     waiting: int
@@ -229,6 +240,12 @@ class Receiver(Links, Frames):
         found = self.answer("struct yelunnavi_health", "health", link)
         came, latest = (found.came_a, found.came_b), (found.latest_a, found.latest_b)
         return Health({net: latest[number] if came[number] else None for number, net in enumerate(NETWORKS)}, found.given_up)
+
+    def port_counts(self, link, place):
+        """What became of the messages for the port at a place of a link."""
+        found = self.answer("struct yelunnavi_port_counts", "port_counts", link, place)
+        newest = (NETWORKS[found.net], found.latest) if found.came else (None, None)
+        return PortCounts(found.delivered, found.overflowed, found.too_long, found.fragmented, *newest)
 
     def fill(self, link, place):
         """How full the queue of the port at a place of a link is."""

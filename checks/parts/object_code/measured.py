@@ -5,7 +5,7 @@ OF_ENDS = {"read": "reader_read", "hold": "reader_hold", "octets": "reader_octet
            "release": "reader_release", "limits": "reader_limits", "take": "queue_take", "longest": "queue_longest",
            "waiting": "queue_waiting",
            "close_reader": "reader_close", "close_queue": "queue_close"}
-OF_PASSES = ("receive", "count", "filtered", "fill")
+OF_PASSES = ("receive", "count", "filtered", "port_counts", "fill")
 FILTERED = "filtered"
 
 

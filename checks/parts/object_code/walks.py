@@ -122,6 +122,6 @@ def between(r, links, chosen, now):
     of_ends = [f"read {slot} {now} {length}", f"hold {slot} {now}", f"copy {slot} 0 {length}", f"octets {slot}",
                f"release {slot}", f"take {slot} {ENOUGH}", f"take {slot} {length}", f"limits {slot}", f"longest {slot}"]
     told = [f"count {link} {net} {kind}", f"filtered {net} {kind}", f"place {name}", "links", f"link {link}",
-            f"port {link} {port}", f"fill {link} {port}", f"health {link}"]
+            f"port {link} {port}", f"port_counts {link} {port}", f"fill {link} {port}", f"health {link}"]
     handed = [f"hand_{end} {SLOTS - 1} {name}" for end in ("reader", "queue")]
     return r.choice([*of_ends, *told, *handed, f"close_reader {slot}", f"close_queue {slot}"])

@@ -7,7 +7,7 @@ ghost use Rattle.link_core.specs.Kept.{Keeps, Tells};
 ghost use Rattle.link_core.specs.Counted.{one_more_if, port_no};
 
 use crate::verdict::delivered_at;
-use es_base::{LinkSettings, MOST_PORTS, Memory, Verdict};
+use es_base::{LinkSettings, MOST_PORTS, Memory, PortNo, Verdict};
 use ip_reassembly::Reassembly;
 use redundancy_manager::Redundancy;
 use std::alloc::Global;
@@ -56,6 +56,14 @@ impl RulesState {
         ensures { result.now ≡ self.now.reassembly }
     {
         &self.reassembly
+    }
+
+    /// Number of messages delivered to a port. It saturates at 2^64 - 1.
+    pub(crate) fn delivered(&self, port: PortNo) -> u64
+        requires { port.0 < most_ports }
+        ensures { result ≡ slice_index_or self.now.delivered port.0 0 }
+    {
+        self.delivered[port.0 as usize]
     }
 
     /// Number of partial datagrams given up. It saturates at 2^64 - 1.

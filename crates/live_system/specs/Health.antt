@@ -1,7 +1,10 @@
 -- What a link tells of itself while frames come to it.
-use Rattle.std.specs.Prelude.{◌≡◌, length}
+use Rattle.std.specs.Prelude.{◌≡◌, length, Option}
+use Rattle.es_base.specs.declared.place.PortNo.{PortNo}
 use Rattle.link_core.specs.Counted.{shown}
 use Rattle.link_core.specs.Past.{number_given_up}
+use Rattle.link_core.specs.Ports.{TellsCounts}
+use Rattle.link_core.specs.declared.port_tally.PortCounts.{PortCounts}
 use Rattle.live_system.specs.declared.health.LinkHealth.{LinkHealth}
 use Rattle.live_system.specs.Calls.{LiveLink}
 
@@ -11,3 +14,9 @@ pub record TellsOfLink (health : LinkHealth) (found left : LiveLink) : Type 0 wh
   pub link : left ≡ found
   pub received : health.received ≡ shown (length found.core.past)
   pub given_up : health.given_up ≡ shown (number_given_up found.core.settings found.core.past)
+
+-- what became of the messages for this port, of both networks; nothing changed
+-- rule: EMB-46
+pub record TellsOfPort (port : PortNo) (told : Option PortCounts) (found left : LiveLink) : Type 0 where
+  pub link : left ≡ found
+  pub counts : TellsCounts found.core.settings found.core.past port told

@@ -3,7 +3,7 @@ ghost use Rattle.std.specs.Prelude.{◌≡◌, ◌<◌, IfSome, Some, length, sl
 ghost use Rattle.network_calls.specs.Passes.{DoesAt};
 ghost use Rattle.live_system.specs.Checked.{latest_of};
 ghost use Rattle.live_system.specs.Groups.{HasLinkAt, is_any};
-ghost use Rattle.live_system.specs.Health.{TellsOfLink};
+ghost use Rattle.live_system.specs.Health.{TellsOfLink, TellsOfPort};
 ghost use Rattle.live_system.specs.Meetings.{VisitsAt};
 ghost use Rattle.live_system.specs.Pass.{KnownLink};
 ghost use Rattle.live_system.specs.System.{IsPassOf};
@@ -12,6 +12,8 @@ use crate::cut::LinkPlace;
 use crate::group::Group;
 use crate::net_pass::NetPass;
 use crate::system::LiveSystem;
+use es_base::PortNo;
+use receiver::PortCounts;
 
 /// What a link tells of itself. Both numbers saturate at 2^64 - 1.
 #[derive(Clone, Copy, Debug, PartialEq, Eq)]
@@ -47,6 +49,25 @@ impl LiveSystem {
         let lock = &self.groups[group];
         pass.groups[group].try_health(lock, index)
     }
+
+    /// What became of the messages for a port of the link at this place, if nobody has the link's group at this moment.
+    /// `None` if the other network has a link of the group, `Some(None)` if the link has no such port. Waits for nobody,
+    /// takes no memory, and can't fail.
+    pub fn try_port_counts(
+        &self,
+        pass: &mut NetPass,
+        place: usize,
+        port: PortNo,
+    ) -> Option<Option<PortCounts>>
+        requires own { IsPassOf self.now pass.old }
+        requires place { place < length pass.old.links }
+        ensures pass { pass.new ≡ pass.old }
+        ensures counts { IfSome result (λ counts. VisitsAt pass.old.links place (λ found left. TellsOfPort port counts found left)) }
+    {
+        let LinkPlace { group, index } = self.places[place];
+        let lock = &self.groups[group];
+        pass.groups[group].try_port_counts(lock, index, port)
+    }
 }
 
 /// What the link at this index of a locked group tells.
@@ -59,4 +80,13 @@ pub(crate) fn health_at(group: &mut Group, index: usize) -> LinkHealth
         received: link.received(),
         given_up: link.given_up(),
     }
+}
+
+/// What became of the messages for a port of the link at this index of a locked group. None if it has no such port.
+pub(crate) fn port_counts_at(group: &mut Group, index: usize, port: PortNo) -> Option<PortCounts>
+    requires { HasLinkAt group.old index is_any }
+    ensures { DoesAt (λ found left. TellsOfPort port result found left) group.old index group.new }
+{
+    let link = &group.links[index];
+    link.port_counts(port)
 }

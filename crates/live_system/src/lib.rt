@@ -40,8 +40,8 @@ pub use net_pass::NetPass;
 pub use network_calls::{Call, PassCounts};
 pub use opened::Opened;
 pub use receiver::{
-    Fill, LinkEnds, MailboxReader, PartitionEnd, PortOutlet, PortedLink, ReaderCount, Reply,
-    RingTaker,
+    Fill, LinkEnds, MailboxReader, Newest, PartitionEnd, PortCounts, PortOutlet, PortedLink,
+    ReaderCount, Reply, RingTaker,
 };
 pub use settled::Settled;
 pub use system::LiveSystem;

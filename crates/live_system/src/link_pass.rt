@@ -25,7 +25,7 @@ ghost use Rattle.live_system.specs.Checked.{AreChecked, AreStanding, TestsEach, 
 ghost use Rattle.live_system.specs.Calls.{LiveLink, as_opened};
 ghost use Rattle.live_system.specs.Fill.{TellsOfQueue};
 ghost use Rattle.live_system.specs.Groups.{AreLetGo, AreNewCounts, HasLinkAt, IsGroup, KnowsAt, calls_shown, count_shown, ids_of, is_any, known_links, no_calls_on_any, under};
-ghost use Rattle.live_system.specs.Health.{TellsOfLink};
+ghost use Rattle.live_system.specs.Health.{TellsOfLink, TellsOfPort};
 ghost use Rattle.live_system.specs.Meetings.{MeetsReader, MeetsTaker, VisitsAt};
 ghost use Rattle.live_system.specs.Pass.{Did, KnownLink};
 ghost use Rattle.live_system.specs.Rows.{AreForLinks, CallsEach, IsApart, KnowsFor, TookEach, index_at};
@@ -34,7 +34,7 @@ ghost use Rattle.live_system.specs.System.{CallsAt, KnowLinks, keeping_no_frame}
 use crate::cut::LinkPlace;
 use crate::fill::fill_at;
 use crate::group::Group;
-use crate::health::{LinkHealth, health_at};
+use crate::health::{LinkHealth, health_at, port_counts_at};
 use crate::meetings::{meet_reader, meet_taker};
 use crate::row::{Answers, Entry, take_at, take_each, tell_each, test_each};
 use es_base::{LinkNo, LinkSettings, Memory, Net, PortNo, Verdict};
@@ -43,7 +43,8 @@ use link_core::NetChecks;
 use link_lock::{Lock, Opened, PassOf};
 use network_calls::{LinkCounts, counts_on};
 use receiver::{
-    Fill, LinkEnds, MailboxReader, PartitionEnd, PortOutlet, PortedLink, Readers, Reply, RingTaker,
+    Fill, LinkEnds, MailboxReader, PartitionEnd, PortCounts, PortOutlet, PortedLink, Readers,
+    Reply, RingTaker,
 };
 use std::alloc::Global;
 use std::marker::Model;
@@ -287,6 +288,28 @@ impl GroupPass {
             { health_at(group, index) },
         )?;
         Some(health)
+    }
+
+    /// What became of the messages for a port of the link at this index of the group, if nobody has the group at this
+    /// moment. `None` if the other network has a link of it. Waits for nobody.
+    pub(crate) fn try_port_counts(
+        &mut self,
+        lock: &Lock<Group>,
+        index: usize,
+        port: PortNo,
+    ) -> Option<Option<PortCounts>>
+        requires { KnowsAt self.old lock.now index is_any }
+        ensures pass { self.new ≡ self.old }
+        ensures counts { IfSome result (λ counts. VisitsAt self.old index (λ found left. TellsOfPort port counts found left)) }
+    {
+        let counts = lock.try_visit(
+            &mut self.pass,
+            move |group: &mut Group| -> Option<PortCounts>
+                requires { HasLinkAt group.old index is_any }
+                ensures { DoesAt (λ found left. TellsOfPort port result found left) group.old index group.new }
+            { port_counts_at(group, index, port) },
+        )?;
+        Some(counts)
     }
 
     /// Fill level of the queue of a port of the link at this index of the group, by a look in this call, if nobody has

@@ -2,13 +2,11 @@
 use Rattle.std.specs.Prelude.{◌≡◌, ℕ, ◌+◌, ◌<◌, ◌&&◌, Bool, List, [], ◌∷◌, ◌++◌, length, map, nat_le, slice_get, Some}
 use Rattle.atomic_table.specs.Seated.{TableId}
 use Rattle.es_base.specs.declared.event.Message.{Message}
+pub use Rattle.es_base.specs.Limits.{most_readers}
 use Rattle.triple_buffer.specs.Ends.{BufferWriter, reader_told, new_reader}
 use Rattle.mailbox_port.specs.declared.port.Mailbox.{Mailbox}
 
 -- ---- how many readers
-
-abbrev pub most_readers : ℕ
-most_readers = 8
 
 -- rule: EMB-2
 abbrev pub is_reader_count : ℕ → Bool

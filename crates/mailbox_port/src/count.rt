@@ -2,10 +2,8 @@
 ghost use Rattle.std.specs.Prelude.{◌≡◌, ◌<◌, ◌≤◌, IfSome, is_some};
 ghost use Rattle.mailbox_port.specs.Port.{is_reader_count, most_readers};
 
+use es_base::MOST_READERS;
 use std::marker::Model;
-
-/// Most readers of a port.
-pub const MOST_READERS: usize = 8;
 
 /// Number of readers of a port, 1 to 8.
 #[derive(Clone, Copy)]

@@ -22,8 +22,8 @@ mod port;
 mod reader;
 mod reading;
 
-pub use count::{MOST_READERS, ReaderCount};
-pub use es_base::Freshness;
+pub use count::ReaderCount;
+pub use es_base::{Freshness, MOST_READERS};
 pub use port::{Mailbox, PortWriter, open_mailboxes};
 pub use reader::MailboxReader;
 pub use reading::Reading;

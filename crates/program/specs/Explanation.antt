@@ -23,6 +23,7 @@ allowed_of keys.Udp = codes "an integer from 0 to 65535"
 allowed_of keys.Max = codes "an integer from 0 to 1471 of a sampling port, 8192 of a queuing port"
 allowed_of keys.RefreshUs = codes "an integer from 0 to 1000000000"
 allowed_of keys.Depth = codes "an integer from 1 to 64"
+allowed_of keys.Readers = codes "an integer from 0 to 8"
 
 -- the key that a fault names
 abbrev pub named_key : ConfigFault → Option Key

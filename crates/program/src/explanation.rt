@@ -58,5 +58,6 @@ fn allowed_of(key: Key) -> &'static str
         Key::Max => "an integer from 0 to 1471 of a sampling port, 8192 of a queuing port",
         Key::RefreshUs => "an integer from 0 to 1000000000",
         Key::Depth => "an integer from 1 to 64",
+        Key::Readers => "an integer from 0 to 8",
     }
 }

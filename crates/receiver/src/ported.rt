@@ -7,6 +7,7 @@ ghost use Rattle.es_base.specs.Past.{arrived};
 ghost use Rattle.link_rules.specs.Integrity.{passes};
 ghost use Rattle.link_core.specs.Counted.{port_no, shown};
 ghost use Rattle.link_core.specs.Past.{number_given_up};
+ghost use Rattle.link_core.specs.Ports.{TellsCounts};
 ghost use Rattle.receiver.specs.Outlet.{IsAnswer, CountsAsked, IsRefusal, LoseNothing, reads_by};
 ghost use Rattle.receiver.specs.Ends.{ArePortsOpened};
 ghost use Rattle.receiver.specs.Link.{IsNewLink, IsPorted, OverflowsIfRefused, Takes, TakesIfKnown, TellsLosses};
@@ -16,7 +17,7 @@ use crate::outlet::Outlet;
 use crate::readers::Readers;
 use es_base::{Decision, LinkSettings, Memory, Net, PortNo, PortSettings, Verdict};
 use frame_reader::Frame;
-use link_core::LinkCore;
+use link_core::{LinkCore, PortCounts};
 use std::alloc::Global;
 use std::marker::Model;
 
@@ -79,6 +80,13 @@ impl<P: Outlet> PortedLink<P> {
         ensures { result ≡ shown (number_given_up self.now.core.settings self.now.core.past) }
     {
         self.core.given_up()
+    }
+
+    /// What became of the messages for this port. None if the link has no such port.
+    pub fn port_counts(&self, port: PortNo) -> Option<PortCounts>
+        ensures { TellsCounts self.now.core.settings self.now.core.past port result }
+    {
+        self.core.port_counts(port)
     }
 
     /// Outlet of the port at this place. None if the link has no such port.

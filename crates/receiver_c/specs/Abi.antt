@@ -3,4 +3,4 @@ use Rattle.std.specs.Prelude.{ℕ}
 
 -- raised with each change of a struct, a call or a number
 abbrev pub abi : ℕ
-abi = 8
+abi = 9

@@ -1,14 +1,15 @@
 //! The receiver for one task, for programs in C: three kinds of handles, each of a slot in room of the caller's. What a
 //! call does is said at the slots ([`receiver_slots`]) and, for C, in `examples/c/yelunnavi.h`. Of all calls the two
-//! openings alone take memory, and none waits. What C has to keep, and nothing checks: the room is as
-//! large as `.._room()` says, aligned to 8, made by `.._init` once and used through one handle; one call at a time is
-//! made on a handle; what a call is passed doesn't overlap.
+//! openings alone take memory, and none waits. A handle of zeros has no room: calls answer NOT_MADE. What C has to
+//! keep, and nothing checks: a handle is of zeros or of a room that is as large as `.._room()` says, aligned to 8, made
+//! by `.._init` once and used through one handle; one call at a time is made on a handle; what a call is passed doesn't
+//! overlap.
 #![tactic(auto)]
 
 ghost use Rattle.std.specs.Prelude.{◌≡◌, ◌≢◌, ◌<◌, ◌≤◌, ◌↔◌, ◌⊎◌, IsSome, length, None, Some, false, true};
 ghost use Rattle.std.specs.Borrow.{sem};
 ghost use Rattle.std.specs.Mem.{type_size};
-ghost use Rattle.std.specs.Ptr.{points_to, uninit_at};
+ghost use Rattle.std.specs.Ptr.{null_ptr, points_to, uninit_at};
 ghost use Rattle.message_ring.specs.Queue.{Known};
 ghost use Rattle.mailbox_port.specs.Reads.{PortReader};
 ghost use Rattle.receiver.specs.Taking.{HandsReader, HandsTaker};
@@ -17,10 +18,11 @@ ghost use Rattle.receiver_c.specs.Abi.{abi};
 ghost use Rattle.receiver_c.specs.HeldOctets.{TellsOctets};
 ghost use Rattle.slot_handles.specs.Made.{made_reader, made_receiver, made_taker};
 ghost use Rattle.slot_handles.specs.Marks.{after_close, if_made, is_made, reader_mark, receiver_mark, taker_mark};
-ghost use Rattle.receiver_slots.specs.Codes.{already_open, done, faulty, no_memory, none_left, not_made, not_open, out_of_range};
+ghost use Rattle.receiver_slots.specs.Codes.{already_open, done, faulty, no_memory, none_left, not_made, not_open, out_of_range, stray_key};
+ghost use Rattle.receiver_slots.specs.Checking.{HasStray, IsWithoutStray};
 ghost use Rattle.receiver_slots.specs.Health.{TellsFill, TellsHealth, fill_code, health_code};
+ghost use Rattle.receiver_slots.specs.PortCounts.{TellsPortCounts, port_counts_code};
 ghost use Rattle.receiver_slots.specs.Reading.{Copies, DidHold, DidRead, TellsReader, copy_code, held_octets, read_code, release_code, released};
-ghost use Rattle.receiver_slots.specs.Readers.{are_all_counts};
 ghost use Rattle.receiver_slots.specs.Receiving.{CountsFrames, TellsFiltered, HasFault, HasTableFault, IsNewReceiver, Receives, config_of_receiver, count_code, filtered_code, receive_code};
 ghost use Rattle.receiver_slots.specs.Slot.{CountsLinks, HandsOut, Opens, OpensTable, TellsLink, TellsPlace, TellsPort, hand_reader_code, hand_taker_code, link_code, links_code, place_code, port_code};
 ghost use Rattle.receiver_slots.specs.Taking.{DidTake, TellsTaker, TellsWaiting, take_code, taker_code};
@@ -32,7 +34,7 @@ ghost use Rattle.slot_handles.specs.contracts.marked.MarkedTaker.{the_row as tak
 use receiver_slots::codes::{DONE, HOLDS_NONE, NOT_MADE};
 use receiver_slots::{
     FaultReply, FillReply, FrameReply, HealthReply, LimitReply, LinkReply, LinkRow, PlaceReply,
-    PortReply, PortRow, ReadReply, TakeReply,
+    PortCountsReply, PortReply, PortRow, ReadReply, TakeReply, check_text,
 };
 use std::alloc::Global;
 
@@ -45,7 +47,7 @@ use slot_handles::receiver_handle::ReceiverHandle;
 use slot_handles::taker_handle::TakerHandle;
 
 /// The number of the interface: raised with each change of a struct, a call or a number.
-pub const ABI: u32 = 8;
+pub const ABI: u32 = 9;
 
 /// The number of the interface of this library. A program compares it with that of the header that it was compiled
 /// with.
@@ -54,6 +56,20 @@ pub extern "C" fn yelunnavi_abi() -> u32
     ensures { result ≡ abi }
 {
     ABI
+}
+
+/// Reads the configuration in these octets, a TOML document, and opens nothing. FAULTY, and its first fault, as
+/// `yelunnavi_receiver_open` tells it. STRAY_KEY, and the first table with a key that isn't its own, if that is all that is
+/// wrong. All memory that is taken is given back.
+#[unsafe(no_mangle)]
+pub extern "C" fn yelunnavi_check_text(alloc: Global, text: &[u8], fault: &mut FaultReply) -> u32
+    ensures done { result ≡ done → IsWithoutStray text.now }
+    ensures fault { result ≡ faulty → HasFault text.now fault.new }
+    ensures stray { result ≡ stray_key → HasStray text.now fault.new }
+    ensures same { (result ≡ done) ⊎ (result ≡ no_memory) → fault.new ≡ fault.old }
+    ensures codes { (result ≡ done) ⊎ ((result ≡ faulty) ⊎ ((result ≡ no_memory) ⊎ (result ≡ stray_key))) }
+{
+    check_text(alloc, text, fault)
 }
 
 // ---- the slot of a receiver
@@ -87,6 +103,7 @@ pub extern "C" fn yelunnavi_receiver_open(
     fault: &mut FaultReply,
 ) -> u32
     ensures place { (h.new.at ≡ h.old.at) × (h.new.room.mark ≡ h.old.room.mark) }
+    ensures zeros { h.old.at ≡ null_ptr → (result ≡ not_made) × (h.new ≡ h.old) × (fault.new ≡ fault.old) }
     ensures opened { result ≡ done → Opens IsNewReceiver readers text.now h.new.room.slot }
     ensures fault { result ≡ faulty → HasFault text.now fault.new }
     ensures made { (result ≡ not_made) ↔ (is_made receiver_mark h.old.room.mark ≡ false) }
@@ -97,7 +114,9 @@ pub extern "C" fn yelunnavi_receiver_open(
     ensures codes { (result ≤ no_memory) ⊎ ((result ≡ out_of_range) ⊎ (result ≡ not_made)) }
     ensures tried { result ≢ not_open }
 {
-    let made = h.lend();
+    let Some(made) = h.lend() else {
+        return NOT_MADE;
+    };
     if made.mark != RECEIVER {
         return NOT_MADE;
     }
@@ -117,17 +136,20 @@ pub extern "C" fn yelunnavi_receiver_open_table(
     fault: &mut FaultReply,
 ) -> u32
     ensures place { (h.new.at ≡ h.old.at) × (h.new.room.mark ≡ h.old.room.mark) }
+    ensures zeros { h.old.at ≡ null_ptr → (result ≡ not_made) × (h.new ≡ h.old) × (fault.new ≡ fault.old) }
     ensures opened { result ≡ done → OpensTable IsNewReceiver readers constant.now links.now ports.now h.new.room.slot }
     ensures fault { result ≡ faulty → HasTableFault constant.now links.now ports.now fault.new }
     ensures made { (result ≡ not_made) ↔ (is_made receiver_mark h.old.room.mark ≡ false) }
     ensures already { is_made receiver_mark h.old.room.mark ≡ true → (result ≡ already_open) ↔ IsSome h.old.room.slot }
-    ensures range { is_made receiver_mark h.old.room.mark ≡ true → h.old.room.slot ≡ None → (result ≡ out_of_range) ↔ (are_all_counts readers ports.now ≡ false) }
+    ensures range { is_made receiver_mark h.old.room.mark ≡ true → h.old.room.slot ≡ None → (result ≡ out_of_range) ↔ (is_reader_count readers ≡ false) }
     ensures same { 0 < result → h.new.room.slot ≡ h.old.room.slot }
     ensures others { result ≢ faulty → fault.new ≡ fault.old }
     ensures codes { (result ≤ no_memory) ⊎ ((result ≡ out_of_range) ⊎ (result ≡ not_made)) }
     ensures tried { result ≢ not_open }
 {
-    let made = h.lend();
+    let Some(made) = h.lend() else {
+        return NOT_MADE;
+    };
     if made.mark != RECEIVER {
         return NOT_MADE;
     }
@@ -139,11 +161,13 @@ pub extern "C" fn yelunnavi_receiver_open_table(
 #[unsafe(no_mangle)]
 pub extern "C" fn yelunnavi_receiver_close(h: &mut ReceiverHandle)
     ensures place { (h.new.at ≡ h.old.at) × (h.new.room.mark ≡ h.old.room.mark) }
+    ensures zeros { h.old.at ≡ null_ptr → h.new ≡ h.old }
     ensures value { h.new.room.slot ≡ after_close receiver_mark h.old.room.mark None h.old.room.slot }
 {
-    let made = h.lend();
-    if made.mark == RECEIVER {
-        made.slot.close();
+    if let Some(made) = h.lend() {
+        if made.mark == RECEIVER {
+            made.slot.close();
+        }
     }
 }
 
@@ -158,11 +182,14 @@ pub extern "C" fn yelunnavi_receiver_receive(
     reply: &mut FrameReply,
 ) -> u32
     ensures place { (h.new.at ≡ h.old.at) × (h.new.room.mark ≡ h.old.room.mark) }
+    ensures zeros { h.old.at ≡ null_ptr → (result ≡ not_made) × (h.new ≡ h.old) × (reply.new ≡ reply.old) }
     ensures code { result ≡ if_made receiver_mark h.old.room.mark (receive_code h.old.room.slot net) }
     ensures received { result ≡ done → Receives h.old.room.slot h.new.room.slot net now frame.now reply.new }
     ensures same { 0 < result → (h.new.room.slot ≡ h.old.room.slot) × (reply.new ≡ reply.old) }
 {
-    let made = h.lend();
+    let Some(made) = h.lend() else {
+        return NOT_MADE;
+    };
     if made.mark != RECEIVER {
         return NOT_MADE;
     }
@@ -179,14 +206,20 @@ pub extern "C" fn yelunnavi_receiver_hand_reader(
 ) -> u32
     ensures place { (h.new.at ≡ h.old.at) × (h.new.room.mark ≡ h.old.room.mark) }
     ensures to_place { (to.new.at ≡ to.old.at) × (to.new.room.mark ≡ to.old.room.mark) }
+    ensures zeros { h.old.at ≡ null_ptr → (result ≡ not_made) × (h.new ≡ h.old) × (to.new ≡ to.old) }
+    ensures to_zeros { to.old.at ≡ null_ptr → (result ≡ not_made) × (h.new.room ≡ h.old.room) × (to.new ≡ to.old) }
     ensures code { result ≡ if_made receiver_mark h.old.room.mark (if_made reader_mark to.old.room.mark (hand_reader_code h.old.room.slot to.old.room.slot name.now)) }
     ensures handed { result ≡ done → (reader : PortReader) × (to.new.room.slot ≡ Reads reader) × HandsOut HandsReader name.now h.old.room.slot h.new.room.slot (Some reader) }
     ensures left { result ≡ none_left → HandsOut HandsReader name.now h.old.room.slot h.new.room.slot None }
     ensures same { 0 < result → result ≢ none_left → h.new.room.slot ≡ h.old.room.slot }
     ensures to { 0 < result → to.new.room.slot ≡ to.old.room.slot }
 {
-    let made = h.lend();
-    let room = to.lend();
+    let Some(made) = h.lend() else {
+        return NOT_MADE;
+    };
+    let Some(room) = to.lend() else {
+        return NOT_MADE;
+    };
     if made.mark != RECEIVER || room.mark != READER {
         return NOT_MADE;
     }
@@ -203,14 +236,20 @@ pub extern "C" fn yelunnavi_receiver_hand_queue(
 ) -> u32
     ensures place { (h.new.at ≡ h.old.at) × (h.new.room.mark ≡ h.old.room.mark) }
     ensures to_place { (to.new.at ≡ to.old.at) × (to.new.room.mark ≡ to.old.room.mark) }
+    ensures zeros { h.old.at ≡ null_ptr → (result ≡ not_made) × (h.new ≡ h.old) × (to.new ≡ to.old) }
+    ensures to_zeros { to.old.at ≡ null_ptr → (result ≡ not_made) × (h.new.room ≡ h.old.room) × (to.new ≡ to.old) }
     ensures code { result ≡ if_made receiver_mark h.old.room.mark (if_made taker_mark to.old.room.mark (hand_taker_code h.old.room.slot to.old.room.slot name.now)) }
     ensures handed { result ≡ done → (taker : Known) × (to.new.room.slot ≡ Some taker) × HandsOut HandsTaker name.now h.old.room.slot h.new.room.slot (Some taker) }
     ensures left { result ≡ none_left → HandsOut HandsTaker name.now h.old.room.slot h.new.room.slot None }
     ensures same { 0 < result → result ≢ none_left → h.new.room.slot ≡ h.old.room.slot }
     ensures to { 0 < result → to.new.room.slot ≡ to.old.room.slot }
 {
-    let made = h.lend();
-    let room = to.lend();
+    let Some(made) = h.lend() else {
+        return NOT_MADE;
+    };
+    let Some(room) = to.lend() else {
+        return NOT_MADE;
+    };
     if made.mark != RECEIVER || room.mark != TAKER {
         return NOT_MADE;
     }
@@ -228,12 +267,15 @@ pub extern "C" fn yelunnavi_receiver_count(
     count: &mut u64,
 ) -> u32
     ensures place { (h.new.at ≡ h.old.at) × (h.new.room.mark ≡ h.old.room.mark) }
+    ensures zeros { h.old.at ≡ null_ptr → (result ≡ not_made) × (h.new ≡ h.old) × (count.new ≡ count.old) }
     ensures code { result ≡ if_made receiver_mark h.old.room.mark (count_code h.old.room.slot link net kind) }
     ensures counted { result ≡ done → CountsFrames h.old.room.slot link net kind count.new }
     ensures same { 0 < result → count.new ≡ count.old }
     ensures kept { h.new.room.slot ≡ h.old.room.slot }
 {
-    let made = h.lend();
+    let Some(made) = h.lend() else {
+        return NOT_MADE;
+    };
     if made.mark != RECEIVER {
         return NOT_MADE;
     }
@@ -249,12 +291,15 @@ pub extern "C" fn yelunnavi_receiver_filtered(
     count: &mut u64,
 ) -> u32
     ensures place { (h.new.at ≡ h.old.at) × (h.new.room.mark ≡ h.old.room.mark) }
+    ensures zeros { h.old.at ≡ null_ptr → (result ≡ not_made) × (h.new ≡ h.old) × (count.new ≡ count.old) }
     ensures code { result ≡ if_made receiver_mark h.old.room.mark (filtered_code h.old.room.slot net cause) }
     ensures counted { result ≡ done → TellsFiltered h.old.room.slot net cause count.new }
     ensures same { 0 < result → count.new ≡ count.old }
     ensures kept { h.new.room.slot ≡ h.old.room.slot }
 {
-    let made = h.lend();
+    let Some(made) = h.lend() else {
+        return NOT_MADE;
+    };
     if made.mark != RECEIVER {
         return NOT_MADE;
     }
@@ -270,16 +315,43 @@ pub extern "C" fn yelunnavi_receiver_health(
     reply: &mut HealthReply,
 ) -> u32
     ensures place { (h.new.at ≡ h.old.at) × (h.new.room.mark ≡ h.old.room.mark) }
+    ensures zeros { h.old.at ≡ null_ptr → (result ≡ not_made) × (h.new ≡ h.old) × (reply.new ≡ reply.old) }
     ensures code { result ≡ if_made receiver_mark h.old.room.mark (health_code h.old.room.slot link) }
     ensures told { result ≡ done → TellsHealth h.old.room.slot link reply.new }
     ensures same { 0 < result → reply.new ≡ reply.old }
     ensures kept { h.new.room.slot ≡ h.old.room.slot }
 {
-    let made = h.lend();
+    let Some(made) = h.lend() else {
+        return NOT_MADE;
+    };
     if made.mark != RECEIVER {
         return NOT_MADE;
     }
     made.slot.health(link, reply)
+}
+
+/// Tells what became of the messages for a port, by the places of its link and of the port in it.
+#[unsafe(no_mangle)]
+pub extern "C" fn yelunnavi_receiver_port_counts(
+    h: &mut ReceiverHandle,
+    link: usize,
+    port: usize,
+    reply: &mut PortCountsReply,
+) -> u32
+    ensures place { (h.new.at ≡ h.old.at) × (h.new.room.mark ≡ h.old.room.mark) }
+    ensures zeros { h.old.at ≡ null_ptr → (result ≡ not_made) × (h.new ≡ h.old) × (reply.new ≡ reply.old) }
+    ensures code { result ≡ if_made receiver_mark h.old.room.mark (port_counts_code h.old.room.slot link port) }
+    ensures told { result ≡ done → TellsPortCounts h.old.room.slot link port reply.new }
+    ensures same { 0 < result → reply.new ≡ reply.old }
+    ensures kept { h.new.room.slot ≡ h.old.room.slot }
+{
+    let Some(made) = h.lend() else {
+        return NOT_MADE;
+    };
+    if made.mark != RECEIVER {
+        return NOT_MADE;
+    }
+    made.slot.port_counts(link, port, reply)
 }
 
 /// Tells how full a port's queue is, by the places of its link and of the port in it: how many messages were delivered
@@ -293,11 +365,14 @@ pub extern "C" fn yelunnavi_receiver_fill(
     reply: &mut FillReply,
 ) -> u32
     ensures place { (h.new.at ≡ h.old.at) × (h.new.room.mark ≡ h.old.room.mark) }
+    ensures zeros { h.old.at ≡ null_ptr → (result ≡ not_made) × (h.new ≡ h.old) × (reply.new ≡ reply.old) }
     ensures code { result ≡ if_made receiver_mark h.old.room.mark (fill_code h.old.room.slot link port) }
     ensures told { result ≡ done → TellsFill h.old.room.slot h.new.room.slot link port reply.new }
     ensures same { 0 < result → (h.new.room.slot ≡ h.old.room.slot) × (reply.new ≡ reply.old) }
 {
-    let made = h.lend();
+    let Some(made) = h.lend() else {
+        return NOT_MADE;
+    };
     if made.mark != RECEIVER {
         return NOT_MADE;
     }
@@ -308,12 +383,15 @@ pub extern "C" fn yelunnavi_receiver_fill(
 #[unsafe(no_mangle)]
 pub extern "C" fn yelunnavi_receiver_links(h: &mut ReceiverHandle, links: &mut usize) -> u32
     ensures place { (h.new.at ≡ h.old.at) × (h.new.room.mark ≡ h.old.room.mark) }
+    ensures zeros { h.old.at ≡ null_ptr → (result ≡ not_made) × (h.new ≡ h.old) × (links.new ≡ links.old) }
     ensures code { result ≡ if_made receiver_mark h.old.room.mark (links_code h.old.room.slot) }
     ensures told { result ≡ done → CountsLinks config_of_receiver h.old.room.slot links.new }
     ensures same { 0 < result → links.new ≡ links.old }
     ensures kept { h.new.room.slot ≡ h.old.room.slot }
 {
-    let made = h.lend();
+    let Some(made) = h.lend() else {
+        return NOT_MADE;
+    };
     if made.mark != RECEIVER {
         return NOT_MADE;
     }
@@ -328,12 +406,15 @@ pub extern "C" fn yelunnavi_receiver_link(
     reply: &mut LinkReply,
 ) -> u32
     ensures place { (h.new.at ≡ h.old.at) × (h.new.room.mark ≡ h.old.room.mark) }
+    ensures zeros { h.old.at ≡ null_ptr → (result ≡ not_made) × (h.new ≡ h.old) × (reply.new ≡ reply.old) }
     ensures code { result ≡ if_made receiver_mark h.old.room.mark (link_code config_of_receiver h.old.room.slot link) }
     ensures told { result ≡ done → TellsLink config_of_receiver h.old.room.slot link reply.new }
     ensures same { 0 < result → reply.new ≡ reply.old }
     ensures kept { h.new.room.slot ≡ h.old.room.slot }
 {
-    let made = h.lend();
+    let Some(made) = h.lend() else {
+        return NOT_MADE;
+    };
     if made.mark != RECEIVER {
         return NOT_MADE;
     }
@@ -351,12 +432,15 @@ pub extern "C" fn yelunnavi_receiver_port(
     name: &mut [u8; 16],
 ) -> u32
     ensures place { (h.new.at ≡ h.old.at) × (h.new.room.mark ≡ h.old.room.mark) }
+    ensures zeros { h.old.at ≡ null_ptr → (result ≡ not_made) × (h.new ≡ h.old) × (reply.new ≡ reply.old) × (name.new ≡ name.old) }
     ensures code { result ≡ if_made receiver_mark h.old.room.mark (port_code config_of_receiver h.old.room.slot link port) }
     ensures told { result ≡ done → TellsPort config_of_receiver h.old.room.slot link port reply.new name.old name.new }
     ensures same { 0 < result → (reply.new ≡ reply.old) × (name.new ≡ name.old) }
     ensures kept { h.new.room.slot ≡ h.old.room.slot }
 {
-    let made = h.lend();
+    let Some(made) = h.lend() else {
+        return NOT_MADE;
+    };
     if made.mark != RECEIVER {
         return NOT_MADE;
     }
@@ -371,12 +455,15 @@ pub extern "C" fn yelunnavi_receiver_place(
     reply: &mut PlaceReply,
 ) -> u32
     ensures place { (h.new.at ≡ h.old.at) × (h.new.room.mark ≡ h.old.room.mark) }
+    ensures zeros { h.old.at ≡ null_ptr → (result ≡ not_made) × (h.new ≡ h.old) × (reply.new ≡ reply.old) }
     ensures code { result ≡ if_made receiver_mark h.old.room.mark (place_code h.old.room.slot name.now) }
     ensures told { result ≡ done → TellsPlace h.old.room.slot name.now reply.new }
     ensures same { 0 < result → reply.new ≡ reply.old }
     ensures kept { h.new.room.slot ≡ h.old.room.slot }
 {
-    let made = h.lend();
+    let Some(made) = h.lend() else {
+        return NOT_MADE;
+    };
     if made.mark != RECEIVER {
         return NOT_MADE;
     }
@@ -412,11 +499,14 @@ pub extern "C" fn yelunnavi_reader_read(
     reply: &mut ReadReply,
 ) -> u32
     ensures place { (h.new.at ≡ h.old.at) × (h.new.room.mark ≡ h.old.room.mark) }
+    ensures zeros { h.old.at ≡ null_ptr → (result ≡ not_made) × (h.new ≡ h.old) × (out.new ≡ out.old) × (reply.new ≡ reply.old) }
     ensures code { result ≡ if_made reader_mark h.old.room.mark (read_code h.old.room.slot) }
     ensures read { result ≡ done → DidRead h.old.room.slot h.new.room.slot now out.old out.new reply.new }
     ensures same { 0 < result → (h.new.room.slot ≡ h.old.room.slot) × (out.new ≡ out.old) × (reply.new ≡ reply.old) }
 {
-    let made = h.lend();
+    let Some(made) = h.lend() else {
+        return NOT_MADE;
+    };
     if made.mark != READER {
         return NOT_MADE;
     }
@@ -432,11 +522,14 @@ pub extern "C" fn yelunnavi_reader_hold(
     reply: &mut ReadReply,
 ) -> u32
     ensures place { (h.new.at ≡ h.old.at) × (h.new.room.mark ≡ h.old.room.mark) }
+    ensures zeros { h.old.at ≡ null_ptr → (result ≡ not_made) × (h.new ≡ h.old) × (reply.new ≡ reply.old) }
     ensures code { result ≡ if_made reader_mark h.old.room.mark (read_code h.old.room.slot) }
     ensures held { result ≡ done → DidHold h.old.room.slot h.new.room.slot now reply.new }
     ensures same { 0 < result → (h.new.room.slot ≡ h.old.room.slot) × (reply.new ≡ reply.old) }
 {
-    let made = h.lend();
+    let Some(made) = h.lend() else {
+        return NOT_MADE;
+    };
     if made.mark != READER {
         return NOT_MADE;
     }
@@ -448,12 +541,15 @@ pub extern "C" fn yelunnavi_reader_hold(
 #[unsafe(no_mangle)]
 pub extern "C" fn yelunnavi_reader_octets(h: &mut ReaderHandle, octets: &mut HeldOctets) -> u32
     ensures place { (h.new.at ≡ h.old.at) × (h.new.room.mark ≡ h.old.room.mark) }
+    ensures zeros { h.old.at ≡ null_ptr → (result ≡ not_made) × (h.new ≡ h.old) × (octets.new ≡ octets.old) }
     ensures code { result ≡ if_made reader_mark h.old.room.mark (release_code h.old.room.slot) }
     ensures told { result ≡ done → TellsOctets (held_octets h.old.room.slot) octets.new }
     ensures same { 0 < result → octets.new ≡ octets.old }
     ensures kept { h.new.room.slot ≡ h.old.room.slot }
 {
-    let made = h.lend();
+    let Some(made) = h.lend() else {
+        return NOT_MADE;
+    };
     if made.mark != READER {
         return NOT_MADE;
     }
@@ -470,13 +566,16 @@ pub extern "C" fn yelunnavi_reader_octets(h: &mut ReaderHandle, octets: &mut Hel
 #[unsafe(no_mangle)]
 pub extern "C" fn yelunnavi_reader_copy(h: &mut ReaderHandle, first: usize, out: &mut [u8]) -> u32
     ensures place { (h.new.at ≡ h.old.at) × (h.new.room.mark ≡ h.old.room.mark) }
+    ensures zeros { h.old.at ≡ null_ptr → (result ≡ not_made) × (h.new ≡ h.old) × (out.new ≡ out.old) }
     ensures code { result ≡ if_made reader_mark h.old.room.mark (copy_code h.old.room.slot first (length out.old)) }
     ensures copied { result ≡ done → Copies h.old.room.slot first out.new }
     ensures length { length out.new ≡ length out.old }
     ensures same { 0 < result → out.new ≡ out.old }
     ensures kept { h.new.room.slot ≡ h.old.room.slot }
 {
-    let made = h.lend();
+    let Some(made) = h.lend() else {
+        return NOT_MADE;
+    };
     if made.mark != READER {
         return NOT_MADE;
     }
@@ -487,10 +586,13 @@ pub extern "C" fn yelunnavi_reader_copy(h: &mut ReaderHandle, first: usize, out:
 #[unsafe(no_mangle)]
 pub extern "C" fn yelunnavi_reader_release(h: &mut ReaderHandle) -> u32
     ensures place { (h.new.at ≡ h.old.at) × (h.new.room.mark ≡ h.old.room.mark) }
+    ensures zeros { h.old.at ≡ null_ptr → (result ≡ not_made) × (h.new ≡ h.old) }
     ensures code { result ≡ if_made reader_mark h.old.room.mark (release_code h.old.room.slot) }
     ensures released { h.new.room.slot ≡ after_close reader_mark h.old.room.mark (released h.old.room.slot) h.old.room.slot }
 {
-    let made = h.lend();
+    let Some(made) = h.lend() else {
+        return NOT_MADE;
+    };
     if made.mark != READER {
         return NOT_MADE;
     }
@@ -501,12 +603,15 @@ pub extern "C" fn yelunnavi_reader_release(h: &mut ReaderHandle) -> u32
 #[unsafe(no_mangle)]
 pub extern "C" fn yelunnavi_reader_limits(h: &mut ReaderHandle, reply: &mut LimitReply) -> u32
     ensures place { (h.new.at ≡ h.old.at) × (h.new.room.mark ≡ h.old.room.mark) }
+    ensures zeros { h.old.at ≡ null_ptr → (result ≡ not_made) × (h.new ≡ h.old) × (reply.new ≡ reply.old) }
     ensures code { result ≡ if_made reader_mark h.old.room.mark (read_code h.old.room.slot) }
     ensures told { result ≡ done → TellsReader h.old.room.slot reply.new }
     ensures same { 0 < result → reply.new ≡ reply.old }
     ensures kept { h.new.room.slot ≡ h.old.room.slot }
 {
-    let made = h.lend();
+    let Some(made) = h.lend() else {
+        return NOT_MADE;
+    };
     if made.mark != READER {
         return NOT_MADE;
     }
@@ -517,11 +622,13 @@ pub extern "C" fn yelunnavi_reader_limits(h: &mut ReaderHandle, reply: &mut Limi
 #[unsafe(no_mangle)]
 pub extern "C" fn yelunnavi_reader_close(h: &mut ReaderHandle)
     ensures place { (h.new.at ≡ h.old.at) × (h.new.room.mark ≡ h.old.room.mark) }
+    ensures zeros { h.old.at ≡ null_ptr → h.new ≡ h.old }
     ensures value { h.new.room.slot ≡ after_close reader_mark h.old.room.mark Closed h.old.room.slot }
 {
-    let made = h.lend();
-    if made.mark == READER {
-        made.slot.close();
+    if let Some(made) = h.lend() {
+        if made.mark == READER {
+            made.slot.close();
+        }
     }
 }
 
@@ -554,11 +661,14 @@ pub extern "C" fn yelunnavi_queue_take(
     reply: &mut TakeReply,
 ) -> u32
     ensures place { (h.new.at ≡ h.old.at) × (h.new.room.mark ≡ h.old.room.mark) }
+    ensures zeros { h.old.at ≡ null_ptr → (result ≡ not_made) × (h.new ≡ h.old) × (out.new ≡ out.old) × (reply.new ≡ reply.old) }
     ensures code { result ≡ if_made taker_mark h.old.room.mark (take_code h.old.room.slot (length out.old)) }
     ensures took { result ≡ done → DidTake h.old.room.slot h.new.room.slot out.old out.new reply.new }
     ensures same { 0 < result → (h.new.room.slot ≡ h.old.room.slot) × (out.new ≡ out.old) × (reply.new ≡ reply.old) }
 {
-    let made = h.lend();
+    let Some(made) = h.lend() else {
+        return NOT_MADE;
+    };
     if made.mark != TAKER {
         return NOT_MADE;
     }
@@ -569,11 +679,14 @@ pub extern "C" fn yelunnavi_queue_take(
 #[unsafe(no_mangle)]
 pub extern "C" fn yelunnavi_queue_waiting(h: &mut TakerHandle, waiting: &mut usize) -> u32
     ensures place { (h.new.at ≡ h.old.at) × (h.new.room.mark ≡ h.old.room.mark) }
+    ensures zeros { h.old.at ≡ null_ptr → (result ≡ not_made) × (h.new ≡ h.old) × (waiting.new ≡ waiting.old) }
     ensures code { result ≡ if_made taker_mark h.old.room.mark (taker_code h.old.room.slot) }
     ensures told { result ≡ done → TellsWaiting h.old.room.slot h.new.room.slot waiting.new }
     ensures same { 0 < result → (h.new.room.slot ≡ h.old.room.slot) × (waiting.new ≡ waiting.old) }
 {
-    let made = h.lend();
+    let Some(made) = h.lend() else {
+        return NOT_MADE;
+    };
     if made.mark != TAKER {
         return NOT_MADE;
     }
@@ -584,12 +697,15 @@ pub extern "C" fn yelunnavi_queue_waiting(h: &mut TakerHandle, waiting: &mut usi
 #[unsafe(no_mangle)]
 pub extern "C" fn yelunnavi_queue_longest(h: &mut TakerHandle, max: &mut usize) -> u32
     ensures place { (h.new.at ≡ h.old.at) × (h.new.room.mark ≡ h.old.room.mark) }
+    ensures zeros { h.old.at ≡ null_ptr → (result ≡ not_made) × (h.new ≡ h.old) × (max.new ≡ max.old) }
     ensures code { result ≡ if_made taker_mark h.old.room.mark (taker_code h.old.room.slot) }
     ensures told { result ≡ done → TellsTaker h.old.room.slot max.new }
     ensures same { 0 < result → max.new ≡ max.old }
     ensures kept { h.new.room.slot ≡ h.old.room.slot }
 {
-    let made = h.lend();
+    let Some(made) = h.lend() else {
+        return NOT_MADE;
+    };
     if made.mark != TAKER {
         return NOT_MADE;
     }
@@ -600,11 +716,13 @@ pub extern "C" fn yelunnavi_queue_longest(h: &mut TakerHandle, max: &mut usize) 
 #[unsafe(no_mangle)]
 pub extern "C" fn yelunnavi_queue_close(h: &mut TakerHandle)
     ensures place { (h.new.at ≡ h.old.at) × (h.new.room.mark ≡ h.old.room.mark) }
+    ensures zeros { h.old.at ≡ null_ptr → h.new ≡ h.old }
     ensures value { h.new.room.slot ≡ after_close taker_mark h.old.room.mark None h.old.room.slot }
 {
-    let made = h.lend();
-    if made.mark == TAKER {
-        made.slot.close();
+    if let Some(made) = h.lend() {
+        if made.mark == TAKER {
+            made.slot.close();
+        }
     }
 }
 

@@ -1,8 +1,8 @@
 -- How many readers the ports of a table have.
-use Rattle.std.specs.Prelude.{ℕ, Bool, ◌&&◌, List, nat_le, Option, None, Some, if◌then◌else◌}
-use Rattle.std.specs.List.{find, list_all}
+use Rattle.std.specs.Prelude.{ℕ, List, Option, None, Some, if◌then◌else◌}
+use Rattle.std.specs.List.{find}
 use Rattle.es_base.specs.Port.{Port}
-use Rattle.mailbox_port.specs.Port.{is_reader_count, most_readers}
+use Rattle.mailbox_port.specs.Port.{is_reader_count}
 use Rattle.vl_config.specs.Rows.{has_row_name}
 use Rattle.vl_config.specs.declared.rows.PortRow.{PortRow}
 
@@ -15,12 +15,3 @@ count_or others (Some row) = if is_reader_count row.readers then row.readers els
 -- rule: EMB-20
 abbrev pub readers_in : ℕ → List PortRow → Port → ℕ
 readers_in others rows port = count_or others (find (has_row_name port.name) rows)
-
--- each row says 0, or a number of readers that a port can have
--- rule: EMB-20
-abbrev pub are_reader_counts : List PortRow → Bool
-are_reader_counts rows = list_all (λ (row : PortRow). nat_le row.readers most_readers) rows
-
--- the number for ports without one of their own, and those of the rows, are numbers that a port can have
-abbrev pub are_all_counts : ℕ → List PortRow → Bool
-are_all_counts others rows = is_reader_count others && are_reader_counts rows

@@ -9,7 +9,7 @@ ghost use Rattle.receiver.specs.declared.ends.LinkEnds.{LinkEnds as EndsOfLink};
 ghost use Rattle.receiver.specs.declared.partition.PartitionEnd.{PartitionEnd as EndOfPort};
 ghost use Rattle.receiver.specs.Taking.{HandsReader, HandsTaker};
 ghost use Rattle.receiver_slots.specs.Codes.{already_open, done, faulty, no_memory, none_left, not_open, out_of_range};
-ghost use Rattle.receiver_slots.specs.Readers.{are_all_counts, readers_in};
+ghost use Rattle.receiver_slots.specs.Readers.{readers_in};
 ghost use Rattle.receiver_slots.specs.Receiving.{HasFault, HasTableFault};
 ghost use Rattle.receiver_slots.specs.Slot.{CountsLinks, HandsOut, Opens, OpensConfig, OpensTable, TellsLink, TellsPlace, TellsPort, hand_reader_code, hand_taker_code, link_code, links_code, place_code, port_code};
 ghost use Rattle.receiver_slots.specs.declared.reader_slot.ReaderState.TheVariants.{Reads};
@@ -114,9 +114,9 @@ impl<T: Configured> Slot<T> {
     }
 
     /// Opens what it is for, of the configuration of a table: the constant field, the links, and their ports one after
-    /// another. Each sampling port has as many readers as its row says, 1 to 8, or `readers` for 0; another number is
-    /// OUT_OF_RANGE. All memory is taken here. FAULTY, and the fault of [`open_text`](Slot::open_text) of a
-    /// text that says the same, but for its line.
+    /// another. Each sampling port has as many readers as its row says, 1 to 8, or `readers` for 0, 1 to 8, else
+    /// OUT_OF_RANGE. All memory is taken here. FAULTY, and the fault of [`open_text`](Slot::open_text) of a text that says
+    /// the same, but for its line; a row's number of readers above 8 is a fault of its port.
     pub fn open_table(
         &mut self,
         alloc: Global,
@@ -129,7 +129,7 @@ impl<T: Configured> Slot<T> {
         ensures opened { result ≡ done → OpensTable T.is_new readers constant.now links.now ports.now self.new }
         ensures fault { result ≡ faulty → HasTableFault constant.now links.now ports.now fault.new }
         ensures already { (result ≡ already_open) ↔ IsSome self.old }
-        ensures range { self.old ≡ None → (result ≡ out_of_range) ↔ (are_all_counts readers ports.now ≡ false) }
+        ensures range { self.old ≡ None → (result ≡ out_of_range) ↔ (is_reader_count readers ≡ false) }
         ensures same { 0 < result → self.new ≡ self.old }
         ensures others { result ≢ faulty → fault.new ≡ fault.old }
         ensures codes { (result ≤ no_memory) ⊎ (result ≡ out_of_range) }

@@ -2,4 +2,5 @@
 
 pub(crate) mod facts;
 pub(crate) mod numbers;
+pub(crate) mod port_counts;
 pub(crate) mod replies;

@@ -17,6 +17,10 @@ system_mark = 6827877403514372100
 abbrev pub pass_mark : ℕ
 pass_mark = 6827877403514372101
 
+-- the mark of no kind: of what is said to stand in the room of a handle that has none
+abbrev pub no_mark : ℕ
+no_mark = 0
+
 -- a slot with this mark is of this kind
 -- rule: EMB-14
 abbrev pub is_made : ℕ → ℕ → Bool

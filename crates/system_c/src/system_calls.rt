@@ -2,7 +2,7 @@
 ghost use Rattle.std.specs.Prelude.{◌≡◌, ◌≢◌, ◌<◌, ◌≤◌, ◌↔◌, ◌⊎◌, IsSome, None, Some, false, true};
 ghost use Rattle.std.specs.Borrow.{sem};
 ghost use Rattle.std.specs.Mem.{type_size};
-ghost use Rattle.std.specs.Ptr.{points_to, uninit_at};
+ghost use Rattle.std.specs.Ptr.{null_ptr, points_to, uninit_at};
 ghost use Rattle.message_ring.specs.Queue.{Known};
 ghost use Rattle.mailbox_port.specs.Reads.{PortReader};
 ghost use Rattle.receiver.specs.Taking.{HandsReader, HandsTaker};
@@ -10,7 +10,6 @@ ghost use Rattle.mailbox_port.specs.Port.{is_reader_count};
 ghost use Rattle.system_c.specs.Made.{made_system};
 ghost use Rattle.slot_handles.specs.Marks.{after_close, if_made, is_made, pass_mark, reader_mark, system_mark, taker_mark};
 ghost use Rattle.receiver_slots.specs.Codes.{already_open, done, faulty, no_memory, none_left, not_made, not_open, out_of_range};
-ghost use Rattle.receiver_slots.specs.Readers.{are_all_counts};
 ghost use Rattle.receiver_slots.specs.Receiving.{HasFault, HasTableFault};
 ghost use Rattle.receiver_slots.specs.declared.reader_slot.ReaderState.TheVariants.{Reads};
 ghost use Rattle.receiver_slots.specs.Slot.{CountsLinks, HandsOut, Opens, OpensTable, TellsLink, TellsPlace, TellsPort, hand_reader_code, hand_taker_code, link_code, links_code, place_code, port_code};
@@ -57,6 +56,7 @@ pub extern "C" fn yelunnavi_system_open(
     fault: &mut FaultReply,
 ) -> u32
     ensures place { (h.new.at ≡ h.old.at) × (h.new.room.mark ≡ h.old.room.mark) }
+    ensures zeros { h.old.at ≡ null_ptr → (result ≡ not_made) × (h.new ≡ h.old) × (fault.new ≡ fault.old) }
     ensures opened { result ≡ done → Opens IsNewSystem readers text.now h.new.room.slot }
     ensures fault { result ≡ faulty → HasFault text.now fault.new }
     ensures made { (result ≡ not_made) ↔ (is_made system_mark h.old.room.mark ≡ false) }
@@ -67,7 +67,9 @@ pub extern "C" fn yelunnavi_system_open(
     ensures codes { (result ≤ no_memory) ⊎ ((result ≡ out_of_range) ⊎ (result ≡ not_made)) }
     ensures tried { result ≢ not_open }
 {
-    let made = h.lend();
+    let Some(made) = h.lend() else {
+        return NOT_MADE;
+    };
     if made.mark != SYSTEM {
         return NOT_MADE;
     }
@@ -87,17 +89,20 @@ pub extern "C" fn yelunnavi_system_open_table(
     fault: &mut FaultReply,
 ) -> u32
     ensures place { (h.new.at ≡ h.old.at) × (h.new.room.mark ≡ h.old.room.mark) }
+    ensures zeros { h.old.at ≡ null_ptr → (result ≡ not_made) × (h.new ≡ h.old) × (fault.new ≡ fault.old) }
     ensures opened { result ≡ done → OpensTable IsNewSystem readers constant.now links.now ports.now h.new.room.slot }
     ensures fault { result ≡ faulty → HasTableFault constant.now links.now ports.now fault.new }
     ensures made { (result ≡ not_made) ↔ (is_made system_mark h.old.room.mark ≡ false) }
     ensures already { is_made system_mark h.old.room.mark ≡ true → (result ≡ already_open) ↔ IsSome h.old.room.slot }
-    ensures range { is_made system_mark h.old.room.mark ≡ true → h.old.room.slot ≡ None → (result ≡ out_of_range) ↔ (are_all_counts readers ports.now ≡ false) }
+    ensures range { is_made system_mark h.old.room.mark ≡ true → h.old.room.slot ≡ None → (result ≡ out_of_range) ↔ (is_reader_count readers ≡ false) }
     ensures same { 0 < result → h.new.room.slot ≡ h.old.room.slot }
     ensures others { result ≢ faulty → fault.new ≡ fault.old }
     ensures codes { (result ≤ no_memory) ⊎ ((result ≡ out_of_range) ⊎ (result ≡ not_made)) }
     ensures tried { result ≢ not_open }
 {
-    let made = h.lend();
+    let Some(made) = h.lend() else {
+        return NOT_MADE;
+    };
     if made.mark != SYSTEM {
         return NOT_MADE;
     }
@@ -109,11 +114,13 @@ pub extern "C" fn yelunnavi_system_open_table(
 #[unsafe(no_mangle)]
 pub extern "C" fn yelunnavi_system_close(h: &mut SystemHandle)
     ensures place { (h.new.at ≡ h.old.at) × (h.new.room.mark ≡ h.old.room.mark) }
+    ensures zeros { h.old.at ≡ null_ptr → h.new ≡ h.old }
     ensures value { h.new.room.slot ≡ after_close system_mark h.old.room.mark None h.old.room.slot }
 {
-    let made = h.lend();
-    if made.mark == SYSTEM {
-        made.slot.close();
+    if let Some(made) = h.lend() {
+        if made.mark == SYSTEM {
+            made.slot.close();
+        }
     }
 }
 
@@ -126,13 +133,19 @@ pub extern "C" fn yelunnavi_system_hand_pass(
 ) -> u32
     ensures place { (h.new.at ≡ h.old.at) × (h.new.room.mark ≡ h.old.room.mark) }
     ensures to_place { (to.new.at ≡ to.old.at) × (to.new.room.mark ≡ to.old.room.mark) }
+    ensures zeros { h.old.at ≡ null_ptr → (result ≡ not_made) × (h.new ≡ h.old) × (to.new ≡ to.old) }
+    ensures to_zeros { to.old.at ≡ null_ptr → (result ≡ not_made) × (h.new.room ≡ h.old.room) × (to.new ≡ to.old) }
     ensures code { result ≡ if_made system_mark h.old.room.mark (if_made pass_mark to.old.room.mark (hand_pass_code h.old.room.slot to.old.room.slot net)) }
     ensures handed { result ≡ done → HandsPass net h.old.room.slot h.new.room.slot to.new.room.slot }
     ensures same { 0 < result → h.new.room.slot ≡ h.old.room.slot }
     ensures to { 0 < result → to.new.room.slot ≡ to.old.room.slot }
 {
-    let made = h.lend();
-    let room = to.lend();
+    let Some(made) = h.lend() else {
+        return NOT_MADE;
+    };
+    let Some(room) = to.lend() else {
+        return NOT_MADE;
+    };
     if made.mark != SYSTEM || room.mark != PASS {
         return NOT_MADE;
     }
@@ -149,14 +162,20 @@ pub extern "C" fn yelunnavi_system_hand_reader(
 ) -> u32
     ensures place { (h.new.at ≡ h.old.at) × (h.new.room.mark ≡ h.old.room.mark) }
     ensures to_place { (to.new.at ≡ to.old.at) × (to.new.room.mark ≡ to.old.room.mark) }
+    ensures zeros { h.old.at ≡ null_ptr → (result ≡ not_made) × (h.new ≡ h.old) × (to.new ≡ to.old) }
+    ensures to_zeros { to.old.at ≡ null_ptr → (result ≡ not_made) × (h.new.room ≡ h.old.room) × (to.new ≡ to.old) }
     ensures code { result ≡ if_made system_mark h.old.room.mark (if_made reader_mark to.old.room.mark (hand_reader_code h.old.room.slot to.old.room.slot name.now)) }
     ensures handed { result ≡ done → (reader : PortReader) × (to.new.room.slot ≡ Reads reader) × HandsOut HandsReader name.now h.old.room.slot h.new.room.slot (Some reader) }
     ensures left { result ≡ none_left → HandsOut HandsReader name.now h.old.room.slot h.new.room.slot None }
     ensures same { 0 < result → result ≢ none_left → h.new.room.slot ≡ h.old.room.slot }
     ensures to { 0 < result → to.new.room.slot ≡ to.old.room.slot }
 {
-    let made = h.lend();
-    let room = to.lend();
+    let Some(made) = h.lend() else {
+        return NOT_MADE;
+    };
+    let Some(room) = to.lend() else {
+        return NOT_MADE;
+    };
     if made.mark != SYSTEM || room.mark != READER {
         return NOT_MADE;
     }
@@ -173,14 +192,20 @@ pub extern "C" fn yelunnavi_system_hand_queue(
 ) -> u32
     ensures place { (h.new.at ≡ h.old.at) × (h.new.room.mark ≡ h.old.room.mark) }
     ensures to_place { (to.new.at ≡ to.old.at) × (to.new.room.mark ≡ to.old.room.mark) }
+    ensures zeros { h.old.at ≡ null_ptr → (result ≡ not_made) × (h.new ≡ h.old) × (to.new ≡ to.old) }
+    ensures to_zeros { to.old.at ≡ null_ptr → (result ≡ not_made) × (h.new.room ≡ h.old.room) × (to.new ≡ to.old) }
     ensures code { result ≡ if_made system_mark h.old.room.mark (if_made taker_mark to.old.room.mark (hand_taker_code h.old.room.slot to.old.room.slot name.now)) }
     ensures handed { result ≡ done → (taker : Known) × (to.new.room.slot ≡ Some taker) × HandsOut HandsTaker name.now h.old.room.slot h.new.room.slot (Some taker) }
     ensures left { result ≡ none_left → HandsOut HandsTaker name.now h.old.room.slot h.new.room.slot None }
     ensures same { 0 < result → result ≢ none_left → h.new.room.slot ≡ h.old.room.slot }
     ensures to { 0 < result → to.new.room.slot ≡ to.old.room.slot }
 {
-    let made = h.lend();
-    let room = to.lend();
+    let Some(made) = h.lend() else {
+        return NOT_MADE;
+    };
+    let Some(room) = to.lend() else {
+        return NOT_MADE;
+    };
     if made.mark != SYSTEM || room.mark != TAKER {
         return NOT_MADE;
     }
@@ -191,12 +216,15 @@ pub extern "C" fn yelunnavi_system_hand_queue(
 #[unsafe(no_mangle)]
 pub extern "C" fn yelunnavi_system_links(h: &mut SystemHandle, links: &mut usize) -> u32
     ensures place { (h.new.at ≡ h.old.at) × (h.new.room.mark ≡ h.old.room.mark) }
+    ensures zeros { h.old.at ≡ null_ptr → (result ≡ not_made) × (h.new ≡ h.old) × (links.new ≡ links.old) }
     ensures code { result ≡ if_made system_mark h.old.room.mark (links_code h.old.room.slot) }
     ensures told { result ≡ done → CountsLinks config_of_system h.old.room.slot links.new }
     ensures same { 0 < result → links.new ≡ links.old }
     ensures kept { h.new.room.slot ≡ h.old.room.slot }
 {
-    let made = h.lend();
+    let Some(made) = h.lend() else {
+        return NOT_MADE;
+    };
     if made.mark != SYSTEM {
         return NOT_MADE;
     }
@@ -211,12 +239,15 @@ pub extern "C" fn yelunnavi_system_link(
     reply: &mut LinkReply,
 ) -> u32
     ensures place { (h.new.at ≡ h.old.at) × (h.new.room.mark ≡ h.old.room.mark) }
+    ensures zeros { h.old.at ≡ null_ptr → (result ≡ not_made) × (h.new ≡ h.old) × (reply.new ≡ reply.old) }
     ensures code { result ≡ if_made system_mark h.old.room.mark (link_code config_of_system h.old.room.slot link) }
     ensures told { result ≡ done → TellsLink config_of_system h.old.room.slot link reply.new }
     ensures same { 0 < result → reply.new ≡ reply.old }
     ensures kept { h.new.room.slot ≡ h.old.room.slot }
 {
-    let made = h.lend();
+    let Some(made) = h.lend() else {
+        return NOT_MADE;
+    };
     if made.mark != SYSTEM {
         return NOT_MADE;
     }
@@ -234,12 +265,15 @@ pub extern "C" fn yelunnavi_system_port(
     name: &mut [u8; 16],
 ) -> u32
     ensures place { (h.new.at ≡ h.old.at) × (h.new.room.mark ≡ h.old.room.mark) }
+    ensures zeros { h.old.at ≡ null_ptr → (result ≡ not_made) × (h.new ≡ h.old) × (reply.new ≡ reply.old) × (name.new ≡ name.old) }
     ensures code { result ≡ if_made system_mark h.old.room.mark (port_code config_of_system h.old.room.slot link port) }
     ensures told { result ≡ done → TellsPort config_of_system h.old.room.slot link port reply.new name.old name.new }
     ensures same { 0 < result → (reply.new ≡ reply.old) × (name.new ≡ name.old) }
     ensures kept { h.new.room.slot ≡ h.old.room.slot }
 {
-    let made = h.lend();
+    let Some(made) = h.lend() else {
+        return NOT_MADE;
+    };
     if made.mark != SYSTEM {
         return NOT_MADE;
     }
@@ -254,12 +288,15 @@ pub extern "C" fn yelunnavi_system_place(
     reply: &mut PlaceReply,
 ) -> u32
     ensures place { (h.new.at ≡ h.old.at) × (h.new.room.mark ≡ h.old.room.mark) }
+    ensures zeros { h.old.at ≡ null_ptr → (result ≡ not_made) × (h.new ≡ h.old) × (reply.new ≡ reply.old) }
     ensures code { result ≡ if_made system_mark h.old.room.mark (place_code h.old.room.slot name.now) }
     ensures told { result ≡ done → TellsPlace h.old.room.slot name.now reply.new }
     ensures same { 0 < result → reply.new ≡ reply.old }
     ensures kept { h.new.room.slot ≡ h.old.room.slot }
 {
-    let made = h.lend();
+    let Some(made) = h.lend() else {
+        return NOT_MADE;
+    };
     if made.mark != SYSTEM {
         return NOT_MADE;
     }

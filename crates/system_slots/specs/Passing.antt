@@ -7,17 +7,21 @@ use Rattle.es_base.specs.Tally.{count_in, is_kind}
 use Rattle.es_base.specs.Verdict.{verdict_kinds}
 use Rattle.link_core.specs.Counted.{port_no, shown}
 use Rattle.link_core.specs.Past.{number_given_up}
+use Rattle.link_core.specs.declared.port_tally.PortCounts.{PortCounts}
 use Rattle.network_calls.specs.Calls.{count_calls}
 use Rattle.receiver.specs.declared.receiver.Reply.{Reply}
 use Rattle.network_calls.specs.Passes.{KnownNet, System, calls_with}
 use Rattle.live_system.specs.Checked.{latest_of}
 use Rattle.live_system.specs.Fill.{TellsOfQueue}
+use Rattle.live_system.specs.Health.{TellsOfPort}
 use Rattle.live_system.specs.Meetings.{VisitsAt}
 use Rattle.live_system.specs.Pass.{KnownLink, Visits}
 use Rattle.live_system.specs.System.{IsPassOf, Replies, keeping_no_frame}
 use Rattle.receiver_slots.specs.Codes.{busy, done, no_kind, no_place, not_open}
 use Rattle.receiver_slots.specs.Health.{link_health_reply_of, queue_code}
+use Rattle.receiver_slots.specs.PortCounts.{port_counts_reply_of, ports_code}
 use Rattle.receiver_slots.specs.Replies.{frame_reply_of}
+use Rattle.receiver_slots.specs.declared.told.port_counts.PortCountsReply.{PortCountsReply}
 use Rattle.receiver_slots.specs.declared.told.replies.FillReply.{FillReply}
 use Rattle.receiver_slots.specs.declared.told.replies.FrameReply.{FrameReply}
 use Rattle.receiver_slots.specs.declared.told.replies.LinkHealthReply.{LinkHealthReply}
@@ -95,6 +99,27 @@ TellsFillOf now link port told =
 abbrev pub TellsFillByPass : Option Passing → ℕ → ℕ → FillReply → Type 0
 TellsFillByPass None link port told = ⊥
 TellsFillByPass (Some now) link port told = TellsFillOf now link port told
+
+-- ---- what became of a port's messages
+
+abbrev pub settings_port_code : Option Settings → ℕ → ℕ
+settings_port_code None port = no_place
+settings_port_code (Some settings) port = ports_code settings.ports port
+
+-- the code while nobody has the link
+abbrev pub pass_port_code : Option Passing → ℕ → ℕ → ℕ
+pass_port_code None link port = not_open
+pass_port_code (Some now) link port = settings_port_code (slice_get now.system.config.links link) port
+
+-- of the messages for this port, of both networks, at one moment of the call
+abbrev pub TellsPortOf : Passing → ℕ → ℕ → PortCountsReply → Type 0
+TellsPortOf now link port told =
+    (counts : PortCounts) × VisitsAt now.pass.links link (TellsOfPort (port_no port) (Some counts)) × (told ≡ port_counts_reply_of counts)
+
+-- rule: EMB-47
+abbrev pub TellsPortByPass : Option Passing → ℕ → ℕ → PortCountsReply → Type 0
+TellsPortByPass None link port told = ⊥
+TellsPortByPass (Some now) link port told = TellsPortOf now link port told
 
 -- ---- counts
 

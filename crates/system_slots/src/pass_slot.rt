@@ -1,11 +1,11 @@
 //! A slot for a network's pass.
 ghost use Rattle.std.specs.Prelude.{◌≡◌, ◌<◌, ◌↔◌, ◌⊎◌, is_none, None, Some};
 ghost use Rattle.receiver_slots.specs.Codes.{busy, done, no_place, not_open};
-ghost use Rattle.system_slots.specs.Passing.{ComesToLink, TellsFillByPass, TellsFiltered, TellsLinkHealth, CountsFrames, IsCodeOrBusy, IsPlaceOfPass, Passing as Seen, Receives, count_code, filtered_code, pass_fill_code};
+ghost use Rattle.system_slots.specs.Passing.{ComesToLink, TellsFillByPass, TellsFiltered, TellsLinkHealth, TellsPortByPass, CountsFrames, IsCodeOrBusy, IsPlaceOfPass, Passing as Seen, Receives, count_code, filtered_code, pass_fill_code, pass_port_code};
 
 use crate::passing::Passing;
 use receiver_slots::codes::{BUSY, DONE, NO_KIND, NO_PLACE, NOT_OPEN};
-use receiver_slots::{FillReply, FrameReply, LinkHealthReply, cause_of, kind_of};
+use receiver_slots::{FillReply, FrameReply, LinkHealthReply, PortCountsReply, cause_of, kind_of};
 use std::marker::Model;
 
 /// The pass of one network, by which its thread gives frames to the system; or none.
@@ -123,6 +123,26 @@ impl PassSlot {
             return NOT_OPEN;
         };
         match passing.try_fill(link, port) {
+            Ok(told) => {
+                *reply = told;
+                DONE
+            }
+            Err(code) => code,
+        }
+    }
+
+    /// Tells what became of the messages for a port, by the places of its link and of the port in it. BUSY while the other
+    /// network's thread has the link.
+    pub fn port_counts(&mut self, link: usize, port: usize, reply: &mut PortCountsReply) -> u32
+        ensures code { IsCodeOrBusy (pass_port_code self.old link port) result }
+        ensures told { result ≡ done → TellsPortByPass self.old link port reply.new }
+        ensures kept { self.new ≡ self.old }
+        ensures same { 0 < result → reply.new ≡ reply.old }
+    {
+        let Some(passing) = &mut self.passing else {
+            return NOT_OPEN;
+        };
+        match passing.try_port_counts(link, port) {
             Ok(told) => {
                 *reply = told;
                 DONE

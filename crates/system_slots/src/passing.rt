@@ -1,13 +1,14 @@
 //! A network's pass, with its system.
 ghost use Rattle.std.specs.Prelude.{◌≡◌, ◌<◌, IfErr, IfNone, IfOk, IfSome, Some, length};
 ghost use Rattle.receiver_slots.specs.Handing.{code_of};
-ghost use Rattle.system_slots.specs.Passing.{ComesToLink, IsCodeOrBusy, ReceivesBy, TellsFillOf, TellsLinkHealthOf, pass_fill_code};
+ghost use Rattle.system_slots.specs.Passing.{ComesToLink, IsCodeOrBusy, ReceivesBy, TellsFillOf, TellsLinkHealthOf, TellsPortOf, pass_fill_code, pass_port_code};
 
 use es_base::{PortKind, PortNo};
 use live_system::{LiveSystem, NetPass};
 use receiver_slots::codes::{BUSY, NO_PLACE, NONE_LEFT};
 use receiver_slots::{
-    FillReply, FrameReply, LinkHealthReply, fill_reply_of, frame_reply_of, link_health_reply_of,
+    FillReply, FrameReply, LinkHealthReply, PortCountsReply, fill_reply_of, frame_reply_of,
+    link_health_reply_of, port_counts_reply_of,
 };
 use std::alloc::Global;
 use std::marker::Model;
@@ -52,6 +53,28 @@ impl Passing {
         let latest = self.system.latest(&self.pass, link);
         let health = self.system.try_health(&mut self.pass, link)?;
         Some(link_health_reply_of(latest, health.received, health.given_up))
+    }
+
+    /// What became of the messages for a port, by the places of its link and of the port in it. The error is the code if
+    /// there is no such port, and BUSY while the other network's thread has the link.
+    pub fn try_port_counts(&mut self, link: usize, port: usize) -> Result<PortCountsReply, u32>
+        ensures same { self.new ≡ self.old }
+        ensures ok { IfOk result (λ told. TellsPortOf self.old link port told) }
+        ensures code { IsCodeOrBusy (pass_port_code (Some self.old) link port) (code_of result) }
+        ensures refused { IfErr result (λ code. 0 < code) }
+    {
+        let Some(settings) = self.system.config().links().get(link) else {
+            return Err(NO_PLACE);
+        };
+        if port >= settings.ports().len() {
+            return Err(NO_PLACE);
+        }
+        let number = PortNo(port as u8);
+        match self.system.try_port_counts(&mut self.pass, link, number) {
+            None => Err(BUSY),
+            Some(Some(counts)) => Ok(port_counts_reply_of(counts)),
+            Some(None) => unreachable!(),
+        }
     }
 
     /// How full a port's queue is, by the places of its link and of the port in it. The error is the code if there is

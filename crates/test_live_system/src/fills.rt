@@ -1,10 +1,10 @@
-//! How full a queue is, told by the passes of both networks.
+//! How full a queue is, and what became of a port's messages, told by the passes of both networks.
 ghost use Rattle.std.specs.Prelude.{◌≡◌};
 ghost use Rattle.live_system.specs.System.{IsPassOf};
 
 use crate::running::octets_of;
 use es_base::{Net, PortNo};
-use live_system::{Fill, LiveSystem, NetPass, Opened, ReaderCount};
+use live_system::{Fill, LiveSystem, NetPass, Newest, Opened, PortCounts, ReaderCount};
 use std::alloc::Global;
 use std::process::Abort;
 use std::sync::Wait;
@@ -58,6 +58,46 @@ fn check_told(
     assert!(rt; fill(rt, system, pass, 1, NAV) == Some(None));
 }
 
+/// What became of the messages for a port, of a link that there is.
+fn counts(
+    rt: &impl Abort,
+    system: &LiveSystem,
+    pass: &mut NetPass,
+    place: usize,
+    port: PortNo,
+) -> Option<Option<PortCounts>>
+    requires { IsPassOf system.now pass.old }
+    ensures { pass.new ≡ pass.old }
+{
+    assert!(rt; place < system.config().links().len());
+    system.try_port_counts(pass, place, port)
+}
+
+/// So many messages were delivered to `nav`, the last of them on A at this time in microseconds, and so many overflowed.
+fn check_counts(
+    rt: &impl Abort,
+    system: &LiveSystem,
+    pass: &mut NetPass,
+    delivered: u64,
+    overflowed: u64,
+    time: u64,
+)
+    requires { IsPassOf system.now pass.old }
+    ensures { pass.new ≡ pass.old }
+{
+    let net = Net::A;
+    let wanted = PortCounts {
+        delivered,
+        overflowed,
+        too_long: 0,
+        fragmented: 0,
+        newest: Some(Newest { time, net }),
+    };
+    assert!(rt; counts(rt, system, pass, 0, NAV) == Some(Some(wanted)));
+    assert!(rt; counts(rt, system, pass, 0, PortNo(2)) == Some(None));
+    assert!(rt; counts(rt, system, pass, 1, NAV) == Some(None));
+}
+
 /// A message for `nav` comes with this sequence number, at as many milliseconds.
 fn bring<R: Abort + Wait>(
     rt: &R,
@@ -95,6 +135,28 @@ fn check_fills<R: Abort + Wait>(rt: &R, alloc: Global) {
     check_told(rt, &system, &mut b, 1, 2);
     bring(rt, alloc, &system, &mut a, 3);
     check_told(rt, &system, &mut a, 2, 2);
+}
+
+/// Five messages come, and the last one overflows.
+fn check_counted<R: Abort + Wait>(rt: &R, alloc: Global) {
+    let Opened {
+        system,
+        mut a,
+        mut b,
+        ..
+    } = opened(rt, alloc);
+    for number in 1..=4 {
+        bring(rt, alloc, &system, &mut a, number);
+    }
+    check_counts(rt, &system, &mut b, 4, 0, 4000);
+    bring(rt, alloc, &system, &mut a, 5);
+    check_counts(rt, &system, &mut a, 4, 1, 4000);
+}
+
+// rule: EMB-46
+#[test]
+fn each_pass_tells_what_became_of_the_messages_for_a_port(rt: HostRuntime) {
+    check_counted(&rt, rt.alloc());
 }
 
 // rule: EMB-43

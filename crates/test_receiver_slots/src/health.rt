@@ -1,7 +1,7 @@
-//! How a link is, and how full the queue of a port.
+//! How a link is, what became of a port's messages, and how full its queue is.
 use crate::given::{bring, frame, opened, reply};
 use receiver_slots::codes::{DONE, NO_PLACE, NONE_LEFT, NOT_OPEN};
-use receiver_slots::{FillReply, HealthReply, ReceiverSlot};
+use receiver_slots::{FillReply, HealthReply, PortCountsReply, ReceiverSlot};
 use std::alloc::Global;
 use std::process::Abort;
 use test_inputs::fragments::{PacketName, padding_after};
@@ -40,6 +40,24 @@ fn fill(slot: &mut ReceiverSlot, link: usize, port: usize) -> (u32, usize, usize
     };
     let code = slot.fill(link, port, &mut reply);
     (code, reply.waiting, reply.greatest)
+}
+
+/// A reply that no call gives for a port.
+const NOT_COUNTED: PortCountsReply = PortCountsReply {
+    delivered: 99,
+    overflowed: 99,
+    too_long: 99,
+    fragmented: 99,
+    came: 9,
+    net: 9,
+    latest: 99,
+};
+
+/// What became of the messages for a port, and what is answered.
+fn counts(slot: &ReceiverSlot, link: usize, port: usize) -> (u32, PortCountsReply) {
+    let mut reply = NOT_COUNTED;
+    let code = slot.port_counts(link, port, &mut reply);
+    (code, reply)
 }
 
 /// The frame of a fragment comes on A.
@@ -97,4 +115,33 @@ fn check_fill(rt: &impl Abort, alloc: Global) {
 #[test]
 fn how_full_a_queue_is_is_told(rt: HostRuntime) {
     check_fill(&rt, rt.alloc());
+}
+
+fn check_counts(rt: &impl Abort, alloc: Global) {
+    let mut slot = opened(rt, alloc);
+    let mut wanted = PortCountsReply {
+        delivered: 0,
+        overflowed: 0,
+        too_long: 0,
+        fragmented: 0,
+        came: 0,
+        net: 0,
+        latest: 0,
+    };
+    assert!(rt; counts(&slot, 0, 0) == (DONE, wanted));
+    let octets = frame(rt, alloc, false, 1);
+    let _ = reply(rt, &mut slot, (1, 5000), &octets);
+    (wanted.delivered, wanted.came, wanted.net, wanted.latest) = (1, 1, 1, 5000);
+    assert!(rt; counts(&slot, 0, 0) == (DONE, wanted));
+    assert!(rt; counts(&slot, 0, 2) == (NO_PLACE, NOT_COUNTED));
+    assert!(rt; counts(&slot, 0, 256) == (NO_PLACE, NOT_COUNTED));
+    assert!(rt; counts(&slot, 2, 0) == (NO_PLACE, NOT_COUNTED));
+    slot.close();
+    assert!(rt; counts(&slot, 0, 0) == (NOT_OPEN, NOT_COUNTED));
+}
+
+// rule: EMB-21, EMB-45
+#[test]
+fn what_became_of_the_messages_for_a_port_is_told(rt: HostRuntime) {
+    check_counts(&rt, rt.alloc());
 }

@@ -1,7 +1,9 @@
 //! Opening and closing.
 use crate::given::{FILTERED, NO_FAULT, opened, text};
-use receiver_slots::codes::{ALREADY_OPEN, DONE, FAULTY, NONE_LEFT, NOT_OPEN, OUT_OF_RANGE};
-use receiver_slots::{FaultReply, ReaderSlot, ReceiverSlot};
+use receiver_slots::codes::{
+    ALREADY_OPEN, DONE, FAULTY, NONE_LEFT, NOT_OPEN, OUT_OF_RANGE, STRAY_KEY,
+};
+use receiver_slots::{FaultReply, ReaderSlot, ReceiverSlot, check_text};
 use std::alloc::Global;
 use std::process::Abort;
 
@@ -50,6 +52,14 @@ fn check_fault(rt: &impl Abort, alloc: Global, text: &[u8], wanted: FaultReply) 
     assert!(rt; slot.open_text(alloc, text, 8, &mut told) == FAULTY);
     assert!(rt; told == wanted, "{told:?}");
     assert!(rt; is_closed(&mut slot));
+    check_checked(rt, alloc, text, FAULTY, wanted);
+}
+
+/// A check of this text answers so, and tells this.
+fn check_checked(rt: &impl Abort, alloc: Global, text: &[u8], code: u32, wanted: FaultReply) {
+    let mut told = NO_FAULT;
+    assert!(rt; check_text(alloc, text, &mut told) == code);
+    assert!(rt; told == wanted, "{told:?}");
 }
 
 /// A fault of this number and key, about a link, or about a port of it, at this line.
@@ -97,6 +107,30 @@ fn check_name_of_another_link(rt: &impl Abort, alloc: Global) {
         double.as_str().as_bytes(),
         fault(7, 0, (2, 1, 0), 26),
     );
+}
+
+/// A key that is misspelt, in the first link and in the port of the second.
+fn check_strays(rt: &impl Abort, alloc: Global) {
+    let right = text(rt, alloc);
+    check_checked(rt, alloc, right.as_str().as_bytes(), DONE, NO_FAULT);
+    let link = right
+        .replace(alloc, "vl = 17", "vl = 17\nwindw = 3")
+        .expect(rt, "memory");
+    let stray = fault(0, 0, (1, 0, 0), 3);
+    check_checked(rt, alloc, link.as_str().as_bytes(), STRAY_KEY, stray);
+    let mut port = right;
+    port.push_str("refresh = 1\n").expect(rt, "memory");
+    let stray = fault(0, 0, (2, 1, 0), 31);
+    check_checked(rt, alloc, port.as_str().as_bytes(), STRAY_KEY, stray);
+    let mut slot = ReceiverSlot::new();
+    let mut told = NO_FAULT;
+    assert!(rt; slot.open_text(alloc, port.as_str().as_bytes(), 1, &mut told) == DONE);
+}
+
+// rule: EMB-48, CONF-28
+#[test]
+fn a_key_that_is_misspelt_is_told_by_a_check(rt: HostRuntime) {
+    check_strays(&rt, rt.alloc());
 }
 
 // rule: EMB-22, CONF-21, CONF-24, CONF-25

@@ -5,7 +5,8 @@ use receiver_slots::codes::{
     OUT_OF_RANGE,
 };
 use receiver_slots::{
-    FillReply, FrameReply, LinkHealthReply, PlaceReply, PortReply, ReaderSlot, TakerSlot,
+    FillReply, FrameReply, LinkHealthReply, PlaceReply, PortCountsReply, PortReply, ReaderSlot,
+    TakerSlot,
 };
 use std::alloc::Global;
 use std::process::Abort;
@@ -208,6 +209,45 @@ fn check_fill(rt: &impl Abort, alloc: Global) {
 #[test]
 fn each_pass_tells_how_full_a_queue_is(rt: HostRuntime) {
     check_fill(&rt, rt.alloc());
+}
+
+/// What became of the messages for a port by a pass, and what is answered.
+fn counts(pass: &mut PassSlot, link: usize, port: usize) -> (u32, PortCountsReply) {
+    let mut reply = PortCountsReply {
+        delivered: 99,
+        overflowed: 99,
+        too_long: 99,
+        fragmented: 99,
+        came: 9,
+        net: 9,
+        latest: 99,
+    };
+    let code = pass.port_counts(link, port, &mut reply);
+    (code, reply)
+}
+
+/// Both passes tell the same of a port, whose second message network B brings.
+fn check_port_counts(rt: &impl Abort, alloc: Global) {
+    let Running {
+        system: _,
+        mut a,
+        mut b,
+    } = opened(rt, alloc);
+    assert!(rt; reply(rt, &mut a, 1000, &frame(rt, alloc, true, 1)).kind == 11);
+    assert!(rt; reply(rt, &mut b, 2000, &frame(rt, alloc, true, 2)).kind == 11);
+    let told = counts(&mut a, 0, 1);
+    assert!(rt; told.0 == DONE && told.1.delivered == 2 && told.1.overflowed == 0);
+    assert!(rt; told.1.came == 1 && told.1.net == B && told.1.latest == 2000);
+    assert!(rt; counts(&mut b, 0, 1) == told);
+    assert!(rt; counts(&mut a, 0, 2).0 == NO_PLACE && counts(&mut a, 2, 0).0 == NO_PLACE);
+    a.close();
+    assert!(rt; counts(&mut a, 0, 1).0 == NOT_OPEN);
+}
+
+// rule: EMB-47
+#[test]
+fn each_pass_tells_what_became_of_the_messages_for_a_port(rt: HostRuntime) {
+    check_port_counts(&rt, rt.alloc());
 }
 
 /// Each network's pass is handed out once.

@@ -119,9 +119,11 @@ fn check_faults(rt: &impl Abort, alloc: Global) {
     check_fault(rt, alloc, LINK, &[POS], fault(2, 8, (1, 0, 0)));
     check_fault(rt, alloc, LINK, &[POS, POS], fault(7, 0, (2, 0, 1)));
     check_fault(rt, alloc, LINK, &[POS, NAV, NAV], fault(8, 0, (0, 0, 0)));
+    let nine = PortRow { readers: 9, ..POS };
+    check_fault(rt, alloc, LINK, &[nine, NAV], fault(4, 16, (2, 0, 0)));
 }
 
-// rule: CONF-26
+// rule: CONF-26, CONF-29
 #[test]
 fn the_fault_of_a_table_is_that_of_a_text_without_a_line(rt: HostRuntime) {
     check_faults(&rt, rt.alloc());
@@ -165,13 +167,8 @@ fn check_readers(rt: &impl Abort, alloc: Global) {
     assert!(rt; handed(rt, alloc, &ports, 3, b"pos") == 3);
     assert!(rt; handed(rt, alloc, &ports, 3, b"one") == 1);
     assert!(rt; handed(rt, alloc, &ports, 3, b"big") == 8);
-    let nine = PortRow { readers: 9, ..POS };
-    let mut slot = ReceiverSlot::new();
-    let mut fault = NO_FAULT;
-    let links = &[LINK][..];
-    assert!(rt;
-        slot.open_table(alloc, &CONSTANT, links, &[nine, NAV], 3, &mut fault) == OUT_OF_RANGE
-    );
+    let of_a_queue = PortRow { readers: 9, ..NAV };
+    assert!(rt; handed(rt, alloc, &[POS, of_a_queue], 2, b"pos") == 2);
 }
 
 // rule: EMB-20

@@ -20,3 +20,5 @@ mod port_keys;
 mod repetitions;
 #[cfg(test)]
 mod settings;
+#[cfg(test)]
+mod strays;

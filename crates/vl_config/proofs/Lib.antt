@@ -7,3 +7,4 @@ pub mod PortNames
 pub mod Places
 pub mod FaultPlaces
 pub mod RowByRow
+pub mod Strays

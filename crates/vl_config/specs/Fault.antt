@@ -23,6 +23,7 @@ key_name keys.Udp = codes "udp"
 key_name keys.Max = codes "max"
 key_name keys.RefreshUs = codes "refresh_us"
 key_name keys.Depth = codes "depth"
+key_name keys.Readers = codes "readers"
 
 -- what is returned, seen through `view`, is what was read, the fault included; or memory ran out
 abbrev pub GivesOrMemory : {X Y : Type 0} → (X → Y) → Result X ConfigFault → Result Y ConfigFault → Type 0

@@ -7,6 +7,8 @@ pub mod Link
 pub mod Document
 pub mod Place
 pub mod PlaceLaws
+pub mod Keys
 pub mod Line
 pub mod Octets
+pub mod Stray
 pub mod Rows

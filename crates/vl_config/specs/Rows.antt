@@ -6,7 +6,7 @@ use Rattle.es_base.specs.declared.port.PortKind.TheVariants as kinds
 use Rattle.es_base.specs.Returns.{◌>>=◌}
 use Rattle.std.specs.List.{list_any}
 use Rattle.std.specs.Str.{bytes_eq}
-use Rattle.es_base.specs.Limits.{deepest_queue, longest_reassembly, longest_refresh, longest_skew, most_links, most_ports, widest_window}
+use Rattle.es_base.specs.Limits.{deepest_queue, longest_reassembly, longest_refresh, longest_skew, most_links, most_ports, most_readers, widest_window}
 use Rattle.es_base.specs.Config.{Configuration, has_link_number, ports_in}
 use Rattle.es_base.specs.Settings.{Settings}
 use Rattle.es_base.specs.Port.{Port}
@@ -59,6 +59,12 @@ kind_of_row Queuing row = do
   depth ← bounded keys.Depth 1 deepest_queue row.limit
   Ok (kinds.Queuing depth)
 
+-- number of readers of a port that samples, which the configuration doesn't have; that of another says nothing
+-- rule: CONF-29
+abbrev pub readers_of_row : Service → PortRow → Result ℕ ConfigFault
+readers_of_row Sampling row = bounded keys.Readers 0 most_readers row.readers
+readers_of_row Queuing row = Ok 0
+
 -- the port of this row, after the ports of the earlier links and after these ports of its own link
 -- rule: CONF-13, CONF-14, CONF-18
 abbrev pub port_of_row : List Port → List Port → PortRow → Result Port ConfigFault
@@ -68,6 +74,7 @@ port_of_row earlier ports row = do
   udp ← bounded keys.Udp 0 greatest_u16 row.udp
   max ← bounded keys.Max 0 (largest_message service) row.max
   kind ← kind_of_row service row
+  readers ← readers_of_row service row
   unrepeated_port (earlier ++ ports) ports (record { name = name; address = row.address; udp = udp; max = max; kind = kind })
 
 -- ---- one after another

@@ -9,11 +9,13 @@ ghost use Rattle.vl_config.specs.Fault.{GivesOrMemory};
 ghost use Rattle.vl_config.specs.Document.{config_in, config_from, constant_if, constant_from, link_tables};
 ghost use Rattle.vl_config.specs.Link.{links_from};
 
+pub(crate) mod keys;
 pub(crate) mod line;
 pub(crate) mod link;
 pub(crate) mod octets;
 pub(crate) mod place;
 pub(crate) mod port;
+pub(crate) mod stray;
 pub(crate) mod table;
 
 use crate::document::link::link_from;

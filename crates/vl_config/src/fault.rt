@@ -26,6 +26,8 @@ pub enum Key {
     Max,
     RefreshUs,
     Depth,
+    /// Of a table alone.
+    Readers,
 }
 
 impl Key {
@@ -49,6 +51,7 @@ impl Key {
             Key::Max => "max",
             Key::RefreshUs => "refresh_us",
             Key::Depth => "depth",
+            Key::Readers => "readers",
         }
     }
 }

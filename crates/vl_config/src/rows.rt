@@ -8,7 +8,7 @@ ghost use Rattle.es_base.specs.Returns.{Gives};
 ghost use Rattle.vl_config.specs.Place.{nowhere};
 ghost use Rattle.vl_config.specs.Names.{AreNamesOf, is_among_names};
 ghost use Rattle.vl_config.specs.Port.{largest_message};
-ghost use Rattle.vl_config.specs.Rows.{GivesLink, GivesRow, GivesTable, bounded, has_row_name, head_of_row, if_none_left, kind_of_row, link_number_of_row, link_of_row, links_of_rows, name_of_row, port_of_row, ports_of_rows, redundancy_of_row, rows_of_link, service_of_row, table_of};
+ghost use Rattle.vl_config.specs.Rows.{GivesLink, GivesRow, GivesTable, bounded, has_row_name, head_of_row, if_none_left, kind_of_row, link_number_of_row, link_of_row, links_of_rows, name_of_row, port_of_row, ports_of_rows, readers_of_row, redundancy_of_row, rows_of_link, service_of_row, table_of};
 
 use crate::document::link::has_link_number;
 use crate::document::octets::text_of;
@@ -18,7 +18,7 @@ use crate::names::Names;
 use crate::{Config, ConfigFault, FaultPlace, Key, MOST_LINKS};
 use es_base::{
     DEEPEST_QUEUE, LONGEST_REASSEMBLY, LONGEST_REFRESH, LONGEST_SKEW, LinkNo, LinkSettings, Links,
-    MOST_PORTS, PortKind, PortName, PortSettings, WIDEST_WINDOW, any_accepts,
+    MOST_PORTS, MOST_READERS, PortKind, PortName, PortSettings, WIDEST_WINDOW, any_accepts,
 };
 use std::alloc::Global;
 
@@ -126,6 +126,16 @@ fn kind_of_row(row: &PortRow, service: Service) -> Result<PortKind, ConfigFault>
     }
 }
 
+/// Number of readers of the row of a port that samples, 0 to 8; 0 for another, whose number says nothing.
+fn readers_of_row(row: &PortRow, service: Service) -> Result<u64, ConfigFault>
+    ensures { result ≡ readers_of_row service row.now }
+{
+    match service {
+        Service::Sampling => bounded(u64::from(row.readers), Key::Readers, 0, MOST_READERS as u64),
+        Service::Queuing => Ok(0),
+    }
+}
+
 /// The port of this row. `names` are the names of all ports of the table that were read before it, `ports` those ports
 /// of them that are of the same link.
 fn port_of_row(
@@ -144,6 +154,7 @@ fn port_of_row(
     let largest = largest_message(service);
     let max = bounded(u64::from(row.max), Key::Max, 0, largest)? as u16;
     let kind = kind_of_row(row, service)?;
+    readers_of_row(row, service)?;
     if names.has(&name) {
         return Err(ConfigFault::DoubleName);
     }

@@ -3,10 +3,10 @@ ghost use Rattle.std.specs.Prelude.{◌≡◌};
 ghost use Rattle.std.specs.List.{find};
 ghost use Rattle.std.specs.Option.{option_copied};
 ghost use Rattle.vl_config.specs.Rows.{has_row_name};
-ghost use Rattle.receiver_slots.specs.Readers.{are_reader_counts, count_or};
+ghost use Rattle.receiver_slots.specs.Readers.{count_or};
 
 use es_base::PortSettings;
-use receiver::{MOST_READERS, ReaderCount, Readers};
+use receiver::{ReaderCount, Readers};
 use vl_config::PortRow;
 
 /// Numbers of readers by the ports' rows; `others` for a row of 0, and without rows.
@@ -41,11 +41,4 @@ fn count_or(others: ReaderCount, row: Option<&PortRow>) -> ReaderCount
         Some(row) => ReaderCount::new(row.readers as usize).unwrap_or(others),
         None => others,
     }
-}
-
-/// Whether each row has 0, or a number of readers that a port can have.
-pub(crate) fn are_reader_counts(rows: &[PortRow]) -> bool
-    ensures { result ≡ are_reader_counts rows.now }
-{
-    rows.iter().all(|row| row.readers as usize <= MOST_READERS)
 }

@@ -4,11 +4,10 @@ ghost use Rattle.mailbox_port.specs.Port.{is_reader_count};
 ghost use Rattle.vl_config.specs.Octets.{config_of};
 ghost use Rattle.vl_config.specs.Rows.{table_of};
 ghost use Rattle.receiver_slots.specs.Codes.{faulty, no_memory, out_of_range};
-ghost use Rattle.receiver_slots.specs.Readers.{are_all_counts};
 ghost use Rattle.receiver_slots.specs.Receiving.{HasFault, HasTableFault};
 
 use crate::codes::{FAULTY, NO_MEMORY, OUT_OF_RANGE};
-use crate::opening::port_readers::{PortReaders, are_reader_counts};
+use crate::opening::port_readers::PortReaders;
 use crate::told::replies::{FaultReply, fault_reply_of};
 use es_base::{Config, Memory};
 use receiver::ReaderCount;
@@ -25,7 +24,11 @@ pub struct Wanted<'a> {
 }
 
 /// Reply on this fault of the configuration in these octets.
-fn told_of(alloc: Global, octets: &[u8], fault: ConfigFault) -> Result<FaultReply, Memory>
+pub(crate) fn told_of(
+    alloc: Global,
+    octets: &[u8],
+    fault: ConfigFault,
+) -> Result<FaultReply, Memory>
     ensures { config_of octets.now ≡ Err fault → IfOk result (HasFault octets.now) }
 {
     let place = place_in_octets(alloc, octets)?;
@@ -66,8 +69,9 @@ pub(crate) fn wanted_in_text(
 }
 
 /// The configuration of a table: the constant field, the links, and their ports one after another; with as many readers
-/// at each sampling port as its row says, 1 to 8, or `readers` for 0; another number is OUT_OF_RANGE. FAULTY, and the
-/// fault of [`wanted_in_text`] of a text that says the same, but for its line.
+/// at each sampling port as its row says, 1 to 8, or `readers` for 0. `readers` is 1 to 8, else OUT_OF_RANGE. FAULTY, and
+/// the fault of [`wanted_in_text`] of a text that says the same, but for its line; a row's number of readers above 8 is a
+/// fault of its port.
 pub(crate) fn wanted_in_table<'a>(
     alloc: Global,
     constant: &[u8; 4],
@@ -78,16 +82,13 @@ pub(crate) fn wanted_in_table<'a>(
 ) -> Result<Wanted<'a>, u32>
     ensures ok { IfOk result (λ wanted. (table_of constant.now links.now ports.now ≡ Ok wanted.config) × (wanted.readers.others ≡ readers) × (wanted.readers.rows.now ≡ ports.now)) }
     ensures fault { result ≡ Err faulty → HasTableFault constant.now links.now ports.now fault.new }
-    ensures range { (result ≡ Err out_of_range) ↔ (are_all_counts readers ports.now ≡ false) }
+    ensures range { (result ≡ Err out_of_range) ↔ (is_reader_count readers ≡ false) }
     ensures others { result ≢ Err faulty → fault.new ≡ fault.old }
     ensures codes { IfErr result (λ code. (code ≡ faulty) ⊎ ((code ≡ no_memory) ⊎ (code ≡ out_of_range))) }
 {
     let Some(others) = ReaderCount::new(readers) else {
         return Err(OUT_OF_RANGE);
     };
-    if !are_reader_counts(ports) {
-        return Err(OUT_OF_RANGE);
-    }
     let config = match config_of_table(alloc, *constant, links, ports) {
         Ok(config) => config,
         Err(found) => {

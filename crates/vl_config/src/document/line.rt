@@ -1,9 +1,10 @@
-//! The line of a document's fault.
+//! The line of a document's fault, or of a key that isn't its table's own.
 ghost use Rattle.std.specs.Prelude.{◌≡◌, option_map};
 ghost use Rattle.std.specs.List.{fold};
 ghost use Rattle.std.specs.Str.Lines.{lines};
-ghost use Rattle.vl_config.specs.Line.{after_line, bare, begins_with_word, gives, heading_of, is_there, key_of_fault, line_in, line_of_octet, next, noted, passed, sought_by, start, step, step_octet};
+ghost use Rattle.vl_config.specs.Line.{after_line, bare, begins_with_word, gives, gives_wanted, heading_of, is_of_key, is_there, key_of_fault, key_of_line, line_at, line_in, line_of_octet, next, noted, passed, sought_at, start, step, step_octet, stray_line};
 
+use crate::document::keys::{Level, is_own, level_at};
 use crate::{ConfigFault, FaultPlace, Key};
 
 /// Kind of a line's heading.
@@ -19,14 +20,23 @@ enum Heading {
     Not,
 }
 
-/// Table of a fault, and its key.
+/// The key whose line is sought.
+#[derive(Clone, Copy)]
+enum Wanted {
+    /// This one.
+    Key(Key),
+    /// The first that isn't its table's own.
+    Stray(Level),
+}
+
+/// Table of a line, and its key.
 #[derive(Clone, Copy)]
 struct Sought {
     /// Number of headings of links before its keys.
     links: u64,
     /// Number of headings of ports of that link before its keys.
     ports: u64,
-    key: Key,
+    wanted: Wanted,
 }
 
 /// State of the search, line by line.
@@ -51,8 +61,21 @@ struct Seen {
 pub(crate) fn line_in(text: &str, fault: ConfigFault, place: FaultPlace) -> u64
     ensures { result ≡ line_in text.now fault place }
 {
-    let sought = sought_by(fault, place);
-    seen_of(text, sought).found
+    line_at(text, place, Wanted::Key(key_of(fault, place)))
+}
+
+/// Line of the first key of the table at this place that isn't its own, from 1; or of the table's heading; 0 if none is
+/// found. Keys in quotation marks aren't found, nor those of several parts.
+pub(crate) fn stray_line(text: &str, place: FaultPlace) -> u64
+    ensures { result ≡ stray_line text.now place }
+{
+    line_at(text, place, Wanted::Stray(level_at(place)))
+}
+
+fn line_at(text: &str, place: FaultPlace, wanted: Wanted) -> u64
+    ensures { result ≡ line_at text.now place wanted }
+{
+    seen_of(text, sought_at(place, wanted)).found
 }
 
 fn seen_of(text: &str, sought: Sought) -> Seen
@@ -107,13 +130,13 @@ fn passed(place: Option<usize>) -> u64
     }
 }
 
-fn sought_by(fault: ConfigFault, place: FaultPlace) -> Sought
-    ensures { result ≡ sought_by fault place }
+fn sought_at(place: FaultPlace, wanted: Wanted) -> Sought
+    ensures { result ≡ sought_at place wanted }
 {
     Sought {
         links: passed(place.link),
         ports: passed(place.port),
-        key: key_of(fault, place),
+        wanted,
     }
 }
 
@@ -170,7 +193,7 @@ fn noted(sought: Sought, seen: Seen, heading: Heading, line: &str) -> Seen
             found: seen.lines,
             ..seen
         },
-        Heading::Not => if gives(line, sought.key) && !seen.is_key {
+        Heading::Not => if gives_wanted(sought.wanted, line.as_bytes()) && !seen.is_key {
             Seen {
                 found: seen.lines,
                 is_key: true,
@@ -243,11 +266,38 @@ fn begins(line: &[u8], word: &[u8]) -> bool
     bare(line).starts_with(word)
 }
 
-/// Whether a line gives the value of this key.
-fn gives(line: &str, key: Key) -> bool
-    ensures { result ≡ gives line.now key }
+/// Whether a line gives the value of a wanted key.
+fn gives_wanted(wanted: Wanted, line: &[u8]) -> bool
+    ensures { result ≡ gives_wanted wanted line.now }
 {
-    let name = key.name().as_bytes();
-    let line = line.as_bytes();
+    match wanted {
+        Wanted::Key(key) => gives(line, key.name().as_bytes()),
+        Wanted::Stray(level) => {
+            let name = key_of_line(line);
+            gives(line, name) && !is_own(level, name)
+        }
+    }
+}
+
+/// Whether a line gives the value of the key with this name.
+fn gives(line: &[u8], name: &[u8]) -> bool
+    ensures { result ≡ gives line.now name.now }
+{
     begins(line, name) && begins(&bare(line)[name.len()..], b"=")
+}
+
+/// The bare key that a line begins with.
+fn key_of_line(line: &[u8]) -> &[u8]
+    ensures { result.now ≡ key_of_line line.now }
+{
+    let line = bare(line);
+    let end = line.iter().position(|octet| !is_of_key(*octet));
+    &line[..end.unwrap_or(line.len())]
+}
+
+/// Whether this is an octet of a bare key (TOML).
+fn is_of_key(octet: u8) -> bool
+    ensures { result ≡ is_of_key octet }
+{
+    octet.is_ascii_alphanumeric() || octet == b'_' || octet == b'-'
 }

@@ -129,7 +129,10 @@ pub(crate) fn has_link_number(links: &[LinkSettings], vl: u16) -> bool
 }
 
 /// The tables of the link's ports: 0 to 32.
-fn port_tables<'a>(alloc: Global, table: &'a Table) -> Result<Vec<&'a Table>, ConfigFault>
+pub(crate) fn port_tables<'a>(
+    alloc: Global,
+    table: &'a Table,
+) -> Result<Vec<&'a Table>, ConfigFault>
     ensures value { GivesOrMemory (λ tables. map (λ table. table_view table.now) tables.items) result
         (port_tables (table_view table.now)) }
     ensures limit { IfOk result (λ tables. length tables.items ≤ most_ports) }

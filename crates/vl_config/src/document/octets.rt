@@ -2,10 +2,12 @@
 ghost use Rattle.std.specs.Prelude.{◌≡◌, IfOk, option_map};
 ghost use Rattle.vl_config.specs.Fault.{GivesOrMemory};
 ghost use Rattle.vl_config.specs.Octets.{IsLineOf, config_of, line_of_fault_if, fault_place_in, text_of};
+ghost use Rattle.vl_config.specs.Stray.{stray_in};
 
-use crate::document::line::{line_in, line_of_octet};
+use crate::document::line::{line_in, line_of_octet, stray_line};
 use crate::document::place::NOWHERE;
-use crate::{Config, ConfigFault, FaultPlace, place_of_fault, read_config};
+use crate::document::stray::stray_place_of;
+use crate::{Config, ConfigFault, FaultPlace, Stray, place_of_fault, read_config};
 use es_base::Memory;
 use std::alloc::{AllocError, Global};
 
@@ -64,6 +66,25 @@ fn line_if(text: Option<&str>, fault: ConfigFault, place: FaultPlace) -> u64
     match text {
         Some(text) => line_in(text, fault, place),
         None => 0,
+    }
+}
+
+/// The first table with a key that isn't its own, of octets that [`read_octets`] takes; None if there is none. The tables
+/// come in the order of a document: its own, then link by link that of the link and those of its ports. What
+/// [`read_octets`] refuses is looked at as far as it has tables: octets that are no TOML document have none, nor has a
+/// `link` or `port` that is no array of tables or has too many.
+pub fn stray_in_octets(alloc: Global, octets: &[u8]) -> Result<Option<Stray>, Memory>
+    ensures { IfOk result (λ stray. stray ≡ stray_in octets.now) }
+{
+    let Some(text) = text_of(octets) else {
+        return Ok(None);
+    };
+    match stray_place_of(alloc, text)? {
+        Some(place) => Ok(Some(Stray {
+            place,
+            line: stray_line(text, place),
+        })),
+        None => Ok(None),
     }
 }
 

@@ -9,6 +9,7 @@ use Rattle.link_core.specs.Link.{outcome_after, verdict_after}
 use Rattle.link_core.specs.Seen.{kept_away}
 use Rattle.link_core.proofs.Away.{away_decided, away_not_forwarded}
 use Rattle.link_core.proofs.Keeping.{keeps_away, tells_away}
+use Rattle.link_core.proofs.Ports.{ports_away}
 use Rattle.link_core.proofs.link.LinkCore.turn_away.Goals as goal
 
 pub invariant_of-self : goal.invariant_of-self
@@ -29,5 +30,6 @@ invariant_of-self c =
       frames = ((record { short = frame.short; long = frame.long; carries = frame.carries }), (rw (← c.self.view_is) at c.requires.link), kept.frames);
       keeps = keeps_away o past e s.kept becomes kept.keeps dropped (λ port. c.in_ok-verdict.ensures.nowhere (port_no port));
       tells = tells_away o past e s.kept kept.tells dropped;
+      counted = ports_away s.ports past e (outcome_after o past a) kept.counted away;
       few_ports = kept.few_ports;
     })

@@ -1,8 +1,6 @@
 use Rattle.std.proofs.Common.{◌≡◌, ◌<◌, ◌∙◌, ℕ, List, None, Some, ap, false, length, arith, inl, inr, refl, sym}
 use Rattle.std.specs.Arc.{arc_value}
 use Rattle.std.specs.List.{slice_get}
-use Rattle.std.specs.Prelude.{slice_index_or}
-use Rattle.std.proofs.lemmas.Option.{slice_get_read}
 use Rattle.es_base.specs.declared.place.PortNo.{PortNo}
 use Rattle.es_base.specs.declared.port.PortKind.{PortKind}
 use Rattle.es_base.specs.declared.port.PortKind.TheVariants.{Sampling, Queuing}
@@ -16,12 +14,9 @@ use Rattle.live_system.proofs.Ending.{as_many_links}
 use Rattle.live_system.proofs.Fills.{is_told}
 use Rattle.receiver_slots.specs.Codes.{done}
 use Rattle.system_slots.specs.Passing.{settings_queue_code}
+use Rattle.system_slots.proofs.Places.{stands}
 use Rattle.system_slots.proofs.passing.Passing.try_fill.Goals as goal
 use Rattle.system_slots.proofs.passing.Passing.try_fill.Goals.{in-None, in-Some-Some}
-
--- what was read at a place stands there
-stands : {X : Type 0} (read own : List X) (place : ℕ) (x : X) → read ≡ own → place < length read → x ≡ slice_index_or read place x → slice_get own place ≡ Some x
-stands {X} read own place x same within is = ap (λ (xs : List X). slice_get xs place) (sym same) ∙ slice_get_read read (length read) place x refl within is
 
 queues : (kind : PortKind) (port : Port) → kind ≡ port.kind → ((refresh : ℕ) → kind ≡ Sampling refresh → ⊥) → is_sampling port.kind ≡ false
 queues kind port same not = ap is_sampling (sym same) ∙ of_kind kind not

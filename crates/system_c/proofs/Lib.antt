@@ -1,0 +1,2 @@
+pub mod SystemTaking
+pub mod PassTaking
