@@ -145,9 +145,10 @@ fn check_counted<R: Abort + Wait>(rt: &R, alloc: Global) {
         mut b,
         ..
     } = opened(rt, alloc);
-    for number in 1..=4 {
-        bring(rt, alloc, &system, &mut a, number);
-    }
+    bring(rt, alloc, &system, &mut a, 1);
+    bring(rt, alloc, &system, &mut a, 2);
+    bring(rt, alloc, &system, &mut a, 3);
+    bring(rt, alloc, &system, &mut a, 4);
     check_counts(rt, &system, &mut b, 4, 0, 4000);
     bring(rt, alloc, &system, &mut a, 5);
     check_counts(rt, &system, &mut a, 4, 1, 4000);
