@@ -2,6 +2,7 @@
 from typing import NamedTuple
 
 from parts.object_code.archive import ENDS, STOPS
+from parts.object_code.tables import places_of_jumps
 
 
 class Unfollowed(Exception):
@@ -24,7 +25,7 @@ class Flow:
         self.order = sorted(self.at)
         self.after = dict(zip(self.order, [*self.order[1:], None]))
         self.by_table = {it.at for it in self.at.values() if it.is_jump and it.is_indirect and not named(archive, it)}
-        self.table = places_of_tables(archive, function) if self.by_table else []
+        self.places = places_of_jumps(archive, function, self.by_table) if self.by_table else {}
         self.follows = {at: tuple(self.next_of(it)) for at, it in self.at.items()}
         self.reached = self.from_here(function.first)
 
@@ -33,16 +34,18 @@ class Flow:
         if it.word in ENDS or it.word in STOPS:
             return
         if (it.is_jump or it.is_branch) and not it.is_indirect:
-            if self.function.has(it.target) and it.target[2] != self.function.first:
-                if it.target[2] not in self.at:
-                    raise Unfollowed(f"{self.function.name}: a jump into an instruction")
-                yield it.target[2]
-            elif self.function.has(it.target):
-                yield it.target[2]
+            if self.function.has(it.target):
+                yield self.begun(it.target[2])
         if it.at in self.by_table:
-            yield from self.table
+            yield from map(self.begun, self.places[it.at])
         if not it.is_jump and self.after[it.at] is not None:
             yield self.after[it.at]
+
+    def begun(self, at):
+        """The same place, where an instruction begins."""
+        if at not in self.at:
+            raise Unfollowed(f"{self.function.name}: a jump into an instruction")
+        return at
 
     def from_here(self, first):
         seen, waiting = set(), [first] if first in self.at else []
@@ -58,7 +61,7 @@ class Flow:
         for at in sorted(self.reached):
             it = self.at[at]
             is_out = (it.is_jump or it.is_branch) and not it.is_indirect and not self.function.has(it.target)
-            by_pointer = it.is_jump and it.is_indirect and not (at in self.by_table and self.table)
+            by_pointer = it.is_jump and it.is_indirect and not self.places.get(at)
             if it.is_call or is_out or by_pointer:
                 yield it
 
@@ -70,21 +73,6 @@ class Flow:
 def named(archive, it):
     """Whether a jump by a pointer names the function that the pointer is of."""
     return isinstance(it.about, str) or archive.function_at(it.about) is not None
-
-
-def places_of_tables(archive, function):
-    """Where jumps by tables may lead: each place in the function that constant data points to from a table that it
-    looks up."""
-    bases = sorted({it.about for it in function.instructions if isinstance(it.about, tuple)})
-    found = set()
-    for (member, section, at), (kind, place) in archive.pointed.items():
-        if not isinstance(place, tuple):
-            continue
-        base = max((it for it in bases if it[:2] == (member, section) and it[2] <= at), default=None)
-        if base is not None:
-            place = (*place[:2], place[2] - (at - base[2])) if "PC32" in kind else place
-            found |= {place[2]} if function.has(place) else set()
-    return sorted(found)
 
 
 # ---- loops
