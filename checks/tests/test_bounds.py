@@ -128,6 +128,76 @@ def test_a_slip_is_told(checked, file, old, new, told):
     assert done.returncode == 1 and told in done.stdout, done.stdout + done.stderr
 
 
+# Two jumps, one after the other, by a table each. No way leads back.
+BY_TABLES = """\
+    .section .text.stand_kind,"ax",@progbits
+    .globl stand_kind
+    .type stand_kind,@function
+stand_kind:
+    leaq .Lfirst(%rip),%rcx
+    movslq (%rcx,%rdi,4),%rax
+    addq %rcx,%rax
+    jmp *%rax
+.Lsecondly:
+    leaq .Lsecond(%rip),%rcx
+    movslq (%rcx,%rsi,4),%rax
+    xorl %edx,%edx
+.Lwithin:
+    addq %rax,%rcx
+    jmp *%rcx
+.Lover:
+    ret
+    .size stand_kind, .-stand_kind
+
+    .section .rodata.stand_kind,"a",@progbits
+.Lfirst:
+    .long .Lsecondly-.Lfirst
+    .long .Lover-.Lfirst
+.Lsecond:
+    .long .Lover-.Lsecond
+.Lnone:
+    .long 0
+"""
+OF_TABLES = "outside: memset\n", """\
+| call | stack at most | measured | instructions at most | the most found |
+|---|---|---|---|---|
+| `stand_kind` | 8 | | 10 | |
+"""
+
+
+def test_jumps_by_two_tables_make_no_circle(checked):
+    done = checked(BY_TABLES, *OF_TABLES)
+    assert done.returncode == 0 and "0 problems" in done.stdout, done.stdout + done.stderr
+
+
+# What stands in that code, what is put in its place, and what is told: a circle where the second table leads back, and where
+# it isn't known which of the two the second jump looks up.
+BETWEEN, TAKEN = "xorl %edx,%edx", "addq %rax,%rcx\n    jmp *%rcx"
+CIRCLE = "stand_kind: loop 1 of {}: no row"
+OTHER_JUMPS = [
+    (".Lover-.Lsecond", ".Lsecondly-.Lsecond", CIRCLE.format(5)),
+    (".Lover-.Lfirst", ".Lwithin-.Lfirst", CIRCLE.format(5)),
+    *((BETWEEN, other, CIRCLE.format(5)) for other in (
+        "xorl %ecx,%ecx", "movb $0,%al", "movb $0,%ch", "movl %edi,%eax", "mulq %rdx", "xchgq %rdx,%rcx", "call memset")),
+    (BETWEEN, "testl %edi,%edi\n    je .Lwithin", CIRCLE.format(6)),
+    ("(%rcx,%rsi,4)", "(%rdx,%rsi,4)", CIRCLE.format(5)),
+    ("(%rcx,%rsi,4)", "4(%rcx,%rsi,4)", CIRCLE.format(5)),
+    ("leaq .Lsecond(%rip),%rcx", "leal .Lsecond(%rip),%ecx", CIRCLE.format(5)),
+    (TAKEN, TAKEN.replace("jmp *%rcx", "jmp *%rax"), CIRCLE.format(5)),
+    (TAKEN, "addq %rax,%rax\n    jmp *%rax", CIRCLE.format(5)),
+    (".Lover-.Lsecond", "0", "jmp *%rcx leads to nothing known"),
+    ("leaq .Lsecond", "leaq .Lnone", "stand_kind: a jump into an instruction"),
+    (".Lover-.Lsecond", ".Lsecondly+1-.Lsecond", "stand_kind: a jump into an instruction"),
+]
+
+
+@pytest.mark.parametrize("old, new, told", OTHER_JUMPS, ids=[new for _, new, _ in OTHER_JUMPS])
+def test_what_else_a_jump_by_a_table_may_lead_to_is_told(checked, old, new, told):
+    assert BY_TABLES.count(old) == 1
+    done = checked(BY_TABLES.replace(old, new), *OF_TABLES)
+    assert done.returncode == 1 and told in done.stdout, done.stdout + done.stderr
+
+
 @pytest.mark.skipif(not shutil.which("gcc"), reason="needs gcc")
 def test_the_stack_of_each_function_is_what_its_compiler_says(tmp_path):
     """Of the player in C: gcc tells what each function takes, the return address included."""
@@ -148,16 +218,21 @@ def test_the_stack_of_each_function_is_what_its_compiler_says(tmp_path):
 
 ANSWERS = ["y * 3", "y / 7", "y - 100", "y ^ 77", "y << 5", "y % 9", "~y", "y & 12"]
 CASES = " ".join(f"case {case}: return {answer};" for case, answer in enumerate(ANSWERS))
+CHANGES = " ".join(f"case {case}: y = {answer}; break;" for case, answer in enumerate(ANSWERS))
+ONE = f"int kind(int x, int y) {{ switch (x) {{ {CASES} default: return y; }} }}\n"
+TWO = f"int kind(int x, int y, int z) {{ switch (x) {{ {CHANGES} default: y++; }} switch (z) {{ {CASES} default: return y; }} }}\n"
 
 
 @pytest.mark.parametrize("compiler", ["gcc", "clang"])
-def test_a_jump_by_a_table_leads_to_each_of_its_places(tmp_path, compiler):
+@pytest.mark.parametrize("code, jumps", [(ONE, 1), (TWO, 2)], ids=["one", "two"])
+def test_a_jump_by_a_table_leads_to_each_of_its_places(tmp_path, compiler, code, jumps):
     if not shutil.which(compiler):
         pytest.skip(f"needs {compiler}")
-    (tmp_path / "cases.c").write_text(f"int kind(int x, int y) {{ switch (x) {{ {CASES} default: return y; }} }}\n")
+    (tmp_path / "cases.c").write_text(code)
     subprocess.run([compiler, "-O2", "-fPIC", "-ffunction-sections", "-c", "cases.c"], cwd=tmp_path, check=True)
     subprocess.run(["ar", "rc", "cases.a", "cases.o"], cwd=tmp_path, check=True)
     calls = Calls(Archive(tmp_path / "cases.a"))
     function, flow = next(pair for pair in calls.flows.items() if pair[0].name == "kind")
-    of_code = {it.at for it in function.instructions if not it.word.startswith(("nop", "data16", "xchg"))}
-    assert not calls.problems and flow.by_table and flow.reached == of_code
+    padding = {it.at for it in function.instructions if it.word.startswith(("nop", "data16", "xchg"))}
+    assert not calls.problems and len(flow.by_table) == jumps and not flow.loops()
+    assert flow.reached - padding == flow.at.keys() - padding
