@@ -31,6 +31,32 @@ stand_receive:
 """
 PLANTED = CODE.replace("stand_receive", "stand_planted").replace("    .globl stand_planted\n", "")
 EXPORTED = CODE.replace("stand_receive", "stand_place")
+# A table's second entry stands where another one seems to begin, so that it seems to lead elsewhere.
+HIDDEN = """\
+    .section .text.stand_receive,"ax",@progbits
+    .globl stand_receive
+    .type stand_receive,@function
+stand_receive:
+    leaq .Ltable(%rip),%rcx
+    movslq (%rcx,%rdi,4),%rax
+    addq %rcx,%rax
+    jmp *%rax
+.Lone:
+    leaq .Lother(%rip),%rdx
+    ret
+.Ltwo:
+    .rept 4
+    nop
+    .endr
+    ret
+    .size stand_receive, .-stand_receive
+
+    .section .rodata.stand_receive,"a",@progbits
+.Ltable:
+    .long .Lone-.Ltable
+.Lother:
+    .long .Ltwo-.Ltable
+"""
 PROGRAM = """\
 #include <stdlib.h>
 int stand_receive(int frame);
@@ -80,6 +106,12 @@ def test_a_reason_is_for_so_much_and_no_more(told):
     assert told(reasons=reason)[0] == ["reasons.txt: stand_receive: reasons for 2 and 1, and 0 and 0 weren't gone"]
     assert "no line of this file" in told(reasons="stand_receive: no number\n")[0][0]
     assert "no line of this file" in told(reasons=reason.replace("contract", "belief"))[0][0]
+
+
+def test_a_way_that_the_disassembly_does_not_have_is_told(told):
+    found, program = "stand_receive: a run went from +e to +18, and no way does", PROGRAM.replace("< 0", "== -1")
+    assert found in told(code=HIDDEN, program=program)[0]
+    assert found not in told(code=HIDDEN, program=program, runs=[["0"]])[0]
 
 
 def test_a_function_that_no_test_calls_is_told(told):

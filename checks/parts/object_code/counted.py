@@ -18,10 +18,11 @@ class Failed(Exception):
 
 
 class Counts:
-    """How often each place was executed, and how often the branch there was followed."""
+    """How often each place was executed, how often the branch there was followed, and from where to where jumps and
+    branches went."""
 
     def __init__(self):
-        self.executed, self.taken = Counter(), Counter()
+        self.executed, self.taken, self.gone = Counter(), Counter(), set()
 
     def add(self, sections, text, program):
         """Adds what callgrind wrote of a run of this program."""
@@ -44,6 +45,7 @@ class Counts:
         else:
             # A branch out of a function is a call to callgrind.
             self.taken[place] += int(jump[2]) if jump[1] in ("jcnd", "calls") else 0
+            self.gone |= {(place, place_of(sections, int(jump[3], 16)))} if jump[1] != "calls" else set()
 
 
 def sections_of(linker_map, archive):

@@ -7,13 +7,15 @@ FOLLOWED, PASSED = "followed", "passed"
 
 class Holes(NamedTuple):
     """What no run did in a function: instructions, and ways of branches that were executed, by offsets in its
-    section; and how many instructions and branches it has, and of how many branches both ways or one were gone."""
+    section; how many instructions and branches it has, and of how many branches both ways or one were gone; and from where to
+    where runs went within it and its disassembly has no way."""
     instructions: tuple
     ways: tuple
     of_instructions: int
     of_branches: int
     whole_branches: int
     half_branches: int
+    unknown: tuple
 
     @property
     def executed(self):
@@ -43,4 +45,11 @@ def holes_of(flow, counts):
         ways += [(at, PASSED)] if done and taken == done else []
     part = {at for at, _ in ways}
     whole = sum(1 for at in branches if counts.executed[place[at]] and at not in part)
-    return Holes(missed, tuple(ways), len(flow.reached), len(branches), whole, len(part))
+    return Holes(missed, tuple(ways), len(flow.reached), len(branches), whole, len(part), unknown_to(flow, counts))
+
+
+def unknown_to(flow, counts):
+    """From where to where runs went within a function by a way that its disassembly doesn't have."""
+    function = flow.function
+    gone = ((at[2], to[2]) for at, to in counts.gone if function.has(at) and to is not None and function.has(to))
+    return tuple(sorted((at, to) for at, to in gone if to not in flow.follows.get(at, ())))

@@ -36,6 +36,8 @@ def problems_of(calls, parts, holes, reasons):
     yield from (f"{it.name}: no call reaches it" for it in sorted(calls.flows.keys() - reached))
     yield from (f"{it.name}: no run executes it" for it in sorted(calls.flows.keys() & reached)
                 if not holes[it].executed and not reasons.has(it))
+    yield from (f"{it.name}: a run went from +{at - it.first:x} to +{to - it.first:x}, and no way does"
+                for it, hole in holes.items() for at, to in hole.unknown)
     yield from reasons.compare(holes, of_the_way(parts))
     branches, whole = total(parts[WHOLE], holes)[2:4]
     if 100 * whole < LEAST * branches:
