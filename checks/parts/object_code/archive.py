@@ -1,4 +1,4 @@
-"""The functions of an archive of x86-64 code, instruction by instruction, as binutils tell them.
+"""The functions of an archive of code for x86-64 or aarch64, instruction by instruction, as binutils tell them.
 
 A place is (member, section, offset). What isn't in the archive is told by its name alone.
 """
@@ -6,19 +6,23 @@ import re
 import subprocess
 from typing import NamedTuple
 
+from parts.object_code.machines import X86_64
+
 MEMBER = re.compile(r"^(\S+):\s+file format \S+$")
 SECTION = re.compile(r"^Disassembly of section (.+):$")
 SYMBOL = re.compile(r"^([0-9a-f]+) (.{7}) (.+?)\t([0-9a-f]+)\s+(?:\.hidden )?(.+)$")
 LINE = re.compile(r"^\s*([0-9a-f]+):\t(.*)$")
-RELOCATION = re.compile(r"\t([0-9a-f]+): (R_X86_64_\w+)\t(.+)$")
+RELOCATION = re.compile(r"\t([0-9a-f]+): (R_(?:X86_64|AARCH64)_\w+)\t(.+)$")
 RELATIVE = re.compile("PC32|PLT32|GOTPC")
-OF_DATA = re.compile(r"^([0-9a-f]+) (R_X86_64_\w+)\s+(.+)$")
+OF_DATA = re.compile(r"^([0-9a-f]+) (R_(?:X86_64|AARCH64)_\w+)\s+(.+)$")
 ADDEND = re.compile(r"^(.*?)([+-]0x[0-9a-f]+)?$")
 # What a compiler adds to the name of a function for some types, a sum that another build may have otherwise.
 OF_TYPES = re.compile(r"<#[0-9a-f]+>")
 PREFIXES = {"lock", "rep", "repz", "repnz", "notrack", "bnd", "data16", "cs", "ds", "es", "fs"}
 # What ends a function besides a jump: a return, and what stops the processor.
-ENDS, STOPS = {"ret", "retq"}, {"ud2", "hlt", "int3"}
+ENDS, STOPS = {"ret", "retq"}, {"ud2", "hlt", "int3", "brk", "udf"}
+# The branches of aarch64 that aren't named for what they ask.
+BRANCHES = {"cbz", "cbnz", "tbz", "tbnz"}
 
 
 class Instruction(NamedTuple):
@@ -33,15 +37,15 @@ class Instruction(NamedTuple):
 
     @property
     def is_call(self):
-        return self.word in ("call", "callq")
+        return self.word in ("call", "callq", "bl", "blr")
 
     @property
     def is_jump(self):
-        return self.word in ("jmp", "jmpq")
+        return self.word in ("jmp", "jmpq", "b", "br")
 
     @property
     def is_branch(self):
-        return self.word.startswith("j") and not self.is_jump
+        return self.word.startswith(("j", "b.")) and not self.is_jump or self.word in BRANCHES
 
     @property
     def repeats(self):
@@ -49,7 +53,7 @@ class Instruction(NamedTuple):
 
     @property
     def is_indirect(self):
-        return (self.is_call or self.is_jump) and self.operands.startswith("*")
+        return (self.is_call or self.is_jump) and self.operands.startswith("*") or self.word in ("br", "blr")
 
 
 class Function(NamedTuple):
@@ -68,25 +72,24 @@ class Function(NamedTuple):
         return place[:2] == (self.member, self.section) and self.first <= place[2] < self.first + self.size
 
 
-def told(*words):
-    """The lines that objdump prints."""
-    command = ["objdump", *map(str, words)]
-    return subprocess.run(command, stdout=subprocess.PIPE, check=True, text=True, errors="replace").stdout.splitlines()
-
-
 class Archive:
     """All functions of an archive, what its symbols stand for, and the places that its constant data points to."""
 
-    def __init__(self, path):
-        self.symbols, self.exports, self.sizes = {}, {}, {}
-        self.read_symbols(path)
-        self.pointed = self.read_data(path)
-        self.functions = self.read_code(path)
+    def __init__(self, path, machine=X86_64):
+        self.path, self.machine, self.symbols, self.exports, self.sizes = path, machine, {}, {}, {}
+        self.read_symbols()
+        self.pointed = self.read_data()
+        self.functions = self.read_code()
         self.by_place = {(it.member, it.section, it.first): it for it in self.functions}
 
-    def read_symbols(self, path):
+    def told(self, *words):
+        """The lines that objdump prints."""
+        command = [self.machine.objdump, *words, str(self.path)]
+        return subprocess.run(command, stdout=subprocess.PIPE, check=True, text=True, errors="replace").stdout.splitlines()
+
+    def read_symbols(self):
         member = None
-        for line in told("-t", path):
+        for line in self.told("-t"):
             opened, symbol = MEMBER.match(line), SYMBOL.match(line)
             member = opened[1] if opened else member
             if symbol and symbol[3] != "*UND*":
@@ -106,12 +109,12 @@ class Archive:
             return (*found[:2], found[2] + offset)
         return (member, name, offset) if name.startswith(".") else name
 
-    def read_data(self, path):
+    def read_data(self):
         """What constant data points to: the places, by the place of the pointer; for relative ones, by the pointer's
         own offset."""
         member = section = None
         pointed = {}
-        for line in told("-r", path):
+        for line in self.told("-r"):
             opened, found = MEMBER.match(line), OF_DATA.match(line)
             member = opened[1] if opened else member
             if line.startswith("RELOCATION RECORDS FOR ["):
@@ -121,9 +124,9 @@ class Archive:
                 pointed[member, section, at] = (found[2], self.place_of(member, found[3], 0))
         return pointed
 
-    def read_code(self, path):
+    def read_code(self):
         functions, member, section, lines = [], None, None, []
-        for line in [*told("-d", "-r", "-w", "-z", "--no-show-raw-insn", path), "end:     file format none"]:
+        for line in [*self.told("-d", "-r", "-w", "-z", "--no-show-raw-insn"), "end:     file format none"]:
             opened, headed, found = MEMBER.match(line), SECTION.match(line), LINE.match(line)
             if opened or headed:
                 functions += self.functions_of(member, section, lines)
@@ -145,19 +148,21 @@ class Archive:
 
     def instruction(self, member, section, at, text):
         named = RELOCATION.search(text)
-        words = text[:named.start() if named else None].split("#")[0].split()
+        words = text[:named.start() if named else None].split(self.machine.comment)[0].split()
         prefix = []
         while len(words) > 1 and words[0] in PREFIXES:
             prefix.append(words.pop(0))
         word, operands = words[0], " ".join(words[1:])
-        about = target = None
+        about = None
         if named:
             # A relative operand counts from the instruction's end, which is four octets after the place of the last
             # operand.
             about = self.place_of(member, named[3], 4 if RELATIVE.search(named[2]) else 0)
-        if word.startswith(("call", "j")) and not operands.startswith("*"):
-            target = about if named else (member, section, int(operands.split()[0], 16))
-        return Instruction(at, " ".join(prefix), word, operands, target, None if target else about)
+        made = Instruction(at, " ".join(prefix), word, operands, None, about)
+        if (made.is_call or made.is_jump or made.is_branch) and not made.is_indirect:
+            target = about if named else (member, section, int(self.machine.target.search(operands)[1], 16))
+            made = made._replace(target=target, about=None)
+        return made
 
     def function_at(self, place):
         """The function that begins at a place, or None."""

@@ -2,7 +2,9 @@
 from typing import NamedTuple
 
 from parts.object_code.flow import Flow, Unfollowed, circles
-from parts.object_code.stack import WORD, Depths
+from parts.object_code.machines import AARCH64
+from parts.object_code.stack import Depths
+from parts.object_code.stack_of_aarch64 import DepthsOfAarch64
 
 
 class Call(NamedTuple):
@@ -21,7 +23,7 @@ class Calls:
         for function in archive.functions:
             try:
                 flow = Flow(archive, function)
-                depths = Depths(flow)
+                depths = DepthsOfAarch64(flow) if archive.machine is AARCH64 else Depths(flow)
                 self.calls[function] = [self.call(function, depths, it) for it in flow.leaving()]
                 self.flows[function], self.depths[function] = flow, depths
             except Unfollowed as why:
@@ -35,7 +37,7 @@ class Calls:
         if found is None and not isinstance(to, str):
             where = f"{function.name}+{it.at - function.first:x}"
             self.problems.append(f"{where}: {it.word} {it.operands} leads to nothing known")
-        return Call(it, found or to, depths.before(it) + (WORD if it.is_call else 0))
+        return Call(it, found or to, depths.before(it) + (self.archive.machine.word if it.is_call else 0))
 
     def below(self, first):
         """All functions and outside names that can be reached from a function, itself included."""

@@ -1,8 +1,9 @@
 """The way of control through a function: what follows each instruction, and its loops."""
 from typing import NamedTuple
 
+from parts.object_code import tables, tables_of_aarch64
 from parts.object_code.archive import ENDS, STOPS
-from parts.object_code.tables import places_of_jumps
+from parts.object_code.machines import AARCH64
 
 
 class Unfollowed(Exception):
@@ -25,7 +26,8 @@ class Flow:
         self.order = sorted(self.at)
         self.after = dict(zip(self.order, [*self.order[1:], None]))
         self.by_table = {it.at for it in self.at.values() if it.is_jump and it.is_indirect and not named(archive, it)}
-        self.places = places_of_jumps(archive, function, self.by_table) if self.by_table else {}
+        of_machine = tables_of_aarch64 if archive.machine is AARCH64 else tables
+        self.places = of_machine.places_of_jumps(archive, function, self.by_table) if self.by_table else {}
         self.follows = {at: tuple(self.next_of(it)) for at, it in self.at.items()}
         self.reached = self.from_here(function.first)
 

@@ -1,6 +1,7 @@
-"""How deep a function's own stack is at each call, by what it pushes and takes off the stack pointer."""
+"""How deep a function's own stack is at each call of x86-64 code, by what it pushes and takes off the stack pointer."""
 import re
 
+from parts.object_code.archive import STOPS
 from parts.object_code.flow import Unfollowed
 
 WORD = 8
@@ -12,20 +13,26 @@ CHANGED = re.compile(r",%[re]?sp$")
 class Depths:
     """The octets below the return address at each instruction of a function, and the most of all."""
 
+    first = (0, None)
+
     def __init__(self, flow):
         self.flow, self.at = flow, {}
-        waiting = [(flow.function.first, (0, None))]
+        waiting = [(flow.function.first, self.first)]
         while waiting:
             place, state = waiting.pop()
             if place in self.at:
-                if self.at[place][0] != state[0] and flow.at[place].word not in ("ud2", "hlt"):
+                if self.at[place][0] != state[0] and flow.at[place].word not in STOPS:
                     raise Unfollowed(f"{flow.function.name}: two depths at +{place - flow.function.first:x}: "
                                      f"{self.at[place][0]} and {state[0]}")
                 continue
             self.at[place] = state
-            after = self.after(flow.at[place], state)
-            waiting += [(to, after) for to in flow.follows[place]]
-        self.most = max(depth for depth, _ in self.at.values())
+            waiting += self.ways(flow.at[place], state)
+        self.most = max(depth for depth, *_ in self.at.values())
+
+    def ways(self, it, state):
+        """What comes after an instruction, each with the state there."""
+        after = self.after(it, state)
+        return [(to, after) for to in self.flow.follows[it.at]]
 
     def before(self, instruction):
         return self.at[instruction.at][0]
