@@ -8,7 +8,7 @@ from conftest import ROOT
 
 from parts.object_code.archive import Archive
 from parts.object_code.calls import Calls
-from parts.object_code.stack import WORD
+from parts.object_code.machines import AARCH64, X86_64
 
 # A call with a loop of three instructions, which calls another function; one that calls itself; and one that asks for
 # memory.
@@ -79,12 +79,12 @@ PAGE = """\
 @pytest.fixture
 def checked(tmp_path):
     """Runs the check over an archive of this code, with these rules and this page, and measures nothing."""
-    def check(code=CODE, rules=RULES, page=PAGE):
+    def check(code=CODE, rules=RULES, page=PAGE, compiler="cc", more=()):
         for name, text in ("code.s", code), ("rules.txt", rules), ("page.md", page):
             (tmp_path / name).write_text(text, encoding="utf-8")
-        subprocess.run(["cc", "-c", "code.s", "-o", "code.o"], cwd=tmp_path, check=True)
+        subprocess.run([compiler, "-c", "code.s", "-o", "code.o"], cwd=tmp_path, check=True)
         subprocess.run(["ar", "rc", "code.a", "code.o"], cwd=tmp_path, check=True)
-        words = ["--library", "code.a", "--rules", "rules.txt", "--page", "page.md", "--seconds", "0"]
+        words = ["--library", "code.a", "--rules", "rules.txt", "--page", "page.md", "--seconds", "0", *more]
         command = [sys.executable, ROOT / "checks" / "bounds", *words]
         return subprocess.run(command, cwd=tmp_path, capture_output=True, text=True)
     return check
@@ -103,7 +103,8 @@ SLIPS = [
     ("rules", "four octets", "six octets", "the page has 0 rows"),
     ("rules", "1 of 3", "1 of 4", "stand_receive has no loop 1 of 4"),
     ("code", "    jne 0b\n", "    jne 0b\n1:  decq %rdx\n    jne 1b\n", "stand_receive: loop 2 of 2: no row"),
-    ("code", "subq $32", "subq $48", "stand_receive: stack: 80 at most, and docs/MEASURED.md says 64"),
+    ("code", "    call stand_place\n    addq $32", "    subq $16,%rsp\n    call stand_place\n    addq $48",
+     "stand_receive: stack: 80 at most, and docs/MEASURED.md says 64"),
     ("code", "    xorl %eax,%eax\n", "    subq $16,%rsp\n    addq $16,%rsp\n", "stand_receive: stack: 80 at most"),
     ("code", "    xorl %eax,%eax\n", "    xorl %eax,%eax\n    nop\n    nop\n",
      "instructions: 28 at most, and docs/MEASURED.md says 26"),
@@ -113,6 +114,7 @@ SLIPS = [
     ("code", "    xorl %eax,%eax\n", "    call *%rax\n", "call *%rax leads to nothing known"),
     ("code", "    xorl %eax,%eax\n", "    call stand_receive\n", "nothing bounds how deep: stand_receive, stand_place"),
     ("code", "    xorl %eax,%eax\n", "    subq %rax,%rsp\n", "the stack after +1: sub %rax,%rsp"),
+    ("code", "    addq $32,%rsp\n", "    addq $24,%rsp\n", "stand_receive: returns with 8 octets"),
     ("rules", "levels 80: stand_open: as deep as it may be\n", "", "nothing bounds how deep: stand_open"),
     ("rules", "levels 80", "levels 81", "stand_open: stack: 1,304 at most, and docs/MEASURED.md says 1,288"),
     ("page", "| `stand_place` | 16 | | 4 | |\n", "", "docs/MEASURED.md: no row of stand_place"),
@@ -189,6 +191,7 @@ OTHER_JUMPS = [
     (TAKEN, TAKEN.replace("jmp *%rcx", "jmp *%rax"), CIRCLE.format(5)),
     (TAKEN, "addq %rax,%rax\n    jmp *%rax", CIRCLE.format(5)),
     (".Lover-.Lsecond", "0", "jmp *%rcx leads to nothing known"),
+    (".Lover-.Lsecond", ".Lover+1-.Lsecond", "jmp *%rcx leads to nothing known"),
     ("leaq .Lsecond", "leaq .Lnone", "stand_kind: a jump into an instruction"),
     (".Lover-.Lsecond", ".Lsecondly+1-.Lsecond", "stand_kind: a jump into an instruction"),
 ]
@@ -201,20 +204,119 @@ def test_what_else_a_jump_by_a_table_may_lead_to_is_told(checked, old, new, told
     assert done.returncode == 1 and told in done.stdout, done.stdout + done.stderr
 
 
-@pytest.mark.skipif(not shutil.which("gcc"), reason="needs gcc")
-def test_the_stack_of_each_function_is_what_its_compiler_says(tmp_path):
-    """Of the player in C: gcc tells what each function takes, the return address included."""
+# For aarch64: a call whose frame is made in steps, which calls another function.
+OF_AARCH64 = CODE[:CODE.index("    function")] + """\
+    function stand_receive
+    stp x29, x30, [sp, #-32]!
+    str x19, [sp, #16]
+    sub x9, sp, #2, lsl #12
+    sub x9, x9, #0x400
+0:  sub sp, sp, #0xc00
+    cmp sp, x9
+    str xzr, [sp]
+    b.ne 0b
+    bl stand_place
+    add sp, sp, #2, lsl #12
+    add sp, sp, #0x400
+    ldr x19, [sp, #16]
+    ldp x29, x30, [sp], #32
+    ret
+    over stand_receive
+
+    function stand_place
+    sub sp, sp, #16
+    adrp x9, .Lfirst
+    add x9, x9, :lo12:.Lfirst
+    adr x10, .Lhere
+    ldrb w11, [x9, x8]
+    add x10, x10, x11, lsl #2
+    br x10
+.Lhere:
+    add sp, sp, #16
+    ret
+.Lthere:
+    add sp, sp, #16
+    b memset
+    over stand_place
+
+    .section .rodata.stand_place,"a",@progbits
+.Lfirst:
+    .byte (.Lthere-.Lhere)/4
+    .byte 0
+"""
+# 32 and 9,216 octets, and 16 of what is called.
+PAGE_OF_AARCH64 = """\
+| call | stack at most on aarch64 | measured |
+|---|---|---|
+| `stand_receive` | 9,264 | |
+| `stand_place` | 16 | |
+"""
+DEPTH, NO_FORM = "stand_receive: stack: {} at most, and docs/MEASURED.md says 9,264", "stand_{}: the stack after +{}: "
+SLIPS_OF_AARCH64 = [
+    ("    bl stand_place\n", "    sub sp, sp, #16\n    bl stand_place\n    add sp, sp, #16\n", DEPTH.format("9,280")),
+    ("sub x9, x9, #0x400", "sub x9, x9, #0x1000", "stand_receive: returns with 3072 octets"),
+    ("sub x9, x9, #0x400", "sub x9, x8, #0x400", "stand_receive: returns with -6144 octets"),
+    ("str xzr, [sp]", "tst x0, x0", NO_FORM.format("receive", "18") + "tst x0, x0"),
+    ("str xzr, [sp]", "ldr x9, [sp]", NO_FORM.format("receive", "18") + "ldr x9, [sp]"),
+    ("ldp x29, x30, [sp], #32", "ldp x29, x30, [sp], #16", "stand_receive: returns with 16 octets"),
+    ("b.ne 0b", "b.hi 0b", NO_FORM.format("receive", "1c") + "b.hi"),
+    ("    bl stand_place\n", "    mov sp, x19\n    bl stand_place\n", NO_FORM.format("receive", "20") + "mov sp, x19"),
+    ("    bl stand_place\n", "    sub sp, sp, x19\n    bl stand_place\n", NO_FORM.format("receive", "20") + "sub sp, sp, x19"),
+    ("bl stand_place", "bl stand_receive", "nothing bounds how deep: stand_receive"),
+    ("bl stand_place", "bl malloc", "reaches malloc, which checks/bounds.txt doesn't have"),
+    ("bl stand_place", "blr x8", "blr x8 leads to nothing known"),
+    ("bl stand_place", "bl rattle_alloc", "stand_receive: reaches rattle_alloc"),
+    ("sub sp, sp, #16", "fadd d0, d0, d1\n    sub sp, sp, #16", "stand_place computes with floating-point numbers"),
+    ("b memset", "b malloc", "reaches malloc, which checks/bounds.txt doesn't have"),
+    ("lsl #2\n    br", "lsl #3\n    br", "br x10 leads to nothing known"),
+    ("ldrb w11, [x9, x8]", "ldrb w11, [x8, x9]", "br x10 leads to nothing known"),
+    ("    br x10", "    mov x10, x0\n    br x10", "br x10 leads to nothing known"),
+    ("    br x10", "    bl memset\n    br x10", "br x10 leads to nothing known"),
+    ("    br x10", "    ldp x9, x10, [x0]\n    br x10", "br x10 leads to nothing known"),
+    ("    ldrb w11", "    cbz x0, .Lline\n.Lline:\n    ldrb w11", "br x10 leads to nothing known"),
+    ("    .byte 0\n", "    .byte 255\n", "br x10 leads to nothing known"),
+]
+
+
+@pytest.fixture
+def checked_of_aarch64(checked):
+    """The same of code for aarch64."""
+    if not shutil.which("aarch64-linux-gnu-gcc"):
+        pytest.skip("needs aarch64-linux-gnu-gcc")
+    rules = "asks: _open\nmemory: rattle_alloc\noutside: memset\n"
+    return lambda code=OF_AARCH64: checked(code, rules, PAGE_OF_AARCH64, "aarch64-linux-gnu-gcc", ["--aarch64"])
+
+
+def test_bounds_of_aarch64_that_hold(checked_of_aarch64):
+    done = checked_of_aarch64()
+    assert done.returncode == 0, done.stdout + done.stderr
+    assert "| `stand_receive` | 9,264 |  |" in done.stdout and "0 problems" in done.stdout
+
+
+@pytest.mark.parametrize("old, new, told", SLIPS_OF_AARCH64, ids=[slip[1] for slip in SLIPS_OF_AARCH64])
+def test_a_slip_of_aarch64_is_told(checked_of_aarch64, old, new, told):
+    assert OF_AARCH64.count(old) == 1
+    done = checked_of_aarch64(OF_AARCH64.replace(old, new))
+    assert done.returncode == 1 and told in done.stdout, done.stdout + done.stderr
+
+
+@pytest.mark.parametrize("machine, compiler", [(X86_64, "gcc"), (AARCH64, "aarch64-linux-gnu-gcc")], ids=["x86-64", "aarch64"])
+def test_the_stack_of_each_function_is_what_its_compiler_says(tmp_path, machine, compiler):
+    """Of the player in C: gcc tells what each function takes, the return address included. No frame is made only before a call
+    that never returns, which isn't known of it."""
+    if not shutil.which(compiler):
+        pytest.skip(f"needs {compiler}")
     names = ("receiver", "settings", "toml", "base")
     for name in names:
-        words = ["gcc", "-O2", "-fstack-usage", "-ffunction-sections", "-o", f"{name}.o", "-c"]
+        words = [compiler, "-O2", "-fno-shrink-wrap", "-fstack-usage", "-ffunction-sections", "-o", f"{name}.o", "-c"]
         subprocess.run([*words, ROOT / "peer" / f"{name}.c"], cwd=tmp_path, check=True)
     subprocess.run(["ar", "rc", "peer.a", *(f"{name}.o" for name in names)], cwd=tmp_path, check=True)
-    calls, said = Calls(Archive(tmp_path / "peer.a")), {}
+    calls, said = Calls(Archive(tmp_path / "peer.a", machine)), {}
     for name in names:
         for line in (tmp_path / f"{name}.su").read_text().splitlines():
             place, octets, kind = line.split("\t")
             said[place.rpartition(":")[2]] = int(octets)
-    found = {function.name: WORD + depths.most for function, depths in calls.depths.items() if function.name in said}
+    found = {function.name: machine.word + depths.most for function, depths in calls.depths.items() if function.name in said}
     assert not calls.problems and len(found) > 20
     assert found == {name: octets for name, octets in said.items() if name in found}
 

@@ -1,7 +1,7 @@
 """How deep a function's own stack is at each call of x86-64 code, by what it pushes and takes off the stack pointer."""
 import re
 
-from parts.object_code.archive import STOPS
+from parts.object_code.archive import ENDS, STOPS
 from parts.object_code.flow import Unfollowed
 
 WORD = 8
@@ -26,6 +26,8 @@ class Depths:
                                      f"{self.at[place][0]} and {state[0]}")
                 continue
             self.at[place] = state
+            if flow.at[place].word in ENDS and state[0]:
+                raise Unfollowed(f"{flow.function.name}: returns with {state[0]} octets")
             waiting += self.ways(flow.at[place], state)
         self.most = max(depth for depth, *_ in self.at.values())
 

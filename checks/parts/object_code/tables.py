@@ -19,29 +19,30 @@ WHOLE |= {f"%r{number}{end}": f"%r{number}" for number in range(8, 16) for end i
 
 
 def tables_of(archive, function):
-    """The tables that a function looks up: by where each begins the places in the function that constant data points to
-    from there on, up to where the next one begins."""
+    """The tables that a function looks up: by where each begins the places that constant data points to from there on, up
+    to where the next one begins."""
     bases = sorted({it.about for it in function.instructions if isinstance(it.about, tuple)})
     found = {}
     for (member, section, at), (kind, place) in archive.pointed.items():
         base = max((it for it in bases if it[:2] == (member, section) and it[2] <= at), default=None)
         if base is not None and isinstance(place, tuple):
             place = (*place[:2], place[2] - (at - base[2])) if "PC32" in kind else place
-            found.setdefault(base, set()).update({place[2]} if function.has(place) else ())
+            found.setdefault(base, set()).add(place)
     return found
 
 
 def places_of_jumps(archive, function, jumps):
-    """The places that each of these jumps by tables may lead to."""
+    """The places that each of these jumps by tables may lead to; none, if its table leads out of the function."""
     tables = tables_of(archive, function)
-    every = set().union(*tables.values())
+    every = {place[2] for place in set().union(*tables.values()) if function.has(place)}
+    within = {table: {place[2] for place in places} for table, places in tables.items() if all(map(function.has, places))}
     entered = {it.target[2] for it in function.instructions if it.target is not None and function.has(it.target)} | every
     found, known = {}, {}
     for it in function.instructions:
         known = {} if it.at in entered else known
         if it.at in jumps:
             kind, table = known.get(it.operands.removeprefix("*"), (None, None))
-            found[it.at] = sorted(tables.get(table, ()) if kind == PLACE else every)
+            found[it.at] = sorted(within.get(table, ()) if kind == PLACE else every)
         known = after(it, known)
     return found
 

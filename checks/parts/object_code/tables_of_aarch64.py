@@ -28,7 +28,8 @@ def places_of_jumps(archive, function, jumps):
 
 
 def places_of(archive, function, value):
-    """Where a sum of a place and an entry may be: by each entry from where the table begins to where another one does."""
+    """Where a sum of a place and an entry may be: by each entry from where the table begins to where another one does. None, if
+    one is out of the function."""
     kind, origin, (table, size) = value if value and value[0] == "sum" else (None, None, (None, 1))
     if kind is None:
         return set()
@@ -36,7 +37,8 @@ def places_of(archive, function, value):
             if isinstance(it.about, tuple) and it.about[:2] == table[:2] and it.about[2] > table[2]]
     octets = octets_of(archive, table)[table[2]:min(ends, default=None)]
     numbers = [int.from_bytes(octets[at:at + size], "little") for at in range(0, len(octets), size)]
-    return {origin + 4 * number for number in numbers if function.first <= origin + 4 * number < function.first + function.size}
+    found = {origin + 4 * number for number in numbers}
+    return found if all(function.has((function.member, function.section, at)) for at in found) else set()
 
 
 def octets_of(archive, place):
