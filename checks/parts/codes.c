@@ -370,6 +370,9 @@ static void of_checks(void) {
     if (fault.fault || fault.key || fault.level != YELUNNAVI_LEVEL_PORT || fault.link || fault.port != 1 || fault.line != 18) exit(37);
     WANT(STRAY_KEY, yelunnavi_check_text(TEXT("[[link]]\nvl = 17\nredundency = false\nskew_max_us = 1\nreassembly_us = 1\n"), &fault));
     if (fault.level != YELUNNAVI_LEVEL_LINK || fault.link || fault.line != 3 || blocks) exit(38);
+    /* So many keys that the first ones fill a node of the map. */
+    WANT(STRAY_KEY, yelunnavi_check_text(TEXT(LINK_17 "readers = 1\nread_us = 1\ntake_us = 1\nza = 1\nzb = 1\nzc = 1\nzd = 1\nze = 1\nzf = 1\nzg = 1\n"), &fault));
+    if (fault.level != YELUNNAVI_LEVEL_PORT || fault.link || fault.port != 1 || fault.line != 21) exit(49);
     WANT(FAULTY, yelunnavi_check_text(NULL, 0, &fault));
 }
 

@@ -328,15 +328,16 @@ ONE = f"int kind(int x, int y) {{ switch (x) {{ {CASES} default: return y; }} }}
 TWO = f"int kind(int x, int y, int z) {{ switch (x) {{ {CHANGES} default: y++; }} switch (z) {{ {CASES} default: return y; }} }}\n"
 
 
-@pytest.mark.parametrize("compiler", ["gcc", "clang"])
+@pytest.mark.parametrize("compiler, machine", [("gcc", X86_64), ("clang", X86_64), ("clang --target=aarch64-linux-gnu", AARCH64)])
 @pytest.mark.parametrize("code, jumps", [(ONE, 1), (TWO, 2)], ids=["one", "two"])
-def test_a_jump_by_a_table_leads_to_each_of_its_places(tmp_path, compiler, code, jumps):
-    if not shutil.which(compiler):
-        pytest.skip(f"needs {compiler}")
+def test_a_jump_by_a_table_leads_to_each_of_its_places(tmp_path, compiler, machine, code, jumps):
+    words = compiler.split()
+    if not shutil.which(words[0]) or not shutil.which(machine.objdump):
+        pytest.skip(f"needs {compiler} and {machine.objdump}")
     (tmp_path / "cases.c").write_text(code)
-    subprocess.run([compiler, "-O2", "-fPIC", "-ffunction-sections", "-c", "cases.c"], cwd=tmp_path, check=True)
+    subprocess.run([*words, "-O2", "-fPIC", "-ffunction-sections", "-c", "cases.c"], cwd=tmp_path, check=True)
     subprocess.run(["ar", "rc", "cases.a", "cases.o"], cwd=tmp_path, check=True)
-    calls = Calls(Archive(tmp_path / "cases.a"))
+    calls = Calls(Archive(tmp_path / "cases.a", machine))
     function, flow = next(pair for pair in calls.flows.items() if pair[0].name == "kind")
     padding = {it.at for it in function.instructions if it.word.startswith(("nop", "data16", "xchg"))}
     assert not calls.problems and len(flow.by_table) == jumps and not flow.loops()

@@ -1,10 +1,14 @@
 """Where jumps by tables lead.
 
-Compilers write such a jump as four steps: where the table begins, an entry of it, their sum, and a jump to that. Where the
-four stand in one straight line, which no jump enters but at its first instruction, the jump leads to places of that table
-alone: each way to it comes through all four, and none of the instructions between them changes what they carry, since one
-that isn't among PLAIN counts as if it changed all registers. Of any other jump it isn't known which table it looks up, so it
-may lead to the places of all tables of the function.
+A compiler writes such a jump in four steps: the address of the table, an entry of it, their sum, and a jump to the sum. If
+the four stand in one straight line, which jumps enter at its first instruction alone, the jump leads to the places of that
+table and to no other: each way to it comes through the four, and nothing between them changes what they hold, since an
+instruction that isn't among PLAIN counts as one that changes every register. If a jump isn't written so its table isn't
+known, and it may lead to the places of all tables of the function.
+
+A table goes up to where the next one begins, and what is looked up is one of its entries: the compiler is trusted for that.
+A table that leads out of the function, or into an instruction, is told; checks/coverage tells a way that a run goes and that
+isn't known here.
 """
 import re
 

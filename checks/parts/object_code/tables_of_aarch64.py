@@ -1,9 +1,9 @@
 """Where jumps by tables of aarch64 code lead.
 
-Compilers write such a jump as steps in a straight line: where the table begins, in two of them; the place that entries count
-from; an entry, of one or two octets; their sum, of which the entry counts instructions; and a jump to that. As of x86-64
-(tables.py) no jump may enter the line, and what isn't among PLAIN counts as if it changed all registers. A jump that isn't
-of this form leads to nothing known.
+A compiler writes such a jump in six steps: the address of the table, in two of them; the place that entries count from; an
+entry, of one or two octets; the sum of these, of which an entry counts instructions; and a jump to the sum. As for x86-64
+(tables.py) they have to stand in one straight line, and an instruction that isn't among PLAIN counts as one that changes
+every register. A jump that isn't written so leads to nothing known.
 """
 import re
 
