@@ -228,6 +228,7 @@ OF_AARCH64 = CODE[:CODE.index("    function")] + """\
     adrp x9, .Lfirst
     add x9, x9, :lo12:.Lfirst
     adr x10, .Lhere
+.Lline:
     ldrb w11, [x9, x8]
     add x10, x10, x11, lsl #2
     br x10
@@ -273,7 +274,8 @@ SLIPS_OF_AARCH64 = [
     ("    br x10", "    mov x10, x0\n    br x10", "br x10 leads to nothing known"),
     ("    br x10", "    bl memset\n    br x10", "br x10 leads to nothing known"),
     ("    br x10", "    ldp x9, x10, [x0]\n    br x10", "br x10 leads to nothing known"),
-    ("    ldrb w11", "    cbz x0, .Lline\n.Lline:\n    ldrb w11", "br x10 leads to nothing known"),
+    (".Lline:\n", "    cbz x0, .Lline\n.Lline:\n", "br x10 leads to nothing known"),
+    ("    b memset", "    cbz x0, .Lline\n    b memset", "br x10 leads to nothing known"),
     ("    .byte 0\n", "    .byte 255\n", "br x10 leads to nothing known"),
 ]
 
