@@ -271,6 +271,7 @@ SLIPS_OF_AARCH64 = [
     ("b memset", "b malloc", "reaches malloc, which checks/bounds.txt doesn't have"),
     ("lsl #2\n    br", "lsl #3\n    br", "br x10 leads to nothing known"),
     ("ldrb w11, [x9, x8]", "ldrb w11, [x8, x9]", "br x10 leads to nothing known"),
+    ("add x9, x9, :lo12:.Lfirst", "mov x12, x12", "br x10 leads to nothing known"),
     ("    br x10", "    mov x10, x0\n    br x10", "br x10 leads to nothing known"),
     ("    br x10", "    bl memset\n    br x10", "br x10 leads to nothing known"),
     ("    br x10", "    ldp x9, x10, [x0]\n    br x10", "br x10 leads to nothing known"),
