@@ -263,6 +263,7 @@ SLIPS_OF_AARCH64 = [
     ("ldp x29, x30, [sp], #32", "ldp x29, x30, [sp], #16", "stand_receive: returns with 16 octets"),
     ("b.ne 0b", "b.hi 0b", NO_FORM.format("receive", "1c") + "b.hi"),
     ("    bl stand_place\n", "    mov sp, x19\n    bl stand_place\n", NO_FORM.format("receive", "20") + "mov sp, x19"),
+    ("    bl stand_place\n", "    sub sp, x29, #16\n    bl stand_place\n", NO_FORM.format("receive", "20") + "sub sp, x29, #0x10"),
     ("    bl stand_place\n", "    sub sp, sp, x19\n    bl stand_place\n", NO_FORM.format("receive", "20") + "sub sp, sp, x19"),
     ("bl stand_place", "bl stand_receive", "nothing bounds how deep: stand_receive"),
     ("bl stand_place", "bl malloc", "reaches malloc, which checks/bounds.txt doesn't have"),
