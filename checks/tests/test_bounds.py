@@ -257,6 +257,7 @@ SLIPS_OF_AARCH64 = [
     ("    bl stand_place\n", "    sub sp, sp, #16\n    bl stand_place\n    add sp, sp, #16\n", DEPTH.format("9,280")),
     ("sub x9, x9, #0x400", "sub x9, x9, #0x1000", "stand_receive: returns with 3072 octets"),
     ("sub x9, x9, #0x400", "sub x9, x8, #0x400", "stand_receive: returns with -6144 octets"),
+    ("sub x9, x9, #0x400", "mov x9, x0", "stand_receive: returns with -6144 octets"),
     ("cmp sp, x9", "cmp sp, x10", "stand_receive: returns with -6144 octets"),
     ("str xzr, [sp]", "tst x0, x0", NO_FORM.format("receive", "18") + "tst x0, x0"),
     ("str xzr, [sp]", "ldr x9, [sp]", NO_FORM.format("receive", "18") + "ldr x9, [sp]"),
