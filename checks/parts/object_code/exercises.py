@@ -10,7 +10,7 @@ from parts.object_code import shapes, stray_keys
 from parts.object_code.counted import FIXED
 from parts.object_code.decimals import decimals
 from parts.object_code.names import lookups
-from parts.object_code.near_texts import LONG, SHORT, TEXTS, WIDE, faulty_links, near_texts, texts_of_lines
+from parts.object_code.near_texts import LATE, LONG, SHORT, TEXTS, WIDE, faulty_links, near_texts, texts_of_lines
 from parts.object_code.rare_texts import RARE, texts_of_long_keys, texts_of_many_keys
 from parts.object_code.toml_texts import toml_text
 from parts.object_code.walks import CLOSED
@@ -58,7 +58,7 @@ def openings(given):
         yield from (f"open 1 {hexed(text)}", "close")
     for text in (*good_texts(), *islice(texts(given), None, None, given.texts_for_each)):
         yield from (f"open_each 2 {hexed(text)}", "close")
-    for text in RARE:
+    for text in (*RARE, *map(str.encode, LATE)):
         yield from (f"open_each 1 {hexed(text)}", f"open_each 8 {hexed(text)}", f"check_each {hexed(text)}", "close")
     for text in (*texts_of_long_keys(), *texts_of_many_keys()):
         yield from (f"open 1 {hexed(text)}", "close")

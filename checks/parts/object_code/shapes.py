@@ -9,7 +9,7 @@ PORT = '[[link.port]]\nname = "{}"\nkind = "{}"\naddress = "224.224.0.1"\nudp = 
 KINDS = ("sampling", "queuing")
 # For each field of a row values that are no good, or are those of another row.
 FAULTS_OF_LINKS = [(65536, 0), (2,), (1000001,), (10000001,), (0, 5), (0, 3, 5, 33)]
-FAULTS_OF_PORTS = [(0, 3), (), (65536, 0, 1), (1472, 8193), (0, 65, 1000000001), (hexed(b""), hexed(b"A"), hexed(b"p0-0")), (9,)]
+FAULTS_OF_PORTS = [(0, 3), (), (65536, 0, 1), (1472, 8193), (0, 65, 1000000001), (hexed(b""), hexed(b"A"), hexed(b"!"), hexed(b"\xff"), hexed(b"p0-0")), (9,)]
 
 
 def ports_of(link, sampling, queuing):
