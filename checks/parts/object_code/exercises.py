@@ -11,7 +11,7 @@ from parts.object_code.counted import FIXED
 from parts.object_code.decimals import decimals
 from parts.object_code.names import lookups
 from parts.object_code.near_texts import LATE, LONG, SHORT, TEXTS, WIDE, faulty_links, near_texts, texts_of_lines
-from parts.object_code.rare_texts import RARE, texts_of_long_keys, texts_of_many_keys
+from parts.object_code.rare_texts import RARE, texts_of_long_keys, texts_of_many_keys, texts_of_several_keys
 from parts.object_code.toml_texts import toml_text
 from parts.object_code.walks import CLOSED
 from parts.options import EXAMPLES
@@ -60,6 +60,7 @@ def openings(given):
         yield from (f"open_each 2 {hexed(text)}", "close")
     for text in (*RARE, *map(str.encode, LATE)):
         yield from (f"open_each 1 {hexed(text)}", f"open_each 8 {hexed(text)}", f"check_each {hexed(text)}", "close")
+    yield from (f"open_each 1 {hexed(text)}" for text in texts_of_several_keys())
     for text in (*texts_of_long_keys(), *texts_of_many_keys()):
         yield from (f"open 1 {hexed(text)}", "close")
     yield from (f"check {hexed(text.encode())}" for text in stray_keys.texts())

@@ -76,3 +76,8 @@ def texts_of_many_keys():
     for form in MANY:
         for order in (range(1000, 1700), range(1700, 1000, -1)):
             yield "".join(form.format(f"k{number}") for number in order).encode()
+
+
+def texts_of_several_keys():
+    """Enough for a tree of three levels, so few that each request may be refused."""
+    yield from ("".join(f"k{number} = 1\n" for number in order).encode() for order in (range(100, 250), range(250, 100, -1)))

@@ -48,6 +48,8 @@ def faulty_tables():
     """Tables of two links, each with a fault: a row less or more, and a value that is out of range or was given before."""
     links, ports = rows_of(2, 2, 2)
     yield from ((links, ports[:-1]), (links, ports + ports[:1]), ([], []), rows_of(65, 0, 0), rows_of(1, 33, 0), (links[:1], ports))
+    many, names = rows_of(5, 32, 0)
+    yield from ((many, with_value(rows, 159, 4, 1000000001)) for rows in (names, names[::-1]))
     for place in (0, 1):
         yield from ((with_value(links, place, field, value), ports) for field, values in enumerate(FAULTS_OF_LINKS) for value in values)
     for place in (0, 2, 5):
