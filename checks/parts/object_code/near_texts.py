@@ -72,7 +72,7 @@ def faulty_links():
     lines = LINK.splitlines()
     for place, line in enumerate(lines):
         key = line.split(" = ")[0]
-        others = [f"{key} = {value}" for value in ("[]", '"x"', "-1", "4611686018427387904")] if " = " in line else []
+        others = [f"{key} = {value}" for value in ("[]", '"x"', "-1", "0", "4611686018427387904")] if " = " in line else []
         others += [f'{key}\t=  "{value}"' for value in FAULTS.get(key, ())]
         yield from ("\n".join([*lines[:place], *other, *lines[place + 1:]]).encode() for other in [[], *([it] for it in others)])
 

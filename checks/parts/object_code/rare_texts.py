@@ -81,8 +81,8 @@ def texts_of_long_keys():
 
 
 def texts_of_many_keys():
-    for form in MANY:
-        for order in (range(1000, 1700), range(1700, 1000, -1)):
+    for form, many in (*((form, 1500) for form in MANY), ("{} = 1\n", 5000)):
+        for order in (range(10000, 10000 + many), range(10000 + many, 10000, -1)):
             yield "".join(form.format(f"k{number}") for number in order).encode()
 
 
