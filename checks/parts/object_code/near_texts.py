@@ -47,7 +47,7 @@ LINES = ["a = 1", "a = [1]", "a = {}", "a = {b = 1}", "b = 1", "b.c = 1", "a.b =
 LONG = [
     'a = "\\U00000041\\U0000e041"', 'a = "\\U0000d800"', 'a = "\\ud800"', "a = ]", "a = ^", "a = _",
     f'a = "{2000 * "x"}"', f'a = "{100 * (chr(92) + "n")}\u00e9"', f"a = [{100 * '1,'}]",
-    f"a = {90 * '['}", f"a = {90 * '{a='}", f"{90 * 'a.'}a = 1", f"[{90 * 'a.'}a]",
+    f"a = {90 * '['}", f"a = {90 * '{a='}", f"{90 * 'a.'}a = 1", f"[{90 * 'a.'}a]", 90 * '"".',
     "".join(f"{'x' * (number % 40)}{number} = 1\n" for number in range(150)),
 ]
 WIDE = ["".join(f"k{number} = {number}\n" for number in range(300)), "".join(f"k{number}.a = 1\n" for number in range(300, 0, -1)),
