@@ -6,7 +6,7 @@ from parts.object_code.recognised import recognised
 
 # In 100, of all branches of the archive that go both ways or have a reason: what is reached, so that it doesn't become less.
 # Aimed at are 95.
-LEAST = 94
+LEAST = 95
 # The calls of which each hole has a reason, and those that ask for memory or give it back, by the ends of their names.
 OF_FRAMES = ("_receive",)
 OF_ENDS = ("_read", "_hold", "_octets", "_copy", "_release", "_take", "_limits", "_longest")
