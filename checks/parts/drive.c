@@ -1,7 +1,8 @@
 /* drive < SCRIPT: what the library for C answers to the calls of a script, a line each: the code, and what was told with
    DONE. Octets are in hexadecimal, `-` if there are none. Each buffer has just the room that the call is told, and was
    filled with 0xa5. Ends stand in slots by number. At the end a line says how many blocks of memory weren't given back.
-   `open_each` and `open_table_each` open with each request for memory refused, one at a time, and then with none. With SYSTEM the
+   `open_each`, `open_table_each` and `check_each` open or check with each request for memory refused, one at a time, and then with
+   none. With SYSTEM the
    calls are those of a system and of both its passes. With COUNTED callgrind writes what each call took, by the call's word. */
 #include "yelunnavi.h"
 #include <inttypes.h>
@@ -148,6 +149,24 @@ static void open_each(void) {
         answer = yelunnavi_receiver_open(&receiver, text, len, readers_each, &fault);
     }
     may_ask = false, refused = 0;
+    show_code(answer);
+    free(text);
+}
+
+/* Checks a text, as `open_each` opens one if `each`, else once. */
+static void check(bool each) {
+    struct yelunnavi_fault fault;
+    uint32_t answer = YELUNNAVI_DONE;
+    size_t len;
+    uint8_t *text = octets(&len);
+    may_ask = true;
+    for (uint64_t request = 1; each && !refused; request++) {
+        refused = request;
+        answer = yelunnavi_check_text(text, len, &fault);
+    }
+    refused = 0;
+    if (!each) answer = COUNT(yelunnavi_check_text(text, len, &fault));
+    may_ask = false;
     show_code(answer);
     free(text);
 }
@@ -345,6 +364,8 @@ static void call(const char *name) {
     else if (!strcmp(name, "open_table")) open_table(false);
     else if (!strcmp(name, "open_table_each")) open_table(true);
     else if (!strcmp(name, "open_each")) open_each();
+    else if (!strcmp(name, "check")) check(false);
+    else if (!strcmp(name, "check_each")) check(true);
     else if (!strcmp(name, "receive")) receive();
     else if (!strcmp(name, "hand_reader")) hand(true);
     else if (!strcmp(name, "hand_queue")) hand(false);

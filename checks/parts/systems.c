@@ -73,6 +73,8 @@ static void of_rooms(void) {
     uint64_t before[128];
     struct yelunnavi_system none = {0}, of_pass = {passes[0].room};
     struct yelunnavi_pass no_pass = {0}, of_system = {both.room}, of_reader = {reader.room};
+    struct yelunnavi_reader reader_of_queue = {queue.room};
+    struct yelunnavi_queue queue_of_reader = {reader.room};
     if (yelunnavi_system_room() > YELUNNAVI_SYSTEM_OCTETS || yelunnavi_pass_room() > YELUNNAVI_PASS_OCTETS) exit(12);
     WANT(NO_ROOM, yelunnavi_system_init(&none, NULL, 1024)); want_no_system(&none);
     WANT(TOO_SHORT, yelunnavi_system_init(&none, rooms[4], yelunnavi_system_room() - 1)); want_no_system(&none);
@@ -86,6 +88,8 @@ static void of_rooms(void) {
     if (memcmp(before, both.room, yelunnavi_system_room()) != 0) exit(14);
     WANT(DONE, yelunnavi_system_open(&both, TEXT(CONFIG), 1, &fault));
     WANT(NOT_MADE, yelunnavi_system_hand_pass(&both, YELUNNAVI_A, &of_reader));
+    WANT(NOT_MADE, yelunnavi_system_hand_reader(&both, &reader_of_queue, TEXT("pos")));
+    WANT(NOT_MADE, yelunnavi_system_hand_queue(&both, &queue_of_reader, TEXT("nav")));
     yelunnavi_system_close(&both);
 }
 

@@ -53,3 +53,31 @@ def unknown_to(flow, counts):
     function = flow.function
     gone = ((at[2], to[2]) for at, to in counts.gone if function.has(at) and to is not None and function.has(to))
     return tuple(sorted((at, to) for at, to in gone if to not in flow.follows.get(at, ())))
+
+
+def way_to(flow, at, way):
+    """Where a way of a branch leads within the function, or None."""
+    target = flow.at[at].target
+    if way == FOLLOWED:
+        return target[2] if flow.function.has(target) else None
+    return flow.after[at]
+
+
+def without(flow, holes, ways):
+    """The holes if some ways are left out, with what only these lead to."""
+    function, missed = flow.function, set(holes.instructions)
+    ways_left = tuple(it for it in holes.ways if it not in ways)
+    waiting = [way_to(flow, *it) for it in ways_left] + [function.first]
+    waiting += [to for at in flow.reached - missed if not flow.at[at].is_branch for to in flow.follows[at]]
+    found = set()
+    while waiting:
+        at = waiting.pop()
+        if at in missed and at not in found:
+            found.add(at)
+            waiting += flow.follows[at]
+    return holes._replace(instructions=tuple(sorted(found)), ways=ways_left)
+
+
+def open_branches(flow, holes):
+    """How many branches have holes: those of the ways, and those that no run came to."""
+    return len({at for at, _ in holes.ways}) + sum(1 for at in holes.instructions if flow.at[at].is_branch)

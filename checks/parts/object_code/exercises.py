@@ -6,11 +6,12 @@ from parts import fuzz_cases
 from parts.c_programs import POOL, ROOFS, compiled_part, of_examples, scripts_of, under
 from parts.driven import ENOUGH, hexed
 from parts.fuzz_cases import Case
-from parts.object_code import shapes
+from parts.object_code import shapes, stray_keys
 from parts.object_code.counted import FIXED
 from parts.object_code.decimals import decimals
 from parts.object_code.names import lookups
-from parts.object_code.near_texts import LONG, SHORT, TEXTS, WIDE, faulty_links, near_texts, texts_of_lines
+from parts.object_code.near_texts import LATE, LONG, SHORT, TEXTS, WIDE, faulty_links, near_texts, texts_of_lines
+from parts.object_code.rare_texts import RARE, texts_of_long_keys, texts_of_many_keys, texts_of_several_keys
 from parts.object_code.toml_texts import toml_text
 from parts.object_code.walks import CLOSED
 from parts.options import EXAMPLES
@@ -52,11 +53,17 @@ def texts(given):
 
 
 def openings(given):
-    """Each text is opened and closed."""
+    """Each text is opened and closed, or checked; some of them with each request for memory refused."""
     for text in texts(given):
         yield from (f"open 1 {hexed(text)}", "close")
     for text in (*good_texts(), *islice(texts(given), None, None, given.texts_for_each)):
         yield from (f"open_each 2 {hexed(text)}", "close")
+    for text in (*RARE, *map(str.encode, LATE)):
+        yield from (f"open_each 1 {hexed(text)}", f"open_each 8 {hexed(text)}", f"check_each {hexed(text)}", "close")
+    yield from (f"open_each 1 {hexed(text)}" for text in texts_of_several_keys())
+    for text in (*texts_of_long_keys(), *texts_of_many_keys()):
+        yield from (f"open 1 {hexed(text)}", "close")
+    yield from (f"check {hexed(text.encode())}" for text in stray_keys.texts())
     yield from (*shapes.openings(), *CLOSED)
 
 
@@ -67,6 +74,7 @@ def by_chance(given):
     for roof in ROOFS:
         calls = [call for _, script in under(roof, scripts) for call in (*script.calls, *CLOSED)]
         calls += [call for case in cases for call in case]
+        calls += ["health 0"] if roof == "receiver" else []
         yield roof, "\n".join([*calls, *lookups(), *openings(given)]).encode()
 
 

@@ -28,7 +28,7 @@ def table():
 
 def lookups():
     """Calls in the words of drive.c: first of a receiver that isn't open."""
-    yield from ("links", "link 0", "port 0 0", "place 61")
+    yield from ("links", "link 0", "port 0 0", "place 61", "count 0 0 1", "filtered 0 1", "fill 0 0", "port_counts 0 0")
     yield f"open 1 {hexed(''.join(text_of_links(NAMES)).encode())}"
     yield from ("links", "link 0", "link 2")
     yield from (f"port {link} {place}" for link in range(3) for place in (*range(len(NAMES)), 99))

@@ -47,11 +47,18 @@ LINES = ["a = 1", "a = [1]", "a = {}", "a = {b = 1}", "b = 1", "b.c = 1", "a.b =
 LONG = [
     'a = "\\U00000041\\U0000e041"', 'a = "\\U0000d800"', 'a = "\\ud800"', "a = ]", "a = ^", "a = _",
     f'a = "{2000 * "x"}"', f'a = "{100 * (chr(92) + "n")}\u00e9"', f"a = [{100 * '1,'}]",
-    f"a = {90 * '['}", f"a = {90 * '{a='}", f"{90 * 'a.'}a = 1", f"[{90 * 'a.'}a]",
+    f"a = {90 * '['}", f"a = {90 * '{a='}", f"{90 * 'a.'}a = 1", f"[{90 * 'a.'}a]", 90 * '"".',
     "".join(f"{'x' * (number % 40)}{number} = 1\n" for number in range(150)),
 ]
 WIDE = ["".join(f"k{number} = {number}\n" for number in range(300)), "".join(f"k{number}.a = 1\n" for number in range(300, 0, -1)),
         "".join(f"[[a]]\nk{number * 7 % 40}.b = 1\n" for number in range(40))]
+# Faults that are found late: of the second link, of its last port, and of a port after more than a list has room for at first.
+LATE = [LINK.replace("depth = 2", "depth = 65"), LINK + LINK, LINK + LINK.replace("17\nre", "18\nre"), LINK + LINK.replace("vl = 17", "vl = 65536"),
+        LINK + "[[link]]\nvl = 1\nskew_max_us = 0\nreassembly_us = 0\nport = [1]\n", SHORT + PORT.format(9, "sampling", 9, "depth"),
+        SHORT + "[[link]]\nvl = 18\nskew_max_us = 0\nreassembly_us = 0\n" + 6 * PORT.format(5, "queuing", 7, "depth")]
+FAULTS = {"address": ("", "1", "1.", "1.2", "1.2.", "1.2.3", "1.2.3.", "1.2.3.4.", "1.2.3.4x", "256.1.1.1", "1.256.1.1", "1.1.256.1", "1.1.1.256",
+                      "01.1.1.1", "1.01.1.1", "1.1.01.1", "1.1.1.01", "1.x", "1.2.x", "1.2.3.x"),
+          "name": ("", "aaaaaaaaaaaaaaaaa", "!", "A", "~", "a!"), "kind": ("queuinx", "samplinx", "samplings")}
 OTHERS = b"\0\t\n\r \"#',-./0159:=@AGZ[\\_agz{~\x7f\x80\xc3\xe0\xed\xf4\xff"
 
 
@@ -64,7 +71,9 @@ def faulty_links():
     """The configuration without each of its lines, and with other values there."""
     lines = LINK.splitlines()
     for place, line in enumerate(lines):
-        others = [f"{line.split(' = ')[0]} = {value}" for value in ("[]", '"x"', "-1", "4611686018427387904")] if " = " in line else []
+        key = line.split(" = ")[0]
+        others = [f"{key} = {value}" for value in ("[]", '"x"', "-1", "0", "4611686018427387904")] if " = " in line else []
+        others += [f'{key}\t=  "{value}"' for value in FAULTS.get(key, ())]
         yield from ("\n".join([*lines[:place], *other, *lines[place + 1:]]).encode() for other in [[], *([it] for it in others)])
 
 

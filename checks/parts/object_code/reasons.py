@@ -1,4 +1,4 @@
-"""Why some code isn't exercised: checks/coverage.txt, by functions and by how much of each.
+"""Why some code isn't exercised: checks/coverage.txt, by functions and by how much of each, beside what recognised.py tells.
 
     INSTRUCTIONS WAYS: FUNCTION: KIND: why    so many of its instructions, and ways of branches that are executed
 
@@ -9,7 +9,7 @@ import re
 from collections import defaultdict
 
 LINE = re.compile(r"^(\d+) (\d+): (.+?): (\w+): (.+)$")
-KINDS = ("contract", "panic", "copy", "library", "memory")
+KINDS = ("contract", "again", "panic", "library", "memory")
 
 
 class Reasons:
@@ -33,6 +33,10 @@ class Reasons:
         """The instructions and ways that the lines of a name add up to."""
         return added(*self.of_kinds[name].values()) if name in self.of_kinds else (0, 0)
 
+    def is_whole(self, hole, name):
+        """Whether the lines of a name are for all that a function of it has left out."""
+        return all(one <= other for one, other in zip(hole.left, self.allowed(name)))
+
     def by_kinds(self, holes, functions):
         """What some functions have left out, by the kinds of the reasons: as the lines say, or what it is if there is one
         kind."""
@@ -48,7 +52,7 @@ class Reasons:
         yield from self.bad
         for function in sorted(needed, key=lambda it: (it.name, it.member)):
             left, allowed = holes[function].left, self.allowed(function.name)
-            if any(one > other for one, other in zip(left, allowed)):
+            if not self.is_whole(holes[function], function.name):
                 had = f"{left[0]} instructions and {left[1]} ways weren't gone"
                 yield f"{function.name} of {function.member}: {had}, and {self.name} has reasons for {allowed[0]} and {allowed[1]}"
         for name in sorted(self.of_kinds):
