@@ -1,15 +1,19 @@
 """checks/documents finds each kind of gap, planted in a copy of the tree: an example in a comment whose lines no test has, and
 links and anchors that lead nowhere, a word that isn't explained where it first stands or has two meanings, a number of the
-interface that CHANGELOG passes over. A page that is too long is none."""
+interface that CHANGELOG passes over, a time that wasn't measured. A page that is too long is none."""
+import re
 import shutil
 import subprocess
 import sys
 
 import pytest
 from conftest import ROOT
+from minutes import OF_ALL, minutes
 
 LEFT_OUT = shutil.ignore_patterns("out", "__pycache__", ".git")
 CODE, TEST = "crates/block_list/src/lib.rt", "crates/test_end_system/src/histories.rt"
+HEADER = "examples/c/yelunnavi.h"
+ABI = int(re.search(r"YELUNNAVI_ABI (\d+)", (ROOT / HEADER).read_text(encoding="ascii"))[1])
 # The line of the first example in the code.
 EXAMPLE = (ROOT / CODE).read_text(encoding="utf-8").splitlines().index("/// ```rust") + 1
 
@@ -77,7 +81,7 @@ WORDS = [
     ("docs/PROVED.md", "a second player, in C", "an independent player in C", "one author wrote the players"),
     ("docs/RECEIVER.md", "The pieces that are held", "The pieces that wait", "pieces are held"),
     ("CHANGELOG.md", "`YELUNNAVI_ABI` was 5 with it", "it had a number", "passes over YELUNNAVI_ABI 5"),
-    ("examples/c/yelunnavi.h", "YELUNNAVI_ABI 7", "YELUNNAVI_ABI 8", "passes over YELUNNAVI_ABI 8"),
+    (HEADER, f"YELUNNAVI_ABI {ABI}", f"YELUNNAVI_ABI {ABI + 1}", f"passes over YELUNNAVI_ABI {ABI + 1}"),
 ]
 
 # What a new user meets otherwise.
@@ -95,8 +99,16 @@ MEMORY = [
     ("docs/PERF.md", ", with one reader 5,", ", with one reader 6,", "octets with eight readers and one, by EMBEDDING"),
 ]
 
+# Times that weren't measured so.
+OF_A_BUILD = minutes()[OF_ALL]
+TIMES = [
+    ("README.md", f"in {OF_A_BUILD} minutes", f"in {OF_A_BUILD - 1} minutes", f"minutes of all: {OF_A_BUILD - 1}, and {OF_A_BUILD} in"),
+    ("README.md", f"in {OF_A_BUILD} minutes", "soon", f"minutes of all: none, and {OF_A_BUILD} in"),
+    ("checks/minutes.csv", "all,", "none,", f"minutes of all: {OF_A_BUILD}, and none in checks/minutes.csv"),
+]
 
-@pytest.mark.parametrize("file, old, new, told", [*LINKS, *WORDS, *MET_OTHERWISE, *MEMORY])
+
+@pytest.mark.parametrize("file, old, new, told", [*LINKS, *WORDS, *MET_OTHERWISE, *MEMORY, *TIMES])
 def test_a_page_that_says_something_wrong_is_told(tree, file, old, new, told):
     status, found = checked(tree, file, old, new)
     assert status == 1 and told in found, found
