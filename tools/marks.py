@@ -5,7 +5,6 @@ import shutil
 import subprocess
 
 from proving import PROGRAM, ROOT, lines_of_crates, with_those_below
-from trees import PARTS
 
 OUT = ROOT / "out"
 # The library is of two parts, each compiled apart, so that the way of a frame is laid into each: their archives make one.
@@ -18,6 +17,7 @@ HEAP = ROOT / "tools" / "heap.c"
 SUPPRESSIONS = sorted((ROOT / "tools" / "suppressions").iterdir())
 # The shared object's name for linkers. That for loaders has the number of the interface after it.
 SHARED = "libyelunnavi-with-malloc.so"
+PARTS = ("src", "specs", "proofs")
 MARK = "mark"
 
 

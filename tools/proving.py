@@ -1,8 +1,9 @@
 """Proves crates with all that they stand on: for `./build`, and for the checks that need crates proved.
 
-It works in a folder of its own below ~/.cache/yelunnavi (or XDG_CACHE_HOME), with copies of these crates, each of which is
-proved in a tree of its own there (trees.py). The folder keeps what was proved, so only what a change touches is proved
-again; crates that aren't of this build wait beside it. A line on standard error says how far it is.
+It works in a folder of its own below ~/.cache/yelunnavi (or XDG_CACHE_HOME), with copies of these crates alone, since the
+toolchain proves crates side by side only if it is told of all of them, tests included. The folder keeps what was proved,
+so only what a change touches is proved again; crates that aren't of this build wait beside it. A line on standard error
+says how far it is.
 """
 import os
 import re
@@ -11,8 +12,6 @@ import subprocess
 import sys
 import time
 from pathlib import Path
-
-from trees import copy_sources, prove_side_by_side
 
 ROOT = Path(__file__).resolve().parent.parent
 PROGRAM = "afdx_play"
@@ -53,6 +52,21 @@ def with_those_below(names):
     return [name for name in lines if name in found]
 
 
+def copy_changed(source, copy):
+    """Makes a folder's copy like it, and leaves alone each file that is the same."""
+    copy.mkdir(parents=True, exist_ok=True)
+    names = {path.name for path in source.iterdir()}
+    for path in copy.iterdir():
+        if path.name not in names:
+            shutil.rmtree(path) if path.is_dir() else path.unlink()
+    for path in source.iterdir():
+        to = copy / path.name
+        if path.is_dir():
+            copy_changed(path, to)
+        elif not to.exists() or to.read_bytes() != path.read_bytes():
+            shutil.copyfile(path, to)
+
+
 def set_aside(folder, wanted):
     """Moves crates that aren't wanted out of a folder, with what was proved of them, and those that are back into it."""
     crates, aside = folder / "crates", folder.with_name(f"{folder.name}.aside")
@@ -71,7 +85,11 @@ def lay_crates(folder, names):
     wanted, lines = with_those_below(names), lines_of_crates()
     set_aside(folder, wanted)
     for name in wanted:
-        copy_sources(ROOT / "crates" / name, folder / "crates" / name)
+        for part in ("src", "specs", "proofs"):
+            if (ROOT / "crates" / name / part).exists():
+                copy_changed(ROOT / "crates" / name / part, folder / "crates" / name / part)
+            else:
+                shutil.rmtree(folder / "crates" / name / part, ignore_errors=True)
     (folder / "crates.txt").write_text("".join(f"{lines[name][0]}\n" for name in wanted), encoding="utf-8")
     shutil.copyfile(ROOT / "HANDLES", folder / "HANDLES")
     # The toolchain takes the nearest folder with a repository as the top.
@@ -82,18 +100,20 @@ def lay_crates(folder, names):
 # ---- proving
 
 def side_by_side():
-    """How many checks fit the machine: as many as memory holds, and few enough that the first has processors to spare."""
+    """How many checks fit the machine: one a processor, as many as memory holds."""
     free = int(re.search(r"MemAvailable:\s+(\d+)", Path("/proc/meminfo").read_text(encoding="ascii"))[1])
-    return max(1, min(len(os.sched_getaffinity(0)) // 2 + 1, free // KILOBYTES_OF_A_CHECK))
+    return max(1, min(len(os.sched_getaffinity(0)), free // KILOBYTES_OF_A_CHECK))
 
 
-def prove_crates(folder, names, at_a_time):
-    """Proves these crates of a folder, with a line for each. Returns the toolchain's report if one isn't proved, else
-    None."""
-    begun, lines, done = time.monotonic(), lines_of_crates(), []
-
-    def tell(name):
-        done.append(name)
-        say(f"{len(done)} of {len(names)} crates, {int(time.monotonic() - begun) // 60} min: {name}")
-
-    return prove_side_by_side(folder, {name: lines[name] for name in names}, at_a_time, tell)
+def prove_crates(folder, count, jobs):
+    """Proves all crates of a folder, with a line for each. Returns the whole report if one isn't proved, else None."""
+    words = ["rt", "all", "check", "--jobs", str(jobs)]
+    begun, done, report = time.monotonic(), 0, []
+    with subprocess.Popen(words, cwd=folder, stdin=subprocess.DEVNULL, stdout=subprocess.PIPE,
+                          stderr=subprocess.STDOUT, text=True) as running:
+        for line in running.stdout:
+            report.append(line)
+            if line.startswith("== ") and done < count:
+                done += 1
+                say(f"{done} of {count} crates, {int(time.monotonic() - begun) // 60} min: {line[3:].strip()}")
+    return "".join(report) if running.returncode else None

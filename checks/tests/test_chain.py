@@ -24,7 +24,7 @@ echo "logic=proved functions=7 sum=0"
 @pytest.fixture
 def tree(tmp_path):
     """A small tree of crates, with the check in it, and a stub of the toolchain before all others."""
-    for part in ("checks/chain", "checks/parts/chains.py", "checks/parts/options.py", "tools/proving.py", "tools/trees.py"):
+    for part in ("checks/chain", "checks/parts/chains.py", "checks/parts/options.py", "tools/proving.py"):
         (tmp_path / part).parent.mkdir(parents=True, exist_ok=True)
         shutil.copy(ROOT / part, tmp_path / part)
     (tmp_path / "crates.txt").write_text(CRATES)
